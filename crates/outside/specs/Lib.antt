@@ -1,0 +1,11 @@
+pub mod Count
+pub mod Source
+pub mod Sink
+pub mod Calls
+pub mod HeldFile
+pub mod FaultCounts
+pub mod MemSource
+pub mod MemSink
+pub mod SureSource
+pub mod FileSource
+pub mod StdSink
