@@ -1,0 +1,23 @@
+use Rattle.std.proofs.Common.{◌≡◌, ℕ, ap, sym, ◌∙◌}
+use Rattle.words.specs.BitVector.{BitVector, signed_value, word}
+use Rattle.words.proofs.SignedBodies.{divides, divisor_positive, remainder_64, remainder_minus_one}
+use Rattle.words.proofs.word.Word.srem.Goals as goal
+
+pub nonzero_rem-dividend : goal.nonzero_rem-dividend
+nonzero_rem-dividend c = (
+  divisor_positive _ _ _ c.signed-divisor.ensures.is_word.positive c.signed-divisor.ensures.is_word.at_most_64 c.requires.nonzero c.signed-divisor.ensures.is_word.within c.signed-divisor.ensures.value,
+  divides c.signed-dividend.result c.signed-divisor.result (record { sfits = c.signed-dividend.type_inv }) (record { sfits = c.signed-divisor.type_inv }) c.if-divisor.false,
+)
+
+pub returns-then-divisor-clause-value : goal.returns-then-divisor-clause-value
+returns-then-divisor-clause-value c =
+    let width : c.self.inside.width ≡ c.args.self.width = ap (λ (v : BitVector). v.width) c.self.view_is in
+    let divisor = c.signed-divisor.ensures.value ∙ ap (λ w. signed_value w c.args.other.bits) (sym c.requires.same_width) in
+    ap (λ (w : ℕ). word w 0) width ∙ ap (word c.args.self.width) (remainder_minus_one _ c.args.self.bits _ _ (record { sfits = c.signed-divisor.type_inv }) c.requires.nonzero c.if-divisor.true divisor)
+
+pub returns-else-divisor-clause-value : goal.returns-else-divisor-clause-value
+returns-else-divisor-clause-value c =
+    let width : c.self.inside.width ≡ c.args.self.width = ap (λ (v : BitVector). v.width) c.self.view_is in
+    let divisor = c.signed-divisor.ensures.value ∙ ap (λ w. signed_value w c.args.other.bits) (sym c.requires.same_width) in
+    (rw width at c.from_signed.ensures.value)
+    ∙ ap (word c.args.self.width) (remainder_64 _ c.args.self.bits c.args.other.bits _ _ (record { sfits = c.signed-dividend.type_inv }) (record { sfits = c.signed-divisor.type_inv }) c.requires.nonzero c.signed-dividend.ensures.value divisor)

@@ -1,0 +1,2 @@
+pub mod BitVector
+pub mod Operators
