@@ -1,0 +1,15 @@
+pub mod Classes
+pub mod Runs
+pub mod Ends
+pub mod Spelled
+pub mod Splices
+pub mod Steps
+pub mod One
+pub mod Texts
+pub mod Elements
+pub mod Typed
+pub mod Digits
+pub mod Standing
+pub mod Marks
+pub mod Quotes
+pub mod Comments

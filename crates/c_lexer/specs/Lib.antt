@@ -1,0 +1,8 @@
+pub mod Bytes
+pub mod Spelling
+pub mod Forms
+pub mod Constants
+pub mod Literals
+pub mod Kinds
+pub mod Places
+pub mod Cutting

@@ -1,0 +1,21 @@
+//! The tokens of a C file (C11 5.1.1.2, 6.4): splices removed, comments as spaces, longest tokens.
+#![tactic(auto)]
+
+mod class;
+mod constant;
+mod fault;
+mod kind;
+mod lexing;
+mod literal;
+mod piece;
+mod place;
+#[cfg(test)]
+mod tests;
+mod token;
+mod tokens;
+
+pub use fault::LexError;
+pub use lexing::{lex, one_cutting};
+pub use literal::string_bytes;
+pub use token::{Constant, ConstantType, Keyword, Kind, Mark, Token};
+pub use tokens::{Tokens, text_of};
