@@ -1,0 +1,17 @@
+pub mod Cutting
+pub mod Reading
+pub mod NameIndex
+pub mod DigitRuns
+pub mod Grammar
+pub mod Operands
+pub mod Items
+pub mod Programs
+pub mod Breaking
+pub mod Deciding
+pub mod Joining
+pub mod FileParts
+pub mod Answering
+pub mod Pieces
+pub mod Causes
+pub mod Runs
+pub mod OneReading

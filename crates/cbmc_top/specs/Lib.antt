@@ -1,0 +1,15 @@
+pub mod Tokens
+pub mod Program
+pub mod Parsing
+pub mod Names
+pub mod Steps
+pub mod Run
+pub mod Search
+pub mod FileNames
+pub mod Command
+pub mod Report
+pub mod Answers
+pub mod Verdicts
+pub mod Calls
+pub mod Replies
+pub mod Writing

@@ -1,0 +1,283 @@
+//! The top call: words of the command line in, the answer and its status out.
+
+ghost use Rattle.std.specs.Prelude.{◌≡◌, ◌≢◌, ℕ, List, [], ◌∷◌, ◌+◌, ◌<◌, ◌≤◌, ◌++◌, ◌⊎◌, length, take, map, string_bytes, vec_len, Option, Some, None, IfOk, IfSome, IsErrOf, OnOk, OnErr};
+ghost use Rattle.outside.specs.Count.{Rose, HasCause};
+ghost use Rattle.outside.specs.Sink.{appended};
+ghost use Rattle.cbmc_top.specs.Program.{IsProgram};
+ghost use Rattle.cbmc_top.specs.Run.{IsSafe};
+ghost use Rattle.cbmc_top.specs.Report.{Failure, failure_text};
+ghost use Rattle.cbmc_top.specs.Command.{command_of};
+ghost use Rattle.cbmc_top.specs.Answers.{Answer, Answered, Decides, IsFailure, IsOneOf, Reported, TookPart, head_of, name_of, status_of, text_of};
+ghost use Rattle.cbmc_top.specs.declared.program.Item.{Item};
+ghost use Rattle.cbmc_top.specs.Verdicts.{answer_of};
+ghost use Rattle.cbmc_top.specs.Replies.{reply_of};
+ghost use Rattle.cbmc_top.specs.Calls.{WasRead, HasReadMore};
+
+use crate::options::{Bounds, Job, Options, Task, command};
+use crate::report::{failure, limit, refusal, success};
+use crate::verdict::{Verdict, check_bytes};
+use outside::{Failed, ReadError, Sink, Source};
+use std::alloc::{AllocError, Global};
+
+/// How a call ended: its exit status.
+#[derive(Clone, Copy, Debug, PartialEq, Eq)]
+pub struct Done {
+    pub status: u8,
+}
+
+/// An answer with the text that says it.
+#[derive(Drop)]
+struct Report {
+    status: u8,
+    text: String,
+}
+
+/// How many bytes of a file are read at the most: one more than the limit.
+const READ_AT_MOST: usize = 1_048_577;
+
+/// How many bytes are asked for in one read.
+const CHUNK: usize = 16_384;
+
+/// Reads the next bytes of a file behind those that were read, and says whether there may be more.
+fn read_more<S: Source>(
+    files: &mut S,
+    name: &str,
+    bytes: &mut Vec<u8>,
+    buffer: &mut [u8],
+) -> Result<bool, ReadError>
+    requires room { vec_len bytes.old < 1048577 }
+    requires buffer { length buffer.old ≡ 16384 }
+    ensures held { (other : List ℕ) → S.holds files.new other ≡ S.holds files.old other }
+    ensures others { (other : List ℕ) → other ≢ name.now → S.faults files.new other ≡ S.faults files.old other }
+    ensures cause { HasCause (S.faults files.old name.now) (S.faults files.new name.now) (IsErrOf result ReadError.Failed) }
+    ensures bytes { IfOk result (λ more. HasReadMore (S.holds files.old name.now) bytes.old.items bytes.new.items more) }
+{
+    let room = smaller(CHUNK, READ_AT_MOST - bytes.len());
+    let part = &mut buffer[..room];
+    let count = files.read(name, bytes.len() as u64, part)?;
+    if count == 0 {
+        return Ok(false);
+    }
+    match bytes.extend_from_slice(&part[..count]) {
+        Ok(()) => Ok(true),
+        Err(_) => Err(ReadError::Memory),
+    }
+}
+
+/// Reads a file up to one byte past the limit.
+fn read_file<S: Source>(alloc: Global, files: &mut S, name: &str) -> Result<Vec<u8>, ReadError>
+    ensures held { (other : List ℕ) → S.holds files.new other ≡ S.holds files.old other }
+    ensures others { (other : List ℕ) → other ≢ name.now → S.faults files.new other ≡ S.faults files.old other }
+    ensures cause { HasCause (S.faults files.old name.now) (S.faults files.new name.now) (IsErrOf result ReadError.Failed) }
+    ensures bytes { IfOk result (λ bytes. WasRead (S.holds files.old name.now) bytes.items) }
+{
+    let mut bytes: Vec<u8> = Vec::new(alloc);
+    let mut buffer = match make_buffer(alloc) {
+        Ok(buffer) => buffer,
+        Err(_) => return Err(ReadError::Memory),
+    };
+    'reading: while bytes.len() < READ_AT_MOST {
+        if !read_more(files, name, &mut bytes, &mut buffer)? {
+            break;
+        }
+    }
+    Ok(bytes)
+}
+
+fn make_buffer(alloc: Global) -> Result<Vec<u8>, AllocError>
+    ensures { IfOk result (λ buffer. length buffer.items ≡ 16384) }
+{
+    vec![in alloc; 0u8; CHUNK]
+}
+
+fn smaller(a: usize, b: usize) -> usize
+    ensures first { result ≤ a }
+    ensures second { result ≤ b }
+    ensures one { (result ≡ a) ⊎ (result ≡ b) }
+{
+    if a < b { a } else { b }
+}
+
+/// What the checker answers.
+#[derive(Drop)]
+enum Reply {
+    Usage,
+    ReadFault,
+    Checked(Verdict),
+}
+
+/// The verdict on a file.
+fn checked(alloc: Global, name: &str, bytes: &[u8]) -> Result<Verdict, AllocError>
+    ensures { IfOk result (λ v. Decides bytes.now (answer_of v)) }
+{
+    let options = Options {
+        name: String::from_str(alloc, name)?,
+        bounds: Bounds::standard(),
+        budget: 1_000_000,
+        task: Task {
+            job: Job::Check,
+            generate: None,
+        },
+    };
+    check_bytes(alloc, bytes, &options)
+}
+
+/// The answer to a command on a file.
+fn reply_to<S: Source>(alloc: Global, name: &str, files: &mut S) -> Result<Reply, AllocError>
+    ensures held { (other : List ℕ) → S.holds files.new other ≡ S.holds files.old other }
+    ensures others { (other : List ℕ) → other ≢ name.now → S.faults files.new other ≡ S.faults files.old other }
+    ensures later { S.faults files.old name.now ≤ S.faults files.new name.now }
+    ensures answered { IfOk result (λ r. Answered (Some name.now) (S.holds files.old) (λ n. Rose (S.faults files.old n) (S.faults files.new n)) (reply_of r)) }
+{
+    match read_file(alloc, files, name) {
+        Ok(bytes) => Ok(Reply::Checked(checked(alloc, name, &bytes)?)),
+        Err(ReadError::Failed) => Ok(Reply::ReadFault),
+        Err(ReadError::Memory) => Err(AllocError),
+    }
+}
+
+/// The text of an answer, with its status.
+fn report_reply(alloc: Global, name: &str, reply: &Reply) -> Result<Report, AllocError>
+    ensures status { IfOk result (λ r. r.status ≡ status_of (reply_of reply.now)) }
+    ensures text { IfOk result (λ r. string_bytes r.text ≡ text_of name.now (reply_of reply.now)) }
+{
+    match reply {
+        Reply::Usage => {
+            let text = String::from_str(alloc, "usage: cbmc FILE [OPTIONS]\n")?;
+            Ok(Report { status: 1, text })
+        }
+        Reply::ReadFault => {
+            let text = String::from_str(alloc, "read fault\n")?;
+            Ok(Report { status: 8, text })
+        }
+        Reply::Checked(verdict) => report_verdict(alloc, name, verdict),
+    }
+}
+
+/// The text of a verdict, with its status.
+fn report_verdict(alloc: Global, name: &str, verdict: &Verdict) -> Result<Report, AllocError>
+    ensures status { IfOk result (λ r. r.status ≡ status_of (answer_of verdict.now)) }
+    ensures text { IfOk result (λ r. string_bytes r.text ≡ text_of name.now (answer_of verdict.now)) }
+{
+    match verdict {
+        Verdict::Successful => {
+            let text = success(alloc, name)?;
+            Ok(Report { status: 0, text })
+        }
+        Verdict::Failed(trace) => {
+            let text = failure(alloc, name, trace)?;
+            Ok(Report { status: 10, text })
+        }
+        Verdict::Refused(refused) => {
+            let text = refusal(alloc, refused)?;
+            Ok(Report { status: 6, text })
+        }
+        Verdict::Limited(limited) => {
+            let text = limit(alloc, *limited)?;
+            Ok(Report { status: 7, text })
+        }
+    }
+}
+
+/// Writes a whole text, piece by piece.
+fn write_all<K: Sink>(out: &mut K, text: &[u8]) -> Result<(), Failed>
+    ensures later { K.faults out.old ≤ K.faults out.new }
+    ensures whole { OnOk result (K.taken out.new ≡ appended (K.taken out.old) text.now) }
+    ensures part { OnErr result (TookPart (K.taken out.old) (K.taken out.new) text.now) }
+    ensures fault { OnErr result (Rose (K.faults out.old) (K.faults out.new)) }
+{
+    let mut rest = text;
+    'writing: while !rest.is_empty() {
+        let count = out.write(rest)?;
+        if count == 0 {
+            return Err(Failed);
+        }
+        let (_, left) = rest.split_at(count);
+        rest = left;
+    }
+    Ok(())
+}
+
+/// The answer to the words of a command line.
+fn answer_words<S: Source>(
+    alloc: Global,
+    words: &[String],
+    files: &mut S,
+) -> Result<Report, AllocError>
+    ensures held { (other : List ℕ) → S.holds files.new other ≡ S.holds files.old other }
+    ensures later { (other : List ℕ) → S.faults files.old other ≤ S.faults files.new other }
+    ensures others { (other : List ℕ) → command_of (map string_bytes words.now) ≢ Some other → S.faults files.new other ≡ S.faults files.old other }
+    ensures answered { IfOk result (λ r. Reported (command_of (map string_bytes words.now)) (S.holds files.old) (λ n. Rose (S.faults files.old n) (S.faults files.new n)) r.status (string_bytes r.text)) }
+{
+    match command(words) {
+        None => report_reply(alloc, "", &Reply::Usage),
+        Some(name) => {
+            let reply = reply_to(alloc, name, files)?;
+            report_reply(alloc, name, &reply)
+        }
+    }
+}
+
+/// Checks the file that the words of a command line name, and writes the answer.
+///
+/// `words` begins with the program's name. The status is 0 where no run breaks a check, 10 where the text tells a run
+/// that breaks one, 1 where the words are no command, 6 where the file is refused, 7 where a limit is passed, 8 where
+/// reading the file failed, 9 where writing failed, and 12 where there was no memory.
+pub fn top<S: Source, K: Sink>(alloc: Global, words: &[String], files: &mut S, out: &mut K) -> Done
+    // A success is sound: no inputs and no schedule break a check of the file.
+    ensures success { result.status ≡ 0 → (name bytes : List ℕ) → command_of (map string_bytes words.now) ≡ Some name → S.holds files.old name ≡ Some bytes
+        → (items : List Item) × IsProgram bytes items × IsSafe items }
+
+    // A failure replays: its text tells inputs and a schedule on which the run breaks exactly the check that it tells.
+    ensures failure { result.status ≡ 10 → (name bytes : List ℕ) → command_of (map string_bytes words.now) ≡ Some name → S.holds files.old name ≡ Some bytes
+        → (items : List Item) × (f : Failure) × IsProgram bytes items × IsFailure items f × (K.taken out.new ≡ appended (K.taken out.old) (failure_text (head_of name) f)) }
+
+    // It is complete: a file of the form and within the limit gets one of the two, where no fault was counted.
+    ensures complete { (name bytes : List ℕ) (items : List Item) → command_of (map string_bytes words.now) ≡ Some name → S.holds files.old name ≡ Some bytes
+        → length bytes ≤ 1048576 → IsProgram bytes items
+        → (Rose (S.faults files.old name) (S.faults files.new name) → ⊥) → (Rose (K.faults out.old) (K.faults out.new) → ⊥)
+        → IsOneOf (0 ∷ 10 ∷ 12 ∷ []) result.status }
+
+    // A usage error comes exactly where the words are no command, beside a write fault and want of memory.
+    ensures usage { result.status ≡ 1 → command_of (map string_bytes words.now) ≡ None }
+    ensures usage_only { command_of (map string_bytes words.now) ≡ None → IsOneOf (1 ∷ 9 ∷ 12 ∷ []) result.status }
+
+    // A passed limit comes exactly where the file is too long, beside faults and want of memory.
+    ensures limited { result.status ≡ 7 → (name bytes : List ℕ) → command_of (map string_bytes words.now) ≡ Some name → S.holds files.old name ≡ Some bytes → 1048576 < length bytes }
+    ensures limited_only { (name bytes : List ℕ) → command_of (map string_bytes words.now) ≡ Some name → S.holds files.old name ≡ Some bytes
+        → 1048576 < length bytes → (Rose (S.faults files.old name) (S.faults files.new name) → ⊥) → IsOneOf (7 ∷ 9 ∷ 12 ∷ []) result.status }
+
+    // A refusal comes exactly where a file within the limit is not of the form, beside faults and want of memory.
+    ensures refused { result.status ≡ 6 → (name bytes : List ℕ) → command_of (map string_bytes words.now) ≡ Some name → S.holds files.old name ≡ Some bytes
+        → (length bytes ≤ 1048576) × ((items : List Item) → IsProgram bytes items → ⊥) }
+    ensures refused_only { (name bytes : List ℕ) → command_of (map string_bytes words.now) ≡ Some name → S.holds files.old name ≡ Some bytes
+        → length bytes ≤ 1048576 → ((items : List Item) → IsProgram bytes items → ⊥) → (Rose (S.faults files.old name) (S.faults files.new name) → ⊥)
+        → IsOneOf (6 ∷ 9 ∷ 12 ∷ []) result.status }
+
+    // A read fault comes only for a FILE, and only where its count rose.
+    ensures read_fault { result.status ≡ 8 → (name : List ℕ) × (command_of (map string_bytes words.now) ≡ Some name) × Rose (S.faults files.old name) (S.faults files.new name) }
+
+    // Each answer is one that is allowed for the words and the bytes, and its whole text was taken.
+    ensures whole { result.status ≢ 9 → result.status ≢ 12 → (a : Answer) × Answered (command_of (map string_bytes words.now)) (S.holds files.old) (λ n. Rose (S.faults files.old n) (S.faults files.new n)) a
+        × (result.status ≡ status_of a) × (K.taken out.new ≡ appended (K.taken out.old) (text_of (name_of (command_of (map string_bytes words.now))) a)) }
+    ensures write_fault { result.status ≡ 9 → Rose (K.faults out.old) (K.faults out.new) × ((a : Answer) × Answered (command_of (map string_bytes words.now)) (S.holds files.old) (λ n. Rose (S.faults files.old n) (S.faults files.new n)) a
+        × TookPart (K.taken out.old) (K.taken out.new) (text_of (name_of (command_of (map string_bytes words.now))) a)) }
+    ensures memory { result.status ≡ 12 → K.taken out.new ≡ K.taken out.old }
+
+    // What the source and the sink keep.
+    ensures held { (other : List ℕ) → S.holds files.new other ≡ S.holds files.old other }
+    ensures later { (other : List ℕ) → S.faults files.old other ≤ S.faults files.new other }
+    ensures others { (other : List ℕ) → command_of (map string_bytes words.now) ≢ Some other → S.faults files.new other ≡ S.faults files.old other }
+    ensures sink_later { K.faults out.old ≤ K.faults out.new }
+{
+    let report = match answer_words(alloc, words, files) {
+        Ok(report) => report,
+        Err(_) => return Done { status: 12 },
+    };
+    match write_all(out, report.text.as_bytes()) {
+        Ok(()) => Done {
+            status: report.status,
+        },
+        Err(_) => Done { status: 9 },
+    }
+}
