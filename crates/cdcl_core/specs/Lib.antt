@@ -1,0 +1,5 @@
+pub mod Steps
+pub mod Marks
+pub mod Soundness
+pub mod Learning
+pub mod Answers

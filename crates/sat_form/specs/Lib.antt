@@ -1,0 +1,3 @@
+pub mod Satisfaction
+pub mod Numbers
+pub mod Codes
