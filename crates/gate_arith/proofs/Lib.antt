@@ -1,0 +1,10 @@
+pub mod Growing
+pub mod Tables
+pub mod Cells
+pub mod Adding
+pub mod Comparing
+pub mod Listing
+pub mod Parts
+pub mod Multiplying
+pub mod Shifting
+pub mod Dividing

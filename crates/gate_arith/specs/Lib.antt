@@ -1,0 +1,6 @@
+pub mod Growth
+pub mod Truth
+pub mod Clauses
+pub mod Sums
+pub mod Shifts
+pub mod Quotients

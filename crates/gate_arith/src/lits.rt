@@ -1,0 +1,42 @@
+ghost use Rattle.std.specs.Prelude.{◌≡◌};
+
+use sat_form::Lit;
+use std::marker::Model;
+
+/// Literals that stand for the bits of a word, the lowest first.
+#[derive(Drop)]
+pub struct Lits {
+    literals: Vec<Lit>,
+}
+
+impl Model for Lits {
+    ghost use Rattle.std.specs.Prelude.{List};
+    ghost use Rattle.sat_form.specs.Satisfaction.{Literal};
+
+    ghost Value = { List Literal };
+
+    ghost view = { λ l. l.literals.items };
+}
+
+impl Lits {
+    /// The literals, the lowest first.
+    pub fn new(literals: Vec<Lit>) -> Self
+        ensures { result ≡ literals.items }
+    {
+        Lits { literals }
+    }
+
+    /// The literals, the lowest first.
+    pub fn as_slice(&self) -> &[Lit]
+        ensures { result.now ≡ self.now }
+    {
+        &self.literals
+    }
+
+    /// The literals, the lowest first. Takes no memory.
+    pub fn into_vec(self) -> Vec<Lit>
+        ensures { result.items ≡ self }
+    {
+        self.literals
+    }
+}
