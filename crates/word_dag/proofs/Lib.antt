@@ -1,0 +1,9 @@
+pub mod Folds
+pub mod Operands
+pub mod Order
+pub mod Bounds
+pub mod Operations
+pub mod Grown
+pub mod Steps
+pub mod Conditions
+pub mod Truth

@@ -1,0 +1,4 @@
+pub mod Meaning
+pub mod Fitting
+pub mod Growth
+pub mod Folding
