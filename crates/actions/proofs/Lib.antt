@@ -1,0 +1,4 @@
+pub mod ByteLists
+pub mod LocalRuns
+pub mod RowReads
+pub mod Changes

@@ -1,0 +1,16 @@
+pub mod Pointer
+pub mod ByteList
+pub mod StoredObject
+pub mod States
+pub mod Access
+pub mod Objects
+pub mod Behaviour
+pub mod ByStates
+pub mod LocalRun
+pub mod Memory
+pub mod Row
+pub mod AccessRows
+pub mod ObjectRows
+pub mod MutexRows
+pub mod ThreadRows
+pub mod Table

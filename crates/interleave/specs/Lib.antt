@@ -1,0 +1,9 @@
+pub mod Inputs
+pub mod Own
+pub mod World
+pub mod Turn
+pub mod Run
+pub mod Law
+pub mod Script
+pub mod View
+pub mod Effect
