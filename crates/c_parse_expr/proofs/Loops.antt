@@ -1,0 +1,153 @@
+-- The turns of the two loops.
+use Rattle.std.proofs.Common.{◌≡◌, ◌≤◌, ◌<◌, ◌+◌, max, ℕ, zero, suc, List, [], ◌∷◌, ◌++◌, length, Bool, cond, Option, Some, None, refl, ap, sym, subst, ◌∙◌, arith}
+use Rattle.c_lexer.specs.declared.token.Token.{Token}
+use Rattle.c_lexer.specs.declared.token.Mark.TheVariants as marks
+use Rattle.c_tree.specs.Tree.{Tree, Trees, call, none, more, depth, depth_of}
+use Rattle.c_tree.specs.Tables.{level_of}
+use Rattle.c_parse_expr.specs.declared.table.Suffix.{Suffix}
+use Rattle.c_parse_expr.specs.declared.table.Suffix.TheVariants as suffixes
+use Rattle.c_parse_expr.specs.Reading.{◌>>=◌, Read, Reader, behind, closed, next_at, rest_at, arguments_at, prefix_at, suffixed, turn, climb, reader}
+use Rattle.std.proofs.lemmas.Bool.{lt-ltb, le-ltb}
+use Rattle.c_tree.specs.declared.expr.Expr.{Expr, Call}
+use Rattle.c_tree.specs.Tree.{view, views_of}
+use Rattle.std.specs.Prelude.{Box, Vec}
+use Rattle.std.specs.Global.{Global}
+use Rattle.c_tree.proofs.Views.{view_call}
+use Rattle.c_parse_expr.specs.declared.fault.Refused.{Refused}
+use Rattle.c_parse_expr.specs.declared.fault.Refused.TheVariants as refusals
+use Rattle.c_parse_expr.specs.Reading.{Fails}
+use Rattle.c_parse_expr.proofs.Lists.{with_front, joined_none, front_more, views_push}
+
+pub fails_on : {Y Z : Type 0} (e : Refused) (o : Option Y) (p : Option Z) → (o ≡ None → p ≡ None) → Fails e o → Fails e p
+fails_on refusals.Memory o p f g = tt
+fails_on refusals.Syntax o p f g = f g
+
+-- arguments
+pub first_closes : (sub : Reader) (ts rest : List Token) (es : List Expr) → es ≡ [] → Some rest ≡ behind marks.RightParenthesis ts → arguments_at sub ts ≡ Some (views_of es, rest)
+unfolding arguments_at
+first_closes sub ts rest es e f =
+    ap (λ (o : Option (List Token)). closed o (sub 2 ts >>= λ a. rest_at (length ts + 1) sub a.1 >>= λ b. Some (more a.0 b.0, b.1))) (sym f)
+    ∙ ap (λ (xs : List Expr). Some (views_of xs, rest)) (sym e)
+
+first_opens : (sub : Reader) (ts : List Token) → None ≡ behind marks.RightParenthesis ts → arguments_at sub ts ≡ (sub 2 ts >>= λ a. rest_at (length ts + 1) sub a.1 >>= λ b. Some (more a.0 b.0, b.1))
+unfolding arguments_at
+first_opens sub ts f = ap (λ (o : Option (List Token)). closed o (sub 2 ts >>= λ a. rest_at (length ts + 1) sub a.1 >>= λ b. Some (more a.0 b.0, b.1))) (sym f)
+
+pub first_fails : (sub : Reader) (ts : List Token) → None ≡ behind marks.RightParenthesis ts → sub 2 ts ≡ None → arguments_at sub ts ≡ None
+first_fails sub ts f e = first_opens sub ts f ∙ ap (λ (o : Read). o >>= λ a. rest_at (length ts + 1) sub a.1 >>= λ b. Some (more a.0 b.0, b.1)) e
+
+pub first_goes : (sub : Reader) (ts rest : List Token) (e : Expr) (es : List Expr) → None ≡ behind marks.RightParenthesis ts → sub 2 ts ≡ Some (view e, rest) → es ≡ e ∷ [] → with_front (views_of es) (rest_at (length ts + 1) sub rest) ≡ arguments_at sub ts
+first_goes sub ts rest e es f g h =
+    ap (λ (xs : List Expr). with_front (views_of xs) (rest_at (length ts + 1) sub rest)) h
+    ∙ front_more none (view e) (rest_at (length ts + 1) sub rest)
+    ∙ alone (rest_at (length ts + 1) sub rest >>= λ b. Some (more (view e) b.0, b.1))
+    ∙ sym (first_opens sub ts f ∙ ap (λ (o : Read). o >>= λ a. rest_at (length ts + 1) sub a.1 >>= λ b. Some (more a.0 b.0, b.1)) g)
+  where
+    alone : (o : Option (Trees × List Token)) → with_front none o ≡ o
+    alone None = refl
+    alone (Some x) = refl
+
+-- what a turn of the arguments' loop reads
+abbrev pub Left : ℕ → Reader → Trees → List Token → Option (Trees × List Token) → Type 0
+Left m sub front rest all = with_front front (rest_at m sub rest) ≡ all
+
+pub closes : (m : ℕ) (sub : Reader) (front : Trees) (ts rest : List Token) (all : Option (Trees × List Token)) → length ts < m → Some rest ≡ behind marks.RightParenthesis ts → Left m sub front ts all → all ≡ Some (front, rest)
+unfolding rest_at
+closes zero sub front ts rest all h f e = absurd (omega arith)
+closes (suc m) sub front ts rest all h f e =
+    sym e ∙ ap (λ (o : Option (List Token)). with_front front (closed o (behind marks.Comma ts >>= λ r. sub 2 r >>= λ a. rest_at m sub a.1 >>= λ b. Some (more a.0 b.0, b.1)))) (sym f)
+    ∙ ap (λ (t : Trees). Some (t, rest)) (joined_none front)
+
+opens : (m : ℕ) (sub : Reader) (front : Trees) (ts : List Token) (all : Option (Trees × List Token)) → None ≡ behind marks.RightParenthesis ts → Left (suc m) sub front ts all → all ≡ with_front front (behind marks.Comma ts >>= λ r. sub 2 r >>= λ a. rest_at m sub a.1 >>= λ b. Some (more a.0 b.0, b.1))
+unfolding rest_at
+opens m sub front ts all f e =
+    sym e ∙ ap (λ (o : Option (List Token)). with_front front (closed o (behind marks.Comma ts >>= λ r. sub 2 r >>= λ a. rest_at m sub a.1 >>= λ b. Some (more a.0 b.0, b.1)))) (sym f)
+
+pub neither : (m : ℕ) (sub : Reader) (front : Trees) (ts : List Token) (all : Option (Trees × List Token)) → length ts < m → None ≡ behind marks.RightParenthesis ts → None ≡ behind marks.Comma ts → Left m sub front ts all → all ≡ None
+neither zero sub front ts all h f g e = absurd (omega arith)
+neither (suc m) sub front ts all h f g e =
+    opens m sub front ts all f e ∙ ap (λ (o : Option (List Token)). with_front front (o >>= λ r. sub 2 r >>= λ a. rest_at m sub a.1 >>= λ b. Some (more a.0 b.0, b.1))) (sym g)
+
+pub next_fails : (m : ℕ) (sub : Reader) (front : Trees) (ts mid : List Token) (all : Option (Trees × List Token)) → length ts < m → None ≡ behind marks.RightParenthesis ts → Some mid ≡ behind marks.Comma ts → Left m sub front ts all → sub 2 mid ≡ None → all ≡ None
+next_fails zero sub front ts mid all h f g e i = absurd (omega arith)
+next_fails (suc m) sub front ts mid all h f g e i =
+    opens m sub front ts all f e
+    ∙ ap (λ (o : Option (List Token)). with_front front (o >>= λ r. sub 2 r >>= λ a. rest_at m sub a.1 >>= λ b. Some (more a.0 b.0, b.1))) (sym g)
+    ∙ ap (λ (o : Read). with_front front (o >>= λ a. rest_at m sub a.1 >>= λ b. Some (more a.0 b.0, b.1))) i
+
+pub one_more : (m : ℕ) (sub : Reader) (es fs : List Expr) (x : Expr) (ts mid rest : List Token) (all : Option (Trees × List Token)) → length ts < m → length rest < length ts → None ≡ behind marks.RightParenthesis ts → Some mid ≡ behind marks.Comma ts → Left m sub (views_of es) ts all → sub 2 mid ≡ Some (view x, rest) → fs ≡ es ++ x ∷ [] → (m : ℕ) × (length rest < m) × Left m sub (views_of fs) rest all
+one_more zero sub es fs x ts mid rest all h l f g e i j = absurd (omega arith)
+one_more (suc m) sub es fs x ts mid rest all h l f g e i j = (
+  m,
+  omega arith,
+  ap (λ (xs : List Expr). with_front (views_of xs) (rest_at m sub rest)) j
+      ∙ ap (λ (t : Trees). with_front t (rest_at m sub rest)) (views_push es x)
+      ∙ front_more (views_of es) (view x) (rest_at m sub rest)
+      ∙ sym (opens m sub (views_of es) ts all f e
+      ∙ ap (λ (o : Option (List Token)). with_front (views_of es) (o >>= λ r. sub 2 r >>= λ a. rest_at m sub a.1 >>= λ b. Some (more a.0 b.0, b.1))) (sym g)
+      ∙ ap (λ (o : Read). with_front (views_of es) (o >>= λ a. rest_at m sub a.1 >>= λ b. Some (more a.0 b.0, b.1))) i),
+)
+
+pub depth_push : (es : List Expr) (e : Expr) → depth_of (views_of (es ++ e ∷ [])) ≡ max (depth_of (views_of es)) (depth (view e))
+depth_push [] e = omega arith
+depth_push (x ∷ es) e = let above = depth_push es e in omega arith
+
+-- suffixes
+pub reader_begins : (bytes : List ℕ) (n levels k : ℕ) (ts rest : List Token) (t : Tree) → suc n ≡ levels → prefix_at bytes (reader bytes n) ts ≡ Some (t, rest) → climb levels (reader bytes n) levels k t rest ≡ reader bytes levels k ts
+unfolding reader
+reader_begins bytes n levels k ts rest t e f =
+    subst (λ (l : ℕ). climb l (reader bytes n) l k t rest ≡ reader bytes l k ts) e
+    (sym (ap (λ (o : Read). o >>= λ x. climb (suc n) (reader bytes n) (suc n) k x.0 x.1) f))
+
+pub reader_fails : (bytes : List ℕ) (n levels k : ℕ) (ts : List Token) → suc n ≡ levels → prefix_at bytes (reader bytes n) ts ≡ None → reader bytes levels k ts ≡ None
+unfolding reader
+reader_fails bytes n levels k ts e f =
+    subst (λ (l : ℕ). reader bytes l k ts ≡ None) e (ap (λ (o : Read). o >>= λ x. climb (suc n) (reader bytes n) (suc n) k x.0 x.1) f)
+
+takes_turn : (m n k l : ℕ) (sub : Reader) (t : Tree) (ts : List Token) (o : Option (Suffix × ℕ × List Token)) → l ≡ level_of t → o ≡ next_at k l ts → climb (suc m) sub n k t ts ≡ turn sub n (climb m sub n k) t ts o
+unfolding climb
+takes_turn m n k l sub t ts o e f =
+    ap (λ (p : Option (Suffix × ℕ × List Token)). turn sub n (climb m sub n k) t ts p) (ap (λ (x : ℕ). next_at k x ts) (sym e) ∙ sym f)
+
+pub stops : (m n k l h : ℕ) (sub : Reader) (t : Tree) (ts : List Token) (all : Read) → n < m + h → h ≤ n → l ≡ level_of t → None ≡ next_at k l ts → climb m sub n k t ts ≡ all → all ≡ Some (t, ts)
+stops zero n k l h sub t ts all f g e i j = absurd (omega arith)
+stops (suc m) n k l h sub t ts all f g e i j = sym j ∙ takes_turn m n k l sub t ts None e i
+
+pub too_deep : (m n k l h : ℕ) (sub : Reader) (t : Tree) (ts : List Token) (s : Suffix × ℕ × List Token) (all : Read) → n < m + h → h ≤ n → h ≡ depth t → n ≤ h → l ≡ level_of t → Some s ≡ next_at k l ts → climb m sub n k t ts ≡ all → all ≡ None
+too_deep zero n k l h sub t ts s all f g d p e i j = absurd (omega arith)
+too_deep (suc m) n k l h sub t ts s all f g d p e i j =
+    sym j ∙ takes_turn m n k l sub t ts (Some s) e i
+    ∙ ap (λ (b : Bool). cond {A = Read} b (suffixed sub s.0 s.1 t s.2 >>= λ x. climb m sub n k x.0 x.1) None) (le-ltb (depth t) n (omega arith))
+
+climbs : (m n k l h : ℕ) (sub : Reader) (t : Tree) (ts : List Token) (s : Suffix × ℕ × List Token) (all : Read) → h ≡ depth t → h < n → l ≡ level_of t → Some s ≡ next_at k l ts → climb (suc m) sub n k t ts ≡ all → all ≡ (suffixed sub s.0 s.1 t s.2 >>= λ x. climb m sub n k x.0 x.1)
+climbs m n k l h sub t ts s all d p e i j =
+    sym j ∙ takes_turn m n k l sub t ts (Some s) e i
+    ∙ ap (λ (b : Bool). cond {A = Read} b (suffixed sub s.0 s.1 t s.2 >>= λ x. climb m sub n k x.0 x.1) None) (lt-ltb (depth t) n (omega arith))
+
+pub suffix_fails : (m n k l h : ℕ) (sub : Reader) (t : Tree) (ts : List Token) (s : Suffix × ℕ × List Token) (all : Read) → n < m + h → h ≡ depth t → h < n → l ≡ level_of t → Some s ≡ next_at k l ts → climb m sub n k t ts ≡ all → suffixed sub s.0 s.1 t s.2 ≡ None → all ≡ None
+suffix_fails zero n k l h sub t ts s all f d p e i j q = absurd (omega arith)
+suffix_fails (suc m) n k l h sub t ts s all f d p e i j q =
+    climbs m n k l h sub t ts s all d p e i j ∙ ap (λ (o : Read). o >>= λ x. climb m sub n k x.0 x.1) q
+
+pub goes_up : (m n k l h g : ℕ) (sub : Reader) (t u : Tree) (ts rest : List Token) (s : Suffix × ℕ × List Token) (all : Read) → n < m + h → h ≡ depth t → h < n → h < g → l ≡ level_of t → Some s ≡ next_at k l ts → climb m sub n k t ts ≡ all → suffixed sub s.0 s.1 t s.2 ≡ Some (u, rest) → (m : ℕ) × (n < m + g) × (climb m sub n k u rest ≡ all)
+goes_up zero n k l h g sub t u ts rest s all f d p w e i j q = absurd (omega arith)
+goes_up (suc m) n k l h g sub t u ts rest s all f d p w e i j q =
+    (m, omega arith, sym (climbs m n k l h sub t ts s all d p e i j ∙ ap (λ (o : Read). o >>= λ x. climb m sub n k x.0 x.1) q))
+
+-- a call
+pub call_made : (sub : Reader) (s : Suffix) (line : ℕ) (left : Expr) (ts rest : List Token) (f : Box Expr Global) (args : Vec Expr Global) → s ≡ suffixes.Arguments → f.value ≡ left → arguments_at sub ts ≡ Some (views_of args.items, rest) → suffixed sub s line (view left) ts ≡ Some (view (Call f args), rest)
+unfolding suffixed
+call_made sub s line left ts rest f args e v g =
+    ap (λ (x : Suffix). suffixed sub x line (view left) ts) e
+    ∙ ap (λ (o : Option (Trees × List Token)). o >>= λ a. Some (call (view left) a.0, a.1)) g
+    ∙ ap (λ (x : Expr). Some (call (view x) (views_of args.items), rest)) (sym v)
+    ∙ ap (λ (t : Tree). Some (t, rest)) (sym (view_call f args))
+
+pub call_depth : (h a r : ℕ) (left : Expr) (f : Box Expr Global) (args : Vec Expr Global) → r ≡ max h a → h ≡ depth (view left) → a ≡ depth_of (views_of args.items) → f.value ≡ left → r + 1 ≡ depth (view (Call f args))
+call_depth h a r left f args e g i v =
+    let whole = ap depth (view_call f args) in
+    let one = ap (λ (x : Expr). depth (view x)) v in
+    omega (arith, whole, one)
+
+pub fails_none : {Y : Type 0} (e : Refused) (o : Option Y) → e ≡ refusals.Syntax → Fails e o → o ≡ None
+fails_none e o is f = subst (λ (x : Refused). Fails x o) is f

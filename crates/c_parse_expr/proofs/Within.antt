@@ -1,0 +1,165 @@
+-- What a suffix can't go on with.
+use Rattle.std.proofs.Common.{◌≡◌, ◌≤◌, ◌<◌, ◌+◌, ℕ, Bool, true, false, ◌&&◌, ◌||◌, refl, ap, arith}
+use Rattle.std.specs.Prelude.{nat_le}
+use Rattle.std.proofs.lemmas.Bool.{lt-leb}
+use Rattle.c_tree.specs.declared.expr.BinaryOp.{BinaryOp}
+use Rattle.c_tree.specs.declared.expr.BinaryOp.TheVariants as binaries
+use Rattle.c_tree.specs.declared.expr.UnaryOp.{UnaryOp}
+use Rattle.c_tree.specs.declared.expr.UnaryOp.TheVariants as unaries
+use Rattle.c_tree.specs.Tree.{Tree, constant, name, parens, unary, step, binary, choice, assign, comma, call, depth}
+use Rattle.c_tree.specs.Tables.{strength_of, operand_level, level_of}
+use Rattle.c_tree.specs.Spelling.{IsWell}
+use Rattle.c_parse_expr.specs.declared.table.Suffix.{Suffix}
+use Rattle.c_parse_expr.specs.declared.table.Suffix.TheVariants as suffixes
+use Rattle.c_parse_expr.specs.Tables.{strength_behind, least_left}
+use Rattle.c_parse_expr.specs.Reading.{goes_on}
+use Rattle.c_parse_expr.specs.Standing.{goes_on_inside}
+
+pub at_least_four : (op : BinaryOp) → 4 ≤ strength_of op
+at_least_four binaries.LogicalOr = omega arith
+at_least_four binaries.LogicalAnd = omega arith
+at_least_four binaries.Or = omega arith
+at_least_four binaries.Xor = omega arith
+at_least_four binaries.And = omega arith
+at_least_four binaries.Equal = omega arith
+at_least_four binaries.NotEqual = omega arith
+at_least_four binaries.Less = omega arith
+at_least_four binaries.Greater = omega arith
+at_least_four binaries.LessEqual = omega arith
+at_least_four binaries.GreaterEqual = omega arith
+at_least_four binaries.ShiftLeft = omega arith
+at_least_four binaries.ShiftRight = omega arith
+at_least_four binaries.Add = omega arith
+at_least_four binaries.Subtract = omega arith
+at_least_four binaries.Multiply = omega arith
+at_least_four binaries.Divide = omega arith
+at_least_four binaries.Remainder = omega arith
+
+pub at_most_thirteen : (op : BinaryOp) → strength_of op ≤ 13
+at_most_thirteen binaries.LogicalOr = omega arith
+at_most_thirteen binaries.LogicalAnd = omega arith
+at_most_thirteen binaries.Or = omega arith
+at_most_thirteen binaries.Xor = omega arith
+at_most_thirteen binaries.And = omega arith
+at_most_thirteen binaries.Equal = omega arith
+at_most_thirteen binaries.NotEqual = omega arith
+at_most_thirteen binaries.Less = omega arith
+at_most_thirteen binaries.Greater = omega arith
+at_most_thirteen binaries.LessEqual = omega arith
+at_most_thirteen binaries.GreaterEqual = omega arith
+at_most_thirteen binaries.ShiftLeft = omega arith
+at_most_thirteen binaries.ShiftRight = omega arith
+at_most_thirteen binaries.Add = omega arith
+at_most_thirteen binaries.Subtract = omega arith
+at_most_thirteen binaries.Multiply = omega arith
+at_most_thirteen binaries.Divide = omega arith
+at_most_thirteen binaries.Remainder = omega arith
+
+pub operand_low : (op : UnaryOp) → operand_level op ≤ 15
+operand_low unaries.Increment = omega arith
+operand_low unaries.Decrement = omega arith
+operand_low unaries.Plus = omega arith
+operand_low unaries.Minus = omega arith
+operand_low unaries.Complement = omega arith
+operand_low unaries.Not = omega arith
+
+pub operand_high : (op : UnaryOp) → 14 ≤ operand_level op
+operand_high unaries.Increment = omega arith
+operand_high unaries.Decrement = omega arith
+operand_high unaries.Plus = omega arith
+operand_high unaries.Minus = omega arith
+operand_high unaries.Complement = omega arith
+operand_high unaries.Not = omega arith
+
+-- a suffix makes no node of a higher level than its left operand
+strength_below : (s : Suffix) → strength_behind s ≤ least_left s
+strength_below (suffixes.Operator op) = omega arith
+strength_below (suffixes.Becomes op) = omega arith
+strength_below suffixes.Choice = omega arith
+strength_below suffixes.Then = omega arith
+strength_below (suffixes.Step op) = omega arith
+strength_below suffixes.Arguments = omega arith
+
+behind_three : (s : Suffix) → least_left s ≤ 3 → strength_behind s < 2
+behind_three (suffixes.Operator op) h = let f = at_least_four op in omega arith
+behind_three (suffixes.Becomes op) h = omega arith
+behind_three suffixes.Choice h = omega arith
+behind_three suffixes.Then h = omega arith
+behind_three (suffixes.Step op) h = omega arith
+behind_three suffixes.Arguments h = omega arith
+
+behind_fifteen : (s : Suffix) → strength_behind s < 16 → strength_behind s < 14
+behind_fifteen (suffixes.Operator op) h = let f = at_most_thirteen op in omega arith
+behind_fifteen (suffixes.Becomes op) h = omega arith
+behind_fifteen suffixes.Choice h = omega arith
+behind_fifteen suffixes.Then h = omega arith
+behind_fifteen (suffixes.Step op) h = omega arith
+behind_fifteen suffixes.Arguments h = omega arith
+
+pub and_false : (a b : Bool) → a ≡ false → (a && b) ≡ false
+and_false a b e = ap (λ (x : Bool). x && b) e
+
+pub or_false : (a b : Bool) → a ≡ false → b ≡ false → (a || b) ≡ false
+or_false true b e f = cc
+or_false false b e f = f
+
+pub goes_not : (k l : ℕ) (s : Suffix) → strength_behind s < k → goes_on k l s ≡ false
+goes_not k l s h = and_false (nat_le k (strength_behind s)) (nat_le (least_left s) l) (lt-leb k (strength_behind s) h)
+
+-- a suffix of a level below a tree's goes on with nothing within it
+pub low : (t : Tree) (s : Suffix) → strength_behind s < level_of t → strength_behind s < 16 → IsWell t → goes_on_inside t s ≡ false
+low (constant line c) s h q w = refl
+low (name line n) s h q w = refl
+low (parens line e) s h q w = refl
+low (unary line op e) s h q w =
+    let f = behind_fifteen s q in
+    let g = operand_high op in
+    or_false (goes_on (operand_level op) (level_of e) s) (goes_on_inside e s) (goes_not (operand_level op) (level_of e) s (omega arith)) (low e s (omega (arith, w.0)) q w.1)
+low (step line op e) s h q w = refl
+low (binary line op a b) s h q w =
+    or_false (goes_on (strength_of op + 1) (level_of b) s) (goes_on_inside b s) (goes_not (strength_of op + 1) (level_of b) s (omega arith)) (low b s (omega (arith, w.1)) q w.3)
+low (choice line a b c) s h q w =
+    or_false (goes_on 3 (level_of c) s) (goes_on_inside c s) (goes_not 3 (level_of c) s (omega arith)) (low c s (omega (arith, w.2)) q w.5)
+low (assign line op a b) s h q w =
+    or_false (goes_on 2 (level_of b) s) (goes_on_inside b s) (goes_not 2 (level_of b) s (omega arith)) (low b s (omega (arith, w.1)) q w.3)
+low (comma line a b) s h q w =
+    or_false (goes_on 2 (level_of b) s) (goes_on_inside b s) (goes_not 2 (level_of b) s (omega arith)) (low b s (omega (arith, w.1)) q w.3)
+low (call f args) s h q w = refl
+
+-- a suffix goes on with nothing within its left operand
+pub quiet : (t : Tree) (s : Suffix) → least_left s ≤ level_of t → IsWell t → goes_on_inside t s ≡ false
+quiet (constant line c) s h w = refl
+quiet (name line n) s h w = refl
+quiet (parens line e) s h w = refl
+quiet (unary line op e) s h w =
+    let f = behind_fifteen s (let b = strength_below s in omega arith) in
+    let g = operand_high op in
+    or_false (goes_on (operand_level op) (level_of e) s) (goes_on_inside e s) (goes_not (operand_level op) (level_of e) s (omega arith)) (low e s (omega (arith, w.0)) (omega arith) w.1)
+quiet (step line op e) s h w = refl
+quiet (binary line op a b) s h w =
+    let f = strength_below s in
+    let g = at_most_thirteen op in
+    or_false (goes_on (strength_of op + 1) (level_of b) s) (goes_on_inside b s) (goes_not (strength_of op + 1) (level_of b) s (omega arith)) (low b s (omega (arith, w.1)) (omega arith) w.3)
+quiet (choice line a b c) s h w =
+    let f = behind_three s h in
+    or_false (goes_on 3 (level_of c) s) (goes_on_inside c s) (goes_not 3 (level_of c) s (omega arith)) (low c s (omega (arith, w.2)) (omega arith) w.5)
+quiet (assign line op a b) s h w =
+    let f = behind_three s (omega arith) in
+    or_false (goes_on 2 (level_of b) s) (goes_on_inside b s) (goes_not 2 (level_of b) s (omega arith)) (low b s (omega (arith, w.1)) (omega arith) w.3)
+quiet (comma line a b) s h w =
+    let f = behind_three s (omega arith) in
+    or_false (goes_on 2 (level_of b) s) (goes_on_inside b s) (goes_not 2 (level_of b) s (omega arith)) (low b s (omega (arith, w.1)) (omega arith) w.3)
+quiet (call f args) s h w = refl
+
+-- a tree has a level at least
+pub has_depth : (t : Tree) → 1 ≤ depth t
+has_depth (constant line c) = omega arith
+has_depth (name line n) = omega arith
+has_depth (parens line e) = omega arith
+has_depth (unary line op e) = omega arith
+has_depth (step line op e) = omega arith
+has_depth (binary line op a b) = omega arith
+has_depth (choice line a b c) = omega arith
+has_depth (assign line op a b) = omega arith
+has_depth (comma line a b) = omega arith
+has_depth (call f args) = omega arith

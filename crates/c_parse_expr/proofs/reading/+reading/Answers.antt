@@ -1,0 +1,129 @@
+use Rattle.std.proofs.Common.{◌≡◌, ◌+◌, ◌-◌, ◌++◌, List, [], ◌∷◌, length, ap, ◌∙◌, arith}
+use Rattle.std.proofs.lemmas.Result.{err_from_is_err_and}
+use Rattle.c_tree.specs.declared.expr.Expr.{Expr}
+use Rattle.c_tree.specs.Tree.{view, views_of, depth_of}
+use Rattle.c_parse_expr.specs.Reading.{reader, suffixed, arguments_at}
+use Rattle.c_parse_expr.proofs.Within.{has_depth}
+use Rattle.c_parse_expr.proofs.Loops.{fails_on, first_closes, first_fails, first_goes, closes, neither, next_fails, one_more, depth_push, reader_begins, stops, too_deep, suffix_fails, goes_up, call_made, call_depth}
+use Rattle.c_parse_expr.proofs.reading.+reading.Goals as goal
+
+pub arguments-returns-in-Some-clause-exact : goal.arguments-returns-in-Some-clause-exact
+arguments-returns-in-Some-clause-exact t c =
+    first_closes (reader c.args.bytes.now c.args.levels) c.args.tokens.now c.in-Some.rest.now c.new-items.result.items c.new-items.ensures.items c.in-Some.ensures.value
+
+pub arguments-returns-in_err-first-clause-exact : goal.arguments-returns-in_err-first-clause-exact
+arguments-returns-in_err-first-clause-exact t c =
+    let p = err_from_is_err_and c.from_residual.result c.from_residual.ensures.1 in
+    let sub = reader c.args.bytes.now c.args.levels in
+    rw (p.1, p.2) (fails_on c.in_err-first.field-0.0 (sub 2 c.args.tokens.now) (arguments_at sub c.args.tokens.now) (first_fails sub c.args.tokens.now c.in_default.ensures.value) c.in_err-first.ensures.exact)
+
+pub arguments-items-init : goal.arguments-items-init
+arguments-items-init t c =
+    let items : c.push.new.self.items ≡ c.in_ok-first.first.tree ∷ [] = c.in_ok-push.ensures.items ∙ ap (λ (xs : List Expr). xs ++ c.in_ok-first.first.tree ∷ []) c.new-items.ensures.items in
+    let deep = ap (λ (xs : List Expr). depth_of (views_of xs)) items in
+    record {
+      height = omega (arith, deep, c.in_ok-first.ensures.height);
+      low = c.in_ok-first.ensures.low;
+      shorter = c.in_ok-first.ensures.shorter;
+      exact = (
+        length c.args.tokens.now + 1,
+        omega (arith, c.in_ok-first.ensures.shorter),
+        first_goes (reader c.args.bytes.now c.args.levels) c.args.tokens.now c.in_ok-first.first.rest.now c.in_ok-first.first.tree c.push.new.self.items c.in_default.ensures.value c.in_ok-first.ensures.exact items,
+      );
+    }
+
+pub arguments-returns-in-Some-behind_mark-clause-exact : goal.arguments-returns-in-Some-behind_mark-clause-exact
+arguments-returns-in-Some-behind_mark-clause-exact t c =
+    let e = c.items.invariant.exact in
+    closes e.0 (reader c.args.bytes.now c.args.levels) (views_of c.items.items.items) c.items.rest.now c.in-Some-behind_mark.behind.now (arguments_at (reader c.args.bytes.now c.args.levels) c.args.tokens.now) e.1 c.in-Some-behind_mark.ensures.value e.2
+
+pub arguments-returns-in_default-behind_mark-2-clause-exact : goal.arguments-returns-in_default-behind_mark-2-clause-exact
+arguments-returns-in_default-behind_mark-2-clause-exact t c =
+    let e = c.items.invariant.exact in
+    neither e.0 (reader c.args.bytes.now c.args.levels) (views_of c.items.items.items) c.items.rest.now (arguments_at (reader c.args.bytes.now c.args.levels) c.args.tokens.now) e.1 c.in_default-behind_mark.ensures.value c.in_default-behind_mark-2.ensures.value e.2
+
+pub arguments-returns-in_err-next-clause-exact : goal.arguments-returns-in_err-next-clause-exact
+arguments-returns-in_err-next-clause-exact t c =
+    let p = err_from_is_err_and c.from_residual-in_err-next.result c.from_residual-in_err-next.ensures.1 in
+    let sub = reader c.args.bytes.now c.args.levels in
+    let e = c.items.invariant.exact in
+    rw (p.1, p.2) (fails_on c.in_err-next.field-0.0 (sub 2 c.in-Some-behind_mark-2.behind.now) (arguments_at sub c.args.tokens.now)
+    (next_fails e.0 sub (views_of c.items.items.items) c.items.rest.now c.in-Some-behind_mark-2.behind.now (arguments_at sub c.args.tokens.now) e.1 c.in_default-behind_mark.ensures.value c.in-Some-behind_mark-2.ensures.value e.2)
+    c.in_err-next.ensures.exact)
+
+pub arguments-items-preserved : goal.arguments-items-preserved
+arguments-items-preserved t c =
+    let sub = reader c.args.bytes.now c.args.levels in
+    let e = c.items.invariant.exact in
+    let items = c.in_ok-push-2.ensures.items in
+    let deep = ap (λ (xs : List Expr). depth_of (views_of xs)) items ∙ depth_push c.items.items.items c.in_ok-next.next.tree in
+    record {
+      height = omega (arith, deep, c.in_ok-next.ensures.height, c.items.invariant.height, c.larger-height.ensures);
+      low = omega (arith, c.in_ok-next.ensures.low, c.items.invariant.low, c.larger-height.ensures);
+      shorter = omega (arith, c.in_ok-next.ensures.shorter, c.items.invariant.shorter, c.in-Some-behind_mark-2.ensures.shorter);
+      exact = one_more e.0 sub c.items.items.items c.push-in-items.new.self.items c.in_ok-next.next.tree c.items.rest.now c.in-Some-behind_mark-2.behind.now c.in_ok-next.next.rest.now (arguments_at sub c.args.tokens.now)
+          e.1 (omega (arith, c.in_ok-next.ensures.shorter, c.in-Some-behind_mark-2.ensures.shorter)) c.in_default-behind_mark.ensures.value c.in-Some-behind_mark-2.ensures.value e.2 c.in_ok-next.ensures.exact items;
+    }
+
+pub read-suffixes-init : goal.read-suffixes-init
+read-suffixes-init t c =
+    let one = has_depth (view c.in_ok-found.found.tree) in
+    record {
+      height = c.in_ok-found.ensures.height;
+      low = omega (arith, c.in_ok-found.ensures.low);
+      some = omega arith;
+      shorter = c.in_ok-found.ensures.shorter;
+      exact = (
+        c.args.levels,
+        omega (arith, c.in_ok-found.ensures.height),
+        reader_begins c.args.bytes.now (c.args.levels - 1) c.args.levels c.args.level c.args.tokens.now c.in_ok-found.found.rest.now (view c.in_ok-found.found.tree) (omega arith) c.in_ok-found.ensures.exact,
+      );
+    }
+
+pub read-returns-then-found-levels-clause-exact : goal.read-returns-then-found-levels-clause-exact
+read-returns-then-found-levels-clause-exact t c =
+    let e = c.suffixes.invariant.exact in
+    too_deep e.0 c.args.levels c.args.level c.level_of.result c.suffixes.found.height (reader c.args.bytes.now (c.args.levels - 1)) (view c.suffixes.found.tree) c.suffixes.found.rest.now
+    (c.in-Some.suffix, c.in-Some.line, c.in-Some.rest.now) (reader c.args.bytes.now c.args.levels c.args.level c.args.tokens.now)
+    e.1 c.suffixes.invariant.low c.suffixes.invariant.height c.if-found-levels.true c.level_of.ensures c.in-Some.ensures.value e.2
+
+pub read-returns-in_err-found-2-clause-exact : goal.read-returns-in_err-found-2-clause-exact
+read-returns-in_err-found-2-clause-exact t c =
+    let p = err_from_is_err_and c.from_residual-in_err-found-2.result c.from_residual-in_err-found-2.ensures.1 in
+    let sub = reader c.args.bytes.now (c.args.levels - 1) in
+    let e = c.suffixes.invariant.exact in
+    let all = reader c.args.bytes.now c.args.levels c.args.level c.args.tokens.now in
+    rw (p.1, p.2) (fails_on c.in_err-found-2.field-0.0 (suffixed sub c.in-Some.suffix c.in-Some.line (view c.suffixes.found.tree) c.in-Some.rest.now) all
+    (suffix_fails e.0 c.args.levels c.args.level c.level_of.result c.suffixes.found.height sub (view c.suffixes.found.tree) c.suffixes.found.rest.now
+    (c.in-Some.suffix, c.in-Some.line, c.in-Some.rest.now) all
+    e.1 c.suffixes.invariant.height c.if-found-levels.false c.level_of.ensures c.in-Some.ensures.value e.2)
+    c.in_err-found-2.ensures.exact)
+
+pub read-suffixes-preserved : goal.read-suffixes-preserved
+read-suffixes-preserved t c =
+    let e = c.suffixes.invariant.exact in
+    record {
+      height = c.in_ok-found-2.ensures.height;
+      low = omega (arith, c.in_ok-found-2.ensures.low, c.suffixes.invariant.some);
+      some = c.suffixes.invariant.some;
+      shorter = omega (arith, c.in_ok-found-2.ensures.shorter, c.in-Some.ensures.shorter, c.suffixes.invariant.shorter);
+      exact = goes_up e.0 c.args.levels c.args.level c.level_of.result c.suffixes.found.height c.in_ok-found-2.found.height (reader c.args.bytes.now (c.args.levels - 1)) (view c.suffixes.found.tree) (view c.in_ok-found-2.found.tree) c.suffixes.found.rest.now c.in_ok-found-2.found.rest.now
+          (c.in-Some.suffix, c.in-Some.line, c.in-Some.rest.now) (reader c.args.bytes.now c.args.levels c.args.level c.args.tokens.now)
+          e.1 c.suffixes.invariant.height c.if-found-levels.false c.in_ok-found-2.ensures.higher c.level_of.ensures c.in-Some.ensures.value e.2 c.in_ok-found-2.ensures.exact;
+    }
+
+pub read-returns-clause-exact : goal.read-returns-clause-exact
+read-returns-clause-exact t c =
+    let e = c.suffixes.invariant.exact in
+    stops e.0 c.args.levels c.args.level c.level_of.result c.suffixes.found.height (reader c.args.bytes.now (c.args.levels - 1)) (view c.suffixes.found.tree) c.suffixes.found.rest.now (reader c.args.bytes.now c.args.levels c.args.level c.args.tokens.now)
+    e.1 c.suffixes.invariant.low c.level_of.ensures c.in_default.ensures.value e.2
+
+pub suffix_behind-returns-in_ok-function-in-Arguments-clause-exact : goal.suffix_behind-returns-in_ok-function-in-Arguments-clause-exact
+suffix_behind-returns-in_ok-function-in-Arguments-clause-exact t c =
+    call_made (reader c.args.bytes.now c.args.levels) c.args.suffix c.args.line c.args.left c.args.tokens.now c.in_ok-arguments-in-Arguments.arguments.rest.now c.in_ok-function-in-Arguments.function c.in_ok-arguments-in-Arguments.arguments.items
+    c.in-Arguments.is c.in_ok-function-in-Arguments.ensures.ok c.in_ok-arguments-in-Arguments.ensures.exact
+
+pub suffix_behind-returns-in_ok-function-in-Arguments-clause-height : goal.suffix_behind-returns-in_ok-function-in-Arguments-clause-height
+suffix_behind-returns-in_ok-function-in-Arguments-clause-height t c =
+    call_depth c.args.height c.in_ok-arguments-in-Arguments.arguments.height c.larger-height-in-Arguments.result c.args.left c.in_ok-function-in-Arguments.function c.in_ok-arguments-in-Arguments.arguments.items
+    c.larger-height-in-Arguments.ensures c.requires.height c.in_ok-arguments-in-Arguments.ensures.height c.in_ok-function-in-Arguments.ensures.ok

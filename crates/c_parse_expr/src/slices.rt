@@ -1,0 +1,167 @@
+//! Taking tokens from the front of a slice.
+
+ghost use Rattle.std.specs.Prelude.{◌≡◌, ◌<◌, [], ◌∷◌, MatchOption, IfSome, IfOk, length, option_map};
+ghost use Rattle.c_lexer.specs.Kinds.{text_of};
+ghost use Rattle.c_tree.specs.Tables.{name_level};
+ghost use Rattle.c_tree.specs.Tree.{view};
+ghost use Rattle.c_tree.specs.Tables.{level_of};
+ghost use Rattle.c_parse_expr.specs.Reading.{behind, is_mark, next_at, goes_on};
+
+use crate::table::{Suffix, least_left, strength_behind, strength_of, suffix_of};
+use c_lexer::{Kind, Mark, Token};
+use c_tree::{Expr, Name};
+use std::alloc::{AllocError, Global};
+
+/// The first token and those behind it.
+pub fn split(tokens: &[Token]) -> Option<(Token, &[Token])>
+    ensures { MatchOption result (tokens.now ≡ []) (λ x. tokens.now ≡ x.0 ∷ x.1.now) }
+{
+    match tokens {
+        [first, rest @ ..] => Some((*first, rest)),
+        [] => None,
+    }
+}
+
+fn is_mark(mark: Mark, kind: Kind) -> bool
+    ensures { result ≡ is_mark mark kind }
+{
+    match kind {
+        Kind::Identifier => false,
+        Kind::Keyword(_) => false,
+        Kind::Constant(_) => false,
+        Kind::Character(_) => false,
+        Kind::String => false,
+        Kind::Mark(found) => found.text() == mark.text(),
+    }
+}
+
+/// The tokens behind a mark at the front.
+#[tactic(auto, unfolding(crate::specs::Reading::behind))]
+pub fn behind_mark(tokens: &[Token], mark: Mark) -> Option<&[Token]>
+    ensures value { option_map (λ x. x.now) result ≡ behind mark tokens.now }
+    ensures shorter { IfSome result (λ x. length x.now < length tokens.now) }
+{
+    match split(tokens) {
+        Some((token, rest)) => {
+            if is_mark(mark, token.kind) {
+                Some(rest)
+            } else {
+                None
+            }
+        }
+        None => None,
+    }
+}
+
+fn goes_on(level: u8, left: u8, suffix: Suffix) -> bool
+    ensures { result ≡ goes_on level left suffix }
+{
+    level <= strength_behind(suffix) && least_left(suffix) <= left
+}
+
+/// The suffix at the front that goes on with a left operand of a level, its line, and the tokens behind it.
+#[tactic(auto, unfolding(crate::specs::Reading::next_at))]
+pub fn next_suffix(tokens: &[Token], level: u8, left: u8) -> Option<(Suffix, u32, &[Token])>
+    ensures value { option_map (λ x. (x.0, x.1, x.2.now)) result ≡ next_at level left tokens.now }
+    ensures shorter { IfSome result (λ x. length x.2.now < length tokens.now) }
+{
+    match split(tokens) {
+        Some((token, rest)) => match suffix_of(token.kind) {
+            Some(suffix) => {
+                if goes_on(level, left, suffix) {
+                    Some((suffix, token.line, rest))
+                } else {
+                    None
+                }
+            }
+            None => None,
+        },
+        None => None,
+    }
+}
+
+/// The text of a token in the bytes.
+fn text(bytes: &[u8], token: Token) -> &[u8]
+    ensures { result.now ≡ text_of bytes.now token }
+{
+    let start = token.start as usize;
+    if bytes.len() <= start {
+        return &[];
+    }
+    let (_, rest) = bytes.split_at(start);
+    let length = token.length as usize;
+    if rest.len() <= length {
+        return rest;
+    }
+    rest.split_at(length).0
+}
+
+/// The name that a token spells.
+pub fn name_of(alloc: Global, bytes: &[u8], token: Token) -> Result<Name, AllocError>
+    ensures { IfOk result (λ name. name.bytes.items ≡ text_of bytes.now token) }
+{
+    let bytes = text(bytes, token).iter().copied().collect(alloc)?;
+    Ok(Name { bytes })
+}
+
+fn name_level(name: &Name) -> u8
+    ensures { result ≡ name_level name.now.bytes.items }
+{
+    if name.bytes.as_slice() == b"main".as_slice() {
+        17
+    } else {
+        18
+    }
+}
+
+/// The level of a tree: comma 1, assignment 2, `?:` 3, the binary operators 4 to 13, unary 15, postfix 16, primary 17, and 18
+/// for a name that can be called.
+pub fn level_of(expr: &Expr) -> u8
+    ensures { result ≡ level_of (view expr.now) }
+{
+    match expr {
+        Expr::Constant {
+            line: _,
+            constant: _,
+        } => 17,
+        Expr::Name { line: _, name } => name_level(name),
+        Expr::Parens { line: _, inner: _ } => 17,
+        Expr::Unary {
+            line: _,
+            operator: _,
+            operand: _,
+        } => 15,
+        Expr::Step {
+            line: _,
+            operator: _,
+            operand: _,
+        } => 16,
+        Expr::Binary {
+            line: _,
+            operator,
+            left: _,
+            right: _,
+        } => strength_of(*operator),
+        Expr::Choice {
+            line: _,
+            test: _,
+            yes: _,
+            no: _,
+        } => 3,
+        Expr::Assign {
+            line: _,
+            operator: _,
+            place: _,
+            value: _,
+        } => 2,
+        Expr::Comma {
+            line: _,
+            left: _,
+            right: _,
+        } => 1,
+        Expr::Call {
+            function: _,
+            arguments: _,
+        } => 16,
+    }
+}
