@@ -27,7 +27,7 @@ abbrev pub action_of : ℕ → Step → Action
 action_of register (Read p) = action.Read p 1
 action_of register (Write p) = action.Write p ((register + 1) % 256 ∷ []) false
 action_of register (Assert n) = action.Free 0
-action_of register (Look p) = action.Look p true
+action_of register (Look p subscript) = action.Look p subscript
 action_of register (Draw n) = action.Draw n
 action_of register Alloc = action.Alloc (stored 0 [] true false true [])
 action_of register (Die number) = action.Die number

@@ -16,7 +16,8 @@ pub enum Step {
     Write(u64),
     /// Breaks unless the register has this number.
     Assert(u32),
-    Look(u64),
+    /// Looks at an object's size, for a subscript or else for a pointer sum.
+    Look(u64, bool),
     /// Draws bits; the register gets the low 8.
     Draw(DrawBits),
     /// Makes an empty object.
@@ -88,7 +89,7 @@ fn action_of(alloc: Global, register: u8, step: Step) -> Result<Action, AllocErr
             Action::Write(p, Bytes::new(Vec::from_slice(alloc, &[byte])?), false)
         }
         Step::Assert(_) => Action::Free(0),
-        Step::Look(p) => Action::Look(p, true),
+        Step::Look(p, subscript) => Action::Look(p, subscript),
         Step::Draw(bits) => Action::Draw(bits),
         Step::Alloc => Action::Alloc(empty_object(alloc)),
         Step::Die(number) => Action::Die(number),

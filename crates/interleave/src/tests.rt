@@ -217,7 +217,7 @@ fn breaks_and_draws(rt: HostRuntime) -> Result<(), Fail> {
     let byte = DrawBits::new(8);
     let bit = DrawBits::new(1);
     // A script of thread 0 alone; the class that its last step breaks, or none.
-    let rows: [(&[Step], Option<Class>); 20] = [
+    let rows: [(&[Step], Option<Class>); 21] = [
         (
             &[
                 Step::Draw(byte),
@@ -237,7 +237,8 @@ fn breaks_and_draws(rt: HostRuntime) -> Result<(), Fail> {
             None,
         ),
         (&[Step::Assert(1)], Some(Class::Assertion)),
-        (&[Step::Look(0)], Some(Class::Null)),
+        (&[Step::Look(0, true)], Some(Class::Null)),
+        (&[Step::Look(0, false)], Some(Class::Pointer)),
         (&[Step::Read(0x9_0000_0000)], Some(Class::InvalidPointer)),
         (&[Step::Die(1), Step::Read(BYTE)], Some(Class::Lifetime)),
         (
@@ -256,9 +257,9 @@ fn breaks_and_draws(rt: HostRuntime) -> Result<(), Fail> {
         (
             &[
                 Step::Alloc,
-                Step::Look(0x3_0000_0000),
+                Step::Look(0x3_0000_0000, true),
                 Step::Free(0x3_0000_0000),
-                Step::Look(0x3_0000_0000),
+                Step::Look(0x3_0000_0000, true),
             ],
             Some(Class::Lifetime),
         ),
