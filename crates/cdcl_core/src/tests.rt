@@ -285,32 +285,30 @@ fn exclude(alloc: Global, cnf: &mut Cnf, literals: &[Lit], number: u32) -> Resul
     add(alloc, cnf, &clause)
 }
 
-// The number that the operation gives, where it can give no other.
+// The number that the operation gives of these operands, where it can give no other.
 fn only_number(
     alloc: Global,
+    cnf: &mut Cnf,
     operation: Operation,
-    width: u32,
-    (x, y): (u32, u32),
+    (a, x): (&[Lit], u32),
+    (b, y): (&[Lit], u32),
 ) -> Result<Option<u32>, Fail> {
-    let mut cnf = Cnf::new(alloc);
-    let a = variables(alloc, &mut cnf, width)?;
-    let b = variables(alloc, &mut cnf, width)?;
     if a.len() != b.len()
         || !(1..=64).contains(&a.len())
-        || !is_within(&a, cnf.variables())
-        || !is_within(&b, cnf.variables())
+        || !is_within(a, cnf.variables())
+        || !is_within(b, cnf.variables())
     {
         return Ok(None);
     }
-    let result = built(alloc, &mut cnf, operation, &a, &b)?;
-    fix(alloc, &mut cnf, &a, x)?;
-    fix(alloc, &mut cnf, &b, y)?;
-    let Answer::Sat(model) = solve(alloc, &cnf)? else {
+    let result = built(alloc, cnf, operation, a, b)?;
+    fix(alloc, cnf, a, x)?;
+    fix(alloc, cnf, b, y)?;
+    let Answer::Sat(model) = solve(alloc, cnf)? else {
         return Ok(None);
     };
     let number = number_of(&model, &result);
-    exclude(alloc, &mut cnf, &result, number)?;
-    match solve(alloc, &cnf)? {
+    exclude(alloc, cnf, &result, number)?;
+    match solve(alloc, cnf)? {
         Answer::Sat(_) => Ok(None),
         Answer::Unsat => Ok(Some(number)),
     }
@@ -323,7 +321,10 @@ fn gates_of_small_words(rt: HostRuntime) -> Result<(), Fail> {
         for operation in OPERATIONS {
             for x in 0..=mask {
                 for y in 0..=mask {
-                    let number = only_number(alloc, operation, width, (x, y))?;
+                    let mut cnf = Cnf::new(alloc);
+                    let a = variables(alloc, &mut cnf, width)?;
+                    let b = variables(alloc, &mut cnf, width)?;
+                    let number = only_number(alloc, &mut cnf, operation, (&a, x), (&b, y))?;
                     assert_eq!(rt;
                         number,
                         Some(expected(operation, width, mask, x, y)),
@@ -331,6 +332,49 @@ fn gates_of_small_words(rt: HostRuntime) -> Result<(), Fail> {
                     );
                 }
             }
+        }
+    }
+    Ok(())
+}
+
+// Copies of a literal and its inverse that give the number where the literal is true.
+fn constants(alloc: Global, one: Lit, count: u32, number: u32) -> Result<Vec<Lit>, AllocError> {
+    let mut literals = Vec::new(alloc);
+    let mut rest = number;
+    for _ in 0..count {
+        literals.push(if rest % 2 == 1 { one } else { one.inverse() })?;
+        rest /= 2;
+    }
+    Ok(literals)
+}
+
+// The operations that cost no variable where their second operand is this constant.
+fn is_free(operation: Operation, y: u32) -> bool {
+    match operation {
+        Operation::Left => true,
+        Operation::Product => y.is_power_of_two(),
+        _ => false,
+    }
+}
+
+#[test]
+fn gates_with_a_constant(rt: HostRuntime) -> Result<(), Fail> {
+    let alloc = rt.alloc();
+    let (width, mask) = (3, 7);
+    for operation in OPERATIONS {
+        for (x, y) in [(5, 0), (3, 1), (7, 2), (6, 3), (1, 4), (2, 7)] {
+            let mut cnf = Cnf::new(alloc);
+            let one = cnf.fresh()?;
+            add(alloc, &mut cnf, &[one])?;
+            let a = variables(alloc, &mut cnf, width)?;
+            let b = constants(alloc, one, width, y)?;
+            let number = only_number(alloc, &mut cnf, operation, (&a, x), (&b, y))?;
+            assert_eq!(rt;
+                number,
+                Some(expected(operation, width, mask, x, y)),
+                "{operation:?} {x} {y}"
+            );
+            assert!(rt; !is_free(operation, y) || cnf.variables() == 4, "{operation:?} {y}");
         }
     }
     Ok(())

@@ -8,7 +8,7 @@ use Rattle.sat_form.specs.Numbers.{bit_value, value_of}
 use Rattle.sat_form.proofs.Numbering.{value_of-append, value_of-below}
 use Rattle.sat_form.proofs.Within.{IsWithin-weaker, IsWithin-push}
 use Rattle.words.specs.Operators.{word_sum}
-use Rattle.gate_arith.specs.Growth.{Grows}
+use Rattle.gate_arith.specs.Growth.{GrowsFreely}
 use Rattle.gate_arith.specs.Truth.{IsTruth, IsNumber, differs, most}
 use Rattle.gate_arith.specs.Sums.{IsBitSum, IsSum}
 use Rattle.gate_arith.proofs.Growing.{front}
@@ -52,7 +52,7 @@ place p s t c d a b u v n low bit =
     let scaled : p * (t + 2 * d) ≡ p * (u + v + c) = ap (λ (m : ℕ). p * m) bit in
     grind (arith, scaled)
 
-pub Sum_more : (f g : Form) (a b : List Literal) (start : Literal) (sum : List Literal) (carry x y bit next : Literal) → IsSum f a b start sum carry → Grows f g → length a ≡ length b → IsBitSum g x y carry bit next → IsSum g (a ++ x ∷ []) (b ++ y ∷ []) start (sum ++ bit ∷ []) next
+pub Sum_more : (f g : Form) (a b : List Literal) (start : Literal) (sum : List Literal) (carry x y bit next : Literal) → IsSum f a b start sum carry → GrowsFreely f g → length a ≡ length b → IsBitSum g x y carry bit next → IsSum g (a ++ x ∷ []) (b ++ y ∷ []) start (sum ++ bit ∷ []) next
 Sum_more f g a b start sum carry x y bit next so_far grows same one = record {
   count = length-push sum bit ∙ ap (λ (n : ℕ). n + 1) so_far.count ∙ sym (length-push a x);
   within = IsWithin-push g.variables sum bit (IsWithin-weaker f.variables g.variables sum grows.variables so_far.within) one.sum_within;

@@ -9,7 +9,7 @@ use Rattle.sat_form.proofs.Truth.{literal_value-inverse_of}
 use Rattle.words.specs.Operators.{signed_lt}
 use Rattle.words.proofs.Powers.{pow_doubled}
 use Rattle.words.proofs.Signed.{signed_value_low, signed_value_high}
-use Rattle.gate_arith.specs.Growth.{Grows}
+use Rattle.gate_arith.specs.Growth.{GrowsFreely}
 use Rattle.gate_arith.specs.Truth.{IsTruth, differs, most}
 use Rattle.gate_arith.proofs.Growing.{front}
 use Rattle.gate_arith.proofs.Adding.{value_of-push}
@@ -50,7 +50,7 @@ below_at v p q same = let below : value_of q v < 2 ^ length q = value_of-below v
 push_at : (v : ℕ → Bool) (p q : List Literal) (y : Literal) → length p ≡ length q → value_of (q ++ y ∷ []) v ≡ value_of q v + 2 ^ length p * bit_value (literal_value v y)
 push_at v p q y same = value_of-push v q y ∙ ap (λ (n : ℕ). value_of q v + 2 ^ n * bit_value (literal_value v y)) (sym same)
 
-pub Equal_more : (f g h : Form) (p q : List Literal) (x y same apart other next : Literal) → length p ≡ length q → IsTruth f same (λ v. nat_eq (value_of p v) (value_of q v)) → Grows f g → IsTruth g apart (λ v. differs (literal_value v x) (literal_value v y)) → other ≡ inverse_of apart → Grows g h → IsTruth h next (λ v. literal_value v same && literal_value v other) → IsTruth h next (λ v. nat_eq (value_of (p ++ x ∷ []) v) (value_of (q ++ y ∷ []) v))
+pub Equal_more : (f g h : Form) (p q : List Literal) (x y same apart other next : Literal) → length p ≡ length q → IsTruth f same (λ v. nat_eq (value_of p v) (value_of q v)) → GrowsFreely f g → IsTruth g apart (λ v. differs (literal_value v x) (literal_value v y)) → other ≡ inverse_of apart → GrowsFreely g h → IsTruth h next (λ v. literal_value v same && literal_value v other) → IsTruth h next (λ v. nat_eq (value_of (p ++ x ∷ []) v) (value_of (q ++ y ∷ []) v))
 Equal_more f g h p q x y same apart other next lengths so_far first is_apart is_other second is_next = record {
   within = is_next.within;
   is = λ v all.
@@ -63,7 +63,7 @@ Equal_more f g h p q x y same apart other next lengths so_far first is_apart is_
       ∙ sym (λ k. nat_eq (value_of-push v p x k) (push_at v p q y lengths k));
 }
 
-pub Less_more : (f g : Form) (p q : List Literal) (x y other below next : Literal) → length p ≡ length q → IsTruth f below (λ v. nat_lt (value_of p v) (value_of q v)) → other ≡ inverse_of x → Grows f g → IsTruth g next (λ v. most (literal_value v other) (literal_value v y) (literal_value v below)) → IsTruth g next (λ v. nat_lt (value_of (p ++ x ∷ []) v) (value_of (q ++ y ∷ []) v))
+pub Less_more : (f g : Form) (p q : List Literal) (x y other below next : Literal) → length p ≡ length q → IsTruth f below (λ v. nat_lt (value_of p v) (value_of q v)) → other ≡ inverse_of x → GrowsFreely f g → IsTruth g next (λ v. most (literal_value v other) (literal_value v y) (literal_value v below)) → IsTruth g next (λ v. nat_lt (value_of (p ++ x ∷ []) v) (value_of (q ++ y ∷ []) v))
 Less_more f g p q x y other below next lengths so_far is_other grows is_next = record {
   within = is_next.within;
   is = λ v all.
@@ -78,7 +78,7 @@ Less_more f g p q x y other below next lengths so_far is_other grows is_next = r
 abbrev pub less_by : Bool → ℕ → ℕ → ℕ → Bool
 less_by signed w m n = if signed then signed_lt w m n else nat_lt m n
 
-pub Less_top : (signed : Bool) (f g : Form) (p q : List Literal) (x y lower higher other below next : Literal) → length p ≡ length q → lower ≡ (if signed then y else x) → higher ≡ (if signed then x else y) → IsTruth f below (λ v. nat_lt (value_of p v) (value_of q v)) → other ≡ inverse_of lower → Grows f g → IsTruth g next (λ v. most (literal_value v other) (literal_value v higher) (literal_value v below)) → IsTruth g next (λ v. less_by signed (length p + 1) (value_of (p ++ x ∷ []) v) (value_of (q ++ y ∷ []) v))
+pub Less_top : (signed : Bool) (f g : Form) (p q : List Literal) (x y lower higher other below next : Literal) → length p ≡ length q → lower ≡ (if signed then y else x) → higher ≡ (if signed then x else y) → IsTruth f below (λ v. nat_lt (value_of p v) (value_of q v)) → other ≡ inverse_of lower → GrowsFreely f g → IsTruth g next (λ v. most (literal_value v other) (literal_value v higher) (literal_value v below)) → IsTruth g next (λ v. less_by signed (length p + 1) (value_of (p ++ x ∷ []) v) (value_of (q ++ y ∷ []) v))
 Less_top false f g p q x y lower higher other below next lengths is_lower is_higher so_far is_other grows is_next =
     Less_more f g p q x y other below next lengths so_far (is_other ∙ ap inverse_of is_lower) grows
     (record { within = is_next.within; is = λ v all. is_next.is v all ∙ ap (λ (h : Literal). most (literal_value v other) (literal_value v h) (literal_value v below)) is_higher })

@@ -12,7 +12,7 @@ use Rattle.sat_form.proofs.Truth.{literal_value-inverse_of}
 use Rattle.sat_form.proofs.Numbering.{value_of-below}
 use Rattle.words.specs.Operators.{word_negation, unsigned_quotient, unsigned_remainder, signed_quotient, signed_remainder}
 use Rattle.words.proofs.Division.{unsigned_quotient_zero, unsigned_remainder_zero, quotient_unique, signed_remainder_zero, signed_quotient_low_low, signed_quotient_low_high, signed_quotient_high_low, signed_quotient_high_high, signed_remainder_low_low, signed_remainder_low_high, signed_remainder_high_low, signed_remainder_high_high}
-use Rattle.gate_arith.specs.Growth.{Grows}
+use Rattle.gate_arith.specs.Growth.{GrowsFreely}
 use Rattle.gate_arith.specs.Truth.{IsTruth, IsNumber, AreTruths, differs}
 use Rattle.gate_arith.specs.Sums.{IsSum}
 use Rattle.gate_arith.specs.Shifts.{turned_value}
@@ -68,7 +68,7 @@ number_choice : (b : Bool) (p q : List Bool) → number_of (if b then p else q) 
 number_choice true p q = refl
 number_choice false p q = refl
 
-pub Step_is : (g h : Form) (bit one fits : Literal) (rest complement dividend difference choice next : List Literal) → dividend ≡ bit ∷ rest → length complement ≡ length rest + 1 → IsTruth g one (λ x. true) → IsSum g dividend complement one difference fits → Grows g h → AreTruths h (length difference) choice (λ x. if literal_value x fits then map (literal_value x) difference else map (literal_value x) dividend) → next ≡ take (length rest) choice → IsStep h bit rest complement fits next
+pub Step_is : (g h : Form) (bit one fits : Literal) (rest complement dividend difference choice next : List Literal) → dividend ≡ bit ∷ rest → length complement ≡ length rest + 1 → IsTruth g one (λ x. true) → IsSum g dividend complement one difference fits → GrowsFreely g h → AreTruths h (length difference) choice (λ x. if literal_value x fits then map (literal_value x) difference else map (literal_value x) dividend) → next ≡ take (length rest) choice → IsStep h bit rest complement fits next
 Step_is g h bit one fits rest complement dividend difference choice next is_dividend more on is_sum grows are is_next =
     let width : length dividend ≡ length rest + 1 = ap (λ (m : List Literal). length m) is_dividend ∙ omega arith in
     let counted : length choice ≡ length rest + 1 = are.count ∙ is_sum.count ∙ width in
@@ -113,7 +113,7 @@ Divided_none f b rest off n none is same = record {
 one_more : (q s b r n a t : ℕ) → s * b + r ≡ a → q * b + n ≡ t + 2 * r → (q + 2 * s) * b + n ≡ t + 2 * a
 one_more q s b r n a t so_far step = grind arith
 
-pub Divided_more : (f g : Form) (above b quotient rest complement next : List Literal) (bit fits : Literal) → IsDivided f above b quotient rest → Grows f g → ((x : ℕ → Bool) → Satisfies x g.clauses → value_of complement x + value_of b x + 1 ≡ 2 ^ (length b + 1)) → IsStep g bit rest complement fits next → IsDivided g (bit ∷ above) b (fits ∷ quotient) next
+pub Divided_more : (f g : Form) (above b quotient rest complement next : List Literal) (bit fits : Literal) → IsDivided f above b quotient rest → GrowsFreely f g → ((x : ℕ → Bool) → Satisfies x g.clauses → value_of complement x + value_of b x + 1 ≡ 2 ^ (length b + 1)) → IsStep g bit rest complement fits next → IsDivided g (bit ∷ above) b (fits ∷ quotient) next
 Divided_more f g above b quotient rest complement next bit fits so_far grows complements step = record {
   count = step.count ∙ so_far.count;
   within = step.within;
@@ -144,7 +144,7 @@ tested x b zeros off by_zero mask n is_zeros none is_test is_mask =
     let nothing : value_of zeros x ≡ 0 = ap (λ (m : List Literal). value_of m x) is_zeros ∙ value_of-fill x n off none in
     ap (literal_value x) is_mask ∙ literal_value-inverse_of x by_zero ∙ ap not (is_test ∙ ap (nat_eq (value_of b x)) nothing)
 
-pub Quotient_is : (f g h : Form) (a b quotient rest zeros masked : List Literal) (off by_zero mask : Literal) (n : ℕ) → length quotient ≡ length a → IsTruth f off (λ x. false) → IsDivided f a b quotient rest → Grows f g → zeros ≡ replicate n off → IsTruth g by_zero (λ x. nat_eq (value_of b x) (value_of zeros x)) → mask ≡ inverse_of by_zero → Grows g h → IsNumber h (length quotient) masked (λ x. if literal_value x mask then value_of quotient x else 0) → IsNumber h (length a) masked (λ x. unsigned_quotient (value_of a x) (value_of b x))
+pub Quotient_is : (f g h : Form) (a b quotient rest zeros masked : List Literal) (off by_zero mask : Literal) (n : ℕ) → length quotient ≡ length a → IsTruth f off (λ x. false) → IsDivided f a b quotient rest → GrowsFreely f g → zeros ≡ replicate n off → IsTruth g by_zero (λ x. nat_eq (value_of b x) (value_of zeros x)) → mask ≡ inverse_of by_zero → GrowsFreely g h → IsNumber h (length quotient) masked (λ x. if literal_value x mask then value_of quotient x else 0) → IsNumber h (length a) masked (λ x. unsigned_quotient (value_of a x) (value_of b x))
 Quotient_is f g h a b quotient rest zeros masked off by_zero mask n width none divided first is_zeros is_test is_mask second is_masked = record {
   count = is_masked.count ∙ width;
   within = is_masked.within;
@@ -155,7 +155,7 @@ Quotient_is f g h a b quotient rest zeros masked off by_zero mask n width none d
       (tested x b zeros off by_zero mask n is_zeros (none.is x early) (is_test.is x middle) is_mask) (divided.is x early);
 }
 
-pub Remainder_is : (f g h : Form) (a b quotient rest zeros masked : List Literal) (off by_zero mask : Literal) (n : ℕ) → length a ≡ length b → IsTruth f off (λ x. false) → IsDivided f a b quotient rest → Grows f g → zeros ≡ replicate n off → IsTruth g by_zero (λ x. nat_eq (value_of b x) (value_of zeros x)) → mask ≡ inverse_of by_zero → Grows g h → IsNumber h (length rest) masked (λ x. if literal_value x mask then value_of rest x else 0) → IsNumber h (length a) masked (λ x. unsigned_remainder (value_of a x) (value_of b x))
+pub Remainder_is : (f g h : Form) (a b quotient rest zeros masked : List Literal) (off by_zero mask : Literal) (n : ℕ) → length a ≡ length b → IsTruth f off (λ x. false) → IsDivided f a b quotient rest → GrowsFreely f g → zeros ≡ replicate n off → IsTruth g by_zero (λ x. nat_eq (value_of b x) (value_of zeros x)) → mask ≡ inverse_of by_zero → GrowsFreely g h → IsNumber h (length rest) masked (λ x. if literal_value x mask then value_of rest x else 0) → IsNumber h (length a) masked (λ x. unsigned_remainder (value_of a x) (value_of b x))
 Remainder_is f g h a b quotient rest zeros masked off by_zero mask n same none divided first is_zeros is_test is_mask second is_masked = record {
   count = is_masked.count ∙ divided.count ∙ sym same;
   within = is_masked.within;
@@ -180,7 +180,7 @@ map-map : (x : ℕ → Bool) (b : Bool) (ls : List Literal) → map (λ l. diffe
 map-map x b [] = refl
 map-map x b (l ∷ ls) = ap (λ (m : List Bool). differs b (literal_value x l) ∷ m) (map-map x b ls)
 
-pub Negated_is : (f g h : Form) (bits flipped zeros negation : List Literal) (by off carry : Literal) (n : ℕ) → IsTruth f off (λ x. false) → Grows f g → AreTruths g (length bits) flipped (λ x. map (λ l. differs (literal_value x by) (literal_value x l)) bits) → zeros ≡ replicate n off → Grows g h → IsSum h flipped zeros by negation carry → IsNumber h (length bits) negation (λ x. negated_if (literal_value x by) (length bits) (value_of bits x))
+pub Negated_is : (f g h : Form) (bits flipped zeros negation : List Literal) (by off carry : Literal) (n : ℕ) → IsTruth f off (λ x. false) → GrowsFreely f g → AreTruths g (length bits) flipped (λ x. map (λ l. differs (literal_value x by) (literal_value x l)) bits) → zeros ≡ replicate n off → GrowsFreely g h → IsSum h flipped zeros by negation carry → IsNumber h (length bits) negation (λ x. negated_if (literal_value x by) (length bits) (value_of bits x))
 Negated_is f g h bits flipped zeros negation by off carry n none first are is_zeros second is_sum = record {
   count = is_sum.count ∙ are.count;
   within = is_sum.within;
@@ -247,7 +247,7 @@ remainder_of_signs w a b false false h k l p q =
       | inr none ↦ by_none w a b a (omega arith)
     ]
 
-pub Signed_quotient_is : (f g h i j : Form) (a b dividend divisor quotient result low_a low_b : List Literal) (s t apart : Literal) → 1 ≤ length a → length a ≡ length b → low_a ++ s ∷ [] ≡ a → low_b ++ t ∷ [] ≡ b → IsNumber f (length a) dividend (λ x. negated_if (literal_value x s) (length a) (value_of a x)) → Grows f g → IsNumber g (length b) divisor (λ x. negated_if (literal_value x t) (length b) (value_of b x)) → Grows g h → IsNumber h (length dividend) quotient (λ x. unsigned_quotient (value_of dividend x) (value_of divisor x)) → Grows h i → IsTruth i apart (λ x. differs (literal_value x s) (literal_value x t)) → Grows i j → IsNumber j (length quotient) result (λ x. negated_if (literal_value x apart) (length quotient) (value_of quotient x)) → IsNumber j (length a) result (λ x. signed_quotient (length a) (value_of a x) (value_of b x))
+pub Signed_quotient_is : (f g h i j : Form) (a b dividend divisor quotient result low_a low_b : List Literal) (s t apart : Literal) → 1 ≤ length a → length a ≡ length b → low_a ++ s ∷ [] ≡ a → low_b ++ t ∷ [] ≡ b → IsNumber f (length a) dividend (λ x. negated_if (literal_value x s) (length a) (value_of a x)) → GrowsFreely f g → IsNumber g (length b) divisor (λ x. negated_if (literal_value x t) (length b) (value_of b x)) → GrowsFreely g h → IsNumber h (length dividend) quotient (λ x. unsigned_quotient (value_of dividend x) (value_of divisor x)) → GrowsFreely h i → IsTruth i apart (λ x. differs (literal_value x s) (literal_value x t)) → GrowsFreely i j → IsNumber j (length quotient) result (λ x. negated_if (literal_value x apart) (length quotient) (value_of quotient x)) → IsNumber j (length a) result (λ x. signed_quotient (length a) (value_of a x) (value_of b x))
 Signed_quotient_is f g h i j a b dividend divisor quotient result low_a low_b s t apart positive same whole_a whole_b is_dividend to_g is_divisor to_h is_quotient to_i is_apart to_j is_result =
     let width : length quotient ≡ length a = is_quotient.count ∙ is_dividend.count in
     record {
@@ -268,7 +268,7 @@ Signed_quotient_is f g h i j a b dividend divisor quotient result low_a low_b s 
           ∙ quotient_of_signs w (value_of a x) (value_of b x) (literal_value x s) (literal_value x t) positive (value_of-below x a) below_b (sign_is x low_a a s whole_a) sign_b;
     }
 
-pub Signed_remainder_is : (f g h j : Form) (a b dividend divisor rest result low_a low_b : List Literal) (s t : Literal) → 1 ≤ length a → length a ≡ length b → low_a ++ s ∷ [] ≡ a → low_b ++ t ∷ [] ≡ b → IsNumber f (length a) dividend (λ x. negated_if (literal_value x s) (length a) (value_of a x)) → Grows f g → IsNumber g (length b) divisor (λ x. negated_if (literal_value x t) (length b) (value_of b x)) → Grows g h → IsNumber h (length dividend) rest (λ x. unsigned_remainder (value_of dividend x) (value_of divisor x)) → Grows h j → IsNumber j (length rest) result (λ x. negated_if (literal_value x s) (length rest) (value_of rest x)) → IsNumber j (length a) result (λ x. signed_remainder (length a) (value_of a x) (value_of b x))
+pub Signed_remainder_is : (f g h j : Form) (a b dividend divisor rest result low_a low_b : List Literal) (s t : Literal) → 1 ≤ length a → length a ≡ length b → low_a ++ s ∷ [] ≡ a → low_b ++ t ∷ [] ≡ b → IsNumber f (length a) dividend (λ x. negated_if (literal_value x s) (length a) (value_of a x)) → GrowsFreely f g → IsNumber g (length b) divisor (λ x. negated_if (literal_value x t) (length b) (value_of b x)) → GrowsFreely g h → IsNumber h (length dividend) rest (λ x. unsigned_remainder (value_of dividend x) (value_of divisor x)) → GrowsFreely h j → IsNumber j (length rest) result (λ x. negated_if (literal_value x s) (length rest) (value_of rest x)) → IsNumber j (length a) result (λ x. signed_remainder (length a) (value_of a x) (value_of b x))
 Signed_remainder_is f g h j a b dividend divisor rest result low_a low_b s t positive same whole_a whole_b is_dividend to_g is_divisor to_h is_rest to_j is_result =
     let width : length rest ≡ length a = is_rest.count ∙ is_dividend.count in
     record {

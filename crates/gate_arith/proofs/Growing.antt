@@ -5,11 +5,11 @@ use Rattle.std.proofs.lemmas.List.{take-append-drop, append-nil}
 use Rattle.sat_form.specs.Satisfaction.{Literal, Form, Satisfies, IsWithin, AreWithin, with_value}
 use Rattle.sat_form.proofs.Truth.{Satisfies-append, Satisfies-front, Satisfies-agree, AgreeBelow-refl, AgreeBelow-trans, AgreeBelow-with_value}
 use Rattle.sat_form.proofs.Within.{IsWithin-weaker, AreWithin-weaker, AreWithin-append}
-use Rattle.gate_arith.specs.Growth.{Grows, Takes}
+use Rattle.gate_arith.specs.Growth.{GrowsFreely, Takes}
 use Rattle.gate_arith.specs.Truth.{IsTruth, IsNumber}
 
-pub Grows-refl : (f : Form) → Grows f f
-Grows-refl f = record {
+pub GrowsFreely-refl : (f : Form) → GrowsFreely f f
+GrowsFreely-refl f = record {
   added = [];
   clauses = sym (append-nil f.clauses);
   variables = omega arith;
@@ -17,16 +17,16 @@ Grows-refl f = record {
   extends = λ x. (x, AgreeBelow-refl f.variables x, refl);
 }
 
-pub Grows-same : (f g : Form) → g ≡ f → Grows f g
-Grows-same f g same = subst (Grows f) (sym same) (Grows-refl f)
+pub GrowsFreely-same : (f g : Form) → g ≡ f → GrowsFreely f g
+GrowsFreely-same f g same = subst (GrowsFreely f) (sym same) (GrowsFreely-refl f)
 
 -- an assignment that satisfies the grown form satisfies the form
-pub front : {f g : Form} → Grows f g → (x : ℕ → Bool) → Satisfies x g.clauses → Satisfies x f.clauses
+pub front : {f g : Form} → GrowsFreely f g → (x : ℕ → Bool) → Satisfies x g.clauses → Satisfies x f.clauses
 front {f} {g} grows x all = Satisfies-front x f.clauses grows.added (subst (Satisfies x) grows.clauses all)
 
 -- one growth after another is one
-pub Grows-then : {f g h : Form} → Grows f g → Grows g h → Grows f h
-Grows-then {f} {g} {h} first second = record {
+pub GrowsFreely-then : {f g h : Form} → GrowsFreely f g → GrowsFreely g h → GrowsFreely f h
+GrowsFreely-then {f} {g} {h} first second = record {
   added = first.added ++ second.added;
   clauses = second.clauses ∙ ap (λ cs. cs ++ second.added) first.clauses ∙ append_assoc f.clauses first.added second.added;
   variables = omega arith;
@@ -40,20 +40,20 @@ Grows-then {f} {g} {h} first second = record {
       );
 }
 
-pub IsTruth-kept : {f g : Form} {l : Literal} {truth : (ℕ → Bool) → Bool} → IsTruth f l truth → Grows f g → IsTruth g l truth
+pub IsTruth-kept : {f g : Form} {l : Literal} {truth : (ℕ → Bool) → Bool} → IsTruth f l truth → GrowsFreely f g → IsTruth g l truth
 IsTruth-kept {f} {g} {l} {truth} has grows = record {
   within = omega (arith, has.within, grows.variables);
   is = λ x all. has.is x (front grows x all);
 }
 
-pub IsNumber-kept : {f g : Form} {w : ℕ} {ls : List Literal} {number : (ℕ → Bool) → ℕ} → IsNumber f w ls number → Grows f g → IsNumber g w ls number
+pub IsNumber-kept : {f g : Form} {w : ℕ} {ls : List Literal} {number : (ℕ → Bool) → ℕ} → IsNumber f w ls number → GrowsFreely f g → IsNumber g w ls number
 IsNumber-kept {f} {g} {w} {ls} {number} has grows = record {
   count = has.count;
   within = IsWithin-weaker f.variables g.variables ls grows.variables has.within;
   is = λ x all. has.is x (front grows x all);
 }
 
-pub IsWithin-kept : {f g : Form} (ls : List Literal) → IsWithin f.variables ls → Grows f g → IsWithin g.variables ls
+pub IsWithin-kept : {f g : Form} (ls : List Literal) → IsWithin f.variables ls → GrowsFreely f g → IsWithin g.variables ls
 IsWithin-kept {f} {g} ls within grows = IsWithin-weaker f.variables g.variables ls grows.variables within
 
 -- ---- a new variable and clauses that it satisfies
@@ -79,8 +79,8 @@ Takes-then f g h xs ys first second = record {
 abbrev pub with_new : Form → Form
 with_new f = record f { variables = f.variables + 1 }
 
-pub Grows-new : (f g : Form) (rows : List (List Literal)) (truth : (ℕ → Bool) → Bool) → AreWithin (f.variables + 1) rows → ((x : ℕ → Bool) → Satisfies (with_value x f.variables (truth x)) rows) → Takes (record f { variables = f.variables + 1 }) g rows → Grows f g
-Grows-new f g rows truth within satisfied taken = record {
+pub GrowsFreely-new : (f g : Form) (rows : List (List Literal)) (truth : (ℕ → Bool) → Bool) → AreWithin (f.variables + 1) rows → ((x : ℕ → Bool) → Satisfies (with_value x f.variables (truth x)) rows) → Takes (record f { variables = f.variables + 1 }) g rows → GrowsFreely f g
+GrowsFreely-new f g rows truth within satisfied taken = record {
   added = take taken.count rows;
   clauses = ap (λ (e : Form). e.clauses) taken.is;
   variables = (let more : g.variables ≡ f.variables + 1 = ap (λ (e : Form). e.variables) taken.is in omega arith);
@@ -90,4 +90,4 @@ Grows-new f g rows truth within satisfied taken = record {
 }
 
 -- the steps of a form that grows gate by gate
-pub ruleset growth = (Grows-refl, Grows-same, Grows-then, IsTruth-kept, IsNumber-kept)
+pub ruleset growth = (GrowsFreely-refl, GrowsFreely-same, GrowsFreely-then, IsTruth-kept, IsNumber-kept)

@@ -8,3 +8,5 @@ pub mod Parts
 pub mod Multiplying
 pub mod Shifting
 pub mod Dividing
+pub mod Steps
+pub mod Calls

@@ -5,11 +5,11 @@ use Rattle.std.proofs.lemmas.List.{map-append, length-append}
 use Rattle.sat_form.specs.Satisfaction.{Literal, Form, literal_value}
 use Rattle.sat_form.specs.Numbers.{bit_value, number_of, value_of}
 use Rattle.sat_form.proofs.Within.{IsWithin-weaker, IsWithin-push}
-use Rattle.gate_arith.specs.Growth.{Grows}
+use Rattle.gate_arith.specs.Growth.{GrowsFreely}
 use Rattle.gate_arith.specs.Truth.{IsTruth, AreTruths}
 use Rattle.gate_arith.proofs.Growing.{front}
 
-pub Truths_more : (f g : Form) (w : ℕ) (ls : List Literal) (l : Literal) (truths : (ℕ → Bool) → List Bool) (truth : (ℕ → Bool) → Bool) (goal : (ℕ → Bool) → List Bool) → AreTruths f w ls truths → Grows f g → IsTruth g l truth → ((x : ℕ → Bool) → goal x ≡ truths x ++ truth x ∷ []) → AreTruths g (w + 1) (ls ++ l ∷ []) goal
+pub Truths_more : (f g : Form) (w : ℕ) (ls : List Literal) (l : Literal) (truths : (ℕ → Bool) → List Bool) (truth : (ℕ → Bool) → Bool) (goal : (ℕ → Bool) → List Bool) → AreTruths f w ls truths → GrowsFreely f g → IsTruth g l truth → ((x : ℕ → Bool) → goal x ≡ truths x ++ truth x ∷ []) → AreTruths g (w + 1) (ls ++ l ∷ []) goal
 Truths_more f g w ls l truths truth goal so_far grows one is_goal = record {
   count = length-append ls (l ∷ []) ∙ ap (λ (n : ℕ). n + 1) so_far.count;
   within = IsWithin-push g.variables ls l (IsWithin-weaker f.variables g.variables ls grows.variables so_far.within) one.within;

@@ -9,7 +9,7 @@ use Rattle.sat_form.specs.Numbers.{bit_value, value_of}
 use Rattle.sat_form.proofs.Numbering.{value_of-append, value_of-below}
 use Rattle.words.specs.Operators.{word_sum, word_product, left_shift}
 use Rattle.words.proofs.Powers.{pow_split}
-use Rattle.gate_arith.specs.Growth.{Grows}
+use Rattle.gate_arith.specs.Growth.{GrowsFreely}
 use Rattle.gate_arith.specs.Truth.{IsTruth, IsNumber, IsFixed}
 use Rattle.gate_arith.specs.Sums.{IsSum}
 use Rattle.gate_arith.proofs.Growing.{front, IsTruth-kept}
@@ -81,7 +81,7 @@ product_more w a b i false =
     ap (λ (m : ℕ). ((a * b) % 2 ^ w + m) % 2 ^ w) (omega arith)
     ∙ mod-add-mod (a * b) (2 ^ w) 0 ∙ ap (λ (m : ℕ). m % 2 ^ w) form
 
-pub Row_is : (f g h : Form) (factor total moved row next : List Literal) (bit off carry : Literal) (place : ℕ) → place ≤ length factor → length total ≡ length factor → moved ≡ replicate place off ++ take (length factor - place) factor → IsTruth f off (λ x. false) → Grows f g → IsNumber g (length moved) row (λ x. if literal_value x bit then value_of moved x else 0) → Grows g h → IsSum h total row off next carry → IsNumber h (length factor) next (λ x. word_sum (length factor) (value_of total x) (bit_value (literal_value x bit) * left_shift (length factor) (value_of factor x) place))
+pub Row_is : (f g h : Form) (factor total moved row next : List Literal) (bit off carry : Literal) (place : ℕ) → place ≤ length factor → length total ≡ length factor → moved ≡ replicate place off ++ take (length factor - place) factor → IsTruth f off (λ x. false) → GrowsFreely f g → IsNumber g (length moved) row (λ x. if literal_value x bit then value_of moved x else 0) → GrowsFreely g h → IsSum h total row off next carry → IsNumber h (length factor) next (λ x. word_sum (length factor) (value_of total x) (bit_value (literal_value x bit) * left_shift (length factor) (value_of factor x) place))
 Row_is f g h factor total moved row next bit off carry place fits same is_moved none first is_row second is_sum =
     let word = Sum_word h total row off next carry false is_sum (IsTruth-kept (IsTruth-kept none first) second) in
     record {
@@ -115,7 +115,7 @@ Product_none f factor total off none is = record {
   is = λ x all. ap (λ (m : List Literal). value_of m x) is ∙ value_of-fill x (length factor) off (none.is x all) ∙ product_none (length factor) (value_of factor x);
 }
 
-pub Product_more : (f g : Form) (factor rows total next : List Literal) (bit : Literal) (i : ℕ) → length rows ≡ i → Grows f g → IsNumber f (length factor) total (λ x. word_product (length factor) (value_of factor x) (value_of rows x)) → IsNumber g (length factor) next (λ x. word_sum (length factor) (value_of total x) (bit_value (literal_value x bit) * left_shift (length factor) (value_of factor x) i)) → IsNumber g (length factor) next (λ x. word_product (length factor) (value_of factor x) (value_of (rows ++ bit ∷ []) x))
+pub Product_more : (f g : Form) (factor rows total next : List Literal) (bit : Literal) (i : ℕ) → length rows ≡ i → GrowsFreely f g → IsNumber f (length factor) total (λ x. word_product (length factor) (value_of factor x) (value_of rows x)) → IsNumber g (length factor) next (λ x. word_sum (length factor) (value_of total x) (bit_value (literal_value x bit) * left_shift (length factor) (value_of factor x) i)) → IsNumber g (length factor) next (λ x. word_product (length factor) (value_of factor x) (value_of (rows ++ bit ∷ []) x))
 Product_more f g factor rows total next bit i place grows so_far is_next = record {
   count = is_next.count;
   within = is_next.within;

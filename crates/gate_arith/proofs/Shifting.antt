@@ -13,7 +13,7 @@ use Rattle.words.proofs.Shifts.{left_shift_out, logical_shift_out, arithmetic_sh
 use Rattle.words.proofs.Powers.{pow_doubled, pow_grows}
 use Rattle.gate_arith.specs.declared.shifts.Shift.{Shift}
 use Rattle.gate_arith.specs.declared.shifts.Shift.TheVariants.{Left, Logical, Arithmetic}
-use Rattle.gate_arith.specs.Growth.{Grows}
+use Rattle.gate_arith.specs.Growth.{GrowsFreely}
 use Rattle.gate_arith.specs.Truth.{IsTruth, IsNumber, AreTruths, differs}
 use Rattle.gate_arith.specs.Shifts.{IsShiftedDown, IsShifted, IsConstant, shifted, turned_value}
 use Rattle.gate_arith.proofs.Growing.{front}
@@ -34,7 +34,7 @@ up_or_same : (b : Bool) (w a d m : ℕ) → a < 2 ^ w → m ≡ left_shift w a d
 up_or_same true w a d m below is = is ∙ ap (left_shift w a) (omega arith)
 up_or_same false w a d m below is = sym (left_shift_none w a below) ∙ ap (left_shift w a) (omega arith)
 
-pub Stage_up : (f g : Form) (bits moved next : List Literal) (on off : Literal) (d : ℕ) → d ≤ length bits → moved ≡ replicate d off ++ take (length bits - d) bits → length moved ≡ length bits → IsTruth f off (λ x. false) → Grows f g → AreTruths g (length moved) next (λ x. if literal_value x on then map (literal_value x) moved else map (literal_value x) bits) → IsNumber g (length bits) next (λ x. left_shift (length bits) (value_of bits x) (d * bit_value (literal_value x on)))
+pub Stage_up : (f g : Form) (bits moved next : List Literal) (on off : Literal) (d : ℕ) → d ≤ length bits → moved ≡ replicate d off ++ take (length bits - d) bits → length moved ≡ length bits → IsTruth f off (λ x. false) → GrowsFreely f g → AreTruths g (length moved) next (λ x. if literal_value x on then map (literal_value x) moved else map (literal_value x) bits) → IsNumber g (length bits) next (λ x. left_shift (length bits) (value_of bits x) (d * bit_value (literal_value x on)))
 Stage_up f g bits moved next on off d fits is_moved same none grows are = record {
   count = are.count ∙ same;
   within = are.within;
@@ -45,7 +45,7 @@ Stage_up f g bits moved next on off d fits is_moved same none grows are = record
       (ap (λ (m : List Literal). value_of m x) is_moved ∙ value_of-moved_up x d off bits fits (none.is x (front grows x all)));
 }
 
-pub Up_more : (f g : Form) (a count bits next : List Literal) (on : Literal) (k d : ℕ) → length count ≡ k → d ≡ 2 ^ k → Grows f g → IsNumber f (length a) bits (λ x. left_shift (length a) (value_of a x) (value_of count x)) → IsNumber g (length bits) next (λ x. left_shift (length bits) (value_of bits x) (d * bit_value (literal_value x on))) → IsNumber g (length a) next (λ x. left_shift (length a) (value_of a x) (value_of (count ++ on ∷ []) x))
+pub Up_more : (f g : Form) (a count bits next : List Literal) (on : Literal) (k d : ℕ) → length count ≡ k → d ≡ 2 ^ k → GrowsFreely f g → IsNumber f (length a) bits (λ x. left_shift (length a) (value_of a x) (value_of count x)) → IsNumber g (length bits) next (λ x. left_shift (length bits) (value_of bits x) (d * bit_value (literal_value x on))) → IsNumber g (length a) next (λ x. left_shift (length a) (value_of a x) (value_of (count ++ on ∷ []) x))
 Up_more f g a count bits next on k d place distance grows so_far is_next = record {
   count = is_next.count ∙ so_far.count;
   within = is_next.within;
@@ -109,7 +109,7 @@ down_or_same false s p q d is =
     let whole : n / 1 ≡ n = omega arith in
     sym (ap (λ (m : ℕ). n / 2 ^ m) none ∙ whole)
 
-pub Stage_down : (f g : Form) (bits moved next : List Literal) (on fill : Literal) (d : ℕ) → d ≤ length bits → moved ≡ drop d bits ++ replicate d fill → length moved ≡ length bits → Grows f g → AreTruths g (length moved) next (λ x. if literal_value x on then map (literal_value x) moved else map (literal_value x) bits) → IsShiftedDown g bits fill next (λ x. d * bit_value (literal_value x on))
+pub Stage_down : (f g : Form) (bits moved next : List Literal) (on fill : Literal) (d : ℕ) → d ≤ length bits → moved ≡ drop d bits ++ replicate d fill → length moved ≡ length bits → GrowsFreely f g → AreTruths g (length moved) next (λ x. if literal_value x on then map (literal_value x) moved else map (literal_value x) bits) → IsShiftedDown g bits fill next (λ x. d * bit_value (literal_value x on))
 Stage_down f g bits moved next on fill d fits is_moved same grows are = record {
   width = are.count ∙ same;
   within = are.within;
@@ -123,7 +123,7 @@ quotients : (a j k : ℕ) → a / 2 ^ j / 2 ^ k ≡ a / 2 ^ (j + k)
 unfolding logical_shift
 quotients a j k = logical_shift-logical_shift a j k
 
-pub Down_more : (f g : Form) (a count bits next : List Literal) (on fill : Literal) (k d : ℕ) → length count ≡ k → d ≡ 2 ^ k → Grows f g → IsShiftedDown f a fill bits (λ x. value_of count x) → IsShiftedDown g bits fill next (λ x. d * bit_value (literal_value x on)) → IsShiftedDown g a fill next (λ x. value_of (count ++ on ∷ []) x)
+pub Down_more : (f g : Form) (a count bits next : List Literal) (on fill : Literal) (k d : ℕ) → length count ≡ k → d ≡ 2 ^ k → GrowsFreely f g → IsShiftedDown f a fill bits (λ x. value_of count x) → IsShiftedDown g bits fill next (λ x. d * bit_value (literal_value x on)) → IsShiftedDown g a fill next (λ x. value_of (count ++ on ∷ []) x)
 Down_more f g a count bits next on fill k d place distance grows so_far is_next = record {
   width = is_next.width ∙ so_far.width;
   within = is_next.within;
@@ -182,7 +182,7 @@ turned_value-true s ls x is =
 pub Shifted_up : (f : Form) (a count moved : List Literal) → IsNumber f (length a) moved (λ x. left_shift (length a) (value_of a x) (value_of count x)) → IsShifted f Left a count moved
 Shifted_up f a count moved number = record { width = number.count; within = number.within; is = λ x all small. number.is x all }
 
-pub Shifted_logical : (f g : Form) (a count moved : List Literal) (off : Literal) → IsTruth f off (λ x. false) → Grows f g → IsShiftedDown g a off moved (value_of count) → IsShifted g Logical a count moved
+pub Shifted_logical : (f g : Form) (a count moved : List Literal) (off : Literal) → IsTruth f off (λ x. false) → GrowsFreely f g → IsShiftedDown g a off moved (value_of count) → IsShifted g Logical a count moved
 unfolding logical_shift
 Shifted_logical f g a count moved off none grows down = record {
   width = down.width;
@@ -272,7 +272,7 @@ in_or_out : (b : Bool) (w a k r s : ℕ) → b ≡ nat_lt k w → (k < w → r �
 in_or_out true w a k r s is within out = within (grind (arith, nat_tests))
 in_or_out false w a k r s is within out = out (grind (arith, nat_tests))
 
-pub Shifted_any : (f g h : Form) (kind : Shift) (a count low width moved bits : List Literal) (off inside : Literal) (n : ℕ) → length a ≡ length count → n ≤ length count → length a ≤ 2 ^ n → low ≡ take n count → IsTruth f off (λ x. false) → IsShifted f kind a low moved → Grows f g → IsConstant off (length a) (length a) width → IsTruth g inside (λ x. nat_lt (value_of count x) (value_of width x)) → Grows g h → IsNumber h (length moved) bits (λ x. if literal_value x inside then value_of moved x else 0) → IsNumber h (length a) bits (λ x. shifted kind (length a) (value_of a x) (value_of count x))
+pub Shifted_any : (f g h : Form) (kind : Shift) (a count low width moved bits : List Literal) (off inside : Literal) (n : ℕ) → length a ≡ length count → n ≤ length count → length a ≤ 2 ^ n → low ≡ take n count → IsTruth f off (λ x. false) → IsShifted f kind a low moved → GrowsFreely f g → IsConstant off (length a) (length a) width → IsTruth g inside (λ x. nat_lt (value_of count x) (value_of width x)) → GrowsFreely g h → IsNumber h (length moved) bits (λ x. if literal_value x inside then value_of moved x else 0) → IsNumber h (length a) bits (λ x. shifted kind (length a) (value_of a x) (value_of count x))
 Shifted_any f g h kind a count low width moved bits off inside n same fits enough is_low none is_moved first is_width is_inside second is_bits = record {
   count = is_bits.count ∙ is_moved.width;
   within = is_bits.within;

@@ -1,9 +1,30 @@
 -- How a form grows when gates are added at its end.
-use Rattle.std.specs.Prelude.{◌≡◌, ℕ, ◌≤◌, Bool, List, ◌++◌, take}
+use Rattle.std.specs.Prelude.{◌≡◌, ℕ, ◌≤◌, Bool, List, ◌++◌, take, drop, length}
 use Rattle.sat_form.specs.Satisfaction.{Literal, Form, Satisfies, AreWithin, AgreeBelow}
 
--- The new form is the old one with variables and clauses at its end. Each assignment, changed at the new variables alone, satisfies the clauses that were added.
+-- The new form is the old one with variables and clauses at its end. Each assignment that satisfies the old form, changed at the new variables alone, satisfies the new one.
 pub record Grows (old new : Form) : Type 0 where
+  pub added : List (List Literal)
+  pub clauses : new.clauses ≡ old.clauses ++ added
+  pub variables : old.variables ≤ new.variables
+  pub within : AreWithin new.variables added
+  pub extends : (x : ℕ → Bool) → Satisfies x old.clauses → (y : ℕ → Bool) × AgreeBelow old.variables x y × Satisfies y new.clauses
+
+-- the clauses behind the old form's, over the new form's variables
+abbrev pub added_to : Form → Form → Form
+added_to old new = record { variables = new.variables; clauses = drop (length old.clauses) new.clauses }
+
+-- ---- a part that gates make before it is added
+
+-- the part has the form's variables and says no more than the form
+pub record IsPart (form part : Form) : Type 0 where
+  pub variables : part.variables ≡ form.variables
+  pub form_within : AreWithin form.variables form.clauses
+  pub within : AreWithin part.variables part.clauses
+  pub is : (x : ℕ → Bool) → Satisfies x form.clauses → Satisfies x part.clauses
+
+-- The new form is the old one with variables and clauses at its end. Each assignment, changed at the new variables alone, satisfies the clauses that were added.
+pub record GrowsFreely (old new : Form) : Type 0 where
   pub added : List (List Literal)
   pub clauses : new.clauses ≡ old.clauses ++ added
   pub variables : old.variables ≤ new.variables

@@ -3,15 +3,16 @@
 ghost use Rattle.std.specs.Prelude.{◌≡◌, ℕ, ◌<◌, ◌++◌, true, Bool, ◌&&◌, ◌||◌, IfOk, OnOk, IfSome, if◌then◌else◌};
 ghost use Rattle.sat_form.specs.Satisfaction.{literal_value, AreWithin};
 ghost use Rattle.gate_arith.specs.Clauses.{choice_clauses, most_clauses};
-ghost use Rattle.gate_arith.specs.Growth.{Grows, Takes};
+ghost use Rattle.gate_arith.specs.Growth.{GrowsFreely, Takes};
 ghost use Rattle.gate_arith.specs.Truth.{IsTruth, IsFixed, differs, most};
 
 use sat_form::{Cnf, Lit};
 use std::alloc::{AllocError, Global};
 
 // The literal that the form's first clause holds alone, if it does.
-fn known(cnf: &Cnf) -> Option<Lit>
-    ensures { IfSome result (λ l. IsTruth cnf.now l (λ _. true)) }
+pub fn known(cnf: &Cnf) -> Option<Lit>
+    ensures is { IfSome result (λ l. IsTruth cnf.now l (λ _. true)) }
+    ensures within { AreWithin cnf.now.variables cnf.now.clauses }
 {
     match cnf.clauses() {
         [first, ..] => match first.literals() {
@@ -56,7 +57,7 @@ fn add_all<const N: usize>(
 fn and_gate(alloc: Global, cnf: &mut Cnf, a: Lit, b: Lit) -> Result<Lit, AllocError>
     requires a { a.variable < cnf.old.variables }
     requires b { b.variable < cnf.old.variables }
-    ensures grows { Grows cnf.old cnf.new }
+    ensures grows { GrowsFreely cnf.old cnf.new }
     ensures is { IfOk result (λ l. IsTruth cnf.new l (λ x. literal_value x a && literal_value x b)) }
 {
     let out = cnf.fresh()?;
@@ -88,7 +89,7 @@ fn choice_gate(
     requires test { test.variable < cnf.old.variables }
     requires yes { yes.variable < cnf.old.variables }
     requires no { no.variable < cnf.old.variables }
-    ensures grows { Grows cnf.old cnf.new }
+    ensures grows { GrowsFreely cnf.old cnf.new }
     ensures is { IfOk result (λ l. IsTruth cnf.new l (λ x. if literal_value x test then literal_value x yes else literal_value x no)) }
 {
     let out = cnf.fresh()?;
@@ -116,7 +117,7 @@ fn most_gate(alloc: Global, cnf: &mut Cnf, a: Lit, b: Lit, c: Lit) -> Result<Lit
     requires a { a.variable < cnf.old.variables }
     requires b { b.variable < cnf.old.variables }
     requires c { c.variable < cnf.old.variables }
-    ensures grows { Grows cnf.old cnf.new }
+    ensures grows { GrowsFreely cnf.old cnf.new }
     ensures is { IfOk result (λ l. IsTruth cnf.new l (λ x. most (literal_value x a) (literal_value x b) (literal_value x c))) }
 {
     let out = cnf.fresh()?;
@@ -127,7 +128,7 @@ fn most_gate(alloc: Global, cnf: &mut Cnf, a: Lit, b: Lit, c: Lit) -> Result<Lit
 
 // The literal of a new variable that is true.
 fn true_gate(alloc: Global, cnf: &mut Cnf) -> Result<Lit, AllocError>
-    ensures grows { Grows cnf.old cnf.new }
+    ensures grows { GrowsFreely cnf.old cnf.new }
     ensures is { IfOk result (λ l. IsTruth cnf.new l (λ _. true)) }
 {
     let out = cnf.fresh()?;
@@ -145,7 +146,7 @@ pub fn flipped(literal: Lit, by: bool) -> Lit
 
 /// A literal that has this truth.
 pub fn constant(alloc: Global, cnf: &mut Cnf, truth: bool) -> Result<Lit, AllocError>
-    ensures grows { Grows cnf.old cnf.new }
+    ensures grows { GrowsFreely cnf.old cnf.new }
     ensures is { IfOk result (λ l. IsTruth cnf.new l (λ _. truth)) }
 {
     let one = match known(cnf) {
@@ -159,7 +160,7 @@ pub fn constant(alloc: Global, cnf: &mut Cnf, truth: bool) -> Result<Lit, AllocE
 pub fn and(alloc: Global, cnf: &mut Cnf, a: Lit, b: Lit) -> Result<Lit, AllocError>
     requires a { a.variable < cnf.old.variables }
     requires b { b.variable < cnf.old.variables }
-    ensures grows { Grows cnf.old cnf.new }
+    ensures grows { GrowsFreely cnf.old cnf.new }
     ensures is { IfOk result (λ l. IsTruth cnf.new l (λ x. literal_value x a && literal_value x b)) }
 {
     match (truth_of(cnf, a), truth_of(cnf, b)) {
@@ -174,7 +175,7 @@ pub fn and(alloc: Global, cnf: &mut Cnf, a: Lit, b: Lit) -> Result<Lit, AllocErr
 pub fn or(alloc: Global, cnf: &mut Cnf, a: Lit, b: Lit) -> Result<Lit, AllocError>
     requires a { a.variable < cnf.old.variables }
     requires b { b.variable < cnf.old.variables }
-    ensures grows { Grows cnf.old cnf.new }
+    ensures grows { GrowsFreely cnf.old cnf.new }
     ensures is { IfOk result (λ l. IsTruth cnf.new l (λ x. literal_value x a || literal_value x b)) }
 {
     let none = and(alloc, cnf, a.inverse(), b.inverse())?;
@@ -185,7 +186,7 @@ pub fn or(alloc: Global, cnf: &mut Cnf, a: Lit, b: Lit) -> Result<Lit, AllocErro
 pub fn xor(alloc: Global, cnf: &mut Cnf, a: Lit, b: Lit) -> Result<Lit, AllocError>
     requires a { a.variable < cnf.old.variables }
     requires b { b.variable < cnf.old.variables }
-    ensures grows { Grows cnf.old cnf.new }
+    ensures grows { GrowsFreely cnf.old cnf.new }
     ensures is { IfOk result (λ l. IsTruth cnf.new l (λ x. differs (literal_value x a) (literal_value x b))) }
 {
     match (truth_of(cnf, a), truth_of(cnf, b)) {
@@ -200,7 +201,7 @@ pub fn choose(alloc: Global, cnf: &mut Cnf, test: Lit, yes: Lit, no: Lit) -> Res
     requires test { test.variable < cnf.old.variables }
     requires yes { yes.variable < cnf.old.variables }
     requires no { no.variable < cnf.old.variables }
-    ensures grows { Grows cnf.old cnf.new }
+    ensures grows { GrowsFreely cnf.old cnf.new }
     ensures is { IfOk result (λ l. IsTruth cnf.new l (λ x. if literal_value x test then literal_value x yes else literal_value x no)) }
 {
     match truth_of(cnf, test) {
@@ -222,7 +223,7 @@ fn choose_open(
     requires test { test.variable < cnf.old.variables }
     requires yes { yes.variable < cnf.old.variables }
     requires no { no.variable < cnf.old.variables }
-    ensures grows { Grows cnf.old cnf.new }
+    ensures grows { GrowsFreely cnf.old cnf.new }
     ensures is { IfOk result (λ l. IsTruth cnf.new l (λ x. if literal_value x test then literal_value x yes else literal_value x no)) }
 {
     match (truth_of(cnf, yes), truth_of(cnf, no)) {
@@ -238,7 +239,7 @@ fn choose_open(
 fn most_given(alloc: Global, cnf: &mut Cnf, truth: bool, b: Lit, c: Lit) -> Result<Lit, AllocError>
     requires b { b.variable < cnf.old.variables }
     requires c { c.variable < cnf.old.variables }
-    ensures grows { Grows cnf.old cnf.new }
+    ensures grows { GrowsFreely cnf.old cnf.new }
     ensures is { IfOk result (λ l. IsTruth cnf.new l (λ x. most truth (literal_value x b) (literal_value x c))) }
 {
     if truth {
@@ -253,7 +254,7 @@ pub fn majority(alloc: Global, cnf: &mut Cnf, a: Lit, b: Lit, c: Lit) -> Result<
     requires a { a.variable < cnf.old.variables }
     requires b { b.variable < cnf.old.variables }
     requires c { c.variable < cnf.old.variables }
-    ensures grows { Grows cnf.old cnf.new }
+    ensures grows { GrowsFreely cnf.old cnf.new }
     ensures is { IfOk result (λ l. IsTruth cnf.new l (λ x. most (literal_value x a) (literal_value x b) (literal_value x c))) }
 {
     match (truth_of(cnf, a), truth_of(cnf, b), truth_of(cnf, c)) {

@@ -1,13 +1,15 @@
 //! Gates of arithmetic as clauses: adders, multipliers, dividers, shifters and orders over lists of
 //! literals that stand for the bits of words, the lowest first.
 //!
-//! Each call appends variables and clauses to a form. A form whose first clause is one literal
-//! fixes this literal, and every gate folds it as a constant.
+//! Each call appends variables and clauses to a form, and its result follows from the appended
+//! clauses alone. A form whose first clause is one literal fixes this literal: a call folds it as a
+//! constant, and then begins its clauses with that one again.
 #![tactic(auto)]
 
 mod gates;
 mod lists;
 mod lits;
+mod operations;
 mod orders;
 mod products;
 mod quotients;
@@ -15,11 +17,5 @@ mod shifts;
 mod sums;
 
 pub use lits::Lits;
-pub use orders::{equal, less};
-pub use products::multiplier;
-pub use quotients::divider;
-pub use shifts::{Shift, shifter};
-pub use sums::adder;
-
-#[cfg(test)]
-mod tests;
+pub use operations::{adder, divider, equal, less, multiplier, shifter};
+pub use shifts::Shift;

@@ -3,7 +3,7 @@
 ghost use Rattle.std.specs.Prelude.{◌≡◌, ◌-◌, ◌<◌, ◌≤◌, ◌++◌, IfOk, length, map, take, drop, replicate, if◌then◌else◌};
 ghost use Rattle.sat_form.specs.Satisfaction.{literal_value, IsWithin};
 ghost use Rattle.sat_form.specs.Numbers.{value_of};
-ghost use Rattle.gate_arith.specs.Growth.{Grows};
+ghost use Rattle.gate_arith.specs.Growth.{GrowsFreely};
 ghost use Rattle.gate_arith.specs.Truth.{IsNumber, AreTruths, differs};
 
 use crate::gates::{and, choose, xor};
@@ -14,7 +14,7 @@ use std::alloc::{AllocError, Global};
 pub fn masked(alloc: Global, cnf: &mut Cnf, bits: &[Lit], mask: Lit) -> Result<Vec<Lit>, AllocError>
     requires bits { IsWithin cnf.old.variables bits.now }
     requires mask { mask.variable < cnf.old.variables }
-    ensures grows { Grows cnf.old cnf.new }
+    ensures grows { GrowsFreely cnf.old cnf.new }
     ensures is { IfOk result (λ r. IsNumber cnf.new (length bits.now) r.items (λ x. if literal_value x mask then value_of bits.now x else 0)) }
 {
     let mut kept = Vec::new(alloc);
@@ -36,7 +36,7 @@ pub fn chosen(
     requires test { test.variable < cnf.old.variables }
     requires yes { IsWithin cnf.old.variables yes.now }
     requires no { IsWithin cnf.old.variables no.now }
-    ensures grows { Grows cnf.old cnf.new }
+    ensures grows { GrowsFreely cnf.old cnf.new }
     ensures is { IfOk result (λ r. AreTruths cnf.new (length yes.now) r.items (λ x. if literal_value x test then map (literal_value x) yes.now else map (literal_value x) no.now)) }
 {
     let mut bits = Vec::new(alloc);
@@ -50,7 +50,7 @@ pub fn chosen(
 pub fn turned(alloc: Global, cnf: &mut Cnf, bits: &[Lit], by: Lit) -> Result<Vec<Lit>, AllocError>
     requires bits { IsWithin cnf.old.variables bits.now }
     requires by { by.variable < cnf.old.variables }
-    ensures grows { Grows cnf.old cnf.new }
+    ensures grows { GrowsFreely cnf.old cnf.new }
     ensures is { IfOk result (λ r. AreTruths cnf.new (length bits.now) r.items (λ x. map (λ l. differs (literal_value x by) (literal_value x l)) bits.now)) }
 {
     let mut flipped = Vec::new(alloc);

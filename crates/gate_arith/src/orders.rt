@@ -4,7 +4,7 @@ ghost use Rattle.std.specs.Prelude.{◌≡◌, ◌<◌, ◌≤◌, IfOk, length,
 ghost use Rattle.sat_form.specs.Satisfaction.{IsWithin};
 ghost use Rattle.sat_form.specs.Numbers.{value_of};
 ghost use Rattle.words.specs.Operators.{signed_lt};
-ghost use Rattle.gate_arith.specs.Growth.{Grows};
+ghost use Rattle.gate_arith.specs.Growth.{GrowsFreely};
 ghost use Rattle.gate_arith.specs.Truth.{IsTruth};
 
 use crate::gates::{and, constant, majority, xor};
@@ -19,7 +19,7 @@ pub fn equal(alloc: Global, cnf: &mut Cnf, a: &[Lit], b: &[Lit]) -> Result<Lit, 
     requires at_most_64 { length a.now ≤ 64 }
     requires a { IsWithin cnf.old.variables a.now }
     requires b { IsWithin cnf.old.variables b.now }
-    ensures grows { Grows cnf.old cnf.new }
+    ensures grows { GrowsFreely cnf.old cnf.new }
     ensures is { IfOk result (λ l. IsTruth cnf.new l (λ x. nat_eq (value_of a.now x) (value_of b.now x))) }
 {
     let mut same = constant(alloc, cnf, true)?;
@@ -35,7 +35,7 @@ pub fn borrow(alloc: Global, cnf: &mut Cnf, a: &[Lit], b: &[Lit]) -> Result<Lit,
     requires same_width { length a.now ≡ length b.now }
     requires a { IsWithin cnf.old.variables a.now }
     requires b { IsWithin cnf.old.variables b.now }
-    ensures grows { Grows cnf.old cnf.new }
+    ensures grows { GrowsFreely cnf.old cnf.new }
     ensures is { IfOk result (λ l. IsTruth cnf.new l (λ x. nat_lt (value_of a.now x) (value_of b.now x))) }
 {
     let mut below = constant(alloc, cnf, false)?;
@@ -67,7 +67,7 @@ pub fn less(
     requires at_most_64 { length a.now ≤ 64 }
     requires a { IsWithin cnf.old.variables a.now }
     requires b { IsWithin cnf.old.variables b.now }
-    ensures grows { Grows cnf.old cnf.new }
+    ensures grows { GrowsFreely cnf.old cnf.new }
     ensures is { IfOk result (λ l. IsTruth cnf.new l (λ x. if signed then signed_lt (length a.now) (value_of a.now x) (value_of b.now x) else nat_lt (value_of a.now x) (value_of b.now x))) }
 {
     let top = a.len() - 1;

@@ -4,7 +4,7 @@ ghost use Rattle.std.specs.Prelude.{◌≡◌, ◌*◌, ◌<◌, ◌≤◌, fals
 ghost use Rattle.sat_form.specs.Satisfaction.{literal_value, IsWithin};
 ghost use Rattle.sat_form.specs.Numbers.{bit_value, value_of};
 ghost use Rattle.words.specs.Operators.{word_sum, word_product, left_shift};
-ghost use Rattle.gate_arith.specs.Growth.{Grows};
+ghost use Rattle.gate_arith.specs.Growth.{GrowsFreely};
 ghost use Rattle.gate_arith.specs.Truth.{IsTruth, IsNumber};
 
 use crate::gates::{constant, truth_of};
@@ -30,7 +30,7 @@ fn add_row(
     requires total { IsWithin cnf.old.variables total.items }
     requires bit { bit.variable < cnf.old.variables }
     requires zero { IsTruth cnf.old zero (λ _. false) }
-    ensures grows { Grows cnf.old cnf.new }
+    ensures grows { GrowsFreely cnf.old cnf.new }
     ensures is { IfOk result (λ r. IsNumber cnf.new (length factor.now) r.items (λ x. word_sum (length factor.now) (value_of total.items x) (bit_value (literal_value x bit) * left_shift (length factor.now) (value_of factor.now x) place))) }
 {
     if let Some(false) = truth_of(cnf, bit) {
@@ -47,7 +47,7 @@ fn product(alloc: Global, cnf: &mut Cnf, factor: &[Lit], rows: &[Lit]) -> Result
     requires same_width { length factor.now ≡ length rows.now }
     requires factor { IsWithin cnf.old.variables factor.now }
     requires rows { IsWithin cnf.old.variables rows.now }
-    ensures grows { Grows cnf.old cnf.new }
+    ensures grows { GrowsFreely cnf.old cnf.new }
     ensures is { IfOk result (λ r. IsNumber cnf.new (length factor.now) r (λ x. word_product (length factor.now) (value_of factor.now x) (value_of rows.now x))) }
 {
     let zero = constant(alloc, cnf, false)?;
@@ -67,7 +67,7 @@ pub fn multiplier(alloc: Global, cnf: &mut Cnf, a: &[Lit], b: &[Lit]) -> Result<
     requires at_most_64 { length a.now ≤ 64 }
     requires a { IsWithin cnf.old.variables a.now }
     requires b { IsWithin cnf.old.variables b.now }
-    ensures grows { Grows cnf.old cnf.new }
+    ensures grows { GrowsFreely cnf.old cnf.new }
     ensures is { IfOk result (λ r. IsNumber cnf.new (length a.now) r (λ x. word_product (length a.now) (value_of a.now x) (value_of b.now x))) }
 {
     if a.iter().all(|bit| truth_of(cnf, *bit).is_some()) {

@@ -4,7 +4,7 @@ ghost use Rattle.std.specs.Prelude.{◌≡◌, ◌+◌, ◌<◌, ◌≤◌, [], 
 ghost use Rattle.sat_form.specs.Satisfaction.{literal_value, inverse_of, IsWithin};
 ghost use Rattle.sat_form.specs.Numbers.{value_of};
 ghost use Rattle.words.specs.Operators.{unsigned_quotient, unsigned_remainder, signed_quotient, signed_remainder};
-ghost use Rattle.gate_arith.specs.Growth.{Grows};
+ghost use Rattle.gate_arith.specs.Growth.{GrowsFreely};
 ghost use Rattle.gate_arith.specs.Truth.{IsTruth, IsNumber};
 ghost use Rattle.gate_arith.specs.Quotients.{IsDivided, IsStep, negated_if, quotient_by, remainder_by};
 
@@ -47,7 +47,7 @@ fn divide_step(
     requires rest { IsWithin cnf.old.variables rest.now }
     requires complement { IsWithin cnf.old.variables complement.now }
     requires one { IsTruth cnf.old one (λ _. true) }
-    ensures grows { Grows cnf.old cnf.new }
+    ensures grows { GrowsFreely cnf.old cnf.new }
     ensures is { IfOk result (λ r. IsStep cnf.new bit rest.now complement.now r.0 r.1.items) }
 {
     let mut dividend = vec![in alloc; bit]?;
@@ -70,7 +70,7 @@ fn divide(
     requires a { IsWithin cnf.old.variables a.now }
     requires b { IsWithin cnf.old.variables b.now }
     requires zero { IsTruth cnf.old zero (λ _. false) }
-    ensures grows { Grows cnf.old cnf.new }
+    ensures grows { GrowsFreely cnf.old cnf.new }
     ensures count { IfOk result (λ r. length r.0.items ≡ length a.now) }
     ensures within { IfOk result (λ r. IsWithin cnf.new.variables r.0.items) }
     ensures is { IfOk result (λ r. IsDivided cnf.new a.now b.now r.0.items r.1.items) }
@@ -101,7 +101,7 @@ fn unsigned_division(
     requires a { IsWithin cnf.old.variables a.now }
     requires b { IsWithin cnf.old.variables b.now }
     requires zero { IsTruth cnf.old zero (λ _. false) }
-    ensures grows { Grows cnf.old cnf.new }
+    ensures grows { GrowsFreely cnf.old cnf.new }
     ensures quotient { IfOk result (λ r. IsNumber cnf.new (length a.now) r.0.items (λ x. unsigned_quotient (value_of a.now x) (value_of b.now x))) }
     ensures remainder { IfOk result (λ r. IsNumber cnf.new (length a.now) r.1.items (λ x. unsigned_remainder (value_of a.now x) (value_of b.now x))) }
 {
@@ -124,7 +124,7 @@ fn negated(
     requires bits { IsWithin cnf.old.variables bits.now }
     requires by { by.variable < cnf.old.variables }
     requires zero { IsTruth cnf.old zero (λ _. false) }
-    ensures grows { Grows cnf.old cnf.new }
+    ensures grows { GrowsFreely cnf.old cnf.new }
     ensures is { IfOk result (λ r. IsNumber cnf.new (length bits.now) r.items (λ x. negated_if (literal_value x by) (length bits.now) (value_of bits.now x))) }
 {
     let flipped = turned(alloc, cnf, bits, by)?;
@@ -148,7 +148,7 @@ fn signed_division(
     requires a { IsWithin cnf.old.variables a.now }
     requires b { IsWithin cnf.old.variables b.now }
     requires zero { IsTruth cnf.old zero (λ _. false) }
-    ensures grows { Grows cnf.old cnf.new }
+    ensures grows { GrowsFreely cnf.old cnf.new }
     ensures quotient { IfOk result (λ r. IsNumber cnf.new (length a.now) r.0.items (λ x. signed_quotient (length a.now) (value_of a.now x) (value_of b.now x))) }
     ensures remainder { IfOk result (λ r. IsNumber cnf.new (length a.now) r.1.items (λ x. signed_remainder (length a.now) (value_of a.now x) (value_of b.now x))) }
 {
@@ -178,7 +178,7 @@ pub fn divider(
     requires at_most_64 { length a.now ≤ 64 }
     requires a { IsWithin cnf.old.variables a.now }
     requires b { IsWithin cnf.old.variables b.now }
-    ensures grows { Grows cnf.old cnf.new }
+    ensures grows { GrowsFreely cnf.old cnf.new }
     ensures quotient { IfOk result (λ r. IsNumber cnf.new (length a.now) r.0 (λ x. quotient_by signed (length a.now) (value_of a.now x) (value_of b.now x))) }
     ensures remainder { IfOk result (λ r. IsNumber cnf.new (length a.now) r.1 (λ x. remainder_by signed (length a.now) (value_of a.now x) (value_of b.now x))) }
 {

@@ -4,7 +4,7 @@ ghost use Rattle.std.specs.Prelude.{◌≡◌, ◌+◌, ◌-◌, ◌*◌, ◌^�
 ghost use Rattle.sat_form.specs.Satisfaction.{literal_value, IsWithin};
 ghost use Rattle.sat_form.specs.Numbers.{bit_value, value_of};
 ghost use Rattle.words.specs.Operators.{left_shift};
-ghost use Rattle.gate_arith.specs.Growth.{Grows};
+ghost use Rattle.gate_arith.specs.Growth.{GrowsFreely};
 ghost use Rattle.gate_arith.specs.Truth.{IsTruth, IsNumber};
 ghost use Rattle.gate_arith.specs.Shifts.{IsShiftedDown, IsShifted, IsConstant, shifted};
 
@@ -59,7 +59,7 @@ fn stage_up(
     requires bits { IsWithin cnf.old.variables bits.now }
     requires on { on.variable < cnf.old.variables }
     requires zero { IsTruth cnf.old zero (λ _. false) }
-    ensures grows { Grows cnf.old cnf.new }
+    ensures grows { GrowsFreely cnf.old cnf.new }
     ensures is { IfOk result (λ r. IsNumber cnf.new (length bits.now) r.items (λ x. left_shift (length bits.now) (value_of bits.now x) (distance * bit_value (literal_value x on)))) }
 {
     let moved = moved_up(alloc, bits, distance, zero)?;
@@ -79,7 +79,7 @@ fn shifted_up(
     requires a { IsWithin cnf.old.variables a.now }
     requires count { IsWithin cnf.old.variables count.now }
     requires zero { IsTruth cnf.old zero (λ _. false) }
-    ensures grows { Grows cnf.old cnf.new }
+    ensures grows { GrowsFreely cnf.old cnf.new }
     ensures is { IfOk result (λ r. IsNumber cnf.new (length a.now) r.items (λ x. left_shift (length a.now) (value_of a.now x) (value_of count.now x))) }
 {
     let mut bits = a.to_vec(alloc)?;
@@ -102,7 +102,7 @@ fn stage_down(
     requires bits { IsWithin cnf.old.variables bits.now }
     requires on { on.variable < cnf.old.variables }
     requires fill { fill.variable < cnf.old.variables }
-    ensures grows { Grows cnf.old cnf.new }
+    ensures grows { GrowsFreely cnf.old cnf.new }
     ensures is { IfOk result (λ r. IsShiftedDown cnf.new bits.now fill r.items (λ x. distance * bit_value (literal_value x on))) }
 {
     let moved = moved_down(alloc, bits, distance, fill)?;
@@ -122,7 +122,7 @@ fn shifted_down(
     requires a { IsWithin cnf.old.variables a.now }
     requires count { IsWithin cnf.old.variables count.now }
     requires fill { fill.variable < cnf.old.variables }
-    ensures grows { Grows cnf.old cnf.new }
+    ensures grows { GrowsFreely cnf.old cnf.new }
     ensures is { IfOk result (λ r. IsShiftedDown cnf.new a.now fill r.items (value_of count.now)) }
 {
     let mut bits = a.to_vec(alloc)?;
@@ -147,7 +147,7 @@ fn shifted_within(
     requires a { IsWithin cnf.old.variables a.now }
     requires count { IsWithin cnf.old.variables count.now }
     requires zero { IsTruth cnf.old zero (λ _. false) }
-    ensures grows { Grows cnf.old cnf.new }
+    ensures grows { GrowsFreely cnf.old cnf.new }
     ensures is { IfOk result (λ r. IsShifted cnf.new kind a.now count.now r.items) }
 {
     match kind {
@@ -184,7 +184,7 @@ pub fn shifter(
     requires at_most_64 { length a.now ≤ 64 }
     requires a { IsWithin cnf.old.variables a.now }
     requires count { IsWithin cnf.old.variables count.now }
-    ensures grows { Grows cnf.old cnf.new }
+    ensures grows { GrowsFreely cnf.old cnf.new }
     ensures is { IfOk result (λ r. IsNumber cnf.new (length a.now) r (λ x. shifted kind (length a.now) (value_of a.now x) (value_of count.now x))) }
 {
     let zero = constant(alloc, cnf, false)?;

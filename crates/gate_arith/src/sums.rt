@@ -4,7 +4,7 @@ ghost use Rattle.std.specs.Prelude.{◌≡◌, ◌+◌, ◌<◌, ◌≤◌, IfOk
 ghost use Rattle.sat_form.specs.Satisfaction.{literal_value, IsWithin};
 ghost use Rattle.sat_form.specs.Numbers.{bit_value, value_of};
 ghost use Rattle.words.specs.Operators.{word_sum};
-ghost use Rattle.gate_arith.specs.Growth.{Grows};
+ghost use Rattle.gate_arith.specs.Growth.{GrowsFreely};
 ghost use Rattle.gate_arith.specs.Truth.{IsNumber};
 ghost use Rattle.gate_arith.specs.Sums.{IsBitSum, IsSum};
 
@@ -24,7 +24,7 @@ fn full_adder(
     requires a { a.variable < cnf.old.variables }
     requires b { b.variable < cnf.old.variables }
     requires carry { carry.variable < cnf.old.variables }
-    ensures grows { Grows cnf.old cnf.new }
+    ensures grows { GrowsFreely cnf.old cnf.new }
     ensures is { IfOk result (λ r. IsBitSum cnf.new a b carry r.0 r.1) }
 {
     let half = xor(alloc, cnf, a, b)?;
@@ -45,7 +45,7 @@ pub fn sum(
     requires a { IsWithin cnf.old.variables a.now }
     requires b { IsWithin cnf.old.variables b.now }
     requires start { start.variable < cnf.old.variables }
-    ensures grows { Grows cnf.old cnf.new }
+    ensures grows { GrowsFreely cnf.old cnf.new }
     ensures is { IfOk result (λ r. IsSum cnf.new a.now b.now start r.0.items r.1) }
 {
     let mut bits = Vec::new(alloc);
@@ -72,7 +72,7 @@ pub fn adder(
     requires at_most_64 { length a.now ≤ 64 }
     requires a { IsWithin cnf.old.variables a.now }
     requires b { IsWithin cnf.old.variables b.now }
-    ensures grows { Grows cnf.old cnf.new }
+    ensures grows { GrowsFreely cnf.old cnf.new }
     ensures is { IfOk result (λ s. IsNumber cnf.new (length a.now) s (λ x. word_sum (length a.now) (value_of a.now x) (value_of b.now x + bit_value carry))) }
 {
     let start = constant(alloc, cnf, carry)?;

@@ -85,6 +85,19 @@ impl Cnf {
         Ok(())
     }
 
+    /// Moves the clauses of a form over these variables and maybe more to the end of this one, which
+    /// takes over its variables. After an error the form is unchanged.
+    pub fn append(&mut self, other: Cnf) -> Result<(), AllocError>
+        requires { self.old.variables ≤ other.variables }
+        ensures ok { OnOk result (self.new ≡ record { variables = other.variables; clauses = self.old.clauses ++ other.clauses }) }
+        ensures err { OnErr result (self.new ≡ self.old) }
+    {
+        let mut more = other;
+        self.clauses.append(&mut more.clauses)?;
+        self.variables = more.variables;
+        Ok(())
+    }
+
     /// How many variables there are.
     pub fn variables(&self) -> u32
         ensures is { result ≡ self.now.variables }

@@ -1,9 +1,9 @@
-use Rattle.gate_arith.proofs.Growing.{Grows-same}
+use Rattle.gate_arith.proofs.Growing.{GrowsFreely-same}
 use Rattle.gate_arith.proofs.Cells.{most_grows, most_is}
 use Rattle.gate_arith.proofs.gates.most_gate.Goals as goal
 
 pub returns-in_err-out-clause-grows : goal.returns-in_err-out-clause-grows
-returns-in_err-out-clause-grows c = Grows-same _ _ c.in_err-out.ensures.err
+returns-in_err-out-clause-grows c = GrowsFreely-same _ _ c.in_err-out.ensures.err
 
 pub returns-in_err-add_all-clause-grows : goal.returns-in_err-add_all-clause-grows
 returns-in_err-add_all-clause-grows c =

@@ -3,7 +3,7 @@ use Rattle.std.specs.Prelude.{if◌then◌else◌}
 use Rattle.std.proofs.lemmas.List.{map_more}
 use Rattle.sat_form.specs.Satisfaction.{Literal, literal_value}
 use Rattle.gate_arith.specs.Truth.{AreTruths}
-use Rattle.gate_arith.proofs.Growing.{Grows-then}
+use Rattle.gate_arith.proofs.Growing.{GrowsFreely-then}
 use Rattle.gate_arith.proofs.Listing.{Truths_more, choice_push}
 use Rattle.gate_arith.proofs.lists.chosen.Goals as goal
 
@@ -24,6 +24,6 @@ loop-i-preserved c =
     λ x. (λ k. if literal_value x t then more_p x k else more_q x k) ∙ choice_push (literal_value x t) (map (literal_value x) (take i p)) (map (literal_value x) (take i q)) (literal_value x y) (literal_value x n) in
     let step = Truths_more _ c.choose.new.cnf i _ c.in_ok-choose.field-0 _ (λ x. if literal_value x t then literal_value x y else literal_value x n) (λ x. if literal_value x t then map (literal_value x) (take (i + 1) p) else map (literal_value x) (take (i + 1) q)) c.loop-i.invariant.is c.in_ok-choose.ensures.grows c.in_ok-choose.ensures.is is_goal in
     record {
-      grows = Grows-then c.loop-i.invariant.grows c.in_ok-choose.ensures.grows;
+      grows = GrowsFreely-then c.loop-i.invariant.grows c.in_ok-choose.ensures.grows;
       is = subst (λ (r : List Literal). AreTruths c.choose.new.cnf (i + 1) r (λ x. if literal_value x t then map (literal_value x) (take (i + 1) p) else map (literal_value x) (take (i + 1) q))) (sym {A = List Literal} c.in_ok-push.ensures.items) step;
     }

@@ -3,7 +3,7 @@ use Rattle.std.proofs.lemmas.List.{map_more, take_all}
 use Rattle.sat_form.specs.Satisfaction.{Literal, literal_value}
 use Rattle.sat_form.specs.Numbers.{number_of}
 use Rattle.gate_arith.specs.Truth.{AreTruths}
-use Rattle.gate_arith.proofs.Growing.{Grows-then}
+use Rattle.gate_arith.proofs.Growing.{GrowsFreely-then}
 use Rattle.gate_arith.proofs.Listing.{Truths_more, masked_number}
 use Rattle.gate_arith.proofs.lists.masked.Goals as goal
 
@@ -18,7 +18,7 @@ loop-bit-preserved c =
     ∙ ap (λ (m : Literal). map (λ m. literal_value x m && literal_value x mask) (take i ls) ++ (literal_value x m && literal_value x mask) ∷ []) (sym {A = Literal} c.bit-item.is) in
     let step = Truths_more _ c.and.new.cnf i _ c.in_ok-and.field-0 _ (λ x. literal_value x l && literal_value x mask) (λ x. map (λ m. literal_value x m && literal_value x mask) (take (i + 1) ls)) c.loop-bit.invariant.is c.in_ok-and.ensures.grows c.in_ok-and.ensures.is is_goal in
     record {
-      grows = Grows-then c.loop-bit.invariant.grows c.in_ok-and.ensures.grows;
+      grows = GrowsFreely-then c.loop-bit.invariant.grows c.in_ok-and.ensures.grows;
       is = subst (λ (r : List Literal). AreTruths c.and.new.cnf (i + 1) r (λ x. map (λ m. literal_value x m && literal_value x mask) (take (i + 1) ls))) (sym {A = List Literal} c.in_ok-push.ensures.items) step;
     }
 

@@ -3,7 +3,7 @@ use Rattle.std.proofs.lemmas.List.{take_more, length-take-le}
 use Rattle.sat_form.specs.Satisfaction.{Literal}
 use Rattle.sat_form.specs.Numbers.{value_of}
 use Rattle.gate_arith.specs.Truth.{IsTruth}
-use Rattle.gate_arith.proofs.Growing.{Grows-then}
+use Rattle.gate_arith.proofs.Growing.{GrowsFreely-then}
 use Rattle.gate_arith.proofs.Comparing.{Less_more}
 use Rattle.gate_arith.proofs.orders.borrow.Goals as goal
 
@@ -22,7 +22,7 @@ loop-i-preserved c =
     let more_b : take (i + 1) b ≡ take i b ++ y ∷ [] = take_more b i y in_b ∙ ap (λ (l : Literal). take i b ++ l ∷ []) (sym c.index-b-i.is) in
     let step = Less_more _ _ (take i a) (take i b) x y c.inverse.result c.loop-i.below next lengths c.loop-i.invariant.is c.inverse.ensures c.in_ok-below-2.ensures.grows c.in_ok-below-2.ensures.is in
     record {
-      grows = Grows-then c.loop-i.invariant.grows c.in_ok-below-2.ensures.grows;
+      grows = GrowsFreely-then c.loop-i.invariant.grows c.in_ok-below-2.ensures.grows;
       is = subst (λ (p : List Literal). IsTruth c.majority.new.cnf next (λ v. nat_lt (value_of p v) (value_of (take (i + 1) b) v))) (sym more_a)
           (subst (λ (q : List Literal). IsTruth c.majority.new.cnf next (λ v. nat_lt (value_of (take i a ++ x ∷ []) v) (value_of q v))) (sym more_b) step);
     }

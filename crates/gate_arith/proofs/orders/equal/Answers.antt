@@ -3,7 +3,7 @@ use Rattle.std.proofs.lemmas.List.{take_more, length-take-le}
 use Rattle.sat_form.specs.Satisfaction.{Literal}
 use Rattle.sat_form.specs.Numbers.{value_of}
 use Rattle.gate_arith.specs.Truth.{IsTruth}
-use Rattle.gate_arith.proofs.Growing.{Grows-then}
+use Rattle.gate_arith.proofs.Growing.{GrowsFreely-then}
 use Rattle.gate_arith.proofs.Comparing.{Equal_more}
 use Rattle.gate_arith.proofs.orders.equal.Goals as goal
 
@@ -22,7 +22,7 @@ loop-i-preserved c =
     let more_b : take (i + 1) b ≡ take i b ++ y ∷ [] = take_more b i y in_b ∙ ap (λ (l : Literal). take i b ++ l ∷ []) (sym c.index-b-i.is) in
     let step = Equal_more _ _ _ (take i a) (take i b) x y c.loop-i.same c.in_ok-apart.apart c.inverse.result next lengths c.loop-i.invariant.is c.in_ok-apart.ensures.grows c.in_ok-apart.ensures.is c.inverse.ensures c.in_ok-same-2.ensures.grows c.in_ok-same-2.ensures.is in
     record {
-      grows = Grows-then c.loop-i.invariant.grows (Grows-then c.in_ok-apart.ensures.grows c.in_ok-same-2.ensures.grows);
+      grows = GrowsFreely-then c.loop-i.invariant.grows (GrowsFreely-then c.in_ok-apart.ensures.grows c.in_ok-same-2.ensures.grows);
       is = subst (λ (p : List Literal). IsTruth c.and.new.cnf next (λ v. nat_eq (value_of p v) (value_of (take (i + 1) b) v))) (sym more_a)
           (subst (λ (q : List Literal). IsTruth c.and.new.cnf next (λ v. nat_eq (value_of (take i a ++ x ∷ []) v) (value_of q v))) (sym more_b) step);
     }

@@ -4,7 +4,7 @@ use Rattle.sat_form.specs.Satisfaction.{Literal}
 use Rattle.sat_form.specs.Numbers.{value_of}
 use Rattle.words.specs.Operators.{word_product}
 use Rattle.gate_arith.specs.Truth.{IsNumber}
-use Rattle.gate_arith.proofs.Growing.{Grows-then, IsTruth-kept, IsWithin-kept}
+use Rattle.gate_arith.proofs.Growing.{GrowsFreely-then, IsTruth-kept, IsWithin-kept}
 use Rattle.gate_arith.proofs.Multiplying.{Product_none, Product_more}
 use Rattle.gate_arith.proofs.products.product.Goals as goal
 
@@ -28,7 +28,7 @@ loop-i-preserved c =
     let more : take (i + 1) rows ≡ take i rows ++ bit ∷ [] = take_more rows i bit c.loop-i-test.true ∙ ap (λ (l : Literal). take i rows ++ l ∷ []) (sym c.index-rows-i.is) in
     let step = Product_more _ c.add_row.new.cnf factor (take i rows) c.loop-i.total.items next bit i (length-take-le i rows (omega arith)) c.in_ok-total-2.ensures.grows c.loop-i.invariant.is c.in_ok-total-2.ensures.is in
     record {
-      grows = Grows-then c.loop-i.invariant.grows c.in_ok-total-2.ensures.grows;
+      grows = GrowsFreely-then c.loop-i.invariant.grows c.in_ok-total-2.ensures.grows;
       zero = IsTruth-kept c.loop-i.invariant.zero c.in_ok-total-2.ensures.grows;
       is = subst (λ (p : List Literal). IsNumber c.add_row.new.cnf (length factor) next (λ x. word_product (length factor) (value_of factor x) (value_of p x))) (sym more) step;
     }

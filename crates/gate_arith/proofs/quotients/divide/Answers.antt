@@ -6,7 +6,7 @@ use Rattle.sat_form.proofs.Truth.{literal_value-inverse_of}
 use Rattle.sat_form.proofs.Within.{IsWithin-push}
 use Rattle.gate_arith.specs.Truth.{IsTruth}
 use Rattle.gate_arith.specs.Quotients.{IsDivided, IsStep}
-use Rattle.gate_arith.proofs.Growing.{Grows-refl, Grows-then, IsTruth-kept, IsWithin-kept}
+use Rattle.gate_arith.proofs.Growing.{GrowsFreely-refl, GrowsFreely-then, IsTruth-kept, IsWithin-kept}
 use Rattle.gate_arith.proofs.Parts.{IsWithin-replicate}
 use Rattle.gate_arith.proofs.Dividing.{Divided_none, Divided_more, complement_value, IsWithin-inverses, IsWithin-set}
 use Rattle.gate_arith.proofs.quotients.divide.Goals as goal
@@ -27,7 +27,7 @@ loop-i-init c =
     let none_q : drop (length a) quotient ≡ [] = drop_all (length a) quotient (omega arith) in
     let none = Divided_none c.args.cnf.now c.args.b.now c.in_ok-rest.rest.items c.args.zero (length a) c.requires.zero (c.in_ok-rest.ensures.items_if_clones_equal (λ y h. h)) c.requires.same_width in
     record {
-      grows = Grows-refl c.args.cnf.now;
+      grows = GrowsFreely-refl c.args.cnf.now;
       one = turned c.args.cnf.now c.args.zero c.inverse-one.result c.requires.zero c.inverse-one.ensures;
       count = width;
       within = subst (λ (m : List Literal). IsWithin c.args.cnf.now.variables m) (sym filled) (IsWithin-replicate c.args.cnf.now.variables (length a) c.args.zero c.requires.zero.within);
@@ -66,7 +66,7 @@ loop-i-preserved c =
     let divided = Divided_more c.loop-i.cnf g (drop c.loop-i.i a) b (drop c.loop-i.i quotient) c.loop-i.rest.items complement next bit fits c.loop-i.invariant.is c.in_ok-bit.ensures.grows
     (λ x all. complement_value x b complement c.inverse-one.result (c.deref-in-loop-i.ensures.value ∙ c.in_ok-complement.ensures) ((IsTruth-kept on c.in_ok-bit.ensures.grows).is x all)) step in
     record {
-      grows = Grows-then c.loop-i.invariant.grows c.in_ok-bit.ensures.grows;
+      grows = GrowsFreely-then c.loop-i.invariant.grows c.in_ok-bit.ensures.grows;
       one = IsTruth-kept on c.in_ok-bit.ensures.grows;
       count = length-set quotient j fits ∙ c.loop-i.invariant.count;
       within = IsWithin-set g.variables quotient j fits (IsWithin-kept quotient c.loop-i.invariant.within c.in_ok-bit.ensures.grows) c.in_ok-bit.ensures.is.fits_within;

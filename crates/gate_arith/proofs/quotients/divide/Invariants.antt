@@ -1,13 +1,13 @@
 use Rattle.std.proofs.Common.{◌≡◌, true, drop, length}
 use Rattle.sat_form.specs.Satisfaction.{IsWithin}
-use Rattle.gate_arith.specs.Growth.{Grows}
+use Rattle.gate_arith.specs.Growth.{GrowsFreely}
 use Rattle.gate_arith.specs.Truth.{IsTruth}
 use Rattle.gate_arith.specs.Quotients.{IsDivided}
 use Rattle.gate_arith.proofs.quotients.divide.Given as goal
 
 abbrev pub invariant-loop-i : goal.invariant-loop-i
 invariant-loop-i l = record {
-  grows : Grows l.fn.cnf l.cnf;
+  grows : GrowsFreely l.fn.cnf l.cnf;
   one : IsTruth l.cnf l.one (λ x. true);
   count : length l.quotient.items ≡ length l.fn.a;
   within : IsWithin l.cnf.variables l.quotient.items;

@@ -4,14 +4,14 @@ use Rattle.sat_form.specs.Numbers.{value_of}
 use Rattle.words.specs.Operators.{unsigned_quotient, unsigned_remainder}
 use Rattle.gate_arith.specs.Truth.{IsNumber}
 use Rattle.gate_arith.specs.Quotients.{negated_if}
-use Rattle.gate_arith.proofs.Growing.{Grows-then, IsNumber-kept, IsWithin-kept}
+use Rattle.gate_arith.proofs.Growing.{GrowsFreely-then, IsNumber-kept, IsWithin-kept}
 use Rattle.gate_arith.proofs.Parts.{last_of}
 use Rattle.gate_arith.proofs.Dividing.{Signed_quotient_is, Signed_remainder_is}
 use Rattle.gate_arith.proofs.quotients.signed_division.Goals as goal
 
 pub returns-in_err-apart-clause-grows : goal.returns-in_err-apart-clause-grows
 returns-in_err-apart-clause-grows c =
-    Grows-then c.in_ok-dividend.ensures.grows (Grows-then c.in_ok-divisor.ensures.grows (Grows-then c.in_ok-quotient.ensures.grows c.in_err-apart.ensures.grows))
+    GrowsFreely-then c.in_ok-dividend.ensures.grows (GrowsFreely-then c.in_ok-divisor.ensures.grows (GrowsFreely-then c.in_ok-quotient.ensures.grows c.in_err-apart.ensures.grows))
 
 pub negated-requires-3-clause-bits : goal.negated-requires-3-clause-bits
 negated-requires-3-clause-bits c =
@@ -20,20 +20,20 @@ negated-requires-3-clause-bits c =
 
 pub returns-in_err-quotient-2-clause-grows : goal.returns-in_err-quotient-2-clause-grows
 returns-in_err-quotient-2-clause-grows c =
-    Grows-then c.in_ok-dividend.ensures.grows (Grows-then c.in_ok-divisor.ensures.grows (Grows-then c.in_ok-quotient.ensures.grows (Grows-then c.in_ok-apart.ensures.grows c.in_err-quotient-2.ensures.grows)))
+    GrowsFreely-then c.in_ok-dividend.ensures.grows (GrowsFreely-then c.in_ok-divisor.ensures.grows (GrowsFreely-then c.in_ok-quotient.ensures.grows (GrowsFreely-then c.in_ok-apart.ensures.grows c.in_err-quotient-2.ensures.grows)))
 
 pub negated-requires-4-clause-bits : goal.negated-requires-4-clause-bits
 negated-requires-4-clause-bits c =
     subst (λ (m : List Literal). IsWithin c.negated-3.new.cnf.variables m) (sym c.deref-4.ensures.value)
-    (IsWithin-kept c.in_ok-quotient.rest.items c.in_ok-quotient.ensures.remainder.within (Grows-then c.in_ok-apart.ensures.grows c.in_ok-quotient-2.ensures.grows))
+    (IsWithin-kept c.in_ok-quotient.rest.items c.in_ok-quotient.ensures.remainder.within (GrowsFreely-then c.in_ok-apart.ensures.grows c.in_ok-quotient-2.ensures.grows))
 
 pub returns-in_err-rest-clause-grows : goal.returns-in_err-rest-clause-grows
 returns-in_err-rest-clause-grows c =
-    Grows-then c.in_ok-dividend.ensures.grows (Grows-then c.in_ok-divisor.ensures.grows (Grows-then c.in_ok-quotient.ensures.grows (Grows-then c.in_ok-apart.ensures.grows (Grows-then c.in_ok-quotient-2.ensures.grows c.in_err-rest.ensures.grows))))
+    GrowsFreely-then c.in_ok-dividend.ensures.grows (GrowsFreely-then c.in_ok-divisor.ensures.grows (GrowsFreely-then c.in_ok-quotient.ensures.grows (GrowsFreely-then c.in_ok-apart.ensures.grows (GrowsFreely-then c.in_ok-quotient-2.ensures.grows c.in_err-rest.ensures.grows))))
 
 pub returns-clause-grows : goal.returns-clause-grows
 returns-clause-grows c =
-    Grows-then c.in_ok-dividend.ensures.grows (Grows-then c.in_ok-divisor.ensures.grows (Grows-then c.in_ok-quotient.ensures.grows (Grows-then c.in_ok-apart.ensures.grows (Grows-then c.in_ok-quotient-2.ensures.grows c.in_ok-rest.ensures.grows))))
+    GrowsFreely-then c.in_ok-dividend.ensures.grows (GrowsFreely-then c.in_ok-divisor.ensures.grows (GrowsFreely-then c.in_ok-quotient.ensures.grows (GrowsFreely-then c.in_ok-apart.ensures.grows (GrowsFreely-then c.in_ok-quotient-2.ensures.grows c.in_ok-rest.ensures.grows))))
 
 pub returns-clause-quotient : goal.returns-clause-quotient
 returns-clause-quotient c =
@@ -68,4 +68,4 @@ returns-clause-remainder c =
     Signed_remainder_is c.negated.new.cnf c.negated-2.new.cnf c.unsigned_division.new.cnf c.negated-4.new.cnf a b dividend divisor rest c.in_ok-rest.rest.items (take (length a - 1) a) (take (length b - 1) b) s t
     c.requires.positive c.requires.same_width (last_of a s c.requires.positive c.index-a-a.is) (last_of b t (omega arith) c.index-b-b.is)
     c.in_ok-dividend.ensures.is c.in_ok-divisor.ensures.grows c.in_ok-divisor.ensures.is c.in_ok-quotient.ensures.grows divided
-    (Grows-then c.in_ok-apart.ensures.grows (Grows-then c.in_ok-quotient-2.ensures.grows c.in_ok-rest.ensures.grows)) signed
+    (GrowsFreely-then c.in_ok-apart.ensures.grows (GrowsFreely-then c.in_ok-quotient-2.ensures.grows c.in_ok-rest.ensures.grows)) signed

@@ -3,17 +3,17 @@ use Rattle.std.specs.Prelude.{if◌then◌else◌}
 use Rattle.sat_form.specs.Satisfaction.{Literal, literal_value}
 use Rattle.sat_form.specs.Numbers.{value_of}
 use Rattle.gate_arith.specs.Truth.{IsTruth, IsNumber}
-use Rattle.gate_arith.proofs.Growing.{Grows-then, IsTruth-kept, IsNumber-kept}
+use Rattle.gate_arith.proofs.Growing.{GrowsFreely-then, IsTruth-kept, IsNumber-kept}
 use Rattle.gate_arith.proofs.Dividing.{Quotient_is, Remainder_is}
 use Rattle.gate_arith.proofs.quotients.unsigned_division.Goals as goal
 
 pub returns-in_err-rest-clause-grows : goal.returns-in_err-rest-clause-grows
 returns-in_err-rest-clause-grows c =
-    Grows-then c.in_ok-quotient.ensures.grows (Grows-then c.in_ok-by_zero.ensures.grows (Grows-then c.in_ok-quotient-2.ensures.grows c.in_err-rest.ensures.grows))
+    GrowsFreely-then c.in_ok-quotient.ensures.grows (GrowsFreely-then c.in_ok-by_zero.ensures.grows (GrowsFreely-then c.in_ok-quotient-2.ensures.grows c.in_err-rest.ensures.grows))
 
 pub returns-clause-grows : goal.returns-clause-grows
 returns-clause-grows c =
-    Grows-then c.in_ok-quotient.ensures.grows (Grows-then c.in_ok-by_zero.ensures.grows (Grows-then c.in_ok-quotient-2.ensures.grows c.in_ok-rest.ensures.grows))
+    GrowsFreely-then c.in_ok-quotient.ensures.grows (GrowsFreely-then c.in_ok-by_zero.ensures.grows (GrowsFreely-then c.in_ok-quotient-2.ensures.grows c.in_ok-rest.ensures.grows))
 
 pub returns-clause-quotient : goal.returns-clause-quotient
 returns-clause-quotient c =
@@ -34,4 +34,4 @@ returns-clause-remainder c =
     let is_masked = subst (λ (m : List Literal). IsNumber c.masked-2.new.cnf (length m) c.in_ok-rest.rest.items (λ x. if literal_value x c.inverse-2.result then value_of m x else 0)) c.deref-3.ensures.value c.in_ok-rest.ensures.is in
     Remainder_is c.divide.new.cnf c.equal.new.cnf c.masked-2.new.cnf c.args.a.now c.args.b.now c.in_ok-quotient.quotient.items rest zeros c.in_ok-rest.rest.items c.args.zero c.in_ok-by_zero.by_zero c.inverse-2.result _
     c.requires.same_width (IsTruth-kept c.requires.zero c.in_ok-quotient.ensures.grows) c.in_ok-quotient.ensures.is c.in_ok-by_zero.ensures.grows (c.in_ok-zeros.ensures.items_if_clones_equal (λ y h. h)) is_test c.inverse-2.ensures
-    (Grows-then c.in_ok-quotient-2.ensures.grows c.in_ok-rest.ensures.grows) is_masked
+    (GrowsFreely-then c.in_ok-quotient-2.ensures.grows c.in_ok-rest.ensures.grows) is_masked

@@ -3,7 +3,7 @@ use Rattle.std.proofs.lemmas.List.{take_more, length-take-le}
 use Rattle.sat_form.specs.Satisfaction.{Literal}
 use Rattle.sat_form.specs.Numbers.{value_of}
 use Rattle.gate_arith.specs.Shifts.{IsShiftedDown}
-use Rattle.gate_arith.proofs.Growing.{Grows-then}
+use Rattle.gate_arith.proofs.Growing.{GrowsFreely-then}
 use Rattle.gate_arith.proofs.Shifting.{distance_is, distance_fits, Down_more}
 use Rattle.gate_arith.proofs.shifts.shifted_down.Goals as goal
 
@@ -23,6 +23,6 @@ loop-k-preserved c =
     let so_far = subst (λ (m : List Literal). IsShiftedDown c.loop-k.cnf a c.args.fill m (λ x. value_of (take k count) x)) (sym c.deref.ensures.value) c.loop-k.invariant.is in
     let step = Down_more c.loop-k.cnf c.stage_down.new.cnf a (take k count) bits next on c.args.fill k _ (length-take-le k count (omega arith)) (distance_is k (omega (arith, c.requires.few))) c.in_ok-bits-2.ensures.grows so_far c.in_ok-bits-2.ensures.is in
     record {
-      grows = Grows-then c.loop-k.invariant.grows c.in_ok-bits-2.ensures.grows;
+      grows = GrowsFreely-then c.loop-k.invariant.grows c.in_ok-bits-2.ensures.grows;
       is = subst (λ (p : List Literal). IsShiftedDown c.stage_down.new.cnf a c.args.fill next (λ x. value_of p x)) (sym more) step;
     }

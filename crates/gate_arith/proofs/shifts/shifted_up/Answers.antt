@@ -4,7 +4,7 @@ use Rattle.sat_form.specs.Satisfaction.{Literal}
 use Rattle.sat_form.specs.Numbers.{value_of}
 use Rattle.words.specs.Operators.{left_shift}
 use Rattle.gate_arith.specs.Truth.{IsNumber}
-use Rattle.gate_arith.proofs.Growing.{Grows-refl, Grows-then, IsTruth-kept}
+use Rattle.gate_arith.proofs.Growing.{GrowsFreely-refl, GrowsFreely-then, IsTruth-kept}
 use Rattle.gate_arith.proofs.Shifting.{distance_is, distance_fits, Up_none, Up_more}
 use Rattle.gate_arith.proofs.shifts.shifted_up.Goals as goal
 
@@ -16,7 +16,7 @@ pub loop-k-init : goal.loop-k-init
 loop-k-init c =
     let same : c.in_ok-bits.bits.items ≡ c.args.a.now = search rules in
     record {
-      grows = Grows-refl c.args.cnf.now;
+      grows = GrowsFreely-refl c.args.cnf.now;
       zero = c.requires.zero;
       is = Up_none c.args.cnf.now c.args.a.now c.in_ok-bits.bits.items same c.requires.a;
     }
@@ -33,7 +33,7 @@ loop-k-preserved c =
     let so_far = subst (λ (m : List Literal). IsNumber c.loop-k.cnf (length a) m (λ x. left_shift (length a) (value_of a x) (value_of (take k count) x))) (sym c.deref.ensures.value) c.loop-k.invariant.is in
     let step = Up_more c.loop-k.cnf c.stage_up.new.cnf a (take k count) bits next on k _ (length-take-le k count (omega arith)) (distance_is k (omega (arith, c.requires.few))) c.in_ok-bits-2.ensures.grows so_far c.in_ok-bits-2.ensures.is in
     record {
-      grows = Grows-then c.loop-k.invariant.grows c.in_ok-bits-2.ensures.grows;
+      grows = GrowsFreely-then c.loop-k.invariant.grows c.in_ok-bits-2.ensures.grows;
       zero = IsTruth-kept c.loop-k.invariant.zero c.in_ok-bits-2.ensures.grows;
       is = subst (λ (p : List Literal). IsNumber c.stage_up.new.cnf (length a) next (λ x. left_shift (length a) (value_of a x) (value_of p x))) (sym more) step;
     }

@@ -4,17 +4,17 @@ use Rattle.sat_form.specs.Numbers.{value_of}
 use Rattle.std.specs.Prelude.{if◌then◌else◌}
 use Rattle.gate_arith.specs.Truth.{IsTruth, IsNumber}
 use Rattle.gate_arith.specs.Shifts.{shifted}
-use Rattle.gate_arith.proofs.Growing.{Grows-then, IsTruth-kept}
+use Rattle.gate_arith.proofs.Growing.{GrowsFreely-then, IsTruth-kept}
 use Rattle.gate_arith.proofs.Shifting.{Shifted_any}
 use Rattle.gate_arith.proofs.shifts.shifter.Goals as goal
 
 pub returns-in_err-bits-clause-grows : goal.returns-in_err-bits-clause-grows
 returns-in_err-bits-clause-grows c =
-    Grows-then c.in_ok-zero.ensures.grows (Grows-then c.in_ok-moved.ensures.grows (Grows-then c.in_ok-inside.ensures.grows c.in_err-bits.ensures.grows))
+    GrowsFreely-then c.in_ok-zero.ensures.grows (GrowsFreely-then c.in_ok-moved.ensures.grows (GrowsFreely-then c.in_ok-inside.ensures.grows c.in_err-bits.ensures.grows))
 
 pub returns-clause-grows : goal.returns-clause-grows
 returns-clause-grows c =
-    Grows-then c.in_ok-zero.ensures.grows (Grows-then c.in_ok-moved.ensures.grows (Grows-then c.in_ok-inside.ensures.grows c.in_ok-bits.ensures.grows))
+    GrowsFreely-then c.in_ok-zero.ensures.grows (GrowsFreely-then c.in_ok-moved.ensures.grows (GrowsFreely-then c.in_ok-inside.ensures.grows c.in_ok-bits.ensures.grows))
 
 pub returns-clause-is : goal.returns-clause-is
 returns-clause-is c =

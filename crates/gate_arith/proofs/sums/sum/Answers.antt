@@ -2,13 +2,13 @@ use Rattle.std.proofs.Common.{◌≡◌, ◌+◌, ◌<◌, List, [], ◌∷◌, 
 use Rattle.std.proofs.lemmas.List.{take_more, length-take-le}
 use Rattle.sat_form.specs.Satisfaction.{Literal}
 use Rattle.gate_arith.specs.Sums.{IsSum}
-use Rattle.gate_arith.proofs.Growing.{Grows-refl, Grows-then}
+use Rattle.gate_arith.proofs.Growing.{GrowsFreely-refl, GrowsFreely-then}
 use Rattle.gate_arith.proofs.Adding.{Sum_none, Sum_more}
 use Rattle.gate_arith.proofs.sums.sum.Goals as goal
 
 pub loop-i-init : goal.loop-i-init
 loop-i-init c = record {
-  grows = Grows-refl c.args.cnf.now;
+  grows = GrowsFreely-refl c.args.cnf.now;
   is = subst (λ (bits : List Literal). IsSum c.args.cnf.now [] [] c.args.start bits c.args.start) (sym c.new-bits.ensures.items) (Sum_none c.args.cnf.now c.args.start c.requires.start);
 }
 
@@ -27,7 +27,7 @@ loop-i-preserved c =
     let pushed = c.in_ok-push.ensures.items in
     let step = Sum_more _ c.full_adder.new.cnf (take i a) (take i b) c.args.start _ c.loop-i.carry x y c.in_ok-bit.bit c.in_ok-bit.next c.loop-i.invariant.is c.in_ok-bit.ensures.grows lengths c.in_ok-bit.ensures.is in
     record {
-      grows = Grows-then c.loop-i.invariant.grows c.in_ok-bit.ensures.grows;
+      grows = GrowsFreely-then c.loop-i.invariant.grows c.in_ok-bit.ensures.grows;
       is = let goal_at : List Literal → List Literal → List Literal → Type 0 = λ p q s. IsSum c.full_adder.new.cnf p q c.args.start s c.in_ok-bit.next in
           subst (λ (p : List Literal). goal_at p (take (i + 1) b) c.push.new.self.items) (sym more_a)
           (subst (λ (q : List Literal). goal_at (take i a ++ x ∷ []) q c.push.new.self.items) (sym more_b)

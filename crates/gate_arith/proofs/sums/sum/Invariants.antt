@@ -1,10 +1,10 @@
 use Rattle.std.proofs.Common.{take}
-use Rattle.gate_arith.specs.Growth.{Grows}
+use Rattle.gate_arith.specs.Growth.{GrowsFreely}
 use Rattle.gate_arith.specs.Sums.{IsSum}
 use Rattle.gate_arith.proofs.sums.sum.Given as goal
 
 abbrev pub invariant-loop-i : goal.invariant-loop-i
 invariant-loop-i l = record {
-  grows : Grows l.fn.cnf l.cnf;
+  grows : GrowsFreely l.fn.cnf l.cnf;
   is : IsSum l.cnf (take l.i l.a) (take l.i l.b) l.fn.start l.bits.items l.carry;
 }

@@ -1,0 +1,159 @@
+#![tactic(auto, using(crate::proofs::Calls::parts))]
+
+ghost use Rattle.std.specs.Prelude.{◌≡◌, ◌+◌, ◌≤◌, IfOk, length, nat_eq, nat_lt, if◌then◌else◌};
+ghost use Rattle.sat_form.specs.Satisfaction.{IsWithin};
+ghost use Rattle.sat_form.specs.Numbers.{bit_value, value_of};
+ghost use Rattle.words.specs.Operators.{word_sum, word_product, signed_lt};
+ghost use Rattle.gate_arith.specs.Growth.{Grows, IsPart, added_to};
+ghost use Rattle.gate_arith.specs.Truth.{IsTruth, IsNumber};
+ghost use Rattle.gate_arith.specs.Quotients.{quotient_by, remainder_by};
+ghost use Rattle.gate_arith.specs.Shifts.{shifted};
+
+use crate::gates::known;
+use crate::lits::Lits;
+use crate::shifts::Shift;
+use crate::{orders, products, quotients, shifts, sums};
+use sat_form::{Cnf, Lit};
+use std::alloc::{AllocError, Global};
+
+// A form to which gates are added before they are moved to the end of `cnf`: the same variables, and
+// the clause by which the gates know a literal, if there is one.
+fn part_of(alloc: Global, cnf: &Cnf) -> Result<Cnf, AllocError>
+    ensures variables { IfOk result (λ part. part.variables ≡ cnf.now.variables) }
+    ensures is { IfOk result (λ part. IsPart cnf.now part) }
+{
+    let mut part = Cnf::from_parts(cnf.variables(), Vec::new(alloc));
+    if let Some(one) = known(cnf) {
+        part.add(alloc, &[one])?;
+    }
+    Ok(part)
+}
+
+/// The sum of two numbers, plus 1 where `carry` is set, modulo 2 to the width (C11 6.5.6p5).
+/// After an error the form may have grown, and each assignment that satisfied it still extends.
+pub fn adder(
+    alloc: Global,
+    cnf: &mut Cnf,
+    a: &[Lit],
+    b: &[Lit],
+    carry: bool,
+) -> Result<Lits, AllocError>
+    requires same_width { length a.now ≡ length b.now }
+    requires positive { 1 ≤ length a.now }
+    requires at_most_64 { length a.now ≤ 64 }
+    requires a { IsWithin cnf.old.variables a.now }
+    requires b { IsWithin cnf.old.variables b.now }
+    ensures grows { Grows cnf.old cnf.new }
+    ensures is { IfOk result (λ s. IsNumber (added_to cnf.old cnf.new) (length a.now) s (λ x. word_sum (length a.now) (value_of a.now x) (value_of b.now x + bit_value carry))) }
+{
+    let mut part = part_of(alloc, cnf)?;
+    let sum = sums::adder(alloc, &mut part, a, b, carry)?;
+    cnf.append(part)?;
+    Ok(sum)
+}
+
+/// The product of two numbers modulo 2 to the width (C11 6.5.5p4). Bits of an operand that are known
+/// to be 0 cost nothing.
+/// After an error the form may have grown, and each assignment that satisfied it still extends.
+pub fn multiplier(alloc: Global, cnf: &mut Cnf, a: &[Lit], b: &[Lit]) -> Result<Lits, AllocError>
+    requires same_width { length a.now ≡ length b.now }
+    requires positive { 1 ≤ length a.now }
+    requires at_most_64 { length a.now ≤ 64 }
+    requires a { IsWithin cnf.old.variables a.now }
+    requires b { IsWithin cnf.old.variables b.now }
+    ensures grows { Grows cnf.old cnf.new }
+    ensures is { IfOk result (λ s. IsNumber (added_to cnf.old cnf.new) (length a.now) s (λ x. word_product (length a.now) (value_of a.now x) (value_of b.now x))) }
+{
+    let mut part = part_of(alloc, cnf)?;
+    let product = products::multiplier(alloc, &mut part, a, b)?;
+    cnf.append(part)?;
+    Ok(product)
+}
+
+/// The quotient and the remainder, in two's complement where `signed` is set: the quotient is then
+/// rounded toward zero, and the remainder has the sign of the dividend (C11 6.5.5p6). By 0 both are 0.
+/// After an error the form may have grown, and each assignment that satisfied it still extends.
+pub fn divider(
+    alloc: Global,
+    cnf: &mut Cnf,
+    a: &[Lit],
+    b: &[Lit],
+    signed: bool,
+) -> Result<(Lits, Lits), AllocError>
+    requires same_width { length a.now ≡ length b.now }
+    requires positive { 1 ≤ length a.now }
+    requires at_most_64 { length a.now ≤ 64 }
+    requires a { IsWithin cnf.old.variables a.now }
+    requires b { IsWithin cnf.old.variables b.now }
+    ensures grows { Grows cnf.old cnf.new }
+    ensures quotient { IfOk result (λ r. IsNumber (added_to cnf.old cnf.new) (length a.now) r.0 (λ x. quotient_by signed (length a.now) (value_of a.now x) (value_of b.now x))) }
+    ensures remainder { IfOk result (λ r. IsNumber (added_to cnf.old cnf.new) (length a.now) r.1 (λ x. remainder_by signed (length a.now) (value_of a.now x) (value_of b.now x))) }
+{
+    let mut part = part_of(alloc, cnf)?;
+    let results = quotients::divider(alloc, &mut part, a, b, signed)?;
+    cnf.append(part)?;
+    Ok(results)
+}
+
+/// A number shifted by a count of its own width. A count of at least the width gives 0.
+/// After an error the form may have grown, and each assignment that satisfied it still extends.
+pub fn shifter(
+    alloc: Global,
+    cnf: &mut Cnf,
+    kind: Shift,
+    a: &[Lit],
+    count: &[Lit],
+) -> Result<Lits, AllocError>
+    requires same_width { length a.now ≡ length count.now }
+    requires positive { 1 ≤ length a.now }
+    requires at_most_64 { length a.now ≤ 64 }
+    requires a { IsWithin cnf.old.variables a.now }
+    requires count { IsWithin cnf.old.variables count.now }
+    ensures grows { Grows cnf.old cnf.new }
+    ensures is { IfOk result (λ s. IsNumber (added_to cnf.old cnf.new) (length a.now) s (λ x. shifted kind (length a.now) (value_of a.now x) (value_of count.now x))) }
+{
+    let mut part = part_of(alloc, cnf)?;
+    let moved = shifts::shifter(alloc, &mut part, kind, a, count)?;
+    cnf.append(part)?;
+    Ok(moved)
+}
+
+/// Whether the first of two numbers is less, in two's complement where `signed` is set (C11 6.5.8p6).
+/// After an error the form may have grown, and each assignment that satisfied it still extends.
+pub fn less(
+    alloc: Global,
+    cnf: &mut Cnf,
+    a: &[Lit],
+    b: &[Lit],
+    signed: bool,
+) -> Result<Lit, AllocError>
+    requires same_width { length a.now ≡ length b.now }
+    requires positive { 1 ≤ length a.now }
+    requires at_most_64 { length a.now ≤ 64 }
+    requires a { IsWithin cnf.old.variables a.now }
+    requires b { IsWithin cnf.old.variables b.now }
+    ensures grows { Grows cnf.old cnf.new }
+    ensures is { IfOk result (λ l. IsTruth (added_to cnf.old cnf.new) l (λ x. if signed then signed_lt (length a.now) (value_of a.now x) (value_of b.now x) else nat_lt (value_of a.now x) (value_of b.now x))) }
+{
+    let mut part = part_of(alloc, cnf)?;
+    let below = orders::less(alloc, &mut part, a, b, signed)?;
+    cnf.append(part)?;
+    Ok(below)
+}
+
+/// Whether two numbers are equal (C11 6.5.9p3).
+/// After an error the form may have grown, and each assignment that satisfied it still extends.
+pub fn equal(alloc: Global, cnf: &mut Cnf, a: &[Lit], b: &[Lit]) -> Result<Lit, AllocError>
+    requires same_width { length a.now ≡ length b.now }
+    requires positive { 1 ≤ length a.now }
+    requires at_most_64 { length a.now ≤ 64 }
+    requires a { IsWithin cnf.old.variables a.now }
+    requires b { IsWithin cnf.old.variables b.now }
+    ensures grows { Grows cnf.old cnf.new }
+    ensures is { IfOk result (λ l. IsTruth (added_to cnf.old cnf.new) l (λ x. nat_eq (value_of a.now x) (value_of b.now x))) }
+{
+    let mut part = part_of(alloc, cnf)?;
+    let same = orders::equal(alloc, &mut part, a, b)?;
+    cnf.append(part)?;
+    Ok(same)
+}
