@@ -2,7 +2,11 @@ ghost use Rattle.std.specs.Prelude.{◌≡◌, ◌≤◌, length};
 ghost use Rattle.sat_form.specs.Satisfaction.{IsWithin};
 
 use super::*;
-use gate_arith::{Lits, Shift, adder, divider, equal, less, multiplier, shifter};
+use gate_arith::{
+    Lits, Shift, adder, choice, complement, conjunction, difference, difference_fits, disjunction,
+    divider, equal, exclusive, left_shift_fits, less, multiplier, negation, product_fits, shifter,
+    sum_fits,
+};
 use sat_form::{Assignment, Clause, Cnf, Lit, is_model, is_within};
 use std::alloc::{AllocError, Global};
 use std::test::Fail;
@@ -132,9 +136,20 @@ enum Operation {
     Less,
     SignedLess,
     Equal,
+    Complement,
+    Negation,
+    Difference,
+    Conjunction,
+    Disjunction,
+    Exclusive,
+    Choice,
+    SumFits,
+    DifferenceFits,
+    ProductFits,
+    LeftFits,
 }
 
-const OPERATIONS: [Operation; 13] = [
+const OPERATIONS: [Operation; 24] = [
     Operation::Sum,
     Operation::SumAndOne,
     Operation::Product,
@@ -148,6 +163,17 @@ const OPERATIONS: [Operation; 13] = [
     Operation::Less,
     Operation::SignedLess,
     Operation::Equal,
+    Operation::Complement,
+    Operation::Negation,
+    Operation::Difference,
+    Operation::Conjunction,
+    Operation::Disjunction,
+    Operation::Exclusive,
+    Operation::Choice,
+    Operation::SumFits,
+    Operation::DifferenceFits,
+    Operation::ProductFits,
+    Operation::LeftFits,
 ];
 
 // What two's complement reads in the bits at the width whose greatest number is `mask`.
@@ -157,6 +183,11 @@ fn signed(mask: u32, a: u32) -> i32 {
     } else {
         a.cast_signed()
     }
+}
+
+// Whether a number has the width whose greatest number is `mask`, in two's complement.
+fn is_in_range(mask: u32, number: i32) -> bool {
+    number == signed(mask, number.cast_unsigned() & mask)
 }
 
 fn signed_quotient(a: i32, b: i32) -> i32 {
@@ -198,6 +229,17 @@ fn expected(operation: Operation, width: u32, mask: u32, a: u32, b: u32) -> u32 
         Operation::Less => (a < b) as u32,
         Operation::SignedLess => (x < y) as u32,
         Operation::Equal => (a == b) as u32,
+        Operation::Complement => !a,
+        Operation::Negation => 0u32.wrapping_sub(a),
+        Operation::Difference => a.wrapping_sub(b),
+        Operation::Conjunction => a & b,
+        Operation::Disjunction => a | b,
+        Operation::Exclusive => a ^ b,
+        Operation::Choice => if a % 2 == 1 { a } else { b },
+        Operation::SumFits => is_in_range(mask, x.wrapping_add(y)) as u32,
+        Operation::DifferenceFits => is_in_range(mask, x.wrapping_sub(y)) as u32,
+        Operation::ProductFits => is_in_range(mask, x.wrapping_mul(y)) as u32,
+        Operation::LeftFits => (x >= 0 && b < 32 && is_in_range(mask, x << b)) as u32,
     };
     number & mask
 }
@@ -230,6 +272,17 @@ fn built(
         Operation::Less => Lits::new(vec![in alloc; less(alloc, cnf, a, b, false)?]?),
         Operation::SignedLess => Lits::new(vec![in alloc; less(alloc, cnf, a, b, true)?]?),
         Operation::Equal => Lits::new(vec![in alloc; equal(alloc, cnf, a, b)?]?),
+        Operation::Complement => complement(alloc, a)?,
+        Operation::Negation => negation(alloc, cnf, a)?,
+        Operation::Difference => difference(alloc, cnf, a, b)?,
+        Operation::Conjunction => conjunction(alloc, cnf, a, b)?,
+        Operation::Disjunction => disjunction(alloc, cnf, a, b)?,
+        Operation::Exclusive => exclusive(alloc, cnf, a, b)?,
+        Operation::Choice => choice(alloc, cnf, a[0], a, b)?,
+        Operation::SumFits => Lits::new(vec![in alloc; sum_fits(alloc, cnf, a, b)?]?),
+        Operation::DifferenceFits => Lits::new(vec![in alloc; difference_fits(alloc, cnf, a, b)?]?),
+        Operation::ProductFits => Lits::new(vec![in alloc; product_fits(alloc, cnf, a, b)?]?),
+        Operation::LeftFits => Lits::new(vec![in alloc; left_shift_fits(alloc, cnf, a, b)?]?),
     };
     Ok(lits.into_vec())
 }
@@ -374,7 +427,10 @@ fn gates_with_a_constant(rt: HostRuntime) -> Result<(), Fail> {
                 Some(expected(operation, width, mask, x, y)),
                 "{operation:?} {x} {y}"
             );
-            assert!(rt; !is_free(operation, y) || cnf.variables() == 4, "{operation:?} {y}");
+            assert!(rt;
+                !is_free(operation, y) || cnf.variables() == 4,
+                "{operation:?} {y}"
+            );
         }
     }
     Ok(())

@@ -32,7 +32,7 @@ both_bits : (b : Bool) → bit_value (not b) + bit_value b ≡ 1
 both_bits true = refl
 both_bits false = refl
 
-value_of-inverses : (x : ℕ → Bool) (ls : List Literal) → value_of (map inverse_of ls) x + value_of ls x + 1 ≡ 2 ^ length ls
+pub value_of-inverses : (x : ℕ → Bool) (ls : List Literal) → value_of (map inverse_of ls) x + value_of ls x + 1 ≡ 2 ^ length ls
 value_of-inverses x [] = refl
 value_of-inverses x (l ∷ ls) =
     let one : bit_value (literal_value x (inverse_of l)) + bit_value (literal_value x l) ≡ 1 = ap (λ (b : Bool). bit_value b + bit_value (literal_value x l)) (literal_value-inverse_of x l) ∙ both_bits (literal_value x l) in

@@ -10,3 +10,5 @@ pub mod Shifting
 pub mod Dividing
 pub mod Steps
 pub mod Calls
+pub mod Wording
+pub mod Fitting

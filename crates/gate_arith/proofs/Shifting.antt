@@ -264,7 +264,7 @@ shifted_out Left w a k below out = sym (left_shift_out w a k out)
 shifted_out Logical w a k below out = sym (logical_shift_out w a k below out)
 shifted_out Arithmetic w a k below out = sym (arithmetic_shift_out w a k out)
 
-small_power : (w : ℕ) → w < 2 ^ w
+pub small_power : (w : ℕ) → w < 2 ^ w
 small_power zero = omega arith
 small_power (suc w) = omega (arith, small_power w, power_more w, ap (λ (n : ℕ). 2 ^ n) (suc_is w))
 

@@ -4,3 +4,5 @@ pub mod Clauses
 pub mod Sums
 pub mod Shifts
 pub mod Quotients
+pub mod Bitwise
+pub mod Ranges

@@ -1,7 +1,7 @@
 #![tactic(auto, using(crate::proofs::Growing::growth))]
 
 ghost use Rattle.std.specs.Prelude.{◌≡◌, ◌-◌, ◌<◌, ◌≤◌, ◌++◌, IfOk, length, map, take, drop, replicate, if◌then◌else◌};
-ghost use Rattle.sat_form.specs.Satisfaction.{literal_value, IsWithin};
+ghost use Rattle.sat_form.specs.Satisfaction.{literal_value, inverse_of, IsWithin};
 ghost use Rattle.sat_form.specs.Numbers.{value_of};
 ghost use Rattle.gate_arith.specs.Growth.{GrowsFreely};
 ghost use Rattle.gate_arith.specs.Truth.{IsNumber, AreTruths, differs};
@@ -58,6 +58,13 @@ pub fn turned(alloc: Global, cnf: &mut Cnf, bits: &[Lit], by: Lit) -> Result<Vec
         flipped.push(xor(alloc, cnf, by, *bit)?)?;
     }
     Ok(flipped)
+}
+
+// The inverse of each literal.
+pub fn inverses(alloc: Global, bits: &[Lit]) -> Result<Vec<Lit>, AllocError>
+    ensures { IfOk result (λ r. r.items ≡ map inverse_of bits.now) }
+{
+    bits.iter().map(|bit| bit.inverse()).collect(alloc)
 }
 
 // The bits moved up by `distance`, with `fill` below them; as many as there were.

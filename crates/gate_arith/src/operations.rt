@@ -1,18 +1,19 @@
 #![tactic(auto, using(crate::proofs::Calls::parts))]
 
-ghost use Rattle.std.specs.Prelude.{◌≡◌, ◌+◌, ◌≤◌, IfOk, length, nat_eq, nat_lt, if◌then◌else◌};
-ghost use Rattle.sat_form.specs.Satisfaction.{IsWithin};
+ghost use Rattle.std.specs.Prelude.{◌≡◌, ◌+◌, ◌<◌, ◌≤◌, IfOk, length, nat_eq, nat_lt, bit_and, bit_or, bit_xor, if◌then◌else◌};
+ghost use Rattle.sat_form.specs.Satisfaction.{literal_value, IsWithin};
 ghost use Rattle.sat_form.specs.Numbers.{bit_value, value_of};
-ghost use Rattle.words.specs.Operators.{word_sum, word_product, signed_lt};
+ghost use Rattle.words.specs.Operators.{word_sum, word_difference, word_product, word_negation, signed_lt, sum_fits, difference_fits, product_fits, left_shift_fits};
 ghost use Rattle.gate_arith.specs.Growth.{Grows, IsPart, added_to};
 ghost use Rattle.gate_arith.specs.Truth.{IsTruth, IsNumber};
 ghost use Rattle.gate_arith.specs.Quotients.{quotient_by, remainder_by};
 ghost use Rattle.gate_arith.specs.Shifts.{shifted};
 
+use crate::bits::Bitwise;
 use crate::gates::known;
 use crate::lits::Lits;
 use crate::shifts::Shift;
-use crate::{orders, products, quotients, shifts, sums};
+use crate::{bits, orders, products, quotients, ranges, shifts, sums};
 use sat_form::{Cnf, Lit};
 use std::alloc::{AllocError, Global};
 
@@ -156,4 +157,190 @@ pub fn equal(alloc: Global, cnf: &mut Cnf, a: &[Lit], b: &[Lit]) -> Result<Lit, 
     let same = orders::equal(alloc, &mut part, a, b)?;
     cnf.append(part)?;
     Ok(same)
+}
+
+/// The negation of a number modulo 2 to the width (C11 6.5.3.3p3).
+/// After an error the form may have grown, and each assignment that satisfied it still extends.
+pub fn negation(alloc: Global, cnf: &mut Cnf, a: &[Lit]) -> Result<Lits, AllocError>
+    requires positive { 1 ≤ length a.now }
+    requires at_most_64 { length a.now ≤ 64 }
+    requires a { IsWithin cnf.old.variables a.now }
+    ensures grows { Grows cnf.old cnf.new }
+    ensures is { IfOk result (λ r. IsNumber (added_to cnf.old cnf.new) (length a.now) r (λ x. word_negation (length a.now) (value_of a.now x))) }
+{
+    let mut part = part_of(alloc, cnf)?;
+    let negation = quotients::negation(alloc, &mut part, a)?;
+    cnf.append(part)?;
+    Ok(negation)
+}
+
+/// The difference of two numbers modulo 2 to the width (C11 6.5.6p6).
+/// After an error the form may have grown, and each assignment that satisfied it still extends.
+pub fn difference(alloc: Global, cnf: &mut Cnf, a: &[Lit], b: &[Lit]) -> Result<Lits, AllocError>
+    requires same_width { length a.now ≡ length b.now }
+    requires positive { 1 ≤ length a.now }
+    requires at_most_64 { length a.now ≤ 64 }
+    requires a { IsWithin cnf.old.variables a.now }
+    requires b { IsWithin cnf.old.variables b.now }
+    ensures grows { Grows cnf.old cnf.new }
+    ensures is { IfOk result (λ r. IsNumber (added_to cnf.old cnf.new) (length a.now) r (λ x. word_difference (length a.now) (value_of a.now x) (value_of b.now x))) }
+{
+    let mut part = part_of(alloc, cnf)?;
+    let difference = sums::difference(alloc, &mut part, a, b)?;
+    cnf.append(part)?;
+    Ok(difference)
+}
+
+/// The bits that are 1 in both numbers (C11 6.5.10p4).
+/// After an error the form may have grown, and each assignment that satisfied it still extends.
+pub fn conjunction(alloc: Global, cnf: &mut Cnf, a: &[Lit], b: &[Lit]) -> Result<Lits, AllocError>
+    requires same_width { length a.now ≡ length b.now }
+    requires positive { 1 ≤ length a.now }
+    requires at_most_64 { length a.now ≤ 64 }
+    requires a { IsWithin cnf.old.variables a.now }
+    requires b { IsWithin cnf.old.variables b.now }
+    ensures grows { Grows cnf.old cnf.new }
+    ensures is { IfOk result (λ r. IsNumber (added_to cnf.old cnf.new) (length a.now) r (λ x. bit_and (value_of a.now x) (value_of b.now x))) }
+{
+    let mut part = part_of(alloc, cnf)?;
+    let bits = bits::bit_by_bit(alloc, &mut part, Bitwise::And, a, b)?;
+    cnf.append(part)?;
+    Ok(bits)
+}
+
+/// The bits that are 1 in one of two numbers or in both (C11 6.5.12p4).
+/// After an error the form may have grown, and each assignment that satisfied it still extends.
+pub fn disjunction(alloc: Global, cnf: &mut Cnf, a: &[Lit], b: &[Lit]) -> Result<Lits, AllocError>
+    requires same_width { length a.now ≡ length b.now }
+    requires positive { 1 ≤ length a.now }
+    requires at_most_64 { length a.now ≤ 64 }
+    requires a { IsWithin cnf.old.variables a.now }
+    requires b { IsWithin cnf.old.variables b.now }
+    ensures grows { Grows cnf.old cnf.new }
+    ensures is { IfOk result (λ r. IsNumber (added_to cnf.old cnf.new) (length a.now) r (λ x. bit_or (value_of a.now x) (value_of b.now x))) }
+{
+    let mut part = part_of(alloc, cnf)?;
+    let bits = bits::bit_by_bit(alloc, &mut part, Bitwise::Or, a, b)?;
+    cnf.append(part)?;
+    Ok(bits)
+}
+
+/// The bits that are 1 in exactly one of two numbers (C11 6.5.11p4).
+/// After an error the form may have grown, and each assignment that satisfied it still extends.
+pub fn exclusive(alloc: Global, cnf: &mut Cnf, a: &[Lit], b: &[Lit]) -> Result<Lits, AllocError>
+    requires same_width { length a.now ≡ length b.now }
+    requires positive { 1 ≤ length a.now }
+    requires at_most_64 { length a.now ≤ 64 }
+    requires a { IsWithin cnf.old.variables a.now }
+    requires b { IsWithin cnf.old.variables b.now }
+    ensures grows { Grows cnf.old cnf.new }
+    ensures is { IfOk result (λ r. IsNumber (added_to cnf.old cnf.new) (length a.now) r (λ x. bit_xor (value_of a.now x) (value_of b.now x))) }
+{
+    let mut part = part_of(alloc, cnf)?;
+    let bits = bits::bit_by_bit(alloc, &mut part, Bitwise::Xor, a, b)?;
+    cnf.append(part)?;
+    Ok(bits)
+}
+
+/// The first of two numbers where `test` is true, else the second (C11 6.5.15p4).
+/// After an error the form may have grown, and each assignment that satisfied it still extends.
+pub fn choice(
+    alloc: Global,
+    cnf: &mut Cnf,
+    test: Lit,
+    yes: &[Lit],
+    no: &[Lit],
+) -> Result<Lits, AllocError>
+    requires same_width { length yes.now ≡ length no.now }
+    requires positive { 1 ≤ length yes.now }
+    requires at_most_64 { length yes.now ≤ 64 }
+    requires test { test.variable < cnf.old.variables }
+    requires yes { IsWithin cnf.old.variables yes.now }
+    requires no { IsWithin cnf.old.variables no.now }
+    ensures grows { Grows cnf.old cnf.new }
+    ensures is { IfOk result (λ r. IsNumber (added_to cnf.old cnf.new) (length yes.now) r (λ x. if literal_value x test then value_of yes.now x else value_of no.now x)) }
+{
+    let mut part = part_of(alloc, cnf)?;
+    let chosen = bits::choice(alloc, &mut part, test, yes, no)?;
+    cnf.append(part)?;
+    Ok(chosen)
+}
+
+/// Whether the sum of two signed numbers is in the range of their type (C11 6.5p5).
+/// After an error the form may have grown, and each assignment that satisfied it still extends.
+pub fn sum_fits(alloc: Global, cnf: &mut Cnf, a: &[Lit], b: &[Lit]) -> Result<Lit, AllocError>
+    requires same_width { length a.now ≡ length b.now }
+    requires positive { 1 ≤ length a.now }
+    requires at_most_64 { length a.now ≤ 64 }
+    requires a { IsWithin cnf.old.variables a.now }
+    requires b { IsWithin cnf.old.variables b.now }
+    ensures grows { Grows cnf.old cnf.new }
+    ensures is { IfOk result (λ l. IsTruth (added_to cnf.old cnf.new) l (λ x. sum_fits (length a.now) (value_of a.now x) (value_of b.now x))) }
+{
+    let mut part = part_of(alloc, cnf)?;
+    let fits = ranges::sum_fits(alloc, &mut part, a, b)?;
+    cnf.append(part)?;
+    Ok(fits)
+}
+
+/// Whether the difference of two signed numbers is in the range of their type (C11 6.5p5).
+/// After an error the form may have grown, and each assignment that satisfied it still extends.
+pub fn difference_fits(
+    alloc: Global,
+    cnf: &mut Cnf,
+    a: &[Lit],
+    b: &[Lit],
+) -> Result<Lit, AllocError>
+    requires same_width { length a.now ≡ length b.now }
+    requires positive { 1 ≤ length a.now }
+    requires at_most_64 { length a.now ≤ 64 }
+    requires a { IsWithin cnf.old.variables a.now }
+    requires b { IsWithin cnf.old.variables b.now }
+    ensures grows { Grows cnf.old cnf.new }
+    ensures is { IfOk result (λ l. IsTruth (added_to cnf.old cnf.new) l (λ x. difference_fits (length a.now) (value_of a.now x) (value_of b.now x))) }
+{
+    let mut part = part_of(alloc, cnf)?;
+    let fits = ranges::difference_fits(alloc, &mut part, a, b)?;
+    cnf.append(part)?;
+    Ok(fits)
+}
+
+/// Whether the product of two signed numbers is in the range of their type (C11 6.5p5).
+/// After an error the form may have grown, and each assignment that satisfied it still extends.
+pub fn product_fits(alloc: Global, cnf: &mut Cnf, a: &[Lit], b: &[Lit]) -> Result<Lit, AllocError>
+    requires same_width { length a.now ≡ length b.now }
+    requires positive { 1 ≤ length a.now }
+    requires at_most_64 { length a.now ≤ 64 }
+    requires a { IsWithin cnf.old.variables a.now }
+    requires b { IsWithin cnf.old.variables b.now }
+    ensures grows { Grows cnf.old cnf.new }
+    ensures is { IfOk result (λ l. IsTruth (added_to cnf.old cnf.new) l (λ x. product_fits (length a.now) (value_of a.now x) (value_of b.now x))) }
+{
+    let mut part = part_of(alloc, cnf)?;
+    let fits = ranges::product_fits(alloc, &mut part, a, b)?;
+    cnf.append(part)?;
+    Ok(fits)
+}
+
+/// Whether a signed number isn't negative and its product by 2 to the count is in the range of its type
+/// (C11 6.5.7p4). The count has no sign.
+/// After an error the form may have grown, and each assignment that satisfied it still extends.
+pub fn left_shift_fits(
+    alloc: Global,
+    cnf: &mut Cnf,
+    a: &[Lit],
+    count: &[Lit],
+) -> Result<Lit, AllocError>
+    requires same_width { length a.now ≡ length count.now }
+    requires positive { 1 ≤ length a.now }
+    requires at_most_64 { length a.now ≤ 64 }
+    requires a { IsWithin cnf.old.variables a.now }
+    requires count { IsWithin cnf.old.variables count.now }
+    ensures grows { Grows cnf.old cnf.new }
+    ensures is { IfOk result (λ l. IsTruth (added_to cnf.old cnf.new) l (λ x. left_shift_fits (length a.now) (value_of a.now x) (value_of count.now x))) }
+{
+    let mut part = part_of(alloc, cnf)?;
+    let fits = ranges::left_shift_fits(alloc, &mut part, a, count)?;
+    cnf.append(part)?;
+    Ok(fits)
 }

@@ -11,8 +11,7 @@ use crate::gates::{and, constant, majority, xor};
 use sat_form::{Cnf, Lit};
 use std::alloc::{AllocError, Global};
 
-/// Whether two numbers are equal (C11 6.5.9p3).
-/// After an error the form may have grown, and each assignment still extends.
+// Whether two numbers are equal (C11 6.5.9p3).
 pub fn equal(alloc: Global, cnf: &mut Cnf, a: &[Lit], b: &[Lit]) -> Result<Lit, AllocError>
     requires same_width { length a.now ≡ length b.now }
     requires positive { 1 ≤ length a.now }
@@ -53,8 +52,7 @@ fn swapped(a: Lit, b: Lit, by: bool) -> (Lit, Lit)
     if by { (b, a) } else { (a, b) }
 }
 
-/// Whether the first of two numbers is less, in two's complement where `signed` is set (C11 6.5.8p6).
-/// After an error the form may have grown, and each assignment still extends.
+// Whether the first of two numbers is less, in two's complement where `signed` is set (C11 6.5.8p6).
 pub fn less(
     alloc: Global,
     cnf: &mut Cnf,

@@ -58,13 +58,10 @@ fn product(alloc: Global, cnf: &mut Cnf, factor: &[Lit], rows: &[Lit]) -> Result
     Ok(Lits::new(total))
 }
 
-/// The product of two numbers modulo 2 to the width (C11 6.5.5p4). Bits of an operand that are known
-/// to be 0 cost nothing.
-/// After an error the form may have grown, and each assignment still extends.
+// The product of two numbers modulo 2 to the width (C11 6.5.5p4). Bits of an operand that are known
+// to be 0 cost nothing.
 pub fn multiplier(alloc: Global, cnf: &mut Cnf, a: &[Lit], b: &[Lit]) -> Result<Lits, AllocError>
     requires same_width { length a.now ≡ length b.now }
-    requires positive { 1 ≤ length a.now }
-    requires at_most_64 { length a.now ≤ 64 }
     requires a { IsWithin cnf.old.variables a.now }
     requires b { IsWithin cnf.old.variables b.now }
     ensures grows { GrowsFreely cnf.old cnf.new }

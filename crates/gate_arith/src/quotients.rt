@@ -3,25 +3,18 @@
 ghost use Rattle.std.specs.Prelude.{◌≡◌, ◌+◌, ◌<◌, ◌≤◌, [], ◌∷◌, ◌++◌, false, true, IfOk, length, map};
 ghost use Rattle.sat_form.specs.Satisfaction.{literal_value, inverse_of, IsWithin};
 ghost use Rattle.sat_form.specs.Numbers.{value_of};
-ghost use Rattle.words.specs.Operators.{unsigned_quotient, unsigned_remainder, signed_quotient, signed_remainder};
+ghost use Rattle.words.specs.Operators.{word_negation, unsigned_quotient, unsigned_remainder, signed_quotient, signed_remainder};
 ghost use Rattle.gate_arith.specs.Growth.{GrowsFreely};
 ghost use Rattle.gate_arith.specs.Truth.{IsTruth, IsNumber};
 ghost use Rattle.gate_arith.specs.Quotients.{IsDivided, IsStep, negated_if, quotient_by, remainder_by};
 
 use crate::gates::{constant, xor};
-use crate::lists::{chosen, masked, turned};
+use crate::lists::{chosen, inverses, masked, turned};
 use crate::lits::Lits;
 use crate::orders::equal;
 use crate::sums::sum;
 use sat_form::{Cnf, Lit};
 use std::alloc::{AllocError, Global};
-
-// The inverse of each literal.
-fn inverses(alloc: Global, bits: &[Lit]) -> Result<Vec<Lit>, AllocError>
-    ensures { IfOk result (λ r. r.items ≡ map inverse_of bits.now) }
-{
-    bits.iter().map(|bit| bit.inverse()).collect(alloc)
-}
 
 // The inverses of the literals, with `one` above them.
 fn complement_of(alloc: Global, bits: &[Lit], one: Lit) -> Result<Vec<Lit>, AllocError>
@@ -114,7 +107,7 @@ fn unsigned_division(
 }
 
 // The number, or its negation modulo 2 to the width where `by` is true.
-fn negated(
+pub fn negated(
     alloc: Global,
     cnf: &mut Cnf,
     bits: &[Lit],
@@ -131,6 +124,17 @@ fn negated(
     let zeros = vec![in alloc; zero; bits.len()]?;
     let (negation, _) = sum(alloc, cnf, &flipped, &zeros, by)?;
     Ok(negation)
+}
+
+// The negation of a number modulo 2 to the width.
+pub fn negation(alloc: Global, cnf: &mut Cnf, a: &[Lit]) -> Result<Lits, AllocError>
+    requires a { IsWithin cnf.old.variables a.now }
+    ensures grows { GrowsFreely cnf.old cnf.new }
+    ensures is { IfOk result (λ r. IsNumber cnf.new (length a.now) r (λ x. word_negation (length a.now) (value_of a.now x))) }
+{
+    let zero = constant(alloc, cnf, false)?;
+    let bits = negated(alloc, cnf, a, zero.inverse(), zero)?;
+    Ok(Lits::new(bits))
 }
 
 // The quotient and the remainder of numbers in two's complement: those of the operands without
@@ -163,9 +167,8 @@ fn signed_division(
     Ok((quotient, rest))
 }
 
-/// The quotient and the remainder, in two's complement where `signed` is set: the quotient is then
-/// rounded toward zero, and the remainder has the sign of the dividend (C11 6.5.5p6). By 0 both are 0.
-/// After an error the form may have grown, and each assignment still extends.
+// The quotient and the remainder, in two's complement where `signed` is set: the quotient is then
+// rounded toward zero, and the remainder has the sign of the dividend (C11 6.5.5p6). By 0 both are 0.
 pub fn divider(
     alloc: Global,
     cnf: &mut Cnf,

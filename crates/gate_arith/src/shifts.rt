@@ -27,7 +27,7 @@ pub enum Shift {
 }
 
 // How many bits of a count below the width can be 1.
-fn stages(width: usize) -> usize
+pub fn stages(width: usize) -> usize
     requires positive { 1 ≤ width }
     requires at_most_64 { width ≤ 64 }
     ensures enough { width ≤ 2 ^ result }
@@ -67,7 +67,7 @@ fn stage_up(
 }
 
 // The number moved up by the count.
-fn shifted_up(
+pub fn shifted_up(
     alloc: Global,
     cnf: &mut Cnf,
     a: &[Lit],
@@ -158,7 +158,7 @@ fn shifted_within(
 }
 
 // The bits of a number below 2 to the width.
-fn number(alloc: Global, value: usize, width: usize, zero: Lit) -> Result<Vec<Lit>, AllocError>
+pub fn number(alloc: Global, value: usize, width: usize, zero: Lit) -> Result<Vec<Lit>, AllocError>
     ensures { IfOk result (λ r. IsConstant zero value width r.items) }
 {
     let mut bits = Vec::new(alloc);
@@ -170,8 +170,7 @@ fn number(alloc: Global, value: usize, width: usize, zero: Lit) -> Result<Vec<Li
     Ok(bits)
 }
 
-/// A number shifted by a count of its own width. A count of at least the width gives 0.
-/// After an error the form may have grown, and each assignment still extends.
+// A number shifted by a count of its own width. A count of at least the width gives 0.
 pub fn shifter(
     alloc: Global,
     cnf: &mut Cnf,

@@ -3,12 +3,13 @@
 ghost use Rattle.std.specs.Prelude.{◌≡◌, ◌+◌, ◌<◌, ◌≤◌, IfOk, length};
 ghost use Rattle.sat_form.specs.Satisfaction.{literal_value, IsWithin};
 ghost use Rattle.sat_form.specs.Numbers.{bit_value, value_of};
-ghost use Rattle.words.specs.Operators.{word_sum};
+ghost use Rattle.words.specs.Operators.{word_sum, word_difference};
 ghost use Rattle.gate_arith.specs.Growth.{GrowsFreely};
 ghost use Rattle.gate_arith.specs.Truth.{IsNumber};
 ghost use Rattle.gate_arith.specs.Sums.{IsBitSum, IsSum};
 
 use crate::gates::{constant, majority, xor};
+use crate::lists::inverses;
 use crate::lits::Lits;
 use sat_form::{Cnf, Lit};
 use std::alloc::{AllocError, Global};
@@ -58,8 +59,21 @@ pub fn sum(
     Ok((bits, carry))
 }
 
-/// The sum of two numbers, plus 1 where `carry` is set, modulo 2 to the width (C11 6.5.6p5).
-/// After an error the form may have grown, and each assignment still extends.
+// The difference of two numbers modulo 2 to the width: the sum with the complement, and 1.
+pub fn difference(alloc: Global, cnf: &mut Cnf, a: &[Lit], b: &[Lit]) -> Result<Lits, AllocError>
+    requires same_width { length a.now ≡ length b.now }
+    requires a { IsWithin cnf.old.variables a.now }
+    requires b { IsWithin cnf.old.variables b.now }
+    ensures grows { GrowsFreely cnf.old cnf.new }
+    ensures is { IfOk result (λ r. IsNumber cnf.new (length a.now) r (λ x. word_difference (length a.now) (value_of a.now x) (value_of b.now x))) }
+{
+    let one = constant(alloc, cnf, true)?;
+    let inverse = inverses(alloc, b)?;
+    let (bits, _) = sum(alloc, cnf, a, &inverse, one)?;
+    Ok(Lits::new(bits))
+}
+
+// The sum of two numbers, plus 1 where `carry` is set, modulo 2 to the width (C11 6.5.6p5).
 pub fn adder(
     alloc: Global,
     cnf: &mut Cnf,

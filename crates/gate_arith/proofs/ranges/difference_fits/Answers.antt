@@ -1,0 +1,27 @@
+use Rattle.std.proofs.Common.{◌≡◌, ℕ, ◌-◌, not, List, [], ◌∷◌, ◌++◌, take, length, get_or, sym, ap, ◌∙◌, arith}
+use Rattle.std.proofs.lemmas.List.{length-take-le}
+use Rattle.std.proofs.lemmas.Result.{IfOk-weaker}
+use Rattle.sat_form.specs.Satisfaction.{Literal, literal_value}
+use Rattle.gate_arith.specs.Truth.{IsTruth, differs, most}
+use Rattle.gate_arith.proofs.Parts.{last_of}
+use Rattle.gate_arith.proofs.Fitting.{Difference_fits}
+use Rattle.gate_arith.proofs.ranges.difference_fits.Goals as goal
+
+pub returns-clause-is : goal.returns-clause-is
+returns-clause-is c =
+    let a : List Literal = c.args.a.now in
+    let b : List Literal = c.args.b.now in
+    let n = length a - 1 in
+    let same_top : length b - 1 ≡ n = omega arith in
+    let x : Literal = c.index-a-top.result in
+    let y : Literal = c.index-b-top.result in
+    let carry : Literal = c.in_ok-carry.carry in
+    let at_b : y ≡ get_or b (length b - 1) y = c.index-b-top.is ∙ ap (λ (m : ℕ). get_or b m y) (sym same_top) in
+    let whole_a : a ≡ take n a ++ x ∷ [] = sym (last_of a x (omega arith) c.index-a-top.is) in
+    let whole_b : b ≡ take n b ++ y ∷ [] = sym (last_of b y (omega arith) at_b) ∙ ap (λ (m : ℕ). take m b ++ y ∷ []) same_top in
+    let lengths : length (take n a) ≡ length (take n b) = length-take-le n a (omega arith) ∙ sym (length-take-le n b (omega arith)) in
+    IfOk-weaker c.keeps_sign.result
+    (λ l. IsTruth c.keeps_sign.new.cnf l (λ v. not (differs (literal_value v carry) (most (literal_value v c.inverse.result) (literal_value v y) (literal_value v carry)))))
+    _
+    (λ l is. Difference_fits c.borrow.new.cnf c.keeps_sign.new.cnf a b (take n a) (take n b) x y c.inverse.result carry l whole_a whole_b lengths c.inverse.ensures c.in_ok-carry.ensures.is c.keeps_sign.ensures.grows is)
+    c.keeps_sign.ensures.is
