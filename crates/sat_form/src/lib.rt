@@ -69,6 +69,9 @@ mod tests {
         assert!(rt; none.value(negated) && none.values().is_empty());
         let pair = Clause::from_slice(alloc, &[negated, negated.inverse()])?;
         assert!(rt; none.satisfies(&pair) && !is_within(pair.literals(), 7));
+        let mut whole = Cnf::new(alloc);
+        whole.append(small_form(alloc)?)?;
+        assert!(rt; whole.variables() == 3 && whole.clauses().len() == 3);
         let form = Cnf::from_parts(0, Vec::new(alloc));
         assert!(rt;
             is_model(&form, &none) && none.satisfies_all(cnf.clauses()) == is_model(&cnf, &none)
