@@ -1,0 +1,10 @@
+pub mod Widths
+pub mod Marked
+pub mod Consecutive
+pub mod Reading
+pub mod Spelling
+pub mod Laws
+pub mod Promises
+pub mod Rearranging
+pub mod Encoding
+pub mod Stepping

@@ -1,0 +1,102 @@
+#![tactic(auto, using(gate_arith::proofs::Steps::steps))]
+
+ghost use Rattle.std.specs.Prelude.{◌≡◌, ℕ, ◌<◌, ◌≤◌, true, Bool, IsTrue, IfOk, length};
+ghost use Rattle.std.specs.List.{AllByRecursion};
+ghost use Rattle.sat_form.specs.Satisfaction.{IsWithin, AreWithin};
+ghost use Rattle.sat_form.specs.Numbers.{value_of};
+ghost use Rattle.word_dag.specs.Meaning.{at, node_width, node_value};
+ghost use Rattle.word_dag.specs.Fitting.{fits};
+ghost use Rattle.gate_arith.specs.Growth.{Grows, added_to};
+ghost use Rattle.gate_arith.specs.Truth.{IsTruth, IsNumber};
+ghost use Rattle.bit_blast.specs.Numbers.{literals_at, numbers_of, counts_of, lifted};
+ghost use Rattle.bit_blast.specs.Reach.{operands};
+ghost use Rattle.bit_blast.specs.Variables.{width_read};
+
+use crate::bits::{constant, cut, join, sign_extended, zero_extended};
+use crate::lists::LitLists;
+use crate::operations::{binary, choose, compare, result_fits, shift};
+use gate_arith::{Lits, complement, negation};
+use sat_form::{Cnf, Lit};
+use std::alloc::{AllocError, Global};
+use word_dag::{Id, Node};
+
+// The literals of an operand, of which there are some.
+fn read<'a>(lists: &'a LitLists, cnf: &Cnf, id: Id) -> &'a [Lit]
+    requires positive { 1 ≤ length (literals_at lists.now id.index) }
+    requires within { AreWithin cnf.now.variables lists.now }
+    ensures positive { 1 ≤ length result.now }
+    ensures short { length result.now ≤ 64 }
+    ensures within { IsWithin cnf.now.variables result.now }
+    ensures count { length result.now ≡ at (counts_of lists.now) id }
+    ensures number { (x : ℕ → Bool) → value_of result.now x ≡ at (numbers_of lists.now x) id }
+{
+    lists.get(id.index)
+}
+
+// The literals of a node over those of the nodes before it and of the variables of the graph.
+pub fn node_literals(
+    alloc: Global,
+    cnf: &mut Cnf,
+    node: Node,
+    before: &LitLists,
+    variables: &LitLists,
+    one: Lit,
+) -> Result<Lits, AllocError>
+    requires fits { IsTrue (fits (counts_of before.now) node) }
+    requires positive { AllByRecursion (λ j. 1 ≤ length (literals_at before.now j)) (operands node) }
+    requires wide { (k : ℕ) → width_read node k ≤ length (literals_at variables.now k) }
+    requires before { AreWithin cnf.old.variables before.now }
+    requires variables { AreWithin cnf.old.variables variables.now }
+    requires one { IsTruth cnf.old one (λ _. true) }
+    ensures grows { Grows cnf.old cnf.new }
+    ensures is { IfOk result (λ r. IsNumber (added_to cnf.old cnf.new) (node_width (counts_of before.now) node) r (λ x. node_value (lifted variables.now x) (counts_of before.now) (numbers_of before.now x) node)) }
+{
+    match node {
+        Node::Constant(bits, width) => constant(alloc, cnf, bits, width, one),
+        Node::Variable(variable, width) => {
+            Ok(cut(alloc, variables.get(variable as usize), 0, width)?)
+        }
+        Node::Not(a) => Ok(complement(alloc, read(before, cnf, a))?),
+        Node::Negate(a) => negation(alloc, cnf, read(before, cnf, a)),
+        Node::Binary(operator, a, b) => {
+            binary(
+                alloc,
+                cnf,
+                operator,
+                read(before, cnf, a),
+                read(before, cnf, b),
+            )
+        }
+        Node::Shift(kind, a, count) => {
+            shift(
+                alloc,
+                cnf,
+                kind,
+                read(before, cnf, a),
+                read(before, cnf, count),
+            )
+        }
+        Node::Compare(comparison, a, b) => {
+            compare(
+                alloc,
+                cnf,
+                comparison,
+                read(before, cnf, a),
+                read(before, cnf, b),
+            )
+        }
+        Node::Fits(test, a, b) => {
+            result_fits(alloc, cnf, test, read(before, cnf, a), read(before, cnf, b))
+        }
+        Node::Choice(condition, a, b) => {
+            let test = read(before, cnf, condition);
+            choose(alloc, cnf, test, read(before, cnf, a), read(before, cnf, b))
+        }
+        Node::ZeroExtend(a, width) => {
+            zero_extended(alloc, cnf, read(before, cnf, a), width, one)
+        }
+        Node::SignExtend(a, width) => Ok(sign_extended(alloc, read(before, cnf, a), width)?),
+        Node::Cut(a, low, width) => Ok(cut(alloc, read(before, cnf, a), low, width)?),
+        Node::Join(high, low) => Ok(join(alloc, read(before, cnf, high), read(before, cnf, low))?),
+    }
+}
