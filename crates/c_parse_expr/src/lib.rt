@@ -10,5 +10,6 @@ mod table;
 mod tests;
 
 pub use fault::{ExpressionError, Refused};
-pub use place::{Level, expression, one_expression};
+pub use place::{Level, expression, line_of, one_expression};
 pub use reading::{Found, read};
+pub use slices::{is_mark, name_of, split, token_text};

@@ -34,7 +34,8 @@ impl Level {
     }
 }
 
-fn line_of(tokens: &[Token], last_line: u32) -> u32
+/// The line of the first token, or the file's last line where there is none.
+pub fn line_of(tokens: &[Token], last_line: u32) -> u32
     ensures { result ≡ line_at last_line tokens.now }
 {
     match tokens {

@@ -22,7 +22,8 @@ pub fn split(tokens: &[Token]) -> Option<(Token, &[Token])>
     }
 }
 
-fn is_mark(mark: Mark, kind: Kind) -> bool
+/// Whether a token of a kind is the mark.
+pub fn is_mark(mark: Mark, kind: Kind) -> bool
     ensures { result ≡ is_mark mark kind }
 {
     match kind {
@@ -80,8 +81,8 @@ pub fn next_suffix(tokens: &[Token], level: u8, left: u8) -> Option<(Suffix, u32
     }
 }
 
-/// The text of a token in the bytes.
-fn text(bytes: &[u8], token: Token) -> &[u8]
+/// The text of a token in the bytes: what is left of it there, where it doesn't lie in them.
+pub fn token_text(bytes: &[u8], token: Token) -> &[u8]
     ensures { result.now ≡ text_of bytes.now token }
 {
     let start = token.start as usize;
@@ -100,7 +101,7 @@ fn text(bytes: &[u8], token: Token) -> &[u8]
 pub fn name_of(alloc: Global, bytes: &[u8], token: Token) -> Result<Name, AllocError>
     ensures { IfOk result (λ name. name.bytes.items ≡ text_of bytes.now token) }
 {
-    let bytes = text(bytes, token).iter().copied().collect(alloc)?;
+    let bytes = token_text(bytes, token).iter().copied().collect(alloc)?;
     Ok(Name { bytes })
 }
 

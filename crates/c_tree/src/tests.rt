@@ -37,6 +37,6 @@ fn sum(alloc: Global) -> Result<Expr, AllocError>
 #[test]
 fn each_node_is_a_level(rt: HostRuntime) -> Result<(), Fail> {
     let expr = sum(rt.alloc())?;
-    assert_eq!(rt; depth(&expr), 4);
+    assert_eq!(rt; expression_depth(&expr), 4);
     Ok(())
 }

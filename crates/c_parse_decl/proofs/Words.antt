@@ -1,0 +1,208 @@
+-- Marks, keywords and names at the front of tokens.
+use Rattle.std.proofs.Common.{◌≡◌, List, [], ◌∷◌, Bool, true, false, cond, Some, None, refl, ap, sym, subst, ◌∙◌}
+use Rattle.std.specs.Prelude.{ℕ, codes, ◌&&◌}
+use Rattle.std.specs.Str.{bytes_eq}
+use Rattle.std.proofs.lemmas.Option.{cond_some}
+use Rattle.std.proofs.lemmas.Slice.Eq.{bytes_eq-Decides}
+use Rattle.c_lexer.specs.declared.token.Token.{Token}
+use Rattle.c_lexer.specs.declared.token.Kind.{Kind}
+use Rattle.c_lexer.specs.declared.token.Kind.TheVariants as kinds
+use Rattle.c_lexer.specs.declared.token.Keyword.{Keyword}
+use Rattle.c_lexer.specs.declared.token.Keyword.TheVariants as keywords
+use Rattle.c_lexer.specs.declared.token.Mark.{Mark}
+use Rattle.c_lexer.specs.declared.token.Mark.TheVariants as marks
+use Rattle.c_lexer.specs.Spelling.{keyword_text, mark_text, keyword_of, mark_of}
+use Rattle.c_lexer.specs.Kinds.{text_of}
+use Rattle.c_tree.specs.Spelling.{Names}
+use Rattle.c_parse_expr.specs.Reading.{is_mark}
+use Rattle.c_parse_expr.proofs.Marks.{some_is}
+use Rattle.c_parse_decl.specs.Reading.{Read, is_keyword, is_identifier, is_main, token_at, main_at}
+
+mark_back : (m : Mark) → mark_of (mark_text m) ≡ Some m
+mark_back marks.LeftBracket = refl
+mark_back marks.RightBracket = refl
+mark_back marks.LeftParenthesis = refl
+mark_back marks.RightParenthesis = refl
+mark_back marks.LeftBrace = refl
+mark_back marks.RightBrace = refl
+mark_back marks.Dot = refl
+mark_back marks.Arrow = refl
+mark_back marks.PlusPlus = refl
+mark_back marks.MinusMinus = refl
+mark_back marks.Ampersand = refl
+mark_back marks.Star = refl
+mark_back marks.Plus = refl
+mark_back marks.Minus = refl
+mark_back marks.Tilde = refl
+mark_back marks.Exclamation = refl
+mark_back marks.Slash = refl
+mark_back marks.Percent = refl
+mark_back marks.ShiftLeft = refl
+mark_back marks.ShiftRight = refl
+mark_back marks.Less = refl
+mark_back marks.Greater = refl
+mark_back marks.LessEqual = refl
+mark_back marks.GreaterEqual = refl
+mark_back marks.EqualEqual = refl
+mark_back marks.NotEqual = refl
+mark_back marks.Caret = refl
+mark_back marks.Bar = refl
+mark_back marks.AndAnd = refl
+mark_back marks.OrOr = refl
+mark_back marks.Question = refl
+mark_back marks.Colon = refl
+mark_back marks.Semicolon = refl
+mark_back marks.Ellipsis = refl
+mark_back marks.Equal = refl
+mark_back marks.StarEqual = refl
+mark_back marks.SlashEqual = refl
+mark_back marks.PercentEqual = refl
+mark_back marks.PlusEqual = refl
+mark_back marks.MinusEqual = refl
+mark_back marks.ShiftLeftEqual = refl
+mark_back marks.ShiftRightEqual = refl
+mark_back marks.AmpersandEqual = refl
+mark_back marks.CaretEqual = refl
+mark_back marks.BarEqual = refl
+mark_back marks.Comma = refl
+mark_back marks.Hash = refl
+
+keyword_back : (k : Keyword) → keyword_of (keyword_text k) ≡ Some k
+keyword_back keywords.Auto = refl
+keyword_back keywords.Break = refl
+keyword_back keywords.Case = refl
+keyword_back keywords.Char = refl
+keyword_back keywords.Const = refl
+keyword_back keywords.Continue = refl
+keyword_back keywords.Default = refl
+keyword_back keywords.Do = refl
+keyword_back keywords.Else = refl
+keyword_back keywords.Enum = refl
+keyword_back keywords.Extern = refl
+keyword_back keywords.For = refl
+keyword_back keywords.Goto = refl
+keyword_back keywords.If = refl
+keyword_back keywords.Inline = refl
+keyword_back keywords.Int = refl
+keyword_back keywords.Long = refl
+keyword_back keywords.Register = refl
+keyword_back keywords.Restrict = refl
+keyword_back keywords.Return = refl
+keyword_back keywords.Short = refl
+keyword_back keywords.Signed = refl
+keyword_back keywords.Sizeof = refl
+keyword_back keywords.Static = refl
+keyword_back keywords.Struct = refl
+keyword_back keywords.Switch = refl
+keyword_back keywords.Typedef = refl
+keyword_back keywords.Union = refl
+keyword_back keywords.Unsigned = refl
+keyword_back keywords.Void = refl
+keyword_back keywords.Volatile = refl
+keyword_back keywords.While = refl
+keyword_back keywords.Bool = refl
+keyword_back keywords.Noreturn = refl
+
+-- tokens of one text are of one kind
+same_mark : (a b : Mark) → bytes_eq (mark_text a) (mark_text b) ≡ true → a ≡ b
+same_mark a b e =
+    some_is (sym (mark_back a) ∙ ap mark_of ((bytes_eq-Decides (mark_text a) (mark_text b)).0 e) ∙ mark_back b)
+
+same_keyword : (a b : Keyword) → bytes_eq (keyword_text a) (keyword_text b) ≡ true → a ≡ b
+same_keyword a b e =
+    some_is (sym (keyword_back a) ∙ ap keyword_of ((bytes_eq-Decides (keyword_text a) (keyword_text b)).0 e) ∙ keyword_back b)
+
+pub mark_by : (m : Mark) (k : Kind) → is_mark m k ≡ true → k ≡ kinds.Mark m
+mark_by m kinds.Identifier e = cc
+mark_by m (kinds.Keyword k) e = cc
+mark_by m (kinds.Constant c) e = cc
+mark_by m (kinds.Character c) e = cc
+mark_by m kinds.String e = cc
+mark_by m (kinds.Mark n) e = ap kinds.Mark (same_mark n m e)
+
+pub keyword_by : (w : Keyword) (k : Kind) → is_keyword w k ≡ true → k ≡ kinds.Keyword w
+keyword_by w kinds.Identifier e = cc
+keyword_by w (kinds.Keyword k) e = ap kinds.Keyword (same_keyword k w e)
+keyword_by w (kinds.Constant c) e = cc
+keyword_by w (kinds.Character c) e = cc
+keyword_by w kinds.String e = cc
+keyword_by w (kinds.Mark n) e = cc
+
+pub identifier_by : (k : Kind) → is_identifier k ≡ true → k ≡ kinds.Identifier
+identifier_by kinds.Identifier e = refl
+identifier_by (kinds.Keyword k) e = cc
+identifier_by (kinds.Constant c) e = cc
+identifier_by (kinds.Character c) e = cc
+identifier_by kinds.String e = cc
+identifier_by (kinds.Mark n) e = cc
+
+-- of two tests that pass at one kind, where none passes at both kinds
+pub mark_so : (m : Mark) (k : Kind) → k ≡ kinds.Mark m → is_mark m k ≡ true
+mark_so m k e = ap (is_mark m) e ∙ (bytes_eq-Decides (mark_text m) (mark_text m)).1 refl
+
+pub keyword_so : (w : Keyword) (k : Kind) → k ≡ kinds.Keyword w → is_keyword w k ≡ true
+keyword_so w k e = ap (is_keyword w) e ∙ (bytes_eq-Decides (keyword_text w) (keyword_text w)).1 refl
+
+-- what a test answers at a kind
+pub passes_at : (p : Kind → Bool) (k l : Kind) (b : Bool) → k ≡ l → p l ≡ b → p k ≡ b
+passes_at p k l b e f = ap p e ∙ f
+
+-- a token at the front
+pub record Front (P : Token → Type 0) (ts : List Token) (x : Token × List Token) : Type 0 where
+  pub is : P x.0
+  pub whole : ts ≡ x.0 ∷ x.1
+
+token_takes : (p : Kind → Bool) (ts : List Token) (x : Token × List Token) → token_at p ts ≡ Some x → Front (λ t. p t.kind ≡ true) ts x
+unfolding token_at
+token_takes p [] x e = absurd cc
+token_takes p (t ∷ ts) x e =
+    let f = cond_some (p t.kind) (t, ts) x e in
+    subst (λ (y : Token × List Token). Front (λ t. p t.kind ≡ true) (t ∷ ts) y) f.1 (record { is = f.0; whole = refl })
+
+pub mark_takes : (m : Mark) (ts : List Token) (x : Token × List Token) → token_at (is_mark m) ts ≡ Some x → Front (λ t. t.kind ≡ kinds.Mark m) ts x
+mark_takes m ts x e = let f = token_takes (is_mark m) ts x e in record { is = mark_by m x.0.kind f.is; whole = f.whole }
+
+pub keyword_takes : (w : Keyword) (ts : List Token) (x : Token × List Token) → token_at (is_keyword w) ts ≡ Some x → Front (λ t. t.kind ≡ kinds.Keyword w) ts x
+keyword_takes w ts x e = let f = token_takes (is_keyword w) ts x e in record { is = keyword_by w x.0.kind f.is; whole = f.whole }
+
+pub identifier_takes : (ts : List Token) (x : Token × List Token) → token_at is_identifier ts ≡ Some x → Front (λ t. t.kind ≡ kinds.Identifier) ts x
+identifier_takes ts x e = let f = token_takes is_identifier ts x e in record { is = identifier_by x.0.kind f.is; whole = f.whole }
+
+and_true : (a b : Bool) → (a && b) ≡ true → (a ≡ true) × (b ≡ true)
+and_true true b e = (refl, e)
+and_true false b e = cc
+
+pub main_takes : (bytes : List ℕ) (ts : List Token) (x : Token × List Token) → main_at bytes ts ≡ Some x → Front (λ t. Names bytes t.line (codes "main") t) ts x
+unfolding main_at
+main_takes bytes [] x e = absurd cc
+main_takes bytes (t ∷ ts) x e =
+    let f = cond_some (is_main bytes t) (t, ts) x e in
+    let g = and_true (is_identifier t.kind) (bytes_eq (text_of bytes t) (codes "main")) f.0 in
+    subst (λ (y : Token × List Token). Front (λ t. Names bytes t.line (codes "main") t) (t ∷ ts) y) f.1
+    (record {
+      is = record { kind = identifier_by t.kind g.0; line = refl; text = (bytes_eq-Decides (text_of bytes t) (codes "main")).0 g.1 };
+      whole = refl;
+    })
+
+pub token_gives : (p : Kind → Bool) (t : Token) (ts : List Token) → p t.kind ≡ true → token_at p (t ∷ ts) ≡ Some (t, ts)
+unfolding token_at
+token_gives p t ts e = ap (λ (b : Bool). cond {A = Read Token} b (Some (t, ts)) None) e
+
+pub token_fails : (p : Kind → Bool) (t : Token) (ts : List Token) → p t.kind ≡ false → token_at p (t ∷ ts) ≡ None
+unfolding token_at
+token_fails p t ts e = ap (λ (b : Bool). cond {A = Read Token} b (Some (t, ts)) None) e
+
+pub mark_gives : (m : Mark) (t : Token) (ts : List Token) → t.kind ≡ kinds.Mark m → token_at (is_mark m) (t ∷ ts) ≡ Some (t, ts)
+mark_gives m t ts e = token_gives (is_mark m) t ts (mark_so m t.kind e)
+
+pub keyword_gives : (w : Keyword) (t : Token) (ts : List Token) → t.kind ≡ kinds.Keyword w → token_at (is_keyword w) (t ∷ ts) ≡ Some (t, ts)
+keyword_gives w t ts e = token_gives (is_keyword w) t ts (keyword_so w t.kind e)
+
+pub identifier_gives : (t : Token) (ts : List Token) → t.kind ≡ kinds.Identifier → token_at is_identifier (t ∷ ts) ≡ Some (t, ts)
+identifier_gives t ts e = token_gives is_identifier t ts (ap is_identifier e)
+
+pub main_gives : (bytes : List ℕ) (line : ℕ) (t : Token) (ts : List Token) → Names bytes line (codes "main") t → main_at bytes (t ∷ ts) ≡ Some (t, ts)
+unfolding main_at
+main_gives bytes line t ts n =
+    ap (λ (b : Bool). cond {A = Read Token} b (Some (t, ts)) None)
+    (ap (λ (b : Bool). b && bytes_eq (text_of bytes t) (codes "main")) (ap is_identifier n.kind) ∙ (bytes_eq-Decides (text_of bytes t) (codes "main")).1 n.text)

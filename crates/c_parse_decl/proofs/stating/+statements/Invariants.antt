@@ -1,0 +1,34 @@
+use Rattle.std.proofs.Common.{◌≡◌, ◌<◌, ◌≤◌, ◌+◌, ◌*◌, ℕ, length}
+use Rattle.c_parse_decl.specs.Reading.{placed, part_of, closed_at, item_at, items_at, statement_at, run_at}
+use Rattle.c_parse_decl.proofs.Lists.{in_front}
+use Rattle.c_parse_decl.proofs.stating.+statements.Given as goal
+
+abbrev pub decreases-statement : goal.decreases-statement
+decreases-statement l = 8 * l.levels
+
+abbrev pub decreases-started : goal.decreases-started
+decreases-started l = 8 * l.levels + 7
+
+abbrev pub decreases-block : goal.decreases-block
+decreases-block l = 8 * l.levels + 6
+
+abbrev pub decreases-conditional : goal.decreases-conditional
+decreases-conditional l = 8 * l.levels + 6
+
+abbrev pub decreases-branches : goal.decreases-branches
+decreases-branches l = 8 * l.levels + 5
+
+abbrev pub decreases-items : goal.decreases-items
+decreases-items l = 8 * l.levels + 5
+
+abbrev pub decreases-item : goal.decreases-item
+decreases-item l = 8 * l.levels + 4
+
+abbrev pub invariant-items-items : goal.invariant-items-items
+invariant-items-items l = record {
+  shorter : length l.rest ≤ length l.tokens;
+  exact : (m : ℕ) × (length l.rest < m) × (in_front placed part_of l.items.items (run_at placed closed_at (item_at l.bytes l.levels (statement_at l.bytes l.levels)) m l.rest) ≡ items_at l.bytes l.levels (statement_at l.bytes l.levels) l.tokens);
+}
+
+abbrev pub decreases-items-items : goal.decreases-items-items
+decreases-items-items l = length l.rest

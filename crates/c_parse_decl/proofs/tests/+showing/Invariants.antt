@@ -1,0 +1,8 @@
+use Rattle.std.proofs.Common.{◌+◌, ◌*◌}
+use Rattle.c_parse_decl.proofs.tests.+showing.Given as goal
+
+abbrev pub decreases-show : goal.decreases-show
+decreases-show l = 2 * l.levels
+
+abbrev pub decreases-show_item : goal.decreases-show_item
+decreases-show_item l = 2 * l.levels + 1

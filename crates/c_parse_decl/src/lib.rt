@@ -1,0 +1,14 @@
+//! The tree of a C file (C11 6.9) among its tokens.
+#![tactic(auto)]
+
+mod declaring;
+mod defining;
+mod fault;
+mod file;
+mod slices;
+mod stating;
+#[cfg(test)]
+mod tests;
+
+pub use fault::ParseError;
+pub use file::{no_proper_prefix, one_file, one_place, parse};
