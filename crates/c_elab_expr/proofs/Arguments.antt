@@ -1,0 +1,58 @@
+-- The arguments of a call, typed one after the other.
+use Rattle.std.proofs.Common.{◌≡◌, ◌<◌, ◌+◌, ℕ, List, [], ◌∷◌, ◌++◌, length, get_or, drop, Option, Result, Ok, Err, refl, ap, sym, ◌∙◌}
+use Rattle.std.proofs.lemmas.List.{append_assoc, drop_more}
+use Rattle.c_tree.specs.declared.expr.Expr.{Expr}
+use Rattle.c_tree.specs.Tree.{Tree, Trees, call}
+use Rattle.c_tree.specs.Tree.{view as tree, views_of as trees}
+use Rattle.core_tree.specs.Trees.{Expression}
+use Rattle.c_elab_expr.specs.declared.meaning.Meaning.{Meaning}
+use Rattle.c_elab_expr.specs.declared.fault.TypingError.{TypingError}
+use Rattle.c_elab_expr.specs.declared.fault.TypingError.TheVariants as errors
+use Rattle.c_elab_expr.specs.Scopes.{Environment}
+use Rattle.c_elab_expr.specs.Nodes.{◌>>=◌}
+use Rattle.c_tree.specs.Tree.{first_line}
+use Rattle.c_elab_expr.specs.Typing.{Fault, fault, on_line, callee, called, typed, typed_arguments, Fails}
+
+-- a fault of a part is one of the whole
+pub fails_on : {Y Z : Type 0} (e : TypingError) (r : Result Y Fault) (s : Result Z Fault) → ((f : Fault) → r ≡ Err f → s ≡ Err f) → Fails e r → Fails e s
+fails_on errors.Memory r s h g = tt
+fails_on (errors.Typing line rule) r s h g = h (fault line rule) g
+
+-- typed arguments with others before them
+abbrev pub front : List Expression → Result (List Expression) Fault → Result (List Expression) Fault
+front xs r = r >>= λ ys. Ok (xs ++ ys)
+
+front_one : (xs : List Expression) (x : Expression) (r : Result (List Expression) Fault) → front xs (r >>= λ ys. Ok (x ∷ ys)) ≡ front (xs ++ x ∷ []) r
+front_one xs x (Ok ys) = ap Ok (sym (append_assoc xs (x ∷ []) ys))
+front_one xs x (Err f) = refl
+
+next_argument : (env : Environment) (es : List Expr) (i : ℕ) (e : Expr) (xs : List Expression) (all : Result (List Expression) Fault) → i < length es → e ≡ get_or es i e
+    → front xs (typed_arguments env (trees (drop i es))) ≡ all → front xs (typed env (tree e) >>= λ x. typed_arguments env (trees (drop (i + 1) es)) >>= λ ys. Ok (x ∷ ys)) ≡ all
+next_argument env es i e xs all h is so_far =
+    let step = drop_more es i e h in
+    let here = ap (λ (x : Expr). front xs (typed env (tree x) >>= λ y. typed_arguments env (trees (drop (i + 1) es)) >>= λ ys. Ok (y ∷ ys))) is in
+    here ∙ sym (ap (λ (ys : List Expr). front xs (typed_arguments env (trees ys))) step) ∙ so_far
+
+pub argument_fails : (env : Environment) (es : List Expr) (i : ℕ) (e : Expr) (xs : List Expression) (all : Result (List Expression) Fault) (f : Fault) → i < length es → e ≡ get_or es i e
+    → front xs (typed_arguments env (trees (drop i es))) ≡ all → typed env (tree e) ≡ Err f → all ≡ Err f
+argument_fails env es i e xs all f h is so_far bad =
+    sym (next_argument env es i e xs all h is so_far)
+    ∙ ap (λ (r : Result Expression Fault). front xs (r >>= λ x. typed_arguments env (trees (drop (i + 1) es)) >>= λ ys. Ok (x ∷ ys))) bad
+
+pub argument_typed : (env : Environment) (es : List Expr) (i : ℕ) (e : Expr) (xs : List Expression) (all : Result (List Expression) Fault) (x : Expression) → i < length es → e ≡ get_or es i e
+    → front xs (typed_arguments env (trees (drop i es))) ≡ all → typed env (tree e) ≡ Ok x → front (xs ++ x ∷ []) (typed_arguments env (trees (drop (i + 1) es))) ≡ all
+argument_typed env es i e xs all x h is so_far good =
+    sym (front_one xs x (typed_arguments env (trees (drop (i + 1) es))))
+    ∙ sym (ap (λ (r : Result Expression Fault). front xs (r >>= λ x. typed_arguments env (trees (drop (i + 1) es)) >>= λ ys. Ok (x ∷ ys))) good)
+    ∙ next_argument env es i e xs all h is so_far
+
+-- a call whose callee is typed
+pub call_fails : (env : Environment) (f : Tree) (args : Trees) (m : Option (ℕ × Meaning)) (bad : Fault) → callee env f (typed env f) ≡ Ok m → typed_arguments env args ≡ Err bad → typed env (call f args) ≡ Err bad
+call_fails env f args m bad e g =
+    ap (λ (r : Result (Option (ℕ × Meaning)) Fault). r >>= λ n. typed_arguments env args >>= λ xs. on_line (first_line f) (called n xs)) e
+    ∙ ap (λ (r : Result (List Expression) Fault). r >>= λ xs. on_line (first_line f) (called m xs)) g
+
+pub call_typed : (env : Environment) (f : Tree) (args : Trees) (m : Option (ℕ × Meaning)) (xs : List Expression) → callee env f (typed env f) ≡ Ok m → typed_arguments env args ≡ Ok xs → typed env (call f args) ≡ on_line (first_line f) (called m xs)
+call_typed env f args m xs e g =
+    ap (λ (r : Result (Option (ℕ × Meaning)) Fault). r >>= λ n. typed_arguments env args >>= λ xs. on_line (first_line f) (called n xs)) e
+    ∙ ap (λ (r : Result (List Expression) Fault). r >>= λ xs. on_line (first_line f) (called m xs)) g

@@ -1,0 +1,34 @@
+use Rattle.std.proofs.Common.{◌≡◌, ◌∷◌, sym, ap, ◌∙◌}
+use Rattle.c_elab_expr.specs.Scopes.{Environment, binding, is_there, are_there}
+use Rattle.c_elab_expr.specs.Places.{environment, place_in, hidden_in, hidden_of}
+use Rattle.c_elab_expr.proofs.Bindings.{environment_push, hidden_push, forgotten, has_place}
+use Rattle.c_elab_expr.proofs.Variables.{both}
+use Rattle.c_elab_expr.proofs.scope.Scope.forget.Goals as goal
+
+pub invariant_of-self : goal.invariant_of-self
+invariant_of-self c =
+    let bounds = c.self.inside.bounds.items in
+    let rest = c.pop.new.self.items in
+    let bound = c.in-Some.bound in
+    let b = binding bound.name.items bound.meaning in
+    let split : environment bounds ≡ b ∷ environment rest = ap environment c.in-Some.ensures.items ∙ environment_push rest bound in
+    let hides : bound.hidden ∷ hidden_of rest ≡ place_in (environment rest) bound.name.items ∷ hidden_in (environment rest) =
+    sym (ap hidden_of c.in-Some.ensures.items ∙ hidden_push rest bound) ∙ c.self.invariant.2 ∙ ap hidden_in split in
+    let first : bound.hidden ≡ place_in (environment rest) bound.name.items = cc in
+    let others : hidden_of rest ≡ hidden_in (environment rest) = cc in
+    let there = sym (ap (λ (env : Environment). are_there c.self.inside.variables.items env) split) ∙ c.self.invariant.0 in (
+      (both (is_there c.self.inside.variables.items bound.meaning) (are_there c.self.inside.variables.items (environment rest)) there).1,
+      (λ name. forgotten (environment rest) b bound.hidden name _ _ first
+          (c.self.invariant.1 name ∙ ap (λ (env : Environment). place_in env name) split) (c.in-Ok.ensures.new name)),
+      others,
+    )
+
+pub unreachable-requires : goal.unreachable-requires
+unreachable-requires c =
+    let bounds = c.self.inside.bounds.items in
+    let rest = c.pop.new.self.items in
+    let bound = c.in-Some.bound in
+    let b = binding bound.name.items bound.meaning in
+    let split : environment bounds ≡ b ∷ environment rest = ap environment c.in-Some.ensures.items ∙ environment_push rest bound in
+    has_place (environment rest) b
+    (sym (c.self.invariant.1 bound.name.items ∙ ap (λ (env : Environment). place_in env bound.name.items) split) ∙ c.in-Err.ensures.absent)

@@ -1,0 +1,4 @@
+pub mod Scopes
+pub mod Nodes
+pub mod Typing
+pub mod Places

@@ -1,0 +1,471 @@
+//! What an operator makes of its typed operands, or the lowest rule that they break.
+
+ghost use Rattle.std.specs.Prelude.{◌≡◌, ◌≤◌, ◌%◌, ◌^◌, IfOk};
+ghost use Rattle.core_tree.specs.Trees.{view};
+ghost use Rattle.core_tree.specs.Typed.{type_of, place_type, is_shift};
+ghost use Rattle.c_elab_expr.specs.Nodes.{integer, as_type, place_of, required, constant_type, constant_node, name_node, sign_node, not_node, step_node, unary_node, postfix_node, left_type, right_type, arithmetic_node, compare_node, logical_node, binary_node, chosen, choice_node, assign_node, operator_of, update_node, assignment_node};
+ghost use Rattle.c_elab_expr.specs.Typing.{GivesNode};
+
+use crate::fault::Broken;
+use crate::meaning::Meaning;
+use c_lexer::{Constant, ConstantType};
+use c_tree::{BinaryOp, StepOp, UnaryOp};
+use c_types::{IntegerType, Ty, common, promote};
+use core_tree::{
+    ArithmeticOperator, Comparison, CoreExpr, LogicalOperator, Place, SignOperator, StepOperator,
+    type_of,
+};
+use std::alloc::{AllocError, Global};
+
+/// The integer type of a value, or the broken rule.
+pub fn integer(expr: &CoreExpr, rule: u32) -> Result<IntegerType, Broken>
+    ensures { GivesNode (λ t. t) result (integer rule (view expr.now)) }
+{
+    match type_of(expr) {
+        Ty::Integer(type_) => Ok(type_),
+        Ty::Void => Err(Broken::Rule { rule }),
+    }
+}
+
+fn place(expr: &CoreExpr) -> Result<Place, Broken>
+    ensures { GivesNode (λ p. p) result (required 9 (place_of (view expr.now))) }
+{
+    match expr {
+        CoreExpr::Read { place } => Ok(*place),
+        _ => Err(Broken::Rule { rule: 9 }),
+    }
+}
+
+/// The value in a type: a conversion stands only where it changes the type.
+pub fn as_type(alloc: Global, type_: IntegerType, expr: CoreExpr) -> Result<CoreExpr, AllocError>
+    ensures { IfOk result (λ e. view e ≡ as_type type_ (view expr)) }
+{
+    if type_of(&expr) == Ty::Integer(type_) {
+        Ok(expr)
+    } else {
+        Ok(CoreExpr::Convert {
+            to: type_,
+            operand: Box::new(alloc, expr)?,
+        })
+    }
+}
+
+fn constant_type(type_: ConstantType) -> IntegerType
+    ensures { result ≡ constant_type type_ }
+{
+    match type_ {
+        ConstantType::Int => IntegerType::Int,
+        ConstantType::UnsignedInt => IntegerType::UnsignedInt,
+        ConstantType::Long => IntegerType::Long,
+        ConstantType::UnsignedLong => IntegerType::UnsignedLong,
+        ConstantType::LongLong => IntegerType::LongLong,
+        ConstantType::UnsignedLongLong => IntegerType::UnsignedLongLong,
+    }
+}
+
+// The last bits of a number.
+fn low_bits(value: u64, width: u32) -> u64
+    requires { width ≤ 64 }
+    ensures { result ≡ value % 2 ^ width }
+{
+    if width < 64 {
+        value % (1 << width)
+    } else {
+        value
+    }
+}
+
+pub fn constant_node(line: u32, constant: &Constant) -> CoreExpr
+    ensures { view result ≡ constant_node line constant.now }
+{
+    let type_ = constant_type(constant.type_);
+    let bits = low_bits(constant.value, type_.width());
+    CoreExpr::Constant { line, type_, bits }
+}
+
+pub fn name_node(line: u32, meaning: Option<Meaning>) -> Result<CoreExpr, Broken>
+    ensures { GivesNode view result (name_node line meaning) }
+{
+    match meaning {
+        None => Err(Broken::Rule { rule: 1 }),
+        Some(Meaning::Variable { variable, type_ }) => Ok(CoreExpr::Read {
+            place: Place::Variable {
+                line,
+                type_,
+                variable,
+            },
+        }),
+        Some(Meaning::Assert) => Err(Broken::Rule { rule: 7 }),
+        Some(Meaning::Assume) => Err(Broken::Rule { rule: 7 }),
+        Some(Meaning::Draw { type_: _ }) => Err(Broken::Rule { rule: 7 }),
+        Some(Meaning::Function) => Err(Broken::Rule { rule: 7 }),
+    }
+}
+
+fn sign_node(
+    alloc: Global,
+    line: u32,
+    operator: SignOperator,
+    expr: CoreExpr,
+) -> Result<CoreExpr, Broken>
+    ensures { GivesNode view result (sign_node line operator (view expr)) }
+{
+    let type_ = integer(&expr, 7)?;
+    let operand = as_type(alloc, promote(type_), expr)?;
+    Ok(CoreExpr::Sign {
+        line,
+        operator,
+        operand: Box::new(alloc, operand)?,
+    })
+}
+
+fn not_node(alloc: Global, line: u32, expr: CoreExpr) -> Result<CoreExpr, Broken>
+    ensures { GivesNode view result (not_node line (view expr)) }
+{
+    let _type = integer(&expr, 7)?;
+    Ok(CoreExpr::IsZero {
+        line,
+        operand: Box::new(alloc, expr)?,
+    })
+}
+
+fn step_node(
+    line: u32,
+    operator: StepOperator,
+    before: bool,
+    expr: &CoreExpr,
+) -> Result<CoreExpr, Broken>
+    ensures { GivesNode view result (step_node line operator before (view expr.now)) }
+{
+    let _type = integer(expr, 7)?;
+    let place = place(expr)?;
+    Ok(CoreExpr::Step {
+        line,
+        place,
+        operator,
+        before,
+    })
+}
+
+pub fn unary_node(
+    alloc: Global,
+    line: u32,
+    operator: UnaryOp,
+    expr: CoreExpr,
+) -> Result<CoreExpr, Broken>
+    ensures { GivesNode view result (unary_node line operator (view expr)) }
+{
+    match operator {
+        UnaryOp::Increment => step_node(line, StepOperator::Increment, true, &expr),
+        UnaryOp::Decrement => step_node(line, StepOperator::Decrement, true, &expr),
+        UnaryOp::Plus => sign_node(alloc, line, SignOperator::Plus, expr),
+        UnaryOp::Minus => sign_node(alloc, line, SignOperator::Minus, expr),
+        UnaryOp::Complement => sign_node(alloc, line, SignOperator::Complement, expr),
+        UnaryOp::Not => not_node(alloc, line, expr),
+    }
+}
+
+pub fn postfix_node(line: u32, operator: StepOp, expr: &CoreExpr) -> Result<CoreExpr, Broken>
+    ensures { GivesNode view result (postfix_node line operator (view expr.now)) }
+{
+    match operator {
+        StepOp::Increment => step_node(line, StepOperator::Increment, false, expr),
+        StepOp::Decrement => step_node(line, StepOperator::Decrement, false, expr),
+    }
+}
+
+fn is_shift(operator: ArithmeticOperator) -> bool
+    ensures { result ≡ is_shift operator }
+{
+    match operator {
+        ArithmeticOperator::ShiftLeft | ArithmeticOperator::ShiftRight => true,
+        ArithmeticOperator::Multiply
+        | ArithmeticOperator::Divide
+        | ArithmeticOperator::Remainder
+        | ArithmeticOperator::Add
+        | ArithmeticOperator::Subtract
+        | ArithmeticOperator::And
+        | ArithmeticOperator::Xor
+        | ArithmeticOperator::Or => false,
+    }
+}
+
+fn left_type(operator: ArithmeticOperator, left: IntegerType, right: IntegerType) -> IntegerType
+    ensures { result ≡ left_type operator left right }
+{
+    if is_shift(operator) {
+        promote(left)
+    } else {
+        common(left, right)
+    }
+}
+
+fn right_type(operator: ArithmeticOperator, left: IntegerType, right: IntegerType) -> IntegerType
+    ensures { result ≡ right_type operator left right }
+{
+    if is_shift(operator) {
+        promote(right)
+    } else {
+        common(left, right)
+    }
+}
+
+fn arithmetic_node(
+    alloc: Global,
+    line: u32,
+    operator: ArithmeticOperator,
+    left: CoreExpr,
+    right: CoreExpr,
+) -> Result<CoreExpr, Broken>
+    ensures { GivesNode view result (arithmetic_node line operator (view left) (view right)) }
+{
+    let t = integer(&left, 7)?;
+    let u = integer(&right, 7)?;
+    let left = as_type(alloc, left_type(operator, t, u), left)?;
+    let right = as_type(alloc, right_type(operator, t, u), right)?;
+    Ok(CoreExpr::Arithmetic {
+        line,
+        operator,
+        left: Box::new(alloc, left)?,
+        right: Box::new(alloc, right)?,
+    })
+}
+
+fn compare_node(
+    alloc: Global,
+    line: u32,
+    operator: Comparison,
+    left: CoreExpr,
+    right: CoreExpr,
+) -> Result<CoreExpr, Broken>
+    ensures { GivesNode view result (compare_node line operator (view left) (view right)) }
+{
+    let t = integer(&left, 7)?;
+    let u = integer(&right, 7)?;
+    let left = as_type(alloc, common(t, u), left)?;
+    let right = as_type(alloc, common(t, u), right)?;
+    Ok(CoreExpr::Compare {
+        line,
+        operator,
+        left: Box::new(alloc, left)?,
+        right: Box::new(alloc, right)?,
+    })
+}
+
+fn logical_node(
+    alloc: Global,
+    line: u32,
+    operator: LogicalOperator,
+    left: CoreExpr,
+    right: CoreExpr,
+) -> Result<CoreExpr, Broken>
+    ensures { GivesNode view result (logical_node line operator (view left) (view right)) }
+{
+    let _t = integer(&left, 7)?;
+    let _u = integer(&right, 7)?;
+    Ok(CoreExpr::Logical {
+        line,
+        operator,
+        left: Box::new(alloc, left)?,
+        right: Box::new(alloc, right)?,
+    })
+}
+
+pub fn binary_node(
+    alloc: Global,
+    line: u32,
+    operator: BinaryOp,
+    left: CoreExpr,
+    right: CoreExpr,
+) -> Result<CoreExpr, Broken>
+    ensures { GivesNode view result (binary_node line operator (view left) (view right)) }
+{
+    match operator {
+        BinaryOp::LogicalOr => logical_node(alloc, line, LogicalOperator::Or, left, right),
+        BinaryOp::LogicalAnd => logical_node(alloc, line, LogicalOperator::And, left, right),
+        BinaryOp::Or => arithmetic_node(alloc, line, ArithmeticOperator::Or, left, right),
+        BinaryOp::Xor => arithmetic_node(alloc, line, ArithmeticOperator::Xor, left, right),
+        BinaryOp::And => arithmetic_node(alloc, line, ArithmeticOperator::And, left, right),
+        BinaryOp::Equal => compare_node(alloc, line, Comparison::Equal, left, right),
+        BinaryOp::NotEqual => compare_node(alloc, line, Comparison::NotEqual, left, right),
+        BinaryOp::Less => compare_node(alloc, line, Comparison::Less, left, right),
+        BinaryOp::Greater => compare_node(alloc, line, Comparison::Greater, left, right),
+        BinaryOp::LessEqual => compare_node(alloc, line, Comparison::LessEqual, left, right),
+        BinaryOp::GreaterEqual => compare_node(alloc, line, Comparison::GreaterEqual, left, right),
+        BinaryOp::ShiftLeft => arithmetic_node(
+            alloc,
+            line,
+            ArithmeticOperator::ShiftLeft,
+            left,
+            right,
+        ),
+        BinaryOp::ShiftRight => arithmetic_node(
+            alloc,
+            line,
+            ArithmeticOperator::ShiftRight,
+            left,
+            right,
+        ),
+        BinaryOp::Add => arithmetic_node(alloc, line, ArithmeticOperator::Add, left, right),
+        BinaryOp::Subtract => arithmetic_node(
+            alloc,
+            line,
+            ArithmeticOperator::Subtract,
+            left,
+            right,
+        ),
+        BinaryOp::Multiply => arithmetic_node(
+            alloc,
+            line,
+            ArithmeticOperator::Multiply,
+            left,
+            right,
+        ),
+        BinaryOp::Divide => arithmetic_node(alloc, line, ArithmeticOperator::Divide, left, right),
+        BinaryOp::Remainder => arithmetic_node(
+            alloc,
+            line,
+            ArithmeticOperator::Remainder,
+            left,
+            right,
+        ),
+    }
+}
+
+fn chosen(
+    alloc: Global,
+    line: u32,
+    test: CoreExpr,
+    yes: CoreExpr,
+    no: CoreExpr,
+) -> Result<CoreExpr, Broken>
+    ensures { GivesNode view result (chosen line (view test) (type_of (view yes)) (type_of (view no)) (view yes) (view no)) }
+{
+    let (yes, no) = match type_of(&yes) {
+        Ty::Void => match type_of(&no) {
+            Ty::Void => (yes, no),
+            Ty::Integer(_) => return Err(Broken::Rule { rule: 7 }),
+        },
+        Ty::Integer(t) => match type_of(&no) {
+            Ty::Void => return Err(Broken::Rule { rule: 7 }),
+            Ty::Integer(u) => (
+                as_type(alloc, common(t, u), yes)?,
+                as_type(alloc, common(t, u), no)?,
+            ),
+        },
+    };
+    Ok(CoreExpr::Choice {
+        line,
+        test: Box::new(alloc, test)?,
+        yes: Box::new(alloc, yes)?,
+        no: Box::new(alloc, no)?,
+    })
+}
+
+pub fn choice_node(
+    alloc: Global,
+    line: u32,
+    test: CoreExpr,
+    yes: CoreExpr,
+    no: CoreExpr,
+) -> Result<CoreExpr, Broken>
+    ensures { GivesNode view result (choice_node line (view test) (view yes) (view no)) }
+{
+    let _type = integer(&test, 7)?;
+    chosen(alloc, line, test, yes, no)
+}
+
+fn place_type(place: &Place) -> IntegerType
+    ensures { result ≡ place_type place.now }
+{
+    match place {
+        Place::Variable {
+            line: _,
+            type_,
+            variable: _,
+        } => *type_,
+    }
+}
+
+fn assign_node(
+    alloc: Global,
+    line: u32,
+    target: &CoreExpr,
+    value: CoreExpr,
+) -> Result<CoreExpr, Broken>
+    ensures { GivesNode view result (assign_node line (view target.now) (view value)) }
+{
+    let _t = integer(target, 8)?;
+    let _u = integer(&value, 8)?;
+    let place = place(target)?;
+    let value = as_type(alloc, place_type(&place), value)?;
+    Ok(CoreExpr::Assign {
+        line,
+        place,
+        value: Box::new(alloc, value)?,
+    })
+}
+
+// The operator that stands before `=`; rule 7 where none can.
+fn operator_of(operator: BinaryOp) -> Result<ArithmeticOperator, Broken>
+    ensures { GivesNode (λ o. o) result (required 7 (operator_of operator)) }
+{
+    match operator {
+        BinaryOp::Or => Ok(ArithmeticOperator::Or),
+        BinaryOp::Xor => Ok(ArithmeticOperator::Xor),
+        BinaryOp::And => Ok(ArithmeticOperator::And),
+        BinaryOp::ShiftLeft => Ok(ArithmeticOperator::ShiftLeft),
+        BinaryOp::ShiftRight => Ok(ArithmeticOperator::ShiftRight),
+        BinaryOp::Add => Ok(ArithmeticOperator::Add),
+        BinaryOp::Subtract => Ok(ArithmeticOperator::Subtract),
+        BinaryOp::Multiply => Ok(ArithmeticOperator::Multiply),
+        BinaryOp::Divide => Ok(ArithmeticOperator::Divide),
+        BinaryOp::Remainder => Ok(ArithmeticOperator::Remainder),
+        BinaryOp::LogicalOr
+        | BinaryOp::LogicalAnd
+        | BinaryOp::Equal
+        | BinaryOp::NotEqual
+        | BinaryOp::Less
+        | BinaryOp::Greater
+        | BinaryOp::LessEqual
+        | BinaryOp::GreaterEqual => Err(Broken::Rule { rule: 7 }),
+    }
+}
+
+fn update_node(
+    alloc: Global,
+    line: u32,
+    operator: BinaryOp,
+    target: &CoreExpr,
+    value: CoreExpr,
+) -> Result<CoreExpr, Broken>
+    ensures { GivesNode view result (update_node line operator (view target.now) (view value)) }
+{
+    let operator = operator_of(operator)?;
+    let t = integer(target, 7)?;
+    let u = integer(&value, 7)?;
+    let place = place(target)?;
+    let value = as_type(alloc, right_type(operator, t, u), value)?;
+    Ok(CoreExpr::Update {
+        line,
+        place,
+        operator,
+        type_: left_type(operator, t, u),
+        value: Box::new(alloc, value)?,
+    })
+}
+
+pub fn assignment_node(
+    alloc: Global,
+    line: u32,
+    operator: Option<BinaryOp>,
+    target: &CoreExpr,
+    value: CoreExpr,
+) -> Result<CoreExpr, Broken>
+    ensures { GivesNode view result (assignment_node line operator (view target.now) (view value)) }
+{
+    match operator {
+        None => assign_node(alloc, line, target, value),
+        Some(operator) => update_node(alloc, line, operator, target, value),
+    }
+}

@@ -1,0 +1,4 @@
+pub mod Trees
+pub mod Typed
+pub mod Operations
+pub mod Ranges

@@ -1,0 +1,114 @@
+use crate::operators::{
+    ArithmeticOperator, Comparison, LogicalOperator, SignOperator, StepOperator,
+};
+use c_types::IntegerType;
+
+/// What can be read and written (C11 6.3.2.1p1).
+#[derive(Clone, Copy, Debug)]
+pub enum Place {
+    /// A variable of the function, by its number there, with its type and the line of its name.
+    Variable {
+        line: u32,
+        type_: IntegerType,
+        variable: u32,
+    },
+}
+
+/// A typed expression (C11 6.5).
+#[derive(Drop)]
+pub enum CoreExpr {
+    /// The number of this type with these bits.
+    Constant {
+        line: u32,
+        type_: IntegerType,
+        bits: u64,
+    },
+    /// The value of a place.
+    Read {
+        place: Place,
+    },
+    /// The value, converted to a type (C11 6.3.1).
+    Convert {
+        to: IntegerType,
+        operand: Box<CoreExpr>,
+    },
+    Sign {
+        line: u32,
+        operator: SignOperator,
+        operand: Box<CoreExpr>,
+    },
+    /// `!`: 1 where the value is 0, else 0 (C11 6.5.3.3p5).
+    IsZero {
+        line: u32,
+        operand: Box<CoreExpr>,
+    },
+    Arithmetic {
+        line: u32,
+        operator: ArithmeticOperator,
+        left: Box<CoreExpr>,
+        right: Box<CoreExpr>,
+    },
+    Compare {
+        line: u32,
+        operator: Comparison,
+        left: Box<CoreExpr>,
+        right: Box<CoreExpr>,
+    },
+    Logical {
+        line: u32,
+        operator: LogicalOperator,
+        left: Box<CoreExpr>,
+        right: Box<CoreExpr>,
+    },
+    /// `?:` (C11 6.5.15).
+    Choice {
+        line: u32,
+        test: Box<CoreExpr>,
+        yes: Box<CoreExpr>,
+        no: Box<CoreExpr>,
+    },
+    /// `=`: the value is of the place's type (C11 6.5.16.1).
+    Assign {
+        line: u32,
+        place: Place,
+        value: Box<CoreExpr>,
+    },
+    /// `=` with an operator: the place's value, converted to `type_`, and the value beside it, are the
+    /// operands; the result is converted to the place's type (C11 6.5.16.2).
+    Update {
+        line: u32,
+        place: Place,
+        operator: ArithmeticOperator,
+        type_: IntegerType,
+        value: Box<CoreExpr>,
+    },
+    /// `++` or `--`, before its operand or behind it. The place's value is promoted, and the result
+    /// converted to the place's type (C11 6.5.2.4, 6.5.3.1).
+    Step {
+        line: u32,
+        place: Place,
+        operator: StepOperator,
+        before: bool,
+    },
+    /// `,` (C11 6.5.17).
+    Comma {
+        line: u32,
+        left: Box<CoreExpr>,
+        right: Box<CoreExpr>,
+    },
+    /// A call of `assert`, with the line of that name.
+    Assertion {
+        line: u32,
+        condition: Box<CoreExpr>,
+    },
+    /// A call of `__CPROVER_assume`.
+    Assumption {
+        line: u32,
+        condition: Box<CoreExpr>,
+    },
+    /// A call of a function that gives a number of this type from the inputs.
+    Draw {
+        line: u32,
+        type_: IntegerType,
+    },
+}

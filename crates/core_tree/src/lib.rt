@@ -1,0 +1,21 @@
+//! The typed tree of a C file: names are resolved, each conversion is a node, each node has the line of
+//! its own token.
+#![tactic(auto)]
+
+mod bounds;
+mod expression;
+mod functions;
+mod operators;
+mod refusal;
+mod statement;
+#[cfg(test)]
+mod tests;
+mod typing;
+
+pub use bounds::{Bounds, LoopBound};
+pub use expression::{CoreExpr, Place};
+pub use functions::{Core, Function, Name, function_name};
+pub use operators::{ArithmeticOperator, Comparison, LogicalOperator, SignOperator, StepOperator};
+pub use refusal::{Limit, Refusal};
+pub use statement::{CoreItem, CoreStatement};
+pub use typing::{names_variable, type_of};

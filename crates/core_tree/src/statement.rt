@@ -1,0 +1,53 @@
+use crate::expression::CoreExpr;
+
+/// A typed statement (C11 6.8).
+#[derive(Drop)]
+#[cycle(statement)]
+pub enum CoreStatement {
+    Block {
+        items: Vec<CoreItem>,
+    },
+    If {
+        line: u32,
+        test: CoreExpr,
+        yes: Box<CoreStatement>,
+    },
+    IfElse {
+        line: u32,
+        test: CoreExpr,
+        yes: Box<CoreStatement>,
+        no: Box<CoreStatement>,
+    },
+    /// An expression statement.
+    Evaluate {
+        expression: CoreExpr,
+    },
+    /// `return` with a value of the function's type.
+    Return {
+        line: u32,
+        value: CoreExpr,
+    },
+}
+
+/// What stands in a block.
+#[derive(Drop)]
+#[cycle(statement)]
+pub enum CoreItem {
+    /// A variable without an initializer, by its number in the function, with the line of its
+    /// declarator. Its first bits are drawn on entry to the block.
+    Declare {
+        line: u32,
+        variable: u32,
+    },
+    /// A variable with an initializer of its type, which is written when the declaration is reached.
+    /// Where `drawn` stands its first bits are drawn too, since the initializer names it.
+    Initialize {
+        line: u32,
+        variable: u32,
+        drawn: bool,
+        value: CoreExpr,
+    },
+    Statement {
+        statement: CoreStatement,
+    },
+}
