@@ -18,6 +18,16 @@ impl Model for Bytes {
     ghost view = { λ b. b.items.items };
 }
 
+impl Clone for Bytes {
+    ghost is_clone = { λ b c. c ≡ b };
+
+    fn clone(&self) -> Result<Bytes, AllocError> {
+        Ok(Bytes {
+            items: self.items.clone()?,
+        })
+    }
+}
+
 impl Bytes {
     /// The bytes of a vector. Takes no memory.
     pub fn new(items: Vec<u8>) -> Bytes

@@ -1,6 +1,7 @@
 ghost use Rattle.std.specs.Prelude.{◌≡◌};
 ghost use Rattle.actions.specs.Access.{is_one_cell, is_mixed};
 
+use std::alloc::AllocError;
 use std::marker::Model;
 
 /// One cell of an object: an offset and a size, in bytes.
@@ -23,6 +24,16 @@ impl Model for Cells {
     ghost Value = { List Cell };
 
     ghost view = { λ c. c.items.items };
+}
+
+impl Clone for Cells {
+    ghost is_clone = { λ c d. d ≡ c };
+
+    fn clone(&self) -> Result<Cells, AllocError> {
+        Ok(Cells {
+            items: self.items.clone()?,
+        })
+    }
 }
 
 impl Cells {

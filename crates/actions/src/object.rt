@@ -37,6 +37,21 @@ impl Model for Object {
     ghost invariant = { λ o. IsObject (stored o.size o.cells o.live o.readonly o.heap o.bytes) };
 }
 
+impl Clone for Object {
+    ghost is_clone = { λ o p. p ≡ o };
+
+    fn clone(&self) -> Result<Object, AllocError> {
+        Ok(Object {
+            size: self.size,
+            cells: self.cells.clone()?,
+            live: self.live,
+            readonly: self.readonly,
+            heap: self.heap,
+            bytes: self.bytes.clone()?,
+        })
+    }
+}
+
 impl Object {
     // The first class that an access of n bytes from the offset `at` on breaks.
     pub(crate) fn break_at(&self, writes: bool, at: u32, n: usize) -> Option<Class>

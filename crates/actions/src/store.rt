@@ -39,6 +39,17 @@ impl Model for Store {
     ghost view = { λ s. s.objects.entries };
 }
 
+impl Clone for Store {
+    ghost is_clone = { λ s t. t ≡ s };
+
+    fn clone(&self) -> Result<Store, AllocError> {
+        Ok(Store {
+            alloc: self.alloc,
+            objects: self.objects.clone()?,
+        })
+    }
+}
+
 impl Store {
     /// No object. The store keeps the allocator.
     pub fn new(alloc: Global) -> Store

@@ -7,3 +7,4 @@ pub mod Law
 pub mod Script
 pub mod View
 pub mod Effect
+pub mod Replay
