@@ -1,0 +1,10 @@
+pub mod Tops
+pub mod FitParts
+pub mod TypeWidths
+pub mod FitsKept
+pub mod DrawnBits
+pub mod Threads
+pub mod TypedAt
+pub mod TypedFiles
+pub mod PushedItems
+pub mod SourceRuns

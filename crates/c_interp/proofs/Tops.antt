@@ -1,0 +1,22 @@
+-- The last of the code's lists is the first of the definitions'.
+use Rattle.std.proofs.Common.{◌≡◌, List, [], ◌∷◌, ◌++◌, length, refl, ap, arith}
+use Rattle.c_interp.specs.declared.task.Task.{Task}
+use Rattle.c_values.specs.Numbers.{TypedNumber}
+use Rattle.c_interp.specs.Items.{Item}
+use Rattle.c_interp.specs.Tasks.{item_of, items_in, values_in}
+
+pub values_push : (xs : List TypedNumber) (x : TypedNumber) → values_in (xs ++ x ∷ []) ≡ x ∷ values_in xs
+values_push [] x = refl
+values_push (y ∷ xs) x = ap (λ (vs : List TypedNumber). vs ++ y ∷ []) (values_push xs x)
+
+pub items_push : (ts : List Task) (t : Task) → items_in (ts ++ t ∷ []) ≡ item_of t ∷ items_in ts
+items_push [] t = refl
+items_push (u ∷ ts) t = ap (λ (is : List Item). is ++ item_of u ∷ []) (items_push ts t)
+
+pub no_tasks : (ts : List Task) → length ts ≡ 0 → ts ≡ []
+no_tasks [] h = refl
+no_tasks (t ∷ ts) h = absurd (omega arith)
+
+pub no_values : (xs : List TypedNumber) → length xs ≡ 0 → xs ≡ []
+no_values [] h = refl
+no_values (x ∷ xs) h = absurd (omega arith)

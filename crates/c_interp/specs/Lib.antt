@@ -1,0 +1,15 @@
+pub mod Meaning
+pub mod Source
+pub mod Items
+pub mod Fits
+pub mod Steps
+pub mod Small
+pub mod Adequate
+pub mod SourceThread
+pub mod Tasks
+pub mod Plans
+pub mod Draws
+pub mod Halts
+pub mod View
+pub mod Quiet
+pub mod Ints

@@ -1,0 +1,138 @@
+-- What a thread of the typed source does, by what follows each expression and statement (C11 5.1.2.3, 6.5, 6.8). Operands are evaluated from left to right.
+use Rattle.std.specs.Prelude.{ℕ, Bool, not, List, [], ◌∷◌, Option, Some, None, slice_index_or, if◌then◌else◌}
+use Rattle.words.specs.declared.check.Class.{Class}
+use Rattle.words.specs.declared.check.Class.TheVariants.{Assertion}
+use Rattle.c_types.specs.declared.integers.IntegerType.{IntegerType}
+use Rattle.c_types.specs.declared.integers.IntegerType.TheVariants.{Int}
+use Rattle.c_types.specs.declared.types.Ty.{Ty}
+use Rattle.c_types.specs.declared.types.Ty.TheVariants.{Void, Integer}
+use Rattle.c_types.specs.Integers.{width, promoted}
+use Rattle.core_tree.specs.declared.operators.ArithmeticOperator.{ArithmeticOperator}
+use Rattle.core_tree.specs.declared.operators.LogicalOperator.{LogicalOperator}
+use Rattle.core_tree.specs.declared.operators.LogicalOperator.TheVariants as logicals
+use Rattle.core_tree.specs.declared.expression.Place.{Place}
+use Rattle.core_tree.specs.Trees.{Expression, constant, read, convert, sign, is_zero, arithmetic, compare, logical, choice, assign, update, step, comma, assertion, assumption, draw, Statement, block, if_then, if_else, evaluate, returns, Items, done, declares, initializes, does}
+use Rattle.core_tree.specs.Typed.{place_type, type_of}
+use Rattle.core_tree.specs.Operations.{is_true, truth_bits, converted, drawn_width, arithmetic_check, arithmetic_value, sign_check, sign_value, step_operation, compared}
+use Rattle.actions.specs.declared.action.Action.{Action}
+use Rattle.actions.specs.declared.action.Action.TheVariants.{Draw, End, Exit}
+use Rattle.actions.specs.declared.action.Answer.{Answer}
+use Rattle.actions.specs.declared.action.Answer.TheVariants as answer
+use Rattle.actions.specs.declared.action.Next.{Next}
+use Rattle.actions.specs.declared.action.Next.TheVariants.{Act, Ended, Blocked, Broken}
+use Rattle.actions.specs.Behaviour.{Behaviour, shape_of, has_shape, word_64}
+use Rattle.c_values.specs.Variables.{Variables, read_place, write_variable, write_place}
+
+-- what a thread runs: a function by its number, with the types of its variables; and whether it is thread 0
+pub record Running : Type 0 where
+  pub function : ℕ
+  pub types : List IntegerType
+  pub first : Bool
+
+-- the integer type of an expression; one of type void has no number, which is written 0
+abbrev pub integer_of : Ty → IntegerType
+integer_of Void = Int
+integer_of (Integer t) = t
+
+abbrev pub number_type : Expression → IntegerType
+number_type e = integer_of (type_of e)
+
+-- the bits that a Draw gives
+abbrev pub drawn : Answer → ℕ
+drawn (answer.Word w) = w.bits
+drawn _ = 0
+
+-- the left operand alone decides (C11 6.5.13p4, 6.5.14p4)
+abbrev pub decides : LogicalOperator → ℕ → Bool
+decides logicals.And x = not (is_true x)
+decides logicals.Or x = is_true x
+
+-- nothing comes behind
+abbrev pub final : Next → Behaviour
+final n [] = n
+final n (a ∷ answers) = Blocked
+
+module _ (running : Running) where
+  -- an action, and what follows its answer
+  abbrev pub ask : Action → ℕ → (Answer → Behaviour) → Behaviour
+  ask action line follows [] = Act action line running.function
+  ask action line follows (a ∷ answers) = if has_shape (shape_of action) a then follows a answers else Blocked
+
+  -- a check breaks, or what follows
+  abbrev pub unless_broken : Option Class → ℕ → Behaviour → Behaviour
+  unless_broken None line follows = follows
+  unless_broken (Some class) line follows = final (Broken class line running.function)
+
+  -- an operation on a number of type t and one of type u (C11 6.5.5 to 6.5.12)
+  abbrev pub operated : ArithmeticOperator → IntegerType → IntegerType → ℕ → ℕ → ℕ → (ℕ → Behaviour) → Behaviour
+  operated op t u x y line follows = unless_broken (arithmetic_check op t u x y) line (follows (arithmetic_value op t x y))
+
+  -- ---- expressions
+
+  -- `=` with an operator: an operation of type t on the place's number and y of type u, whose result the place takes (C11 6.5.16.2)
+  abbrev pub updated : Place → ArithmeticOperator → IntegerType → IntegerType → ℕ → ℕ → Variables → (ℕ → Variables → Behaviour) → Behaviour
+  updated p op t u y line vs follows =
+      operated op t u (converted (place_type p) t (read_place vs p)) y line (λ z.
+      let new = converted t (place_type p) z in
+      follows new (write_place vs p new))
+
+  -- `++` and `--`: an operation with 1 at the promoted type; the value is the new one, or behind its operand the old one (C11 6.5.2.4, 6.5.3.1)
+  abbrev pub stepped : Place → ArithmeticOperator → Bool → ℕ → Variables → (ℕ → Variables → Behaviour) → Behaviour
+  stepped p op before line vs follows =
+      let old = read_place vs p in
+      updated p op (promoted (place_type p)) (promoted (place_type p)) 1 line vs (λ new. follows (if before then new else old))
+
+  -- its value and the variables then go to what follows
+  abbrev pub eval : Expression → Variables → (ℕ → Variables → Behaviour) → Behaviour
+  eval (constant line t bits) vs follows = follows bits vs
+  eval (read p) vs follows = follows (read_place vs p) vs
+  eval (convert to e) vs follows = eval e vs (λ x. follows (converted (number_type e) to x))
+  eval (sign line op e) vs follows = eval e vs (λ x after. unless_broken (sign_check op (number_type e) x) line (follows (sign_value op (number_type e) x) after))
+  eval (is_zero line e) vs follows = eval e vs (λ x. follows (truth_bits (not (is_true x))))
+  eval (arithmetic line op a b) vs follows = eval a vs (λ x after. eval b after (λ y last. operated op (number_type a) (number_type b) x y line (λ z. follows z last)))
+  eval (compare line op a b) vs follows = eval a vs (λ x after. eval b after (λ y. follows (truth_bits (compared op (number_type a) x y))))
+  eval (logical line op a b) vs follows =
+      eval a vs (λ x after. if decides op x then follows (truth_bits (is_true x)) after else eval b after (λ y. follows (truth_bits (is_true y))))
+  eval (choice line test a b) vs follows = eval test vs (λ x after. if is_true x then eval a after follows else eval b after follows)
+  eval (assign line p e) vs follows = eval e vs (λ x after. follows x (write_place after p x))
+  eval (update line p op t e) vs follows = eval e vs (λ y after. updated p op t (number_type e) y line after follows)
+  eval (step line p op before) vs follows = stepped p (step_operation op) before line vs follows
+  eval (comma line a b) vs follows = eval a vs (λ x after. eval b after follows)
+  eval (assertion line e) vs follows = eval e vs (λ x after. if is_true x then follows 0 after else final (Broken Assertion line running.function))
+  eval (assumption line e) vs follows = eval e vs (λ x after. if is_true x then follows 0 after else final Blocked)
+  eval (draw line t) vs follows = ask (Draw (drawn_width t)) line (λ a. follows (drawn a) vs)
+
+  -- ---- statements
+
+  abbrev pub variable_type : ℕ → IntegerType
+  variable_type v = slice_index_or running.types v Int
+
+  -- the first value of a variable without initializer is drawn, all its bits
+  abbrev pub draws : ℕ → ℕ → Variables → (Variables → Behaviour) → Behaviour
+  draws line v vs follows = ask (Draw (width (variable_type v))) line (λ a. follows (write_variable vs v (variable_type v) (drawn a)))
+
+  -- on entry to a block its own variables get their first values, in order; one that an initializer will write starts as 0
+  abbrev pub enter : Items → Variables → (Variables → Behaviour) → Behaviour
+  enter done vs follows = follows vs
+  enter (declares line v rest) vs follows = draws line v vs (λ after. enter rest after follows)
+  enter (initializes line v is_drawn e rest) vs follows =
+      if is_drawn then draws line v vs (λ after. enter rest after follows) else enter rest (write_variable vs v (variable_type v) 0) follows
+  enter (does s rest) vs follows = enter rest vs follows
+
+  -- the end of a function with a value: thread 0 ends the process, another thread ends itself (C11 5.1.2.2.3)
+  abbrev pub leaves : ℕ → ℕ → Behaviour
+  leaves line x = ask (if running.first then Exit else End x) line (λ a. final (Ended (word_64 (if running.first then 0 else x))))
+
+  abbrev mutual
+    pub exec : Statement → Variables → (Variables → Behaviour) → Behaviour
+    exec (block items) vs follows = enter items vs (λ after. exec_items items after follows)
+    exec (if_then line test s) vs follows = eval test vs (λ x after. if is_true x then exec s after follows else follows after)
+    exec (if_else line test s t) vs follows = eval test vs (λ x after. if is_true x then exec s after follows else exec t after follows)
+    exec (evaluate e) vs follows = eval e vs (λ x. follows)
+    exec (returns line e) vs follows = eval e vs (λ x after. leaves line x)
+
+    pub exec_items : Items → Variables → (Variables → Behaviour) → Behaviour
+    exec_items done vs follows = follows vs
+    exec_items (declares line v rest) vs follows = exec_items rest vs follows
+    exec_items (initializes line v is_drawn e rest) vs follows = eval e vs (λ x after. exec_items rest (write_variable after v (variable_type v) x) follows)
+    exec_items (does s rest) vs follows = exec s vs (λ after. exec_items rest after follows)

@@ -1,0 +1,159 @@
+-- What a function does is what its small steps do from its start; and that is what a thread may do.
+use Rattle.std.specs.Prelude.{◌≡◌, ℕ, Bool, true, false, List, [], ◌∷◌, Option, Some, None, slice_get, if◌then◌else◌}
+use Rattle.std.proofs.Common.{refl, subst}
+use Rattle.words.specs.declared.check.Class.{Class}
+use Rattle.words.specs.declared.check.Class.TheVariants.{Assertion}
+use Rattle.c_types.specs.declared.integers.IntegerType.{IntegerType}
+use Rattle.c_types.specs.declared.integers.IntegerType.TheVariants.{Int}
+use Rattle.c_types.specs.Integers.{promoted}
+use Rattle.core_tree.specs.Trees.{Expression, step, Statement, block, Items, done, initializes, Procedure}
+use Rattle.core_tree.specs.Typed.{place_type}
+use Rattle.core_tree.specs.Operations.{is_true, converted, arithmetic_check, sign_check, step_operation}
+use Rattle.actions.specs.declared.action.Answer.{Answer}
+use Rattle.actions.specs.declared.action.Action.TheVariants.{Draw, End, Exit}
+use Rattle.actions.specs.declared.action.Next.{Next}
+use Rattle.actions.specs.declared.action.Next.TheVariants.{Act, Blocked}
+use Rattle.actions.specs.Behaviour.{Behaviour, accepts, Program, Thread, CanStart, EndsAfter, IsBehaviour, IsThread}
+use Rattle.actions.specs.ByStates.{behaves_by_states}
+use Rattle.c_values.specs.Variables.{Variables, first_variables, read_place}
+use Rattle.c_interp.specs.Meaning.{Running}
+use Rattle.c_interp.specs.Source.{running, function_behaviour, runs_at, source_program}
+use Rattle.c_values.specs.Numbers.{TypedNumber, typed}
+use Rattle.c_interp.specs.Items.{top, second, Item, evaluates, signs, operates, updates, asserts, assumes, runs, enters, goes_on, leaving, State, state, behaves}
+use Rattle.c_interp.specs.Steps.{Move, silent, blocks, unless_stopped, move_expression, move_statement, move_entry, move_items, move_item, move}
+use Rattle.c_interp.specs.Small.{settle, next_of, answered_by, next_small, answered_small, small}
+use Rattle.c_interp.specs.Adequate.{adequate}
+
+-- ---- the start of a function, whose value is 0 where it ends without `return`
+
+abbrev pub start_state : Procedure → State
+start_state f = state (runs f.body ∷ leaving f.line ∷ []) (typed Int 0 ∷ []) (first_variables f.variables)
+
+-- a thread in a state, of a program that can start threads in the functions with numbers below `startable`
+abbrev pub thread_in : List Procedure → ℕ → Running → State → Thread
+thread_in functions startable r s = record { behaves = behaves r s; program = source_program functions startable }
+
+-- a thread at the start of a function
+abbrev pub function_thread : List Procedure → ℕ → Bool → ℕ → Thread
+function_thread functions startable first number = record { behaves = function_behaviour functions first number; program = source_program functions startable }
+
+-- ---- no action starts a thread or makes an object, and an action that ends the thread or the process is the last
+
+abbrev pub IsQuiet : Next → Type 0
+IsQuiet (Act (Draw n) line function) = Unit {0}
+IsQuiet (Act (End v) line function) = Unit {0}
+IsQuiet (Act Exit line function) = Unit {0}
+IsQuiet (Act _ line function) = ⊥
+IsQuiet _ = Unit {0}
+
+quiet_starts : (program : Program) (n : Next) → IsQuiet n → CanStart program n
+quiet_starts program (Act (Draw n) line function) h = tt
+quiet_starts program (Act (End v) line function) h = tt
+quiet_starts program (Act Exit line function) h = tt
+quiet_starts program (Act _ line function) h = absurd h
+quiet_starts program _ h = tt
+
+module _ (program : Program) where
+  abbrev IsFine : Running → State → Move → Type 0
+  IsFine r s m = IsQuiet (next_of r m) × ((a : Answer) → EndsAfter (next_of r m) a (next_small r (answered_by r m a s)))
+
+  checked_fine : (r : Running) (here : State) (c : Option Class) (line : ℕ) (s : State) → IsFine r here (unless_stopped r c line s)
+  checked_fine r here None line s = (tt, λ a. tt)
+  checked_fine r here (Some class) line s = (tt, λ a. tt)
+
+  assumed_fine : (r : Running) (here : State) (b : Bool) (s : State) → IsFine r here (if b then silent s else blocks)
+  assumed_fine r here true s = (tt, λ a. tt)
+  assumed_fine r here false s = (tt, λ a. tt)
+
+  abbrev run_of : ℕ → List IntegerType → Bool → Running
+  run_of function types first = record { function = function; types = types; first = first }
+
+  leaving_fine : (function : ℕ) (types : List IntegerType) (first : Bool) (line : ℕ) (is : List Item) (xs : List TypedNumber) (vs : Variables) →
+      IsFine (run_of function types first) (state (leaving line ∷ is) xs vs) (move_item (run_of function types first) (leaving line) is xs vs)
+  leaving_fine function types true line is xs vs = (tt, λ a ok. refl)
+  leaving_fine function types false line is xs vs = (tt, λ a ok. refl)
+
+  expression_fine : (r : Running) (e : Expression) (is : List Item) (xs : List TypedNumber) (vs : Variables) → IsFine r (state (evaluates e ∷ is) xs vs) (move_expression r e is xs vs)
+  expression_fine r (step line p op before) is xs vs =
+      let u = promoted (place_type p) in
+      checked_fine r (state (evaluates (step line p op before) ∷ is) xs vs) (arithmetic_check (step_operation op) u u (converted (place_type p) u (read_place vs p)) 1) line _
+  expression_fine r _ is xs vs = (tt, λ a. tt)
+
+  statement_fine : (r : Running) (s : Statement) (is : List Item) (xs : List TypedNumber) (vs : Variables) → IsFine r (state (runs s ∷ is) xs vs) (move_statement r s is xs vs)
+  statement_fine r (block items) is xs vs = (tt, λ a. tt)
+  statement_fine r _ is xs vs = (tt, λ a. tt)
+
+  entry_fine : (r : Running) (items : Items) (is : List Item) (xs : List TypedNumber) (vs : Variables) → IsFine r (state (enters items ∷ is) xs vs) (move_entry r items is xs vs)
+  entry_fine r (initializes line v true e more) is xs vs = (tt, λ a. tt)
+  entry_fine r (initializes line v false e more) is xs vs = (tt, λ a. tt)
+  entry_fine r _ is xs vs = (tt, λ a. tt)
+
+  items_fine : (r : Running) (items : Items) (is : List Item) (xs : List TypedNumber) (vs : Variables) → IsFine r (state (goes_on items ∷ is) xs vs) (move_items r items is xs vs)
+  items_fine r done is xs vs = (tt, λ a. tt)
+  items_fine r _ is xs vs = (tt, λ a. tt)
+
+  item_fine : (r : Running) (i : Item) (is : List Item) (xs : List TypedNumber) (vs : Variables) → IsFine r (state (i ∷ is) xs vs) (move_item r i is xs vs)
+  item_fine r (evaluates e) is xs vs = expression_fine r e is xs vs
+  item_fine r (signs line op) is xs vs = checked_fine r (state (signs line op ∷ is) xs vs) (sign_check op (top xs).type (top xs).bits) line _
+  item_fine r (operates line op) is xs vs = checked_fine r (state (operates line op ∷ is) xs vs) (arithmetic_check op (second xs).type (top xs).type (second xs).bits (top xs).bits) line _
+  item_fine r (updates line p op t) is xs vs = checked_fine r (state (updates line p op t ∷ is) xs vs) (arithmetic_check op t (top xs).type (converted (place_type p) t (read_place vs p)) (top xs).bits) line _
+  item_fine r (asserts line) is xs vs = checked_fine r (state (asserts line ∷ is) xs vs) (if is_true (top xs).bits then None else Some Assertion) line _
+  item_fine r assumes is xs vs = assumed_fine r (state (assumes ∷ is) xs vs) (is_true (top xs).bits) _
+  item_fine r (runs s) is xs vs = statement_fine r s is xs vs
+  item_fine r (enters items) is xs vs = entry_fine r items is xs vs
+  item_fine r (goes_on items) is xs vs = items_fine r items is xs vs
+  item_fine r (leaving line) is xs vs = leaving_fine r.function r.types r.first line is xs vs
+  item_fine r _ is xs vs = (tt, λ a. tt)
+
+  fine_from : (r : Running) (is : List Item) (xs : List TypedNumber) (vs : Variables) → IsFine r (state is xs vs) (move r (state is xs vs))
+  fine_from r [] xs vs = (tt, λ a. tt)
+  fine_from r (i ∷ is) xs vs = item_fine r i is xs vs
+
+  quiet_small : (r : Running) (s : State) → IsQuiet (next_small r s)
+  quiet_small r s = let t = settle r s in (fine_from r t.items t.values t.variables).0
+
+  quiet_choice : (b : Bool) (n : Next) → IsQuiet n → IsQuiet (if b then n else Blocked)
+  quiet_choice true n h = h
+  quiet_choice false n h = tt
+
+  quiet_after : (r : Running) (answers : List Answer) (s : State) → IsQuiet (small r s answers)
+  quiet_after r [] s = quiet_small r s
+  quiet_after r (a ∷ answers) s = quiet_choice (accepts (next_small r s) a) (small r (answered_small r s a) answers) (quiet_after r answers (answered_small r s a))
+
+  state_quiet : (r : Running) (s : State) (answers : List Answer) → IsQuiet (behaves r s answers)
+  state_quiet r s answers = let P : Behaviour → Type 0 = λ b. IsQuiet (b answers) in subst P (adequate r s) (quiet_after r answers s)
+
+  small_thread : (r : Running) (s : State) → IsBehaviour program (small r s)
+  small_thread r s =
+      behaves_by_states (next_small r) (answered_small r) program
+      (λ s. quiet_starts program (next_small r s) (quiet_small r s))
+      (λ s. let t = settle r s in (fine_from r t.items t.values t.variables).1) s
+
+  pub state_behaves : (r : Running) (s : State) → IsBehaviour program (behaves r s)
+  state_behaves r s = let P : Behaviour → Type 0 = IsBehaviour program in subst P (adequate r s) (small_thread r s)
+
+-- ---- threads of a file
+
+function_at : (program : Program) (first : Bool) (number : ℕ) (f : Option Procedure) → IsBehaviour program (runs_at first number f)
+function_at program first number None = state_behaves program (run_of program 0 [] first) (state [] [] [])
+function_at program first number (Some f) = state_behaves program (running first number f) (start_state f)
+
+quiet_at : (first : Bool) (number : ℕ) (f : Option Procedure) (answers : List Answer) → IsQuiet (runs_at first number f answers)
+quiet_at first number None answers = state_quiet (source_program [] 0) (run_of (source_program [] 0) 0 [] first) (state [] [] []) answers
+quiet_at first number (Some f) answers = state_quiet (source_program [] 0) (running first number f) (start_state f) answers
+
+pub function_quiet : (functions : List Procedure) (first : Bool) (number : ℕ) (answers : List Answer) → IsQuiet (function_behaviour functions first number answers)
+function_quiet functions first number answers = quiet_at first number (slice_get functions number) answers
+
+-- small steps from the start of a function do what the function means
+abbrev pub SmallSteps : Type 0
+SmallSteps = (first : Bool) (number : ℕ) (f : Procedure) → small (running first number f) (start_state f) ≡ runs_at first number (Some f)
+
+pub small_steps : SmallSteps
+small_steps first number f = adequate (running first number f) (start_state f)
+
+pub is_thread : (functions : List Procedure) (startable : ℕ) (r : Running) (s : State) → IsThread (thread_in functions startable r s)
+is_thread functions startable r s = record {
+  itself = state_behaves (source_program functions startable) r s;
+  others = λ f v h k. function_at (source_program functions startable) false f (slice_get functions f);
+}

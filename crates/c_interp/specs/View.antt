@@ -1,0 +1,28 @@
+-- The thread of the code as a state, and what it does.
+use Rattle.std.specs.Prelude.{◌≡◌}
+use Rattle.core_tree.specs.Trees.{view_core}
+use Rattle.actions.specs.Behaviour as actions
+use Rattle.c_interp.specs.declared.thread.Thread.{Thread}
+use Rattle.c_interp.specs.declared.task.Plan.{Plan}
+use Rattle.c_interp.specs.Meaning.{Running}
+use Rattle.c_interp.specs.Steps.{move}
+use Rattle.c_interp.specs.Items.{State, state}
+use Rattle.c_interp.specs.Tasks.{items_in, values_in, IsHalt}
+use Rattle.c_interp.specs.SourceThread.{thread_in}
+
+abbrev pub running_of : Thread → Running
+running_of t = record { function = t.function; types = t.types.now; first = t.first }
+
+abbrev pub state_of : Thread → State
+state_of t = state (items_in t.tasks.items) (values_in t.numbers.items) t.variables.items
+
+abbrev pub thread_of : Thread → actions.Thread
+thread_of t = thread_in (view_core t.functions.now) t.startable (running_of t) (state_of t)
+
+-- both can start the same threads
+abbrev pub SameProgram : Thread → Thread → Type 0
+SameProgram t u = (u.functions ≡ t.functions) × (u.startable ≡ t.startable)
+
+-- the plan says what is next, which is no silent step
+abbrev pub Halts : Thread → Plan → Type 0
+Halts t p = IsHalt t.first (values_in t.numbers.items) t.variables.items (move (running_of t) (state_of t)) p

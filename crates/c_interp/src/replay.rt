@@ -1,0 +1,82 @@
+ghost use Rattle.std.specs.Prelude.{◌≡◌, [], IfOk, OnOk};
+ghost use Rattle.core_tree.specs.Trees.{view_core};
+ghost use Rattle.c_interp.specs.Source.{source_run};
+ghost use Rattle.c_interp.specs.SourceThread.{SmallSteps};
+ghost use Rattle.interleave.specs.View.{world_of};
+ghost use Rattle.interleave.specs.Turn.{turn};
+ghost use Rattle.interleave.specs.Run as definition;
+ghost use Rattle.c_interp.specs.View.{thread_of};
+ghost use Rattle.c_interp.specs.Quiet.{OneQuiet, IsTurn};
+
+use crate::thread::Thread;
+use actions::Store;
+use c_profile::Admitted;
+use core_tree::Bounds;
+use interleave::{Inputs, Outcome, Schedule, System, Turn};
+use std::alloc::{AllocError, Global};
+use words::Check;
+
+/// The objects that a file shares from the start: none yet. Fails only for want of memory.
+pub fn first_store(alloc: Global, _file: &Admitted) -> Result<Store, AllocError>
+    ensures { IfOk result (λ s. s ≡ []) }
+{
+    Ok(Store::new(alloc))
+}
+
+// A turn of thread t, and the check that it breaks. There is thread 0 alone, and no action asks for a
+// number.
+fn take_turn(
+    system: &mut System<Thread>,
+    t: u32,
+    inputs: &Inputs,
+) -> Result<Option<Check>, AllocError>
+    requires { OneQuiet (world_of thread_of system.old).members }
+    ensures turn { IfOk result (λ c. IsTurn (turn (world_of thread_of system.old) t inputs.now) (world_of thread_of system.new) c) }
+    ensures quiet { OnOk result (OneQuiet (world_of thread_of system.new).members) }
+{
+    match system.turn(t, inputs)? {
+        Turn::Broken(check) => Ok(Some(check)),
+        Turn::Moved => Ok(None),
+        Turn::Nothing => Ok(None),
+    }
+}
+
+// How the turns of this schedule end.
+fn take_turns(
+    system: &mut System<Thread>,
+    inputs: &Inputs,
+    schedule: &[u32],
+) -> Result<Outcome, AllocError>
+    requires { OneQuiet (world_of thread_of system.old).members }
+    ensures { IfOk result (λ o. o ≡ (definition.run (world_of thread_of system.old) inputs.now schedule.now).0) }
+{
+    for t in schedule {
+        match take_turn(system, *t, inputs)? {
+            Some(check) => return Ok(Outcome::Broken(check)),
+            None => {}
+        }
+    }
+    Ok(Outcome::Fine)
+}
+
+/// How the run of a file ends that draws these inputs and moves by this schedule. Fails only for want of
+/// memory.
+pub fn run(
+    alloc: Global,
+    file: &Admitted,
+    bounds: &Bounds,
+    inputs: &Inputs,
+    schedule: &Schedule,
+) -> Result<Outcome, AllocError>
+    ensures { IfOk result (λ o. o ≡ source_run (view_core file.now) inputs.now schedule.now) }
+{
+    let first = Thread::new(alloc, file, bounds)?;
+    let store = first_store(alloc, file)?;
+    let mut system = System::new(alloc, first, store)?;
+    take_turns(&mut system, inputs, schedule.as_slice())
+}
+
+/// The law of small steps: from the start of a function they do what the function means.
+pub fn small_steps_mean()
+    ensures { SmallSteps }
+{}

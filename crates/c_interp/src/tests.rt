@@ -1,0 +1,388 @@
+ghost use Rattle.std.specs.Prelude.{◌≡◌, true, [], ◌∷◌, IfOk};
+ghost use Rattle.c_types.specs.declared.integers.IntegerType.{IntegerType};
+ghost use Rattle.core_tree.specs.Trees.{view, items_of};
+ghost use Rattle.core_tree.specs.Typed.{is_typed, are_typed_items};
+ghost use Rattle.c_interp.specs.Ints.{IsInt, IsIntPlace, IsTypedItem, ints};
+
+use crate::replay::run;
+use c_profile::admit;
+use c_types::IntegerType;
+use core_tree::{
+    ArithmeticOperator, Bounds, Comparison, Core, CoreExpr, CoreItem, CoreStatement, Function,
+    LogicalOperator, Name, Place, StepOperator,
+};
+use interleave::{Inputs, Outcome, Schedule, Words};
+use std::alloc::{AllocError, Global};
+use std::test::*;
+use words::{Check, Class};
+
+const X: Place = Place::Variable {
+    line: 1,
+    type_: IntegerType::Int,
+    variable: 0,
+};
+
+const Y: Place = Place::Variable {
+    line: 1,
+    type_: IntegerType::Int,
+    variable: 1,
+};
+
+fn int(bits: u32) -> CoreExpr
+    ensures { IsInt (view result) }
+{
+    CoreExpr::Constant {
+        line: 1,
+        type_: IntegerType::Int,
+        bits: bits as u64,
+    }
+}
+
+fn read_x() -> CoreExpr
+    ensures { IsInt (view result) }
+{
+    CoreExpr::Read { place: X }
+}
+
+fn read_y() -> CoreExpr
+    ensures { IsInt (view result) }
+{
+    CoreExpr::Read { place: Y }
+}
+
+fn arithmetic(
+    alloc: Global,
+    line: u32,
+    operator: ArithmeticOperator,
+    left: CoreExpr,
+    right: CoreExpr,
+) -> Result<CoreExpr, AllocError>
+    requires left { IsInt (view left) }
+    requires right { IsInt (view right) }
+    ensures { IfOk result (λ e. IsInt (view e)) }
+{
+    Ok(CoreExpr::Arithmetic {
+        line,
+        operator,
+        left: Box::new(alloc, left)?,
+        right: Box::new(alloc, right)?,
+    })
+}
+
+fn compare(
+    alloc: Global,
+    operator: Comparison,
+    left: CoreExpr,
+    right: CoreExpr,
+) -> Result<CoreExpr, AllocError>
+    requires left { IsInt (view left) }
+    requires right { IsInt (view right) }
+    ensures { IfOk result (λ e. IsInt (view e)) }
+{
+    Ok(CoreExpr::Compare {
+        line: 1,
+        operator,
+        left: Box::new(alloc, left)?,
+        right: Box::new(alloc, right)?,
+    })
+}
+
+fn logical(
+    alloc: Global,
+    operator: LogicalOperator,
+    left: CoreExpr,
+    right: CoreExpr,
+) -> Result<CoreExpr, AllocError>
+    requires left { IsInt (view left) }
+    requires right { IsInt (view right) }
+    ensures { IfOk result (λ e. IsInt (view e)) }
+{
+    Ok(CoreExpr::Logical {
+        line: 1,
+        operator,
+        left: Box::new(alloc, left)?,
+        right: Box::new(alloc, right)?,
+    })
+}
+
+fn assign(alloc: Global, place: Place, value: CoreExpr) -> Result<CoreExpr, AllocError>
+    requires place { IsIntPlace place }
+    requires value { IsInt (view value) }
+    ensures { IfOk result (λ e. IsInt (view e)) }
+{
+    Ok(CoreExpr::Assign {
+        line: 1,
+        place,
+        value: Box::new(alloc, value)?,
+    })
+}
+
+fn step_x(operator: StepOperator, before: bool) -> CoreExpr
+    ensures { IsInt (view result) }
+{
+    CoreExpr::Step {
+        line: 4,
+        place: X,
+        operator,
+        before,
+    }
+}
+
+fn asserted(alloc: Global, line: u32, condition: CoreExpr) -> Result<CoreItem, AllocError>
+    requires { IsInt (view condition) }
+    ensures { IfOk result (λ i. IsTypedItem i) }
+{
+    Ok(evaluated(CoreExpr::Assertion {
+        line,
+        condition: Box::new(alloc, condition)?,
+    }))
+}
+
+fn assumed(alloc: Global, condition: CoreExpr) -> Result<CoreItem, AllocError>
+    requires { IsInt (view condition) }
+    ensures { IfOk result (λ i. IsTypedItem i) }
+{
+    Ok(evaluated(CoreExpr::Assumption {
+        line: 2,
+        condition: Box::new(alloc, condition)?,
+    }))
+}
+
+fn evaluated(expression: CoreExpr) -> CoreItem
+    requires { is_typed ints (view expression) ≡ true }
+    ensures { IsTypedItem result }
+{
+    CoreItem::Statement {
+        statement: CoreStatement::Evaluate { expression },
+    }
+}
+
+fn returned(value: CoreExpr) -> CoreItem
+    requires { IsInt (view value) }
+    ensures { IsTypedItem result }
+{
+    CoreItem::Statement {
+        statement: CoreStatement::Return { line: 9, value },
+    }
+}
+
+fn drawn_x() -> CoreItem
+    ensures { IsTypedItem result }
+{
+    CoreItem::Initialize {
+        line: 1,
+        variable: 0,
+        drawn: false,
+        value: CoreExpr::Draw {
+            line: 1,
+            type_: IntegerType::Int,
+        },
+    }
+}
+
+fn only(alloc: Global, function: Function) -> Result<Vec<Function>, AllocError>
+    ensures { IfOk result (λ functions. functions.items ≡ function ∷ []) }
+{
+    let mut functions = Vec::with_capacity(alloc, 1)?;
+    functions.push(function)?;
+    Ok(functions)
+}
+
+fn drawn_int() -> CoreExpr
+    ensures { IsInt (view result) }
+{
+    CoreExpr::Draw {
+        line: 1,
+        type_: IntegerType::Int,
+    }
+}
+
+// The file whose main has two int variables and this body.
+fn file(alloc: Global, items: Vec<CoreItem>) -> Result<Core, AllocError>
+    requires { are_typed_items ints (items_of items.items) ≡ true }
+{
+    let bytes = Vec::from_slice(alloc, b"main".as_slice())?;
+    let variables = Vec::from_slice(alloc, &[IntegerType::Int, IntegerType::Int])?;
+    let main = Function {
+        name: Name { bytes },
+        line: 1,
+        variables,
+        body: CoreStatement::Block { items },
+    };
+    let functions = only(alloc, main)?;
+    Ok(Core::new(functions))
+}
+
+// How the run of a file with this body ends on these words, in four turns of thread 0.
+fn ending(alloc: Global, items: Vec<CoreItem>, words: &[u64]) -> Result<Option<Outcome>, AllocError>
+    requires { are_typed_items ints (items_of items.items) ≡ true }
+{
+    let core = file(alloc, items)?;
+    let bounds = Bounds::new(1, Vec::new(alloc), true, 1, false);
+    let mut inputs = Inputs::new(alloc);
+    inputs.insert(0, Words::new(Vec::from_slice(alloc, words)?))?;
+    let schedule = Schedule::new(Vec::from_slice(alloc, &[0, 0, 0, 0])?);
+    match admit(core) {
+        Ok(admitted) => Ok(Some(run(alloc, &admitted, &bounds, &inputs, &schedule)?)),
+        Err(_) => Ok(None),
+    }
+}
+
+fn broken(class: Class, line: u32) -> Option<Outcome> {
+    Some(Outcome::Broken(Check {
+        class,
+        line,
+        function: 0,
+        thread: 0,
+    }))
+}
+
+const FINE: Option<Outcome> = Some(Outcome::Fine);
+
+// `int x = nondet_int(); assert(x != 7);`
+fn not_seven(alloc: Global) -> Result<Vec<CoreItem>, AllocError>
+    ensures { IfOk result (λ items. are_typed_items ints (items_of items.items) ≡ true) }
+{
+    let test = compare(alloc, Comparison::NotEqual, read_x(), int(7))?;
+    let assertion = asserted(alloc, 3, test)?;
+    let items = vec![in alloc; drawn_x(), assertion, returned(int(0))]?;
+    Ok(items)
+}
+
+#[test]
+fn a_run_breaks_an_assertion(rt: HostRuntime) -> Result<(), Fail> {
+    let alloc = rt.alloc();
+    let seven = ending(alloc, not_seven(alloc)?, &[7])?;
+    assert!(rt; seven == broken(Class::Assertion, 3));
+    let eight = ending(alloc, not_seven(alloc)?, &[8])?;
+    assert!(rt; eight == FINE);
+    Ok(())
+}
+
+// `int x = nondet_int(); if (x > 0) x = x + 1;`
+fn grown(alloc: Global) -> Result<Vec<CoreItem>, AllocError>
+    ensures { IfOk result (λ items. are_typed_items ints (items_of items.items) ≡ true) }
+{
+    let sum = arithmetic(alloc, 5, ArithmeticOperator::Add, read_x(), int(1))?;
+    let yes = CoreStatement::Evaluate {
+        expression: assign(alloc, X, sum)?,
+    };
+    let branch = CoreItem::Statement {
+        statement: CoreStatement::If {
+            line: 4,
+            test: compare(alloc, Comparison::Greater, read_x(), int(0))?,
+            yes: Box::new(alloc, yes)?,
+        },
+    };
+    let items = vec![in alloc; drawn_x(), branch, returned(int(0))]?;
+    Ok(items)
+}
+
+#[test]
+fn a_run_breaks_a_sum(rt: HostRuntime) -> Result<(), Fail> {
+    let alloc = rt.alloc();
+    let greatest = ending(alloc, grown(alloc)?, &[2147483647])?;
+    assert!(rt; greatest == broken(Class::Overflow, 5));
+    let least = ending(alloc, grown(alloc)?, &[2147483648])?;
+    assert!(rt; least == FINE);
+    Ok(())
+}
+
+// `int x = nondet_int(); __CPROVER_assume(x == -1); return (-2147483647 - 1) / x;`
+fn divided(alloc: Global) -> Result<Vec<CoreItem>, AllocError>
+    ensures { IfOk result (λ items. are_typed_items ints (items_of items.items) ≡ true) }
+{
+    let test = compare(alloc, Comparison::Equal, read_x(), int(4294967295))?;
+    let least = arithmetic(
+        alloc,
+        3,
+        ArithmeticOperator::Subtract,
+        int(2147483649),
+        int(1),
+    )?;
+    let quotient = arithmetic(alloc, 4, ArithmeticOperator::Divide, least, read_x())?;
+    let items = vec![in alloc; drawn_x(), assumed(alloc, test)?, returned(quotient)]?;
+    Ok(items)
+}
+
+#[test]
+fn a_run_breaks_a_quotient(rt: HostRuntime) -> Result<(), Fail> {
+    let alloc = rt.alloc();
+    let minus_one = ending(alloc, divided(alloc)?, &[4294967295])?;
+    assert!(rt; minus_one == broken(Class::Overflow, 4));
+    let one = ending(alloc, divided(alloc)?, &[1])?;
+    assert!(rt; one == FINE);
+    Ok(())
+}
+
+// `int x; int y; y = x++; assert(y + 1 == x || x / 0);`, where x is drawn
+fn stepped(alloc: Global) -> Result<Vec<CoreItem>, AllocError>
+    ensures { IfOk result (λ items. are_typed_items ints (items_of items.items) ≡ true) }
+{
+    let step = assign(alloc, Y, step_x(StepOperator::Increment, false))?;
+    let sum = arithmetic(alloc, 5, ArithmeticOperator::Add, read_y(), int(1))?;
+    let same = compare(alloc, Comparison::Equal, sum, read_x())?;
+    let quotient = arithmetic(alloc, 6, ArithmeticOperator::Divide, read_x(), int(0))?;
+    let test = logical(alloc, LogicalOperator::Or, same, quotient)?;
+    let items = vec![in alloc;
+        CoreItem::Declare {
+            line: 1,
+            variable: 0
+        },
+        CoreItem::Declare {
+            line: 2,
+            variable: 1
+        },
+        evaluated(step),
+        asserted(alloc, 6, test)?,
+        returned(int(0)),
+    ]?;
+    Ok(items)
+}
+
+#[test]
+fn a_step_gives_the_old_value(rt: HostRuntime) -> Result<(), Fail> {
+    let alloc = rt.alloc();
+    let small = ending(alloc, stepped(alloc)?, &[5, 9])?;
+    assert!(rt; small == FINE);
+    let greatest = ending(alloc, stepped(alloc)?, &[2147483647, 9])?;
+    assert!(rt; greatest == broken(Class::Overflow, 4));
+    Ok(())
+}
+
+// How many turns a long run has.
+const DRAWS: u32 = 100_000;
+
+// Draws that are not used, and then `assert(nondet_int() != 7);`.
+#[tactic(auto, using(crate::proofs::PushedItems::typed_push))]
+fn many_draws(alloc: Global) -> Result<Vec<CoreItem>, AllocError>
+    ensures { IfOk result (λ items. are_typed_items ints (items_of items.items) ≡ true) }
+{
+    let mut items = Vec::new(alloc);
+    'draws: for _ in 0..DRAWS {
+        items.push(evaluated(drawn_int()))?;
+    }
+    let test = compare(alloc, Comparison::NotEqual, drawn_int(), int(7))?;
+    items.push(asserted(alloc, 3, test)?)?;
+    Ok(items)
+}
+
+#[test]
+fn a_long_run_is_replayed(rt: HostRuntime) -> Result<(), Fail> {
+    let alloc = rt.alloc();
+    let core = file(alloc, many_draws(alloc)?)?;
+    let bounds = Bounds::new(1, Vec::new(alloc), true, 1, false);
+    let mut words = vec![in alloc; 0; DRAWS as usize]?;
+    words.push(7)?;
+    let mut inputs = Inputs::new(alloc);
+    inputs.insert(0, Words::new(words))?;
+    let schedule = Schedule::new(vec![in alloc; 0; DRAWS as usize + 2]?);
+    match admit(core) {
+        Ok(admitted) => {
+            let outcome = run(alloc, &admitted, &bounds, &inputs, &schedule)?;
+            assert!(rt; Some(outcome) == broken(Class::Assertion, 3));
+        }
+        Err(_) => assert!(rt; false),
+    }
+    Ok(())
+}

@@ -1,0 +1,343 @@
+ghost use Rattle.std.specs.Prelude.{◌≡◌, true};
+ghost use Rattle.core_tree.specs.Trees.{view_core};
+ghost use Rattle.core_tree.specs.Typed.{are_typed};
+ghost use Rattle.c_interp.specs.Fits.{fits, types_of};
+ghost use Rattle.c_interp.specs.Tasks.{items_in, values_in};
+
+use crate::drawn::draw_task;
+use crate::functions::{body_of, number_of_main};
+use crate::plan::{plan_task, top_of};
+use crate::stacks::{change_numbers, change_tasks, change_variables};
+use crate::task::{Change, Look, Plan, Task};
+use crate::variables::first_variables;
+use actions::{Action, Answer, Bytes, DrawBits, Machine, Next};
+use c_profile::Admitted;
+use c_types::IntegerType;
+use c_values::Number;
+use core_tree::{Bounds, Function};
+use std::alloc::{AllocError, Global};
+use words::Word;
+
+/// A thread of the typed source: the function that it runs, the tasks that are still to be done and the
+/// numbers that wait, in each list the first one last, and the function's variables.
+#[derive(Drop)]
+pub struct Thread<'a> {
+    alloc: Global,
+    functions: &'a [Function],
+    startable: u32,
+    function: u32,
+    first: bool,
+    types: &'a [IntegerType],
+    tasks: Vec<Task<'a>>,
+    numbers: Vec<Number>,
+    variables: Vec<Bytes>,
+    ghost all_typed: { are_typed (view_core functions.now) ≡ true },
+    ghost typed: { fits types.now (items_in tasks.items) (types_of (values_in numbers.items)) ≡ true },
+}
+
+impl<'a> Thread<'a> {
+    ghost use Rattle.std.specs.Prelude.{◌≡◌, ◌<◌, ◌≤◌, ◌+◌, true, [], ◌∷◌, IfOk, OnOk, OnErr, MatchOption, vec_len, vec_capacity};
+    ghost use Rattle.actions.specs.Behaviour.{accepts, answered};
+    ghost use Rattle.c_interp.specs.Items.{state, left, total_work};
+    ghost use Rattle.c_interp.specs.Fits.{Fits};
+    ghost use Rattle.core_tree.specs.Typed.{is_typed_function, are_typed};
+    ghost use Rattle.core_tree.specs.Trees.{view_function, view_core};
+    ghost use Rattle.actions.specs.declared.action.Next.TheVariants.{Blocked};
+    ghost use Rattle.c_interp.specs.Meaning.{final};
+    ghost use Rattle.c_interp.specs.Source.{running, source_program, source_thread};
+    ghost use Rattle.c_interp.specs.Steps.{move, silent};
+    ghost use Rattle.c_interp.specs.SourceThread.{start_state, thread_in, function_thread};
+    ghost use Rattle.c_interp.specs.Tasks.{items_in, values_in, behind, IsPlan, IsDraw, changed, next_by, AnswersDraw, AcceptsDraw};
+    ghost use Rattle.c_interp.specs.View.{running_of, state_of, thread_of, SameProgram, Halts};
+
+    /// Thread 0 of a file at its start: it runs the function named `main`. The bounds are of loops, calls
+    /// and allocations, of which there are none yet. Fails only for want of memory.
+    pub fn new(
+        alloc: Global,
+        file: &'a Admitted,
+        _bounds: &Bounds,
+    ) -> Result<Thread<'a>, AllocError>
+        ensures { IfOk result (λ t. thread_of t ≡ source_thread (view_core file.now)) }
+    {
+        let functions = file.core().functions();
+        let number = number_of_main(functions);
+        Thread::at_function(alloc, functions, 0, number as u32, true)
+    }
+
+    // A thread at the start of a function.
+    fn at_start(
+        alloc: Global,
+        functions: &'a [Function],
+        startable: u32,
+        function: u32,
+        first: bool,
+        body: &'a Function,
+    ) -> Result<Thread<'a>, AllocError>
+        requires body { is_typed_function (view_function body.now) ≡ true }
+        requires all { are_typed (view_core functions.now) ≡ true }
+        ensures { IfOk result (λ t. thread_of t ≡ thread_in (view_core functions.now) startable (running first function (view_function body.now)) (start_state (view_function body.now))) }
+    {
+        let mut tasks = Vec::with_capacity(alloc, 2)?;
+        tasks.push(Task::Leave(body.line))?;
+        tasks.push(Task::Run(&body.body))?;
+        let mut numbers = Vec::with_capacity(alloc, 1)?;
+        numbers.push(Number::new(IntegerType::Int, 0))?;
+        let variables = first_variables(alloc, &body.variables)?;
+        Ok(Thread {
+            alloc,
+            functions,
+            startable,
+            function,
+            first,
+            types: &body.variables,
+            tasks,
+            numbers,
+            variables,
+        })
+    }
+
+    // A thread that can do nothing.
+    fn nowhere(
+        alloc: Global,
+        functions: &'a [Function],
+        startable: u32,
+        function: u32,
+    ) -> Result<Thread<'a>, AllocError>
+        requires { are_typed (view_core functions.now) ≡ true }
+        ensures { IfOk result (λ t. thread_of t ≡ record { behaves = final Blocked; program = source_program (view_core functions.now) startable }) }
+    {
+        Ok(Thread {
+            alloc,
+            functions,
+            startable,
+            function,
+            first: false,
+            types: &[],
+            tasks: Vec::new(alloc),
+            numbers: Vec::new(alloc),
+            variables: Vec::new(alloc),
+        })
+    }
+
+    /// A thread at the start of the function with this number.
+    pub(crate) fn at_function(
+        alloc: Global,
+        functions: &'a [Function],
+        startable: u32,
+        function: u32,
+        first: bool,
+    ) -> Result<Thread<'a>, AllocError>
+        requires { are_typed (view_core functions.now) ≡ true }
+        ensures { IfOk result (λ t. thread_of t ≡ function_thread (view_core functions.now) startable first function) }
+    {
+        match body_of(functions, function) {
+            Some(body) => Thread::at_start(alloc, functions, startable, function, first, body),
+            None => Thread::nowhere(alloc, functions, startable, function),
+        }
+    }
+
+    // Makes room for a step.
+    fn make_room(&mut self) -> Result<(), AllocError>
+        ensures state { state_of self.new ≡ state_of self.old }
+        ensures running { running_of self.new ≡ running_of self.old }
+        ensures program { SameProgram self.old self.new }
+        ensures tasks { OnOk result (vec_len (self.new).tasks + 3 ≤ vec_capacity (self.new).tasks) }
+        ensures numbers { OnOk result (vec_len (self.new).numbers < vec_capacity (self.new).numbers) }
+    {
+        self.tasks.reserve(3)?;
+        self.numbers.reserve(1)?;
+        Ok(())
+    }
+
+    // What is next in this state.
+    fn plan(&self) -> Result<Plan<'a>, AllocError>
+        ensures { IfOk result (λ p. IsPlan (self.now).first (behind (items_in (self.now).tasks.items)) (values_in (self.now).numbers.items) (self.now).variables.items (move (running_of self.now) (state_of self.now)) p) }
+    {
+        match self.tasks.as_slice().split_last() {
+            None => Ok(Plan::Blocks),
+            Some((task, behind)) => {
+                let look = Look {
+                    alloc: self.alloc,
+                    function: self.function,
+                    first: self.first,
+                    types: self.types,
+                    behind,
+                    numbers: self.numbers.as_slice(),
+                    variables: self.variables.as_slice(),
+                };
+                plan_task(&look, *task)
+            }
+        }
+    }
+
+    // Makes a change, where there is room for it.
+    fn apply(&mut self, change: Change<'a>)
+        requires step { Fits (self.old).types.now (changed change (behind (items_in (self.old).tasks.items)) (values_in (self.old).numbers.items) (self.old).variables.items) }
+        requires tasks { vec_len (self.old).tasks + 3 ≤ vec_capacity (self.old).tasks }
+        requires numbers { vec_len (self.old).numbers < vec_capacity (self.old).numbers }
+        ensures state { state_of self.new ≡ changed change.entry (behind (items_in (self.old).tasks.items)) (values_in (self.old).numbers.items) (self.old).variables.items }
+        ensures running { running_of self.new ≡ running_of self.old }
+        ensures program { SameProgram self.old self.new }
+    {
+        let Change {
+            tasks,
+            taken,
+            put,
+            written,
+        } = change;
+        change_tasks(&mut self.tasks, tasks);
+        change_numbers(&mut self.numbers, taken, put);
+        change_variables(&mut self.variables, written);
+    }
+
+    // Makes a silent step, or says what is next instead.
+    fn step(&mut self) -> Result<Option<Plan<'a>>, AllocError>
+        ensures same { thread_of self.new ≡ thread_of self.old }
+        ensures step { IfOk result (λ o. MatchOption o (total_work (state_of self.new).items < total_work (state_of self.old).items) (λ p. Halts self.new p)) }
+    {
+        self.make_room()?;
+        match self.plan()? {
+            Plan::Goes(change) => {
+                self.apply(change);
+                Ok(None)
+            }
+            Plan::Draws(bits, line) => Ok(Some(Plan::Draws(bits, line))),
+            Plan::Leaves(line) => Ok(Some(Plan::Leaves(line))),
+            Plan::Breaks(class, line) => Ok(Some(Plan::Breaks(class, line))),
+            Plan::Blocks => Ok(Some(Plan::Blocks)),
+            Plan::Ends(v) => Ok(Some(Plan::Ends(v))),
+        }
+    }
+
+    // Makes the silent steps up to what is next.
+    fn settle(&mut self) -> Result<Plan<'a>, AllocError>
+        ensures same { thread_of self.new ≡ thread_of self.old }
+        ensures halts { IfOk result (λ p. Halts self.new p) }
+    {
+        'steps: loop {
+            if let Some(plan) = self.step()? {
+                return Ok(plan);
+            }
+        }
+    }
+
+    // What is next, by the plan of the state.
+    fn next_of(&self, plan: Plan) -> Next
+        requires { Halts self.now plan }
+        ensures { result ≡ next_by (self.now).first (self.now).function (values_in (self.now).numbers.items) plan.entry }
+    {
+        match plan {
+            Plan::Goes(_) => Next::Blocked,
+            Plan::Draws(bits, line) => Next::Act(Action::Draw(bits), line, self.function),
+            Plan::Leaves(line) => {
+                let action = if self.first {
+                    Action::Exit
+                } else {
+                    Action::End(top_of(self.numbers.as_slice()).bits())
+                };
+                Next::Act(action, line, self.function)
+            }
+            Plan::Breaks(class, line) => Next::Broken(class, line, self.function),
+            Plan::Blocks => Next::Blocked,
+            Plan::Ends(v) => Next::Ended(Word::new(v, 64)),
+        }
+    }
+
+    // What is next, by the thread's meaning.
+    fn next(&self, plan: Plan) -> Next
+        requires { Halts self.now plan }
+        ensures { result ≡ (thread_of self.now).behaves [] }
+    {
+        self.next_of(plan)
+    }
+
+    // What the answer to a draw changes.
+    fn draw(&self, answer: &Answer) -> Result<Change<'a>, AllocError>
+        requires { AcceptsDraw (move (running_of self.now) (state_of self.now)) answer.now }
+        ensures { IfOk result (λ c. AnswersDraw (behind (items_in (self.now).tasks.items)) (values_in (self.now).numbers.items) (self.now).variables.items (move (running_of self.now) (state_of self.now)) answer.now c) }
+    {
+        match self.tasks.as_slice().split_last() {
+            None => unreachable!(),
+            Some((task, behind)) => {
+                let look = Look {
+                    alloc: self.alloc,
+                    function: self.function,
+                    first: self.first,
+                    types: self.types,
+                    behind,
+                    numbers: self.numbers.as_slice(),
+                    variables: self.variables.as_slice(),
+                };
+                draw_task(&look, *task, answer)
+            }
+        }
+    }
+
+    // Takes the answer to the end of the function.
+    fn leave(&mut self) -> Result<(), AllocError>
+        ensures ok { OnOk result (state_of self.new ≡ state (left ∷ []) (values_in (self.old).numbers.items) (self.old).variables.items) }
+        ensures err { OnErr result (state_of self.new ≡ state_of self.old) }
+        ensures running { running_of self.new ≡ running_of self.old }
+        ensures program { SameProgram self.old self.new }
+    {
+        self.tasks.reserve(1)?;
+        self.tasks.clear();
+        match self.tasks.push(Task::Left) {
+            Ok(()) => {}
+            Err(_) => unreachable!(),
+        }
+        Ok(())
+    }
+
+    // Takes the answer to a draw.
+    fn take_draw(&mut self, bits: DrawBits, line: u32, answer: &Answer) -> Result<(), AllocError>
+        requires draw { IsDraw (move (running_of self.old) (state_of self.old)) bits line }
+        requires accepts { accepts ((thread_of self.old).behaves []) answer.now ≡ true }
+        ensures ok { OnOk result (thread_of self.new ≡ answered (thread_of self.old) answer.now) }
+        ensures err { OnErr result (thread_of self.new ≡ thread_of self.old) }
+    {
+        self.make_room()?;
+        let change = self.draw(answer)?;
+        self.apply(change);
+        Ok(())
+    }
+
+    // Takes the answer to what is next, by the plan of the state.
+    fn take(&mut self, plan: Plan, answer: &Answer) -> Result<(), AllocError>
+        requires halts { Halts self.old plan }
+        requires accepts { accepts ((thread_of self.old).behaves []) answer.now ≡ true }
+        requires next { accepts (next_by (self.old).first (self.old).function (values_in (self.old).numbers.items) plan) answer.now ≡ true }
+        ensures ok { OnOk result (thread_of self.new ≡ answered (thread_of self.old) answer.now) }
+        ensures err { OnErr result (thread_of self.new ≡ thread_of self.old) }
+    {
+        match plan {
+            Plan::Draws(bits, line) => self.take_draw(bits, line, answer),
+            Plan::Leaves(_) => self.leave(),
+            Plan::Goes(_) | Plan::Breaks(_, _) | Plan::Blocks | Plan::Ends(_) => unreachable!(),
+        }
+    }
+}
+
+impl<'a> Machine for Thread<'a> {
+    ghost use Rattle.c_interp.specs.View.{thread_of, running_of, state_of};
+    ghost use Rattle.core_tree.specs.Trees.{view_core};
+    ghost use Rattle.c_interp.specs.SourceThread.{is_thread};
+
+    ghost thread = { λ t. thread_of t };
+
+    fn start(&self, function: u32, _v: Word) -> Result<Self, AllocError> {
+        Thread::at_function(self.alloc, self.functions, self.startable, function, false)
+    }
+
+    fn advance(&mut self) -> Result<Next, AllocError> {
+        let plan = self.settle()?;
+        Ok(self.next(plan))
+    }
+
+    fn answer(&mut self, answer: &Answer) -> Result<(), AllocError> {
+        let plan = self.settle()?;
+        self.take(plan, answer)
+    }
+
+    ghost valid = { λ t. is_thread (view_core t.functions.now) t.startable (running_of t) (state_of t) };
+}

@@ -1,0 +1,4 @@
+pub mod Conversions
+pub mod Counts
+pub mod LowBytes
+pub mod Undefined
