@@ -1,0 +1,4 @@
+pub mod SameCode
+pub mod Extents
+pub mod Fitted
+pub mod Threads

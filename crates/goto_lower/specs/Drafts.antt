@@ -1,0 +1,64 @@
+-- The code of a function that grows, and what each tree adds to it.
+use Rattle.std.specs.Prelude.{◌≡◌, ℕ, ◌+◌, ◌-◌, List, ◌++◌, length, Option, Some, None, slice_set}
+use Rattle.c_types.specs.declared.integers.IntegerType.{IntegerType}
+use Rattle.core_tree.specs.Trees.{Expression, Statement, Items}
+use Rattle.c_interp.specs.Meaning.{number_type}
+use Rattle.goto_prog.specs.declared.code.Operation.{Operation}
+use Rattle.goto_prog.specs.declared.code.Operation.TheVariants.{Skip, SkipIfZero}
+use Rattle.goto_prog.specs.declared.code.Instruction.{Instruction}
+use Rattle.goto_lower.specs.declared.operand.Operand.{Operand}
+use Rattle.goto_lower.specs.Lowering.{top, line_of, at_line, code, entry_code, statement_code, items_code}
+use Rattle.goto_lower.specs.Registers.{types, entry_types, statement_types, items_types}
+
+-- the function and the types of its variables; the code so far, and the types of the registers so far
+pub record Listed : Type 0 where
+  pub function : ℕ
+  pub variables : List IntegerType
+  pub instructions : List Instruction
+  pub registers : List IntegerType
+
+-- the number of the next register
+abbrev pub next : Listed → ℕ
+next d = length d.registers
+
+abbrev pub added : Listed → List Instruction → List IntegerType → Listed
+added d xs ts = record d { instructions = d.instructions ++ xs; registers = d.registers ++ ts }
+
+abbrev pub filled : Listed → ℕ → Instruction → Listed
+filled d place i = record d { instructions = slice_set d.instructions place i }
+
+-- a jump, where a register is 0 or in any case
+abbrev pub jump : Option ℕ → ℕ → Operation
+jump None count = Skip count
+jump (Some r) count = SkipIfZero r count
+
+-- the jump at a place goes behind the code that is there
+abbrev pub landed : Listed → ℕ → ℕ → Option ℕ → Listed
+landed d place line test = filled d place (at_line d.function line (jump test (length d.instructions - (place + 1))))
+
+-- ---- expressions
+
+abbrev pub operand : ℕ → IntegerType → ℕ → Operand
+operand r t line = record { register = r; type_ = t; line = line }
+
+abbrev pub after : Listed → Expression → Listed
+after d e = added d (code d.function e (next d)) (types e)
+
+abbrev pub value_in : Listed → Expression → Operand
+value_in d e = operand (next d + top e) (number_type e) (line_of e)
+
+-- its code is added, and this is where its value is
+pub record Lowers (old new : Listed) (e : Expression) (x : Operand) : Type 0 where
+  pub code_is : new ≡ after old e
+  pub value_is : x ≡ value_in old e
+
+-- ---- statements
+
+abbrev pub after_statement : Listed → Statement → Listed
+after_statement d s = added d (statement_code d.function d.variables s (next d)) (statement_types d.variables s)
+
+abbrev pub after_entry : Listed → Items → Listed
+after_entry d items = added d (entry_code d.function d.variables items (next d)) (entry_types d.variables items)
+
+abbrev pub after_items : Listed → Items → Listed
+after_items d items = added d (items_code d.function d.variables items (next d)) (items_types d.variables items)

@@ -1,0 +1,4 @@
+pub mod Lowering
+pub mod Registers
+pub mod Drafts
+pub mod Lowered

@@ -1,0 +1,53 @@
+-- The types of the registers of a tree, in the order of their numbers.
+use Rattle.std.specs.Prelude.{List, [], ◌∷◌, ◌++◌}
+use Rattle.c_types.specs.declared.integers.IntegerType.{IntegerType}
+use Rattle.c_types.specs.declared.integers.IntegerType.TheVariants.{Int}
+use Rattle.c_types.specs.Integers.{promoted}
+use Rattle.core_tree.specs.declared.expression.Place.{Place}
+use Rattle.core_tree.specs.Trees.{Expression, constant, read, convert, sign, is_zero, arithmetic, compare, logical, choice, assign, update, step, comma, assertion, assumption, draw, Statement, block, if_then, if_else, evaluate, returns, Items, done, declares, initializes, does}
+use Rattle.core_tree.specs.Typed.{place_type}
+use Rattle.c_interp.specs.Meaning.{number_type}
+use Rattle.goto_lower.specs.Lowering.{variable_type}
+
+-- of an operation of type t on a place
+abbrev pub update_types : Place → IntegerType → List IntegerType
+update_types p t = place_type p ∷ t ∷ t ∷ place_type p ∷ []
+
+abbrev pub types : Expression → List IntegerType
+types (constant line t bits) = t ∷ []
+types (read p) = place_type p ∷ []
+types (convert to e) = types e ++ to ∷ []
+types (sign line op e) = types e ++ number_type e ∷ []
+types (is_zero line e) = types e ++ Int ∷ []
+types (arithmetic line op a b) = types a ++ (types b ++ number_type a ∷ [])
+types (compare line op a b) = types a ++ (types b ++ Int ∷ [])
+types (logical line op a b) = types a ++ (types b ++ Int ∷ Int ∷ [])
+types (choice line test a b) = types test ++ (types a ++ (types b ++ number_type a ∷ []))
+types (assign line p e) = types e
+types (update line p op t e) = types e ++ update_types p t
+types (step line p op before) = promoted (place_type p) ∷ (update_types p (promoted (place_type p)) ++ place_type p ∷ [])
+types (comma line a b) = types a ++ types b
+types (assertion line e) = types e ++ Int ∷ []
+types (assumption line e) = types e ++ Int ∷ []
+types (draw line t) = t ∷ []
+
+module _ (variables : List IntegerType) where
+  abbrev pub entry_types : Items → List IntegerType
+  entry_types done = []
+  entry_types (declares line v rest) = variable_type variables v ∷ entry_types rest
+  entry_types (initializes line v drawn e rest) = variable_type variables v ∷ entry_types rest
+  entry_types (does s rest) = entry_types rest
+
+  abbrev mutual
+    pub statement_types : Statement → List IntegerType
+    statement_types (block items) = entry_types items ++ items_types items
+    statement_types (if_then line test s) = types test ++ statement_types s
+    statement_types (if_else line test s t) = types test ++ (statement_types s ++ statement_types t)
+    statement_types (evaluate e) = types e
+    statement_types (returns line e) = types e
+
+    pub items_types : Items → List IntegerType
+    items_types done = []
+    items_types (declares line v rest) = items_types rest
+    items_types (initializes line v drawn e rest) = types e ++ items_types rest
+    items_types (does s rest) = statement_types s ++ items_types rest

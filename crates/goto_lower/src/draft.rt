@@ -1,0 +1,141 @@
+ghost use Rattle.std.specs.Prelude.{◌≡◌, true, false, [], ◌∷◌, length, IfOk, OnOk};
+ghost use Rattle.goto_prog.specs.Fitting.{code_fits};
+ghost use Rattle.goto_lower.specs.Lowering.{at_line, variable_type};
+ghost use Rattle.goto_lower.specs.Drafts.{next, added, filled, landed, jump, operand};
+
+use crate::operand::Operand;
+use c_types::IntegerType;
+use goto_prog::{Code, Instruction, Operation};
+use std::alloc::{AllocError, Global};
+use std::marker::Model;
+
+// The code of a function that grows.
+#[derive(Drop)]
+pub(crate) struct Draft<'a> {
+    function: u32,
+    variables: &'a [IntegerType],
+    instructions: Vec<Instruction>,
+    registers: Vec<IntegerType>,
+}
+
+impl<'a> Model for Draft<'a> {
+    ghost use Rattle.goto_lower.specs.Drafts.{Listed};
+
+    ghost Value = { Listed };
+
+    ghost view = { λ d. record { function = d.function; variables = d.variables.now; instructions = d.instructions.items; registers = d.registers.items } };
+}
+
+fn jump(test: Option<usize>, count: usize) -> Operation
+    ensures { result ≡ jump test count }
+{
+    match test {
+        Some(operand) => Operation::SkipIfZero { operand, count },
+        None => Operation::Skip { count },
+    }
+}
+
+impl<'a> Draft<'a> {
+    // No code yet.
+    pub fn new(alloc: Global, function: u32, variables: &'a [IntegerType]) -> Draft<'a>
+        ensures { result ≡ record { function = function; variables = variables.now; instructions = []; registers = [] } }
+    {
+        Draft {
+            function,
+            variables,
+            instructions: Vec::new(alloc),
+            registers: Vec::new(alloc),
+        }
+    }
+
+    // The number of the next register.
+    pub fn next(&self) -> usize
+        ensures { result ≡ next self.now }
+    {
+        self.registers.len()
+    }
+
+    // The type of a variable.
+    pub fn variable_type(&self, variable: u32) -> IntegerType
+        ensures { result ≡ variable_type self.now.variables variable }
+    {
+        match self.variables.get(variable as usize) {
+            Some(type_) => *type_,
+            None => IntegerType::Int,
+        }
+    }
+
+    // Adds an instruction.
+    pub fn push(&mut self, line: u32, operation: Operation) -> Result<(), AllocError>
+        ensures { OnOk result (self.new ≡ added self.old (at_line self.old.function line operation ∷ []) []) }
+    {
+        self.instructions.push(Instruction {
+            line,
+            function: self.function,
+            operation,
+        })?;
+        Ok(())
+    }
+
+    // Adds an instruction that sets the next register, of this type.
+    pub fn set(
+        &mut self,
+        line: u32,
+        type_: IntegerType,
+        operation: Operation,
+    ) -> Result<Operand, AllocError>
+        ensures code { OnOk result (self.new ≡ added self.old (at_line self.old.function line operation ∷ []) (type_ ∷ [])) }
+        ensures value { IfOk result (λ x. x ≡ operand (next self.old) type_ line) }
+    {
+        let register = self.registers.len();
+        self.registers.push(type_)?;
+        self.push(line, operation)?;
+        Ok(Operand {
+            register,
+            type_,
+            line,
+        })
+    }
+
+    // Leaves a place for an instruction that is filled in later.
+    pub fn reserve(&mut self) -> Result<usize, AllocError>
+        ensures code { OnOk result (self.new ≡ added self.old (at_line self.old.function 0 (Operation.Skip 0) ∷ []) []) }
+        ensures place { IfOk result (λ p. p ≡ length self.old.instructions) }
+    {
+        let place = self.instructions.len();
+        self.push(0, Operation::Skip { count: 0 })?;
+        Ok(place)
+    }
+
+    // Fills a place that was left.
+    pub fn fill(&mut self, place: usize, line: u32, operation: Operation)
+        ensures { self.new ≡ filled self.old place (at_line self.old.function line operation) }
+    {
+        if place < self.instructions.len() {
+            self.instructions[place] = Instruction {
+                line,
+                function: self.function,
+                operation,
+            };
+        }
+    }
+
+    // Fills a place that was left by a jump behind the code that is there.
+    pub fn land(&mut self, place: usize, line: u32, test: Option<usize>)
+        ensures { self.new ≡ landed self.old place line test }
+    {
+        if place < self.instructions.len() {
+            let count = self.instructions.len() - (place + 1);
+            self.fill(place, line, jump(test, count));
+        }
+    }
+
+    // The finished code, of a function in which no thread is started.
+    pub fn finish(self, alloc: Global) -> Result<Code, AllocError>
+        requires { code_fits self.registers self.variables self.instructions ≡ true }
+        ensures { IfOk result (λ c. c ≡ record { registers = self.entry.registers; blocks = self.entry.variables; instructions = self.entry.instructions; startable = false }) }
+    {
+        let blocks = Vec::from_slice(alloc, self.variables)?;
+        Ok(Code::new(self.registers, blocks, self.instructions, false))
+    }
+}

@@ -1,0 +1,477 @@
+//! The code of expressions.
+
+ghost use Rattle.std.specs.Prelude.{◌≡◌, [], ◌∷◌, ◌++◌, ◌+◌, ◌<◌, ◌^◌, if◌then◌else◌, IfOk, OnOk};
+ghost use Rattle.c_types.specs.Integers.{promoted};
+ghost use Rattle.core_tree.specs.Trees.{Expression, view, constant, read, convert, sign, is_zero, arithmetic, compare, logical, choice, assign, update, step, comma, assertion, assumption, draw};
+ghost use Rattle.core_tree.specs.Typed.{place_type};
+ghost use Rattle.core_tree.specs.Operations as operations;
+ghost use Rattle.goto_lower.specs.Lowering.{store, update_code, truth_code};
+ghost use Rattle.goto_lower.specs.Registers.{update_types};
+ghost use Rattle.goto_lower.specs.Drafts.{Listed, next, added, operand, Lowers};
+
+use crate::draft::Draft;
+use crate::operand::{Operand, Updated, step_value};
+use c_types::{IntegerType, promote};
+use core_tree::{
+    ArithmeticOperator, Comparison, CoreExpr, LogicalOperator, Place, SignOperator, StepOperator,
+};
+use goto_prog::Operation;
+use std::alloc::AllocError;
+
+fn drawn_width(type_: IntegerType) -> u32
+    ensures { result ≡ operations.drawn_width type_ }
+{
+    match type_ {
+        IntegerType::Bool => 1,
+        _ => type_.width(),
+    }
+}
+
+fn step_operation(operator: StepOperator) -> ArithmeticOperator
+    ensures { result ≡ operations.step_operation operator }
+{
+    match operator {
+        StepOperator::Increment => ArithmeticOperator::Add,
+        StepOperator::Decrement => ArithmeticOperator::Subtract,
+    }
+}
+
+fn type_of_place(place: Place) -> IntegerType
+    ensures { result ≡ place_type place }
+{
+    match place {
+        Place::Variable {
+            line: _,
+            type_,
+            variable: _,
+        } => type_,
+    }
+}
+
+// The value of `,`, which is its right operand's.
+fn comma(line: u32, y: Operand) -> Operand
+    ensures { (old mid new : Listed) (a b : Expression) (x : Operand) → Lowers old mid a x → Lowers mid new b y → Lowers old new (comma line a b) result }
+{
+    Operand { line, ..y }
+}
+
+impl<'a> Draft<'a> {
+    fn constant(&mut self, line: u32, type_: IntegerType, bits: u64) -> Result<Operand, AllocError>
+        ensures { IfOk result (λ x. Lowers self.old self.new (constant line type_ bits) x) }
+    {
+        let into = self.next();
+        self.set(line, type_, Operation::Constant { into, bits })
+    }
+
+    fn draw(&mut self, line: u32, type_: IntegerType) -> Result<Operand, AllocError>
+        ensures { IfOk result (λ x. Lowers self.old self.new (draw line type_) x) }
+    {
+        let into = self.next();
+        let bits = drawn_width(type_);
+        self.set(line, type_, Operation::Draw { into, bits })
+    }
+
+    // The value of a place.
+    fn load(&mut self, place: Place) -> Result<Operand, AllocError>
+        ensures { IfOk result (λ x. Lowers self.old self.new (read place) x) }
+    {
+        match place {
+            Place::Variable {
+                line,
+                type_,
+                variable,
+            } => {
+                let into = self.next();
+                let block = variable as usize;
+                self.set(line, type_, Operation::Load { into, type_, block })
+            }
+        }
+    }
+
+    // A write of a register into a place.
+    fn store(&mut self, line: u32, place: Place, operand: usize) -> Result<(), AllocError>
+        ensures { OnOk result (self.new ≡ added self.old (store self.old.function line place operand ∷ []) []) }
+    {
+        match place {
+            Place::Variable {
+                line: _,
+                type_,
+                variable,
+            } => {
+                let block = variable as usize;
+                self.push(
+                    line,
+                    Operation::Store {
+                        type_,
+                        block,
+                        operand,
+                    },
+                )
+            }
+        }
+    }
+
+    // ---- behind one operand
+
+    fn convert(&mut self, to: IntegerType, x: Operand) -> Result<Operand, AllocError>
+        ensures { (old : Listed) (e : Expression) → Lowers old self.old e x → IfOk result (λ y. Lowers old self.new (convert to e) y) }
+    {
+        let operation = Operation::Convert {
+            into: self.next(),
+            from: x.type_,
+            to,
+            operand: x.register,
+        };
+        self.set(x.line, to, operation)
+    }
+
+    fn sign(&mut self, line: u32, operator: SignOperator, x: Operand) -> Result<Operand, AllocError>
+        ensures { (old : Listed) (e : Expression) → Lowers old self.old e x → IfOk result (λ y. Lowers old self.new (sign line operator e) y) }
+    {
+        let operation = Operation::Sign {
+            into: self.next(),
+            operator,
+            type_: x.type_,
+            operand: x.register,
+        };
+        self.set(line, x.type_, operation)
+    }
+
+    fn is_zero(&mut self, line: u32, x: Operand) -> Result<Operand, AllocError>
+        ensures { (old : Listed) (e : Expression) → Lowers old self.old e x → IfOk result (λ y. Lowers old self.new (is_zero line e) y) }
+    {
+        let operation = Operation::IsZero {
+            into: self.next(),
+            operand: x.register,
+        };
+        self.set(line, IntegerType::Int, operation)
+    }
+
+    fn assign(&mut self, line: u32, place: Place, x: Operand) -> Result<Operand, AllocError>
+        ensures { (old : Listed) (e : Expression) → Lowers old self.old e x → IfOk result (λ y. Lowers old self.new (assign line place e) y) }
+    {
+        self.store(line, place, x.register)?;
+        Ok(Operand {
+            register: x.register,
+            type_: type_of_place(place),
+            line,
+        })
+    }
+
+    // The place's number, an operation of type `type_` with it and `y`, and the result back into the place.
+    fn update_by(
+        &mut self,
+        line: u32,
+        place: Place,
+        operator: ArithmeticOperator,
+        type_: IntegerType,
+        y: Operand,
+    ) -> Result<Updated, AllocError>
+        ensures code { OnOk result (self.new ≡ added self.old (update_code self.old.function line place (place_type place) operator type_ y.type_ y.register (next self.old)) (update_types place type_)) }
+        ensures registers { IfOk result (λ u. u ≡ record { old = next self.old; new = next self.old + 3 }) }
+    {
+        let loaded = self.load(place)?;
+        let operation = Operation::Convert {
+            into: self.next(),
+            from: loaded.type_,
+            to: type_,
+            operand: loaded.register,
+        };
+        let left = self.set(line, type_, operation)?;
+        let operation = Operation::Arithmetic {
+            into: self.next(),
+            operator,
+            type_,
+            right_type: y.type_,
+            left: left.register,
+            right: y.register,
+        };
+        let value = self.set(line, type_, operation)?;
+        let operation = Operation::Convert {
+            into: self.next(),
+            from: type_,
+            to: loaded.type_,
+            operand: value.register,
+        };
+        let back = self.set(line, loaded.type_, operation)?;
+        self.store(line, place, back.register)?;
+        Ok(Updated {
+            old: loaded.register,
+            new: back.register,
+        })
+    }
+
+    fn update(
+        &mut self,
+        line: u32,
+        place: Place,
+        operator: ArithmeticOperator,
+        type_: IntegerType,
+        y: Operand,
+    ) -> Result<Operand, AllocError>
+        ensures { (old : Listed) (e : Expression) → Lowers old self.old e y → IfOk result (λ x. Lowers old self.new (update line place operator type_ e) x) }
+    {
+        let updated = self.update_by(line, place, operator, type_, y)?;
+        Ok(Operand {
+            register: updated.new,
+            type_: type_of_place(place),
+            line,
+        })
+    }
+
+    fn step(
+        &mut self,
+        line: u32,
+        place: Place,
+        operator: StepOperator,
+        before: bool,
+    ) -> Result<Operand, AllocError>
+        ensures { IfOk result (λ x. Lowers self.old self.new (step line place operator before) x) }
+    {
+        let type_ = type_of_place(place);
+        let promoted = promote(type_);
+        let one = self.constant(line, promoted, 1)?;
+        let updated = self.update_by(line, place, step_operation(operator), promoted, one)?;
+        let operation = Operation::Copy {
+            into: self.next(),
+            operand: step_value(updated, before),
+        };
+        self.set(line, type_, operation)
+    }
+
+    fn assertion(&mut self, line: u32, x: Operand) -> Result<Operand, AllocError>
+        ensures { (old : Listed) (e : Expression) → Lowers old self.old e x → IfOk result (λ y. Lowers old self.new (assertion line e) y) }
+    {
+        let operand = x.register;
+        self.push(line, Operation::Assert { operand })?;
+        self.constant(line, IntegerType::Int, 0)
+    }
+
+    fn assumption(&mut self, line: u32, x: Operand) -> Result<Operand, AllocError>
+        ensures { (old : Listed) (e : Expression) → Lowers old self.old e x → IfOk result (λ y. Lowers old self.new (assumption line e) y) }
+    {
+        let operand = x.register;
+        self.push(line, Operation::Assume { operand })?;
+        self.constant(line, IntegerType::Int, 0)
+    }
+
+    // ---- behind two operands
+
+    fn arithmetic(
+        &mut self,
+        line: u32,
+        operator: ArithmeticOperator,
+        x: Operand,
+        y: Operand,
+    ) -> Result<Operand, AllocError>
+        ensures { (old mid : Listed) (a b : Expression) → Lowers old mid a x → Lowers mid self.old b y → IfOk result (λ z. Lowers old self.new (arithmetic line operator a b) z) }
+    {
+        let operation = Operation::Arithmetic {
+            into: self.next(),
+            operator,
+            type_: x.type_,
+            right_type: y.type_,
+            left: x.register,
+            right: y.register,
+        };
+        self.set(line, x.type_, operation)
+    }
+
+    fn compare(
+        &mut self,
+        line: u32,
+        operator: Comparison,
+        x: Operand,
+        y: Operand,
+    ) -> Result<Operand, AllocError>
+        ensures { (old mid : Listed) (a b : Expression) → Lowers old mid a x → Lowers mid self.old b y → IfOk result (λ z. Lowers old self.new (compare line operator a b) z) }
+    {
+        let operation = Operation::Compare {
+            into: self.next(),
+            operator,
+            type_: x.type_,
+            left: x.register,
+            right: y.register,
+        };
+        self.set(line, IntegerType::Int, operation)
+    }
+
+    // ---- with jumps
+
+    // 1 where the operand isn't 0, else 0.
+    fn truth(&mut self, line: u32, x: Operand) -> Result<Operand, AllocError>
+        ensures code { OnOk result (self.new ≡ added self.old (truth_code self.old.function line x.register (next self.old)) (IntegerType.Int ∷ IntegerType.Int ∷ [])) }
+        ensures value { IfOk result (λ y. y ≡ operand (next self.old + 1) IntegerType.Int line) }
+    {
+        let operation = Operation::IsZero {
+            into: self.next(),
+            operand: x.register,
+        };
+        let zero = self.set(line, IntegerType::Int, operation)?;
+        let operation = Operation::IsZero {
+            into: self.next(),
+            operand: zero.register,
+        };
+        self.set(line, IntegerType::Int, operation)
+    }
+
+    // `&&` behind its left operand.
+    #[cycle(expression)]
+    fn and(&mut self, line: u32, x: Operand, right: &CoreExpr) -> Result<Operand, AllocError>
+        ensures { (old : Listed) (a : Expression) → Lowers old self.old a x → IfOk result (λ z. Lowers old self.new (logical line LogicalOperator.And a (view right.now)) z) }
+    {
+        let skip = self.reserve()?;
+        let y = self.expression(right)?;
+        let truth = self.truth(line, y)?;
+        self.push(line, Operation::Skip { count: 1 })?;
+        self.land(skip, line, Some(x.register));
+        let into = truth.register;
+        self.push(line, Operation::Constant { into, bits: 0 })?;
+        Ok(truth)
+    }
+
+    // `||` behind its left operand.
+    #[cycle(expression)]
+    fn or(&mut self, line: u32, x: Operand, right: &CoreExpr) -> Result<Operand, AllocError>
+        ensures { (old : Listed) (a : Expression) → Lowers old self.old a x → IfOk result (λ z. Lowers old self.new (logical line LogicalOperator.Or a (view right.now)) z) }
+    {
+        let operand = x.register;
+        self.push(line, Operation::SkipIfZero { operand, count: 2 })?;
+        let one = self.reserve()?;
+        let skip = self.reserve()?;
+        let y = self.expression(right)?;
+        let truth = self.truth(line, y)?;
+        let into = truth.register;
+        self.fill(one, line, Operation::Constant { into, bits: 1 });
+        self.land(skip, line, None);
+        Ok(truth)
+    }
+
+    // `?:` behind its test.
+    #[cycle(expression)]
+    fn choice(
+        &mut self,
+        line: u32,
+        test: Operand,
+        yes: &CoreExpr,
+        no: &CoreExpr,
+    ) -> Result<Operand, AllocError>
+        ensures { (old : Listed) (e : Expression) → Lowers old self.old e test → IfOk result (λ z. Lowers old self.new (choice line e (view yes.now) (view no.now)) z) }
+    {
+        let skip = self.reserve()?;
+        let x = self.expression(yes)?;
+        let copy = self.reserve()?;
+        let over = self.reserve()?;
+        self.land(skip, line, Some(test.register));
+        let y = self.expression(no)?;
+        let into = self.next();
+        let operand = y.register;
+        let result = self.set(line, x.type_, Operation::Copy { into, operand })?;
+        let operand = x.register;
+        self.fill(copy, line, Operation::Copy { into, operand });
+        self.land(over, line, None);
+        Ok(result)
+    }
+
+    /// Adds the code of an expression.
+    #[cycle(expression)]
+    pub(crate) fn expression(&mut self, expr: &CoreExpr) -> Result<Operand, AllocError>
+        ensures { IfOk result (λ x. Lowers self.old self.new (view expr.now) x) }
+    {
+        match expr {
+            CoreExpr::Constant { line, type_, bits } => self.constant(*line, *type_, *bits),
+            CoreExpr::Read { place } => self.load(*place),
+            CoreExpr::Convert { to, operand } => {
+                let x = self.expression(operand)?;
+                self.convert(*to, x)
+            }
+            CoreExpr::Sign {
+                line,
+                operator,
+                operand,
+            } => {
+                let x = self.expression(operand)?;
+                self.sign(*line, *operator, x)
+            }
+            CoreExpr::IsZero { line, operand } => {
+                let x = self.expression(operand)?;
+                self.is_zero(*line, x)
+            }
+            CoreExpr::Arithmetic {
+                line,
+                operator,
+                left,
+                right,
+            } => {
+                let x = self.expression(left)?;
+                let y = self.expression(right)?;
+                self.arithmetic(*line, *operator, x, y)
+            }
+            CoreExpr::Compare {
+                line,
+                operator,
+                left,
+                right,
+            } => {
+                let x = self.expression(left)?;
+                let y = self.expression(right)?;
+                self.compare(*line, *operator, x, y)
+            }
+            CoreExpr::Logical {
+                line,
+                operator,
+                left,
+                right,
+            } => {
+                let x = self.expression(left)?;
+                match operator {
+                    LogicalOperator::And => self.and(*line, x, right),
+                    LogicalOperator::Or => self.or(*line, x, right),
+                }
+            }
+            CoreExpr::Choice {
+                line,
+                test,
+                yes,
+                no,
+            } => {
+                let x = self.expression(test)?;
+                self.choice(*line, x, yes, no)
+            }
+            CoreExpr::Assign { line, place, value } => {
+                let x = self.expression(value)?;
+                self.assign(*line, *place, x)
+            }
+            CoreExpr::Update {
+                line,
+                place,
+                operator,
+                type_,
+                value,
+            } => {
+                let x = self.expression(value)?;
+                self.update(*line, *place, *operator, *type_, x)
+            }
+            CoreExpr::Step {
+                line,
+                place,
+                operator,
+                before,
+            } => { self.step(*line, *place, *operator, *before) }
+            CoreExpr::Comma { line, left, right } => {
+                let _x = self.expression(left)?;
+                let y = self.expression(right)?;
+                Ok(comma(*line, y))
+            }
+            CoreExpr::Assertion { line, condition } => {
+                let x = self.expression(condition)?;
+                self.assertion(*line, x)
+            }
+            CoreExpr::Assumption { line, condition } => {
+                let x = self.expression(condition)?;
+                self.assumption(*line, x)
+            }
+            CoreExpr::Draw { line, type_ } => self.draw(*line, *type_),
+        }
+    }
+}

@@ -1,0 +1,10 @@
+//! Lowers typed trees to flat code, in one pass.
+#![tactic(auto)]
+
+mod draft;
+mod expressions;
+mod lowering;
+mod operand;
+mod statements;
+
+pub use lowering::lower;

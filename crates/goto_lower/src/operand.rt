@@ -1,0 +1,26 @@
+ghost use Rattle.std.specs.Prelude.{◌≡◌, if◌then◌else◌};
+
+use c_types::IntegerType;
+
+// The register that has the value of an expression, the type of the value, and the line of the
+// expression's own token.
+#[derive(Clone, Copy)]
+pub(crate) struct Operand {
+    pub(crate) register: usize,
+    pub(crate) type_: IntegerType,
+    pub(crate) line: u32,
+}
+
+// The registers of a place's number before an operation on it and behind it.
+#[derive(Clone, Copy)]
+pub(crate) struct Updated {
+    pub(crate) old: usize,
+    pub(crate) new: usize,
+}
+
+// The register of the value of `++` or `--`.
+pub(crate) fn step_value(updated: Updated, before: bool) -> usize
+    ensures { result ≡ (if before then updated.new else updated.old) }
+{
+    if before { updated.new } else { updated.old }
+}

@@ -1,0 +1,68 @@
+-- What is true of each code: the registers and blocks that it names are there with the types of its operations, and its jumps stay within it.
+use Rattle.std.specs.Prelude.{ℕ, ◌^◌, Bool, true, false, ◌&&◌, List, [], ◌∷◌, nat_lt, nat_le, length, slice_index_or}
+use Rattle.c_types.specs.declared.integers.IntegerType.{IntegerType}
+use Rattle.c_types.specs.declared.integers.IntegerType.TheVariants as types
+use Rattle.c_types.specs.Integers.{width, is_signed, same_integer}
+use Rattle.core_tree.specs.declared.operators.ArithmeticOperator.{ArithmeticOperator}
+use Rattle.core_tree.specs.declared.operators.ArithmeticOperator.TheVariants as arithmetics
+use Rattle.c_values.specs.Numbers.{same_width, are_operands_of}
+use Rattle.goto_prog.specs.declared.code.Condition.{Condition}
+use Rattle.goto_prog.specs.declared.code.Condition.TheVariants as checks
+use Rattle.goto_prog.specs.declared.code.Operation.{Operation}
+use Rattle.goto_prog.specs.declared.code.Operation.TheVariants as operations
+use Rattle.goto_prog.specs.declared.code.Instruction.{Instruction}
+
+-- a register of the code, over the types of its registers
+abbrev pub is_there : List IntegerType → ℕ → Bool
+is_there registers r = nat_lt r (length registers)
+
+-- a register of this type
+abbrev pub is_register : List IntegerType → ℕ → IntegerType → Bool
+is_register registers r t = nat_lt r (length registers) && same_integer (slice_index_or registers r types.Int) t
+
+-- a block that holds a value of this type, over the types of the blocks
+abbrev pub is_block : List IntegerType → ℕ → IntegerType → Bool
+is_block blocks b t = is_register blocks b t
+
+-- a register as wide as this type
+abbrev pub is_wide : List IntegerType → ℕ → IntegerType → Bool
+is_wide registers r t = nat_lt r (length registers) && same_width (slice_index_or registers r types.Int) t
+
+-- the operators whose result may be out of range where both operands have one signed type (C11 6.5p5)
+abbrev pub is_ranged : ArithmeticOperator → Bool
+is_ranged arithmetics.Multiply = true
+is_ranged arithmetics.Add = true
+is_ranged arithmetics.Subtract = true
+is_ranged _ = false
+
+-- only signed types have a range that a result may leave
+abbrev pub check_fits : List IntegerType → Condition → Bool
+check_fits registers (checks.Divisor b) = is_there registers b
+check_fits registers (checks.Quotient t a b) = is_signed t && is_register registers a t && is_wide registers b t
+check_fits registers (checks.Range op t a b) = is_signed t && is_ranged op && is_register registers a t && is_wide registers b t
+check_fits registers (checks.Negation t a) = is_signed t && is_register registers a t
+check_fits registers (checks.Count t u count) = is_register registers count u
+check_fits registers (checks.LeftShift t u a count) = is_signed t && is_register registers a t && is_register registers count u
+
+-- with this many instructions behind it
+abbrev pub operation_fits : List IntegerType → List IntegerType → ℕ → Operation → Bool
+operation_fits registers blocks behind (operations.Constant r bits) = is_there registers r && nat_lt bits (2 ^ width (slice_index_or registers r types.Int))
+operation_fits registers blocks behind (operations.Copy r a) = is_there registers a && is_register registers r (slice_index_or registers a types.Int)
+operation_fits registers blocks behind (operations.Load r t b) = is_register registers r t && is_block blocks b t
+operation_fits registers blocks behind (operations.Store t b a) = is_register registers a t && is_block blocks b t
+operation_fits registers blocks behind (operations.Convert r from to a) = is_register registers r to && is_register registers a from
+operation_fits registers blocks behind (operations.Sign r op t a) = is_register registers r t && is_register registers a t
+operation_fits registers blocks behind (operations.Arithmetic r op t u a b) = are_operands_of op t u && is_register registers r t && is_register registers a t && is_register registers b u
+operation_fits registers blocks behind (operations.Compare r op t a b) = is_register registers r types.Int && is_register registers a t && is_register registers b t
+operation_fits registers blocks behind (operations.IsZero r a) = is_register registers r types.Int && is_there registers a
+operation_fits registers blocks behind (operations.Skip n) = nat_le n behind
+operation_fits registers blocks behind (operations.SkipIfZero a n) = is_there registers a && nat_le n behind
+operation_fits registers blocks behind (operations.Check c) = check_fits registers c
+operation_fits registers blocks behind (operations.Assert a) = is_there registers a
+operation_fits registers blocks behind (operations.Assume a) = is_there registers a
+operation_fits registers blocks behind (operations.Draw r bits) = is_there registers r && nat_le 1 bits && nat_le bits (width (slice_index_or registers r types.Int))
+operation_fits registers blocks behind operations.Exit = true
+
+abbrev pub code_fits : List IntegerType → List IntegerType → List Instruction → Bool
+code_fits registers blocks [] = true
+code_fits registers blocks (i ∷ code) = operation_fits registers blocks (length code) i.operation && code_fits registers blocks code

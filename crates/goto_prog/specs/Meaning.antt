@@ -1,0 +1,119 @@
+-- What flat code does: each instruction chooses among the meanings of the places behind it. What an action and an end are is a parameter, so that behaviours of threads and runs under given answers are two readings of one definition.
+use Rattle.std.specs.Prelude.{ℕ, zero, suc, ◌==◌, Bool, not, List, [], ◌∷◌, Option, Some, None, slice_index, slice_set, if◌then◌else◌}
+use Rattle.words.specs.declared.check.Class.{Class}
+use Rattle.words.specs.declared.check.Class.TheVariants as classes
+use Rattle.actions.specs.declared.action.Action.{Action}
+use Rattle.actions.specs.declared.action.Action.TheVariants as actions
+use Rattle.actions.specs.declared.action.Answer.{Answer}
+use Rattle.actions.specs.declared.action.Answer.TheVariants as answers
+use Rattle.actions.specs.declared.action.Next.{Next}
+use Rattle.actions.specs.declared.action.Next.TheVariants.{Ended, Blocked, Broken}
+use Rattle.actions.specs.Behaviour.{word_64}
+use Rattle.core_tree.specs.Operations.{truth_bits, converted, unless, division_check, count_check, left_shift_check, arithmetic_check, arithmetic_value, sign_check, sign_value, compared}
+use Rattle.core_tree.specs.declared.operators.SignOperator.TheVariants as signs
+use Rattle.c_values.specs.Variables.{Variables, read_variable, write_variable}
+use Rattle.goto_prog.specs.declared.code.Condition.{Condition}
+use Rattle.goto_prog.specs.declared.code.Condition.TheVariants as checks
+use Rattle.goto_prog.specs.declared.code.Operation.{Operation}
+use Rattle.goto_prog.specs.declared.code.Operation.TheVariants as operations
+use Rattle.goto_prog.specs.declared.code.Instruction.{Instruction}
+
+-- ---- what a thread keeps
+
+pub record Memory : Type 0 where
+  pub registers : List ℕ
+  pub blocks : Variables
+
+abbrev pub register : Memory → ℕ → ℕ
+register m r = slice_index m.registers r
+
+abbrev pub with_register : Memory → ℕ → ℕ → Memory
+with_register m r bits = record m { registers = slice_set m.registers r bits }
+
+-- ---- checks
+
+-- the class that a check breaks, if it breaks one
+abbrev pub check_class : Condition → Memory → Option Class
+check_class (checks.Divisor b) m = unless (not (register m b == 0)) classes.Division
+check_class (checks.Quotient t a b) m = if register m b == 0 then None else division_check t (register m a) (register m b)
+check_class (checks.Range op t a b) m = arithmetic_check op t t (register m a) (register m b)
+check_class (checks.Negation t a) m = sign_check signs.Minus t (register m a)
+check_class (checks.Count t u count) m = count_check t u (register m count)
+check_class (checks.LeftShift t u a count) m = left_shift_check t u (register m a) (register m count)
+
+-- ---- operations that give a value
+
+-- the check that an operation of strict code breaks by itself
+abbrev pub own_class : Operation → Memory → Option Class
+own_class (operations.Sign r op t a) m = sign_check op t (register m a)
+own_class (operations.Arithmetic r op t u a b) m = arithmetic_check op t u (register m a) (register m b)
+own_class _ m = None
+
+-- the memory behind an operation that sets a register or a block; the others leave it
+abbrev pub calculated : Operation → Memory → Memory
+calculated (operations.Constant r bits) m = with_register m r bits
+calculated (operations.Copy r a) m = with_register m r (register m a)
+calculated (operations.Load r t b) m = with_register m r (read_variable m.blocks b t)
+calculated (operations.Store t b a) m = record m { blocks = write_variable m.blocks b t (register m a) }
+calculated (operations.Convert r from to a) m = with_register m r (converted from to (register m a))
+calculated (operations.Sign r op t a) m = with_register m r (sign_value op t (register m a))
+calculated (operations.Arithmetic r op t u a b) m = with_register m r (arithmetic_value op t (register m a) (register m b))
+calculated (operations.Compare r op t a b) m = with_register m r (truth_bits (compared op t (register m a) (register m b)))
+calculated (operations.IsZero r a) m = with_register m r (truth_bits (register m a == 0))
+calculated _ m = m
+
+-- ---- what becomes of an action and of an end
+
+-- what follows each answer to an action, at a line of a function and a place of the code; and an end
+pub record Reading (R : Type 0) : Type 0 where
+  pub ask : (action : Action) (line function place : ℕ) (next : Answer → R) → R
+  pub stop : (end : Next) → R
+
+-- the word that an answer gives
+abbrev pub word_of : Answer → ℕ
+word_of (answers.Word w) = w.bits
+word_of _ = 0
+
+-- ---- code
+
+module _ {R : Type 0} (o : Reading R) where
+  -- what is done from the place behind n others; past the last one the thread has ended
+  abbrev pub at : List (Memory → R) → ℕ → Memory → R
+  at [] n m = o.stop (Ended (word_64 0))
+  at (p ∷ ps) zero m = p m
+  at (p ∷ ps) (suc n) m = at ps n m
+
+  -- breaks a check, or goes on
+  abbrev pub or_else : Option Class → ℕ → ℕ → R → R
+  or_else None line function next = next
+  or_else (Some c) line function next = o.stop (Broken c line function)
+
+  -- where `strict` stands, an operation that is undefined breaks by itself
+  abbrev pub operates : (strict : Bool) (place line function : ℕ) → Operation → List (Memory → R) → Memory → R
+  operates strict place line f (operations.Constant r bits) ps m = at ps 0 (with_register m r bits)
+  operates strict place line f (operations.Copy r a) ps m = at ps 0 (with_register m r (register m a))
+  operates strict place line f (operations.Load r t b) ps m = at ps 0 (with_register m r (read_variable m.blocks b t))
+  operates strict place line f (operations.Store t b a) ps m = at ps 0 (record m { blocks = write_variable m.blocks b t (register m a) })
+  operates strict place line f (operations.Convert r from to a) ps m = at ps 0 (with_register m r (converted from to (register m a)))
+  operates strict place line f (operations.Sign r op t a) ps m =
+      or_else (if strict then sign_check op t (register m a) else None) line f (at ps 0 (with_register m r (sign_value op t (register m a))))
+  operates strict place line f (operations.Arithmetic r op t u a b) ps m =
+      or_else (if strict then arithmetic_check op t u (register m a) (register m b) else None) line f (at ps 0 (with_register m r (arithmetic_value op t (register m a) (register m b))))
+  operates strict place line f (operations.Compare r op t a b) ps m = at ps 0 (with_register m r (truth_bits (compared op t (register m a) (register m b))))
+  operates strict place line f (operations.IsZero r a) ps m = at ps 0 (with_register m r (truth_bits (register m a == 0)))
+  operates strict place line f (operations.Skip n) ps m = at ps n m
+  operates strict place line f (operations.SkipIfZero a n) ps m = if register m a == 0 then at ps n m else at ps 0 m
+  operates strict place line f (operations.Check c) ps m = or_else (check_class c m) line f (at ps 0 m)
+  operates strict place line f (operations.Assert a) ps m = if register m a == 0 then o.stop (Broken classes.Assertion line f) else at ps 0 m
+  operates strict place line f (operations.Assume a) ps m = if register m a == 0 then o.stop Blocked else at ps 0 m
+  operates strict place line f (operations.Draw r bits) ps m = o.ask (actions.Draw bits) line f place (λ a. at ps 0 (with_register m r (word_of a)))
+  operates strict place line f operations.Exit ps m = o.ask actions.Exit line f place (λ a. o.stop (Ended (word_64 0)))
+
+  -- the meanings of the places of code, the first of which is the place with this number
+  abbrev pub places : (strict : Bool) → ℕ → List Instruction → List (Memory → R)
+  places strict place [] = []
+  places strict place (i ∷ code) = let rest = places strict (suc place) code in operates strict place i.line i.function i.operation rest ∷ rest
+
+  -- what code does from its first place
+  abbrev pub does : (strict : Bool) → ℕ → List Instruction → Memory → R
+  does strict place code m = at (places strict place code) 0 m

@@ -1,0 +1,141 @@
+use c_types::IntegerType;
+use core_tree::{ArithmeticOperator, Comparison, SignOperator};
+
+/// What an explicit check asks of registers; it breaks where that isn't so (C11 6.5). Values are read at
+/// the types that stand beside the operators.
+#[derive(Clone, Copy, Debug, PartialEq, Eq)]
+pub enum Condition {
+    /// The divisor isn't 0: class division.
+    Divisor {
+        divisor: usize,
+    },
+    /// It isn't the least value of a signed type that is divided by -1: class overflow.
+    Quotient {
+        type_: IntegerType,
+        left: usize,
+        right: usize,
+    },
+    /// The result of `+`, `-` or `*` is in the range of a signed type: class overflow.
+    Range {
+        operator: ArithmeticOperator,
+        type_: IntegerType,
+        left: usize,
+        right: usize,
+    },
+    /// The result of unary `-` is in the range of a signed type: class overflow.
+    Negation {
+        type_: IntegerType,
+        operand: usize,
+    },
+    /// The count of a shift is from 0 to less than the width: class shift.
+    Count {
+        type_: IntegerType,
+        count_type: IntegerType,
+        count: usize,
+    },
+    /// The count of a left shift of a signed type is from 0 to less than the width, its operand isn't
+    /// negative, and its result is in range: class shift.
+    LeftShift {
+        type_: IntegerType,
+        count_type: IntegerType,
+        left: usize,
+        count: usize,
+    },
+}
+
+/// What an instruction does. Registers hold words and blocks hold bytes, both are numbered from 0.
+#[derive(Clone, Copy, Debug, PartialEq, Eq)]
+pub enum Operation {
+    /// Sets a register to these bits.
+    Constant {
+        into: usize,
+        bits: u64,
+    },
+    /// Sets a register to another's word.
+    Copy {
+        into: usize,
+        operand: usize,
+    },
+    /// Sets a register to the value that lies in a block.
+    Load {
+        into: usize,
+        type_: IntegerType,
+        block: usize,
+    },
+    /// Writes the bytes of a register's word into a block.
+    Store {
+        type_: IntegerType,
+        block: usize,
+        operand: usize,
+    },
+    /// Sets a register to another's word, converted (C11 6.3.1).
+    Convert {
+        into: usize,
+        from: IntegerType,
+        to: IntegerType,
+        operand: usize,
+    },
+    Sign {
+        into: usize,
+        operator: SignOperator,
+        type_: IntegerType,
+        operand: usize,
+    },
+    /// The right operand of a shift has a type of its own, else both have the first.
+    Arithmetic {
+        into: usize,
+        operator: ArithmeticOperator,
+        type_: IntegerType,
+        right_type: IntegerType,
+        left: usize,
+        right: usize,
+    },
+    Compare {
+        into: usize,
+        operator: Comparison,
+        type_: IntegerType,
+        left: usize,
+        right: usize,
+    },
+    /// Sets a register to 1 where another is 0, else to 0.
+    IsZero {
+        into: usize,
+        operand: usize,
+    },
+    /// Passes over this many instructions.
+    Skip {
+        count: usize,
+    },
+    /// Passes over this many instructions where a register is 0.
+    SkipIfZero {
+        operand: usize,
+        count: usize,
+    },
+    /// Breaks where the condition isn't met.
+    Check {
+        condition: Condition,
+    },
+    /// Breaks the class assertion where a register is 0.
+    Assert {
+        operand: usize,
+    },
+    /// Blocks the thread for good where a register is 0.
+    Assume {
+        operand: usize,
+    },
+    /// Sets a register to this many bits of the thread's next input word.
+    Draw {
+        into: usize,
+        bits: u32,
+    },
+    /// Ends the process.
+    Exit,
+}
+
+/// An instruction: what it does, and the line and the function in whose name it breaks or acts.
+#[derive(Clone, Copy, Debug, PartialEq, Eq)]
+pub struct Instruction {
+    pub line: u32,
+    pub function: u32,
+    pub operation: Operation,
+}

@@ -1,0 +1,384 @@
+ghost use Rattle.c_types.specs.Integers.{width};
+ghost use Rattle.c_values.specs.Variables.{first_variables, read_variable, write_variable};
+ghost use Rattle.core_tree.specs.Operations.{arithmetic_value};
+ghost use Rattle.std.specs.Prelude.{◌≡◌, ◌==◌, ◌+◌, ◌<◌, ◌≤◌, ◌^◌, true, length, drop, IfSome, map, slice_index_or, IfOk, OnOk, OnErr, slice_get};
+ghost use Rattle.c_values.specs.Numbers.{typed, are_operands_of};
+ghost use Rattle.goto_prog.specs.Meaning.{register, with_register, own_class, calculated, check_class};
+ghost use Rattle.goto_prog.specs.Fitting.{code_fits, is_there, is_register, is_wide, is_block, check_fits, operation_fits};
+ghost use Rattle.goto_prog.specs.Running.{begun, is_calculation};
+
+use crate::code::{Condition, Instruction, Operation};
+use crate::listing::Code;
+use actions::Bytes;
+use c_types::IntegerType;
+use c_values::{
+    Number, broken_by, broken_sign, bytes_of, compare, read_block, signed_value, value,
+};
+use core_tree::{ArithmeticOperator, SignOperator};
+use std::alloc::{AllocError, Global};
+use std::marker::Model;
+use words::Class;
+
+// Code that runs: the place of the next instruction, the registers' words and the blocks' bytes.
+#[derive(Drop)]
+pub struct Runner<'a> {
+    pub(crate) alloc: Global,
+    pub(crate) functions: &'a [Code],
+    pub(crate) code: &'a Code,
+    pub(crate) strict: bool,
+    pub(crate) place: usize,
+    registers: Vec<u64>,
+    blocks: Vec<Bytes>,
+}
+
+impl<'a> Model for Runner<'a> {
+    ghost use Rattle.goto_prog.specs.Running.{Running, IsRunning};
+
+    ghost Value = { Running };
+
+    ghost view = { λ r. record { functions = r.functions.now; code = r.code.now; strict = r.strict; place = r.place; memory = record { registers = r.registers.items; blocks = r.blocks.items } } };
+
+    ghost invariant = { λ r. IsRunning (record { functions = r.functions.now; code = r.code.now; strict = r.strict; place = r.place; memory = record { registers = r.registers.items; blocks = r.blocks.items } }) };
+}
+
+impl<'a> Runner<'a> {
+    // At the start of code.
+    #[tactic(auto, using(crate::proofs::Registers::zeros_fit))]
+    pub fn new(
+        alloc: Global,
+        functions: &'a [Code],
+        code: &'a Code,
+        strict: bool,
+    ) -> Result<Runner<'a>, AllocError>
+        ensures { IfOk result (λ r. r ≡ begun functions.now code.now strict) }
+    {
+        let registers = zero_words(alloc, code.registers())?;
+        let blocks = zero_blocks(alloc, code.blocks())?;
+        let _fits = code.instructions();
+        Ok(Runner {
+            alloc,
+            functions,
+            code,
+            strict,
+            place: 0,
+            registers,
+            blocks,
+        })
+    }
+
+    // The word of a register.
+    #[tactic(auto, using(crate::proofs::Registers::word_there))]
+    pub fn word(&self, from: usize) -> u64
+        requires { is_there self.now.code.registers from ≡ true }
+        ensures { result ≡ register self.now.memory from }
+    {
+        self.registers[from]
+    }
+
+    // Whether the word of a register is 0.
+    pub fn is_zero(&self, from: usize) -> bool
+        requires { is_there self.now.code.registers from ≡ true }
+        ensures { result ≡ (register self.now.memory from == 0) }
+    {
+        self.word(from) == 0
+    }
+
+    // The number in a register of a type.
+    #[tactic(auto, using(crate::proofs::Registers::register_there, crate::proofs::Registers::register_below))]
+    pub fn number(&self, from: usize, type_: IntegerType) -> Number
+        requires { is_register self.now.code.registers from type_ ≡ true }
+        ensures { result ≡ typed type_ (register self.now.memory from) }
+    {
+        Number::new(type_, self.registers[from])
+    }
+
+    // The number of a type in a register that is as wide.
+    #[tactic(auto, using(crate::proofs::Registers::wide_there))]
+    pub fn number_of_width(&self, from: usize, type_: IntegerType) -> Number
+        requires { is_wide self.now.code.registers from type_ ≡ true }
+        ensures { result ≡ typed type_ (register self.now.memory from) }
+    {
+        Number::new(type_, self.registers[from])
+    }
+
+    // Sets a register to a number of its type.
+    #[tactic(auto, using(crate::proofs::Registers::register_there, crate::proofs::Registers::register_set))]
+    pub fn set(&mut self, into: usize, number: Number)
+        requires { is_register self.old.code.registers into number.type ≡ true }
+        ensures { self.new ≡ record self.old { memory = with_register self.old.memory into number.bits } }
+    {
+        self.registers[into] = number.bits();
+    }
+
+    // The number in a block.
+    fn load(&self, block: usize, type_: IntegerType) -> Number
+        ensures { result ≡ typed type_ (read_variable self.now.memory.blocks block type_) }
+    {
+        match self.blocks.get(block) {
+            Some(bytes) => read_block(bytes.as_slice(), type_),
+            None => read_block(&[], type_),
+        }
+    }
+
+    // Writes a number into a block.
+    fn store(&mut self, block: usize, number: Number) -> Result<(), AllocError>
+        ensures ok { OnOk result (self.new ≡ record self.old { memory = record self.old.memory { blocks = write_variable self.old.memory.blocks block number.type number.bits } }) }
+        ensures err { OnErr result (self.new ≡ self.old) }
+    {
+        let bytes = Bytes::new(bytes_of(self.alloc, number.type_of(), number.bits())?);
+        if block < self.blocks.len() {
+            self.blocks[block] = bytes;
+        }
+        Ok(())
+    }
+
+    // Sets a register to an operation's result.
+    fn operate(&mut self, into: usize, operator: ArithmeticOperator, left: Number, right: Number)
+        requires operands { are_operands_of operator left.type right.type ≡ true }
+        requires into { is_register self.old.code.registers into left.type ≡ true }
+        ensures { self.new ≡ record self.old { memory = with_register self.old.memory into (arithmetic_value operator left.type left.bits right.bits) } }
+    {
+        self.set(into, value(operator, left, right));
+    }
+
+    // Sets a register to another's word.
+    fn copy(&mut self, into: usize, from: usize)
+        requires from { is_there self.old.code.registers from ≡ true }
+        requires into { is_register self.old.code.registers into (slice_index_or self.old.code.registers from IntegerType.Int) ≡ true }
+        ensures { self.new ≡ record self.old { memory = with_register self.old.memory into (register self.old.memory from) } }
+    {
+        let type_ = self.code.registers()[from];
+        let number = self.number(from, type_);
+        self.set(into, number);
+    }
+
+    // Sets a register to these bits.
+    pub(crate) fn put(&mut self, into: usize, bits: u64)
+        requires into { is_there self.old.code.registers into ≡ true }
+        requires bits { bits < 2 ^ width (slice_index_or self.old.code.registers into IntegerType.Int) }
+        ensures { self.new ≡ record self.old { memory = with_register self.old.memory into bits } }
+    {
+        let type_ = self.code.registers()[into];
+        self.set(into, Number::new(type_, bits));
+    }
+
+    // Sets the register or the block that an operation sets.
+    pub fn calculate(&mut self, operation: Operation) -> Result<(), AllocError>
+        requires calculation { is_calculation operation ≡ true }
+        requires fits { operation_fits self.old.code.registers self.old.code.blocks 0 operation ≡ true }
+        ensures ok { OnOk result (self.new ≡ record self.old { memory = calculated operation self.old.memory }) }
+        ensures err { OnErr result (self.new ≡ self.old) }
+    {
+        match operation {
+            Operation::Constant { into, bits } => self.put(into, bits),
+            Operation::Copy { into, operand } => self.copy(into, operand),
+            Operation::Load { into, type_, block } => {
+                let number = self.load(block, type_);
+                self.set(into, number);
+            }
+            Operation::Store {
+                type_,
+                block,
+                operand,
+            } => {
+                let number = self.number(operand, type_);
+                self.store(block, number)?;
+            }
+            Operation::Convert {
+                into,
+                from,
+                to,
+                operand,
+            } => {
+                let number = self.number(operand, from).converted(to);
+                self.set(into, number);
+            }
+            Operation::Sign {
+                into,
+                operator,
+                type_,
+                operand,
+            } => {
+                let number = signed_value(operator, self.number(operand, type_));
+                self.set(into, number);
+            }
+            Operation::Arithmetic {
+                into,
+                operator,
+                type_,
+                right_type,
+                left,
+                right,
+            } => {
+                let a = self.number(left, type_);
+                let b = self.number(right, right_type);
+                self.operate(into, operator, a, b);
+            }
+            Operation::Compare {
+                into,
+                operator,
+                type_,
+                left,
+                right,
+            } => {
+                let truth = compare(
+                    operator,
+                    self.number(left, type_),
+                    self.number(right, type_),
+                );
+                self.set(into, Number::of_truth(truth));
+            }
+            Operation::IsZero { into, operand } => {
+                let truth = self.word(operand) == 0;
+                self.set(into, Number::of_truth(truth));
+            }
+            Operation::Skip { count: _ } => {}
+            Operation::SkipIfZero {
+                operand: _,
+                count: _,
+            } => {}
+            Operation::Check { condition: _ } => {}
+            Operation::Assert { operand: _ } => {}
+            Operation::Assume { operand: _ } => {}
+            Operation::Draw { into: _, bits: _ } => {}
+            Operation::Exit => {}
+        }
+        Ok(())
+    }
+
+    // The check that an operation of strict code breaks by itself.
+    pub fn own_class(&self, operation: Operation) -> Option<Class>
+        requires fits { operation_fits self.now.code.registers self.now.code.blocks 0 operation ≡ true }
+        ensures { result ≡ own_class operation self.now.memory }
+    {
+        match operation {
+            Operation::Sign {
+                into: _,
+                operator,
+                type_,
+                operand,
+            } => { broken_sign(operator, self.number(operand, type_)) }
+            Operation::Arithmetic {
+                into: _,
+                operator,
+                type_,
+                right_type,
+                left,
+                right,
+            } => {
+                broken_by(
+                    operator,
+                    self.number(left, type_),
+                    self.number(right, right_type),
+                )
+            }
+            _ => None,
+        }
+    }
+
+    // The class that a check breaks, if it breaks one.
+    #[tactic(auto, using(crate::proofs::Registers::operands_same))]
+    pub fn condition_class(&self, condition: Condition) -> Option<Class>
+        requires { check_fits self.now.code.registers condition ≡ true }
+        ensures { result ≡ check_class condition self.now.memory }
+    {
+        match condition {
+            Condition::Divisor { divisor } => {
+                if self.word(divisor) == 0 {
+                    Some(Class::Division)
+                } else {
+                    None
+                }
+            }
+            Condition::Quotient { type_, left, right } => {
+                let divisor = self.number_of_width(right, type_);
+                if divisor.bits() == 0 {
+                    None
+                } else {
+                    broken_by(
+                        ArithmeticOperator::Divide,
+                        self.number(left, type_),
+                        divisor,
+                    )
+                }
+            }
+            Condition::Range {
+                operator,
+                type_,
+                left,
+                right,
+            } => {
+                broken_by(
+                    operator,
+                    self.number(left, type_),
+                    self.number_of_width(right, type_),
+                )
+            }
+            Condition::Negation { type_, operand } => {
+                broken_sign(SignOperator::Minus, self.number(operand, type_))
+            }
+            Condition::Count {
+                type_,
+                count_type,
+                count,
+            } => broken_by(
+                ArithmeticOperator::ShiftRight,
+                Number::new(type_, 0),
+                self.number(count, count_type),
+            ),
+            Condition::LeftShift {
+                type_,
+                count_type,
+                left,
+                count,
+            } => broken_by(
+                ArithmeticOperator::ShiftLeft,
+                self.number(left, type_),
+                self.number(count, count_type),
+            ),
+        }
+    }
+
+    // The instruction at the place, if there is one.
+    pub(crate) fn instruction(&self) -> Option<Instruction>
+        ensures found { result ≡ slice_get self.now.code.instructions self.now.place }
+        ensures fits { code_fits self.now.code.registers self.now.code.blocks self.now.code.instructions ≡ true }
+    {
+        self.code.instructions().get(self.place).copied()
+    }
+
+    // Goes to the place behind `count` others.
+    pub(crate) fn pass(&mut self, count: usize)
+        requires { self.old.place + 1 + count ≤ length self.old.code.instructions }
+        ensures { self.new ≡ record self.old { place = self.old.place + 1 + count } }
+    {
+        let _length = self.code.instructions().len();
+        self.place = self.place + 1 + count;
+    }
+
+    // Goes behind the last place.
+    pub(crate) fn end(&mut self)
+        ensures { self.new ≡ record self.old { place = length self.old.code.instructions } }
+    {
+        self.place = self.code.instructions().len();
+    }
+}
+
+// A 0 for each register.
+#[tactic(auto, using(crate::proofs::Registers::replicate_map))]
+fn zero_words(alloc: Global, types: &[IntegerType]) -> Result<Vec<u64>, AllocError>
+    ensures { IfOk result (λ v. v.items ≡ map (λ t. 0) types.now) }
+{
+    Ok(vec![in alloc; 0; types.len()]?)
+}
+
+// Zero bytes for each block.
+fn zero_blocks(alloc: Global, types: &[IntegerType]) -> Result<Vec<Bytes>, AllocError>
+    ensures { IfOk result (λ v. v.items ≡ first_variables types.now) }
+{
+    let mut blocks = Vec::new(alloc);
+    for type_ in types {
+        blocks.push(Bytes::new(bytes_of(alloc, *type_, 0)?))?;
+    }
+    Ok(blocks)
+}

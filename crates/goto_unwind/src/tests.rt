@@ -1,0 +1,103 @@
+ghost use Rattle.std.specs.Prelude.{◌≡◌, ◌∷◌, [], true, IfOk};
+ghost use Rattle.c_types.specs.declared.integers.IntegerType.{IntegerType};
+ghost use Rattle.core_tree.specs.Trees.{items_of};
+ghost use Rattle.core_tree.specs.Typed.{are_typed_items};
+
+use crate::counting::{Counts, count};
+use crate::unrolling::unwind;
+use actions::Store;
+use c_profile::admit;
+use c_types::IntegerType;
+use core_tree::{Bounds, Core, CoreExpr, CoreItem, CoreStatement, Function, Name, Place};
+use goto_prog::{Code, Goto, Instruction, Operation};
+use std::alloc::{AllocError, Global};
+use std::test::*;
+
+// `char c; return c;`
+fn items(alloc: Global) -> Result<Vec<CoreItem>, AllocError>
+    ensures { IfOk result (λ items. are_typed_items (IntegerType.Char ∷ []) (items_of items.items) ≡ true) }
+{
+    let character = CoreExpr::Read {
+        place: Place::Variable {
+            line: 2,
+            type_: IntegerType::Char,
+            variable: 0,
+        },
+    };
+    let value = CoreExpr::Convert {
+        to: IntegerType::Int,
+        operand: Box::new(alloc, character)?,
+    };
+    let declaration = CoreItem::Declare {
+        line: 1,
+        variable: 0,
+    };
+    let statement = CoreStatement::Return { line: 2, value };
+    let items = vec![in alloc; declaration, CoreItem::Statement { statement }]?;
+    Ok(items)
+}
+
+// The file whose main has a character and this body.
+fn file(alloc: Global, items: Vec<CoreItem>) -> Result<Core, AllocError>
+    requires { are_typed_items (IntegerType.Char ∷ []) (items_of items.items) ≡ true }
+{
+    let bytes = Vec::from_slice(alloc, b"main".as_slice())?;
+    let variables = Vec::from_slice(alloc, &[IntegerType::Char])?;
+    let main = Function {
+        name: Name { bytes },
+        line: 1,
+        variables,
+        body: CoreStatement::Block { items },
+    };
+    let mut functions = Vec::with_capacity(alloc, 1)?;
+    functions.push(main)?;
+    Ok(Core::new(functions))
+}
+
+#[test]
+fn conversions_and_read_places_count(rt: HostRuntime) -> Result<(), Fail> {
+    let alloc = rt.alloc();
+    let bounds = Bounds::new(1, Vec::new(alloc), true, 1, false);
+    match admit(file(alloc, items(alloc)?)?) {
+        Ok(admitted) => {
+            // the block, the declaration, `return`, the conversion, the read and its place
+            let expected = Counts {
+                places: 6,
+                threads: 0,
+                actions: 0,
+                objects: 0,
+            };
+            assert_eq!(rt; count(alloc, &admitted, &bounds)?, expected);
+        }
+        Err(_) => assert!(rt; false),
+    }
+    Ok(())
+}
+
+fn empty(alloc: Global) -> Result<Code, AllocError> {
+    let exit = Instruction {
+        line: 1,
+        function: 0,
+        operation: Operation::Exit,
+    };
+    let instructions = vec![in alloc; exit]?;
+    let registers = Vec::new(alloc);
+    let blocks = Vec::new(alloc);
+    Ok(Code::new(registers, blocks, instructions, false))
+}
+
+#[test]
+fn code_without_loops_stays(rt: HostRuntime) -> Result<(), Fail> {
+    let alloc = rt.alloc();
+    let bounds = Bounds::new(1, Vec::new(alloc), true, 1, false);
+    let functions = vec![in alloc; empty(alloc)?]?;
+    let goto = Goto::new(functions, 0, Store::new(alloc));
+    match admit(file(alloc, items(alloc)?)?) {
+        Ok(admitted) => {
+            let unrolled = unwind(alloc, &admitted, &goto, &bounds)?;
+            assert!(rt; unrolled.main().instructions() == goto.main().instructions());
+        }
+        Err(_) => assert!(rt; false),
+    }
+    Ok(())
+}
