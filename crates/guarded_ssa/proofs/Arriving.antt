@@ -1,0 +1,94 @@
+-- Slots that arrive at places.
+use Rattle.std.proofs.Common.{◌≡◌, ℕ, zero, suc, ◌+◌, ◌<◌, ◌≤◌, List, [], ◌∷◌, length, map, get_or, Option, Some, None, refl, sym, ap, subst, ◌∙◌, arith}
+use Rattle.std.specs.Prelude.{slice_set, replicate}
+use Rattle.std.specs.List.{All}
+use Rattle.std.proofs.lemmas.List.{map-set, length-map, length-set}
+use Rattle.std.proofs.lemmas.List.Elements.{All-set, All-cons, All-nil, All-replicate}
+use Rattle.word_dag.specs.declared.nodes.Node.{Node}
+use Rattle.word_dag.specs.Growth.{Extends}
+use Rattle.goto_prog.specs.declared.code.Instruction.{Instruction}
+use Rattle.goto_prog.specs.Meaning.{Memory}
+use Rattle.goto_prog.specs.CodeThread.{Listing}
+use Rattle.guarded_ssa.specs.declared.slots.Slot.{Slot}
+use Rattle.guarded_ssa.specs.declared.pass.Pass.{Pass}
+use Rattle.guarded_ssa.specs.Ways.{Ways, either, arrived}
+use Rattle.guarded_ssa.specs.Forms.{FormIn, EventIn}
+use Rattle.guarded_ssa.specs.Reads.{Alike, AllAlike}
+use Rattle.guarded_ssa.specs.Held.{SlotIn, PendingIn, PassIn, Arrives, gone, way, ways}
+use Rattle.guarded_ssa.proofs.Needs.{all_alike_itself}
+use Rattle.guarded_ssa.proofs.Stays.{form_stays, all_pending_stay, ways_stay}
+
+set_set : {X : Type 0} (xs : List X) (n : ℕ) (x y : X) → slice_set (slice_set xs n x) n y ≡ slice_set xs n y
+set_set [] n x y = refl
+set_set (z ∷ xs) zero x y = refl
+set_set (z ∷ xs) (suc n) x y = ap (λ ys. z ∷ ys) (set_set xs n x y)
+
+-- one of the ways is changed into one that is like what arrives
+alike_set : (until : List ℕ) (p q n : ℕ) (ws : Ways) (x y z : Option Memory) → q ≡ p + n → n < length ws → Alike until q x (either y (get_or ws n z)) → AllAlike until p (slice_set ws n x) (arrived n y ws)
+alike_set until p q n [] x y z e lt h = absurd (omega (arith, lt))
+alike_set until p q zero (w ∷ ws) x y z e lt h = (let f : q ≡ p = omega (arith, e) in subst (λ k. Alike until k x (either y w)) f h, all_alike_itself until (suc p) ws)
+alike_set until p q (suc n) (w ∷ ws) x y z e lt h = (let same = all_alike_itself until p (w ∷ []) in same.0, alike_set until (suc p) q n ws x y z (omega (arith, e)) (omega (arith, lt)) h)
+
+past : (n : ℕ) (y : Option Memory) (ws : Ways) → length ws ≤ n → arrived n y ws ≡ ws
+past n y [] l = refl
+past zero y (w ∷ ws) l = absurd (omega (arith, l))
+past (suc n) y (w ∷ ws) l = ap (λ xs. w ∷ xs) (past n y ws (omega (arith, l)))
+
+way_at : (v : ℕ → ℕ) (d : List Node) (code : Listing) (pending : List (Option Slot)) (n : ℕ) (z : Option Slot) → n < length pending → get_or (ways v d code pending) n None ≡ way v d code (get_or pending n z)
+way_at v d code [] n z lt = absurd (omega (arith, lt))
+way_at v d code (s ∷ pending) zero z lt = refl
+way_at v d code (s ∷ pending) (suc n) z lt = way_at v d code pending n z (omega (arith, lt))
+
+pub arrives_there : (until : List ℕ) (code : Listing) (place q n : ℕ) (s t : Slot) (there z : Option Slot) (d e : List Node) (old new : Pass) → Extends d e → PassIn d code old → SlotIn e code t
+    → n < length old.pending.items → q ≡ place + 1 + n → there ≡ get_or old.pending.items n z
+    → ((v : ℕ → ℕ) → Alike until q (gone v e code t) (either (gone v d code s) (way v d code there)))
+    → new.events.items ≡ old.events.items → new.pending.items ≡ slice_set (slice_set old.pending.items n None) n (Some t) → Arrives until code place n s d e old new
+arrives_there until code place q n s t there z d e old new x within slot lt at is alike events pending =
+    let set : new.pending.items ≡ slice_set old.pending.items n (Some t) = pending ∙ set_set old.pending.items n None (Some t) in
+    record {
+      within = record {
+        events = subst (FormIn e) (sym events) (form_stays d e x old.events.items within.events);
+        pending = subst (All (PendingIn e code)) (sym set) (All-set (PendingIn e code) old.pending.items n (Some t) slot (all_pending_stay d e x code old.pending.items within.pending));
+      };
+      size = ap length set ∙ length-set old.pending.items n (Some t);
+      told = events;
+      leads = λ v.
+          let ws = ways v d code old.pending.items in
+          let same : ways v e code new.pending.items ≡ slice_set ws n (gone v e code t) =
+          ap (map (way v e code)) set ∙ map-set (way v e code) old.pending.items n (Some t) ∙ ap (λ xs. slice_set xs n (gone v e code t)) (ways_stay d e x v code old.pending.items within.pending) in
+          let there_way : get_or ws n None ≡ way v d code there = way_at v d code old.pending.items n z lt ∙ ap (way v d code) (sym is) in
+          let l : n < length ws = omega (arith, lt, length-map old.pending.items (way v d code)) in
+          let h : Alike until q (gone v e code t) (either (gone v d code s) (get_or ws n None)) = subst (λ w. Alike until q (gone v e code t) (either (gone v d code s) w)) (sym there_way) (alike v) in
+          subst (λ xs. AllAlike until (suc place) xs (arrived n (gone v d code s) ws)) (sym same) (alike_set until (suc place) q n ws (gone v e code t) (gone v d code s) None (omega (arith, at)) l h);
+    }
+
+pub arrives_past : (until : List ℕ) (code : Listing) (place n : ℕ) (s : Slot) (d : List Node) (old new : Pass) → PassIn d code old → length old.pending.items ≤ n
+    → new.events.items ≡ old.events.items → new.pending.items ≡ old.pending.items → Arrives until code place n s d d old new
+arrives_past until code place n s d old new within le events pending = record {
+  within = record { events = subst (FormIn d) (sym events) within.events; pending = subst (All (PendingIn d code)) (sym pending) within.pending };
+  size = ap length pending;
+  told = events;
+  leads = λ v.
+      let ws = ways v d code old.pending.items in
+      let l : length ws ≤ n = omega (arith, le, length-map old.pending.items (way v d code)) in
+      let same : ways v d code new.pending.items ≡ arrived n (gone v d code s) ws = ap (map (way v d code)) pending ∙ sym (past n (gone v d code s) ws l) in
+      subst (λ xs. AllAlike until (suc place) (ways v d code new.pending.items) xs) same (all_alike_itself until (suc place) (ways v d code new.pending.items));
+}
+
+-- ---- at the start
+
+pub start_in : (d : List Node) (code : Listing) (p : Pass) (s : Slot) (n : ℕ) → SlotIn d code s → p.events.items ≡ [] → p.pending.items ≡ Some s ∷ replicate n None → PassIn d code p
+start_in d code p s n slot none is = record {
+  events = subst (FormIn d) (sym none) (All-nil (EventIn d));
+  pending = subst (All (PendingIn d code)) (sym is) (All-cons (PendingIn d code) (Some s) (replicate n None) slot (All-replicate (PendingIn d code) n None tt));
+}
+
+no_ways : (v : ℕ → ℕ) (d : List Node) (code : Listing) (n : ℕ) → ways v d code (replicate n None) ≡ replicate n None
+no_ways v d code zero = refl
+no_ways v d code (suc n) = ap (λ ws. None ∷ ws) (no_ways v d code n)
+
+pub followed_ways : (v : ℕ → ℕ) (d : List Node) (code : Listing) (s : Slot) (m : Memory) (is own : List Instruction) (pending : List (Option Slot)) → gone v d code s ≡ Some m → is ≡ own → pending ≡ Some s ∷ replicate (length is) None
+    → ways v d code pending ≡ Some m ∷ replicate (length own) None
+followed_ways v d code s m is own pending first same e =
+    let rest = no_ways v d code (length is) ∙ ap (λ (xs : List Instruction). replicate {A = Option Memory} (length xs) None) same in
+    ap (ways v d code) e ∙ (λ k. first k ∷ rest k)

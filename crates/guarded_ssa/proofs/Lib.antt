@@ -1,0 +1,11 @@
+pub mod Telling
+pub mod Readings
+pub mod Valuations
+pub mod Needs
+pub mod Stays
+pub mod Merging
+pub mod Noting
+pub mod Arriving
+pub mod Passing
+pub mod Visiting
+pub mod Ranged

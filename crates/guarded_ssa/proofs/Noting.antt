@@ -1,0 +1,28 @@
+-- Registers that are noted as read.
+use Rattle.std.proofs.Common.{◌≡◌, ℕ, suc, ◌+◌, ◌<◌, List, [], ◌∷◌, ◌++◌, length, take, get_or, Option, Some, None, sym, subst, ◌∙◌, arith}
+use Rattle.std.proofs.lemmas.List.{take_more, length-take-le}
+use Rattle.goto_prog.specs.declared.code.Instruction.{Instruction}
+use Rattle.guarded_ssa.specs.Reads.{IsRead, AreRead, Covers, Later, first_read, second_read}
+
+read_later : (us ws : List ℕ) (p : ℕ) (r : Option ℕ) → Later us ws → IsRead us p r → IsRead ws p r
+read_later us ws p None l h = tt
+read_later us ws p (Some r) l h = λ lt. omega (arith, l.size, l.each r, h (omega (arith, lt, l.size)))
+
+covers_later : (us ws : List ℕ) (p : ℕ) (code : List Instruction) → Later us ws → Covers us p code → Covers ws p code
+covers_later us ws p [] l h = tt
+covers_later us ws p (i ∷ code) l h = ((read_later us ws p (first_read i.operation) l h.0.0, read_later us ws p (second_read i.operation) l h.0.1), covers_later us ws (suc p) code l h.1)
+
+covers_push : (us : List ℕ) (p q : ℕ) (code : List Instruction) (i : Instruction) → q ≡ p + length code → Covers us p code → AreRead us q i.operation → Covers us p (code ++ i ∷ [])
+covers_push us p q [] i e h k = (let f : q ≡ p = omega (arith, e) in subst (λ n. AreRead us n i.operation) f k, tt)
+covers_push us p q (j ∷ code) i e h k = (h.0, covers_push us (suc p) q code i (omega (arith, e)) h.1 k)
+
+later_more : (us ws xs : List ℕ) → Later us ws → Later ws xs → Later us xs
+later_more us ws xs h k = record { size = k.size ∙ h.size; each = λ r. omega (arith, h.each r, k.each r) }
+
+pub covers_more : (us ws xs : List ℕ) (k : ℕ) (code : List Instruction) (z : Instruction) (first second : Option ℕ) → k < length code → Later us ws → Later ws xs
+    → first ≡ first_read (get_or code k z).operation → second ≡ second_read (get_or code k z).operation → IsRead ws k first → IsRead xs k second
+    → Covers us 0 (take k code) → Covers xs 0 (take (k + 1) code)
+covers_more us ws xs k code z first second lt l m is is' one two h =
+    let i = get_or code k z in
+    let read : AreRead xs k i.operation = (subst (IsRead xs k) is (read_later ws xs k first m one), subst (IsRead xs k) is' two) in
+    subst (Covers xs 0) (sym (take_more code k z lt)) (covers_push xs 0 k (take k code) i (omega (arith, lt, length-take-le k code (omega (arith, lt)))) (covers_later us xs 0 (take k code) (later_more us ws xs l m) h) read)

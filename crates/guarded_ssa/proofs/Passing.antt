@@ -1,0 +1,392 @@
+-- What operations reached with a slot tell, and where they lead.
+use Rattle.std.proofs.Common.{◌≡◌, ℕ, zero, suc, ◌<◌, ◌^◌, nat_lt, Bool, true, false, List, [], ◌∷◌, ◌++◌, length, map, Option, Some, None, is_some, refl, sym, ap, subst, ◌∙◌, arith, append_assoc}
+use Rattle.std.specs.Prelude.{not, ◌&&◌, ◌==◌, if◌then◌else◌, slice_set, slice_index_or}
+use Rattle.std.specs.List.{All}
+use Rattle.std.proofs.lemmas.List.{map-set}
+use Rattle.std.proofs.lemmas.List.Elements.{All-push, All-set}
+use Rattle.words.specs.declared.check.Class.{Class}
+use Rattle.words.specs.declared.check.Class.TheVariants as classes
+use Rattle.words.specs.BitVector.{word}
+use Rattle.words.specs.Operators.{low_bits}
+use Rattle.actions.specs.declared.action.Action.TheVariants as actions
+use Rattle.actions.specs.declared.action.Answer.TheVariants as answers
+use Rattle.actions.specs.declared.action.Next.TheVariants.{Blocked, Broken}
+use Rattle.c_types.specs.declared.integers.IntegerType.{IntegerType}
+use Rattle.c_types.specs.declared.integers.IntegerType.TheVariants as types
+use Rattle.c_types.specs.Integers.{width as type_width, is_signed, same_integer}
+use Rattle.core_tree.specs.declared.operators.ArithmeticOperator.{ArithmeticOperator}
+use Rattle.core_tree.specs.declared.operators.ArithmeticOperator.TheVariants as arithmetics
+use Rattle.core_tree.specs.Operations.{unless, arithmetic_check}
+use Rattle.word_dag.specs.declared.nodes.Id.{Id}
+use Rattle.word_dag.specs.declared.nodes.Node.{Node}
+use Rattle.word_dag.specs.Meaning.{width, value, holds}
+use Rattle.word_dag.specs.Growth.{Within, Extends, Makes}
+use Rattle.word_dag.proofs.Grown.{extends_itself, extends_more, within_stays}
+use Rattle.value_nodes.specs.Values.{IsWord, IsTest}
+use Rattle.goto_prog.specs.declared.code.Condition.{Condition}
+use Rattle.goto_prog.specs.declared.code.Condition.TheVariants as checks
+use Rattle.goto_prog.specs.declared.code.Operation.{Operation}
+use Rattle.goto_prog.specs.declared.code.Operation.TheVariants as operations
+use Rattle.goto_prog.specs.Meaning.{Memory, register, with_register, check_class, calculated}
+use Rattle.goto_prog.specs.Fitting.{is_there, is_register, is_wide, is_ranged, is_block, check_fits, operation_fits}
+use Rattle.c_values.specs.Numbers.{are_operands_of}
+use Rattle.goto_prog.specs.CodeThread.{Listing}
+use Rattle.goto_prog.specs.Running.{is_calculation}
+use Rattle.guarded_ssa.specs.declared.forms.Event.{Event}
+use Rattle.guarded_ssa.specs.declared.forms.EventKind.TheVariants.{Draw, Exit, Check, Assume}
+use Rattle.guarded_ssa.specs.declared.slots.Slot.{Slot}
+use Rattle.guarded_ssa.specs.declared.pass.Pass.{Pass}
+use Rattle.guarded_ssa.specs.Ways.{Seen, asked, stopped, Ways, arrived, updated, kept, on, breaks, tells, leaves}
+use Rattle.guarded_ssa.specs.Forms.{IsBit, EventIn, FormIn, kind_seen, event_seen, seen}
+use Rattle.guarded_ssa.specs.Reads.{AllAlike}
+use Rattle.guarded_ssa.specs.Held.{AreWords, SlotIn, PendingIn, PassIn, Arrives, Tells, Passes, held, stored, gone, ways}
+use Rattle.guarded_ssa.specs.Results.{sets_register, into_of, result_of, class_of}
+use Rattle.guarded_ssa.proofs.Needs.{all_alike_itself, all_alike_more, arrived_alike, alike_itself}
+use Rattle.guarded_ssa.proofs.Stays.{slot_stays, gone_stays, seen_stays, ways_stay}
+use Rattle.std.proofs.lemmas.Bool.{false≢true}
+use Rattle.goto_prog.proofs.Registers.{both, test_below, same_widths}
+use Rattle.word_dag.specs.declared.nodes.Node.TheVariants.{Variable, ZeroExtend}
+use Rattle.guarded_ssa.proofs.Merging.{stored_set, same_storage, is_typed, holds_bit, if_true, if_false}
+
+-- ---- a slot with a register or a block set
+
+typed_set : (ts : List IntegerType) (r : ℕ) → r < length ts → slice_set (map type_width ts) r (type_width (slice_index_or ts r types.Int)) ≡ map type_width ts
+typed_set [] r lt = absurd (omega (arith, lt))
+typed_set (t ∷ ts) zero lt = refl
+typed_set (t ∷ ts) (suc r) lt = ap (λ ws. type_width t ∷ ws) (typed_set ts r (omega (arith, lt)))
+
+words_set : (d : List Node) (ts : List IntegerType) (ids : List Id) (r : ℕ) (id : Id) → AreWords d ts ids → Within d id → width d id ≡ type_width (slice_index_or ts r types.Int) → r < length ts → AreWords d ts (slice_set ids r id)
+words_set d ts ids r id words there wide lt = record {
+  there = All-set (Within d) ids r id there words.there;
+  widths = map-set (width d) ids r id ∙ (λ i. slice_set (words.widths i) r (wide i)) ∙ typed_set ts r lt;
+}
+
+updated_by : (b : Bool) (m n : Memory) (f : Memory → Memory) → n ≡ f m → (if b then Some n else None) ≡ updated f (if b then Some m else None)
+updated_by true m n f e = ap Some e
+updated_by false m n f e = refl
+
+pub put_in : (d : List Node) (code : Listing) (s t : Slot) (r : ℕ) (id : Id) → SlotIn d code s → is_there code.registers r ≡ true → IsWord d id (type_width (slice_index_or code.registers r types.Int))
+    → t.guard ≡ s.guard → t.registers.items ≡ slice_set s.registers.items r id → t.blocks.items ≡ s.blocks.items → SlotIn d code t
+put_in d code s t r id h there word g p q = record {
+  guard = subst (λ i. IsWord d i 1) (sym g) h.guard;
+  registers = subst (AreWords d code.registers) (sym p) (words_set d code.registers s.registers.items r id h.registers word.there word.width_is (test_below r (length code.registers) there));
+  blocks = subst (AreWords d code.blocks) (sym q) h.blocks;
+}
+
+pub put_gone : (v : ℕ → ℕ) (d : List Node) (code : Listing) (s t : Slot) (r : ℕ) (id : Id) → t.guard ≡ s.guard → t.registers.items ≡ slice_set s.registers.items r id → t.blocks.items ≡ s.blocks.items
+    → gone v d code t ≡ updated (λ m. with_register m r (value v d id)) (gone v d code s)
+put_gone v d code s t r id g p q =
+    let a = ap (map (value v d)) p ∙ map-set (value v d) s.registers.items r id in
+    let same : gone v d code t ≡ (if holds (value v d s.guard) then Some (with_register (held v d code s) r (value v d id)) else None) =
+    (λ i. if holds (value v d (g i)) then Some (record { registers = a i; blocks = stored code.blocks (map (value v d) (q i)) }) else None) in
+    same ∙ updated_by (holds (value v d s.guard)) (held v d code s) (with_register (held v d code s) r (value v d id)) (λ m. with_register m r (value v d id)) refl
+
+pub store_in : (d : List Node) (code : Listing) (s t : Slot) (b : ℕ) (type : IntegerType) (id : Id) → SlotIn d code s → is_register code.blocks b type ≡ true → IsWord d id (type_width type)
+    → t.guard ≡ s.guard → t.registers.items ≡ s.registers.items → t.blocks.items ≡ slice_set s.blocks.items b id → SlotIn d code t
+store_in d code s t b type id h there word g p q =
+    let parts = is_typed code.blocks b type there in
+    record {
+      guard = subst (λ i. IsWord d i 1) (sym g) h.guard;
+      registers = subst (AreWords d code.registers) (sym p) h.registers;
+      blocks = subst (AreWords d code.blocks) (sym q) (words_set d code.blocks s.blocks.items b id h.blocks word.there (word.width_is ∙ sym (same_widths (slice_index_or code.blocks b types.Int) type parts.1)) parts.0);
+    }
+
+pub store_gone : (v : ℕ → ℕ) (d : List Node) (code : Listing) (s t : Slot) (b operand : ℕ) (type : IntegerType) (id : Id) → is_register code.blocks b type ≡ true → value v d id ≡ register (held v d code s) operand
+    → t.guard ≡ s.guard → t.registers.items ≡ s.registers.items → t.blocks.items ≡ slice_set s.blocks.items b id → gone v d code t ≡ updated (calculated (operations.Store type b operand)) (gone v d code s)
+store_gone v d code s t b operand type id there is g p q =
+    let parts = is_typed code.blocks b type there in
+    let ws = map (value v d) s.blocks.items in
+    let a = ap (map (value v d)) q ∙ map-set (value v d) s.blocks.items b id ∙ ap (slice_set ws b) is in
+    let x = register (held v d code s) operand in
+    let c = ap (stored code.blocks) a ∙ stored_set code.blocks ws b x type (λ l. same_storage (slice_index_or code.blocks b types.Int) type parts.1) in
+    let n : Memory = calculated (operations.Store type b operand) (held v d code s) in
+    let same : gone v d code t ≡ (if holds (value v d s.guard) then Some n else None) =
+    (λ i. if holds (value v d (g i)) then Some (record { registers = map (value v d) (p i); blocks = c i }) else None) in
+    same ∙ updated_by (holds (value v d s.guard)) (held v d code s) n (calculated (operations.Store type b operand)) refl
+
+result_is : (o : Operation) (m : Memory) → sets_register o ≡ true → calculated o m ≡ with_register m (into_of o) (result_of o m)
+result_is (operations.Constant r bits) m h = refl
+result_is (operations.Copy r a) m h = refl
+result_is (operations.Load r t b) m h = refl
+result_is (operations.Convert r from to a) m h = refl
+result_is (operations.Sign r op t a) m h = refl
+result_is (operations.Arithmetic r op t u a b) m h = refl
+result_is (operations.Compare r op t a b) m h = refl
+result_is (operations.IsZero r a) m h = refl
+result_is _ m h = absurd (false≢true h)
+
+register_there : (rs : List IntegerType) (r : ℕ) (t : IntegerType) → is_register rs r t ≡ true → is_there rs r ≡ true
+register_there rs r t h = (both (is_there rs r) (same_integer (slice_index_or rs r types.Int) t) h).0
+
+pub into_there : (rs bs : List IntegerType) (o : Operation) → sets_register o ≡ true → operation_fits rs bs 0 o ≡ true → is_there rs (into_of o) ≡ true
+into_there rs bs (operations.Constant r bits) h fits = (both (is_there rs r) (nat_lt bits (2 ^ type_width (slice_index_or rs r types.Int))) fits).0
+into_there rs bs (operations.Copy r a) h fits = register_there rs r (slice_index_or rs a types.Int) (both (is_there rs a) (is_register rs r (slice_index_or rs a types.Int)) fits).1
+into_there rs bs (operations.Load r t b) h fits = register_there rs r t (both (is_register rs r t) (is_block bs b t) fits).0
+into_there rs bs (operations.Convert r from to a) h fits = register_there rs r to (both (is_register rs r to) (is_register rs a from) fits).0
+into_there rs bs (operations.Sign r op t a) h fits = register_there rs r t (both (is_register rs r t) (is_register rs a t) fits).0
+into_there rs bs (operations.Arithmetic r op t u a b) h fits =
+    let one = both (are_operands_of op t u && is_register rs r t && is_register rs a t) (is_register rs b u) fits in
+    let two = both (are_operands_of op t u && is_register rs r t) (is_register rs a t) one.0 in
+    let three = both (are_operands_of op t u) (is_register rs r t) two.0 in
+    register_there rs r t three.1
+into_there rs bs (operations.Compare r op t a b) h fits =
+    let one = both (is_register rs r types.Int && is_register rs a t) (is_register rs b t) fits in
+    register_there rs r types.Int (both (is_register rs r types.Int) (is_register rs a t) one.0).0
+into_there rs bs (operations.IsZero r a) h fits = register_there rs r types.Int (both (is_register rs r types.Int) (is_there rs a) fits).0
+into_there rs bs _ h fits = absurd (false≢true h)
+
+pub assigned_gone : (v : ℕ → ℕ) (d e : List Node) (code : Listing) (s t : Slot) (o : Operation) (r : ℕ) (id : Id) → Extends d e → SlotIn d code s → sets_register o ≡ true → r ≡ into_of o → value v e id ≡ result_of o (held v d code s)
+    → gone v e code t ≡ updated (λ m. with_register m r (value v e id)) (gone v e code s) → gone v e code t ≡ updated (calculated o) (gone v d code s)
+assigned_gone v d e code s t o r id x h sets is value_is so =
+    let m = held v d code s in
+    let b = holds (value v d s.guard) in
+    let a : updated (λ k. with_register k r (value v e id)) (gone v e code s) ≡ updated (λ k. with_register k (into_of o) (result_of o m)) (gone v d code s) =
+    (let w = gone_stays d e x v code s h in λ i. updated (λ k. with_register k (is i) (value_is i)) (w i)) in
+    so ∙ a ∙ sym (updated_by b m (with_register m (into_of o) (result_of o m)) (λ k. with_register k (into_of o) (result_of o m)) refl)
+    ∙ updated_by b m (with_register m (into_of o) (result_of o m)) (calculated o) (sym (result_is o m sets))
+
+-- ---- passing without an event
+
+leads_on : (o : Operation) → is_calculation o ≡ true → (v : ℕ → ℕ) (place : ℕ) (w : Option Memory) (ws : Ways) → leaves v place o w ws ≡ arrived 0 (updated (calculated o) w) ws
+leads_on (operations.Constant r bits) h v place w ws = refl
+leads_on (operations.Copy r a) h v place w ws = refl
+leads_on (operations.Load r t b) h v place w ws = refl
+leads_on (operations.Store t b a) h v place w ws = refl
+leads_on (operations.Convert r from to a) h v place w ws = refl
+leads_on (operations.Sign r op t a) h v place w ws = refl
+leads_on (operations.Arithmetic r op t u a b) h v place w ws = refl
+leads_on (operations.Compare r op t a b) h v place w ws = refl
+leads_on (operations.IsZero r a) h v place w ws = refl
+leads_on _ h v place w ws = absurd (false≢true h)
+
+silent : (o : Operation) → is_calculation o ≡ true → (v : ℕ → ℕ) (place line f : ℕ) (m : Memory) → tells v place line f o m ≡ []
+silent (operations.Constant r bits) h v place line f m = refl
+silent (operations.Copy r a) h v place line f m = refl
+silent (operations.Load r t b) h v place line f m = refl
+silent (operations.Store t b a) h v place line f m = refl
+silent (operations.Convert r from to a) h v place line f m = refl
+silent (operations.Sign r op t a) h v place line f m = refl
+silent (operations.Arithmetic r op t u a b) h v place line f m = refl
+silent (operations.Compare r op t a b) h v place line f m = refl
+silent (operations.IsZero r a) h v place line f m = refl
+silent _ h v place line f m = absurd (false≢true h)
+
+nothing_on : (w : Option Memory) (tell : Memory → List Seen) → ((m : Memory) → tell m ≡ []) → on w tell ≡ []
+nothing_on None tell h = refl
+nothing_on (Some m) tell h = h m
+
+pub append_nil : (xs : List Seen) → xs ++ [] ≡ xs
+append_nil [] = refl
+append_nil (x ∷ xs) = ap (λ ys. x ∷ ys) (append_nil xs)
+
+module _ (until : List ℕ) (code : Listing) (place line f : ℕ) (o : Operation) (d d1 e : List Node) (s s1 : Slot) (p q : Pass) (x : Extends d d1) (within : PassIn d code p) where
+  pub passes_by_slot : (n : ℕ) → Extends d1 e → ((v : ℕ → ℕ) (m : Memory) → tells v place line f o m ≡ []) → ((v : ℕ → ℕ) (ws : Ways) → leaves v place o (gone v d code s) ws ≡ arrived n (gone v d1 code s1) ws)
+      → Arrives until code place n s1 d1 e p q → Passes until code place line f o s d e p q
+  passes_by_slot n y none leads arrives = record {
+    within = arrives.within;
+    size = arrives.size;
+    told = λ v. ap (seen v e) arrives.told ∙ seen_stays d e (extends_more d d1 e x y) v p.events.items within.events ∙ sym (append_nil (seen v d p.events.items))
+        ∙ ap (λ ys. seen v d p.events.items ++ ys) (sym (nothing_on (gone v d code s) (tells v place line f o) (none v)));
+    leads = λ v. subst (AllAlike until (suc place) (ways v e code q.pending.items)) (ap (arrived n (gone v d1 code s1)) (ways_stay d d1 x v code p.pending.items within.pending) ∙ sym (leads v (ways v d code p.pending.items))) (arrives.leads v);
+  }
+
+  pub passes_by_event : (event : Event) → ((v : ℕ → ℕ) → event_seen v d1 event ≡ on (gone v d code s) (tells v place line f o)) → ((v : ℕ → ℕ) (ws : Ways) → leaves v place o (gone v d code s) ws ≡ arrived 0 (gone v d1 code s1) ws)
+      → Tells until code place event s1 d1 e p q → Passes until code place line f o s d e p q
+  passes_by_event event same leads tells_it = record {
+    within = tells_it.within;
+    size = tells_it.size;
+    told = λ v. let a = seen_stays d d1 x v p.events.items within.events in let b = same v in tells_it.told v ∙ (λ i. a i ++ b i);
+    leads = λ v. subst (AllAlike until (suc place) (ways v e code q.pending.items)) (ap (arrived 0 (gone v d1 code s1)) (ways_stay d d1 x v code p.pending.items within.pending) ∙ sym (leads v (ways v d code p.pending.items))) (tells_it.leads v);
+  }
+
+-- a slot goes on behind an operation that sets a register or a block
+pub passes_calculated : (until : List ℕ) (code : Listing) (place line f : ℕ) (o : Operation) (d d1 e : List Node) (s s1 : Slot) (p q : Pass) → Extends d d1 → PassIn d code p → Extends d1 e → is_calculation o ≡ true
+    → ((v : ℕ → ℕ) → gone v d1 code s1 ≡ updated (calculated o) (gone v d code s)) → Arrives until code place 0 s1 d1 e p q → Passes until code place line f o s d e p q
+passes_calculated until code place line f o d d1 e s s1 p q x within y calculation same arrives =
+    passes_by_slot until code place line f o d d1 e s s1 p q x within 0 y (λ v m. silent o calculation v place line f m) (λ v ws. leads_on o calculation v place (gone v d code s) ws ∙ ap (λ w. arrived 0 w ws) (sym (same v))) arrives
+
+pub passes_skip : (until : List ℕ) (code : Listing) (place line f n : ℕ) (d e : List Node) (s : Slot) (p q : Pass) → PassIn d code p → Extends d e → Arrives until code place n s d e p q → Passes until code place line f (operations.Skip n) s d e p q
+passes_skip until code place line f n d e s p q within y arrives =
+    passes_by_slot until code place line f (operations.Skip n) d d e s s p q (extends_itself d) within n y (λ v m. refl) (λ v ws. refl) arrives
+
+-- two slots go on
+pub passes_branch : (until : List ℕ) (code : Listing) (place line f a n : ℕ) (d d1 d2 e : List Node) (s first second : Slot) (p p1 q : Pass) → Extends d d1 → Extends d1 d2 → Extends d2 e → PassIn d code p → SlotIn d1 code first
+    → ((v : ℕ → ℕ) → gone v d1 code first ≡ kept (λ m. register m a == 0) (gone v d code s)) → ((v : ℕ → ℕ) → gone v d1 code second ≡ kept (λ m. not (register m a == 0)) (gone v d code s))
+    → Arrives until code place 0 second d1 d2 p p1 → Arrives until code place n first d2 e p1 q → Passes until code place line f (operations.SkipIfZero a n) s d e p q
+passes_branch until code place line f a n d d1 d2 e s first second p p1 q x y z within slot zero_is other_is one two = record {
+  within = two.within;
+  size = two.size ∙ one.size;
+  told = λ v. ap (seen v e) (two.told ∙ one.told) ∙ seen_stays d e (extends_more d d2 e (extends_more d d1 d2 x y) z) v p.events.items within.events ∙ sym (append_nil (seen v d p.events.items))
+      ∙ ap (λ ys. seen v d p.events.items ++ ys) (sym (nothing_on (gone v d code s) (tells v place line f (operations.SkipIfZero a n)) (λ m. refl)));
+  leads = λ v.
+      let w0 = kept (λ m. register m a == 0) (gone v d code s) in
+      let w1 = kept (λ m. not (register m a == 0)) (gone v d code s) in
+      let ws = ways v d code p.pending.items in
+      let g : gone v d2 code first ≡ w0 = gone_stays d1 d2 y v code first slot ∙ zero_is v in
+      let h : AllAlike until (suc place) (ways v d2 code p1.pending.items) (arrived 0 w1 ws) =
+      subst (AllAlike until (suc place) (ways v d2 code p1.pending.items)) (let a' = other_is v in let b' = ways_stay d d1 x v code p.pending.items within.pending in λ i. arrived 0 (a' i) (b' i)) (one.leads v) in
+      let k : AllAlike until (suc place) (ways v e code q.pending.items) (arrived n w0 (ways v d2 code p1.pending.items)) =
+      subst (λ w. AllAlike until (suc place) (ways v e code q.pending.items) (arrived n w (ways v d2 code p1.pending.items))) g (two.leads v) in
+      all_alike_more until (suc place) (ways v e code q.pending.items) (arrived n w0 (ways v d2 code p1.pending.items)) (arrived n w0 (arrived 0 w1 ws)) k
+      (arrived_alike until (suc place) n w0 w0 (ways v d2 code p1.pending.items) (arrived 0 w1 ws) (alike_itself until (suc place) w0) h);
+}
+
+-- ---- events
+
+seen_push : (v : ℕ → ℕ) (d : List Node) (es : List Event) (event : Event) → seen v d (es ++ event ∷ []) ≡ seen v d es ++ event_seen v d event
+seen_push v d [] event = append_nil (event_seen v d event)
+seen_push v d (e ∷ es) event = ap (λ ys. event_seen v d e ++ ys) (seen_push v d es event) ∙ sym (append_assoc (event_seen v d e) (seen v d es) (event_seen v d event))
+
+-- an event is told
+pub told_in : (d : List Node) (code : Listing) (p q : Pass) (event : Event) → PassIn d code p → EventIn d event → q.events.items ≡ p.events.items ++ event ∷ [] → q.pending.items ≡ p.pending.items → PassIn d code q
+told_in d code p q event within there events pending = record {
+  events = subst (FormIn d) (sym events) (All-push (EventIn d) p.events.items event within.events there);
+  pending = subst (All (PendingIn d code)) (sym pending) within.pending;
+}
+
+pub tells_one : (until : List ℕ) (code : Listing) (place : ℕ) (event : Event) (s : Slot) (d e : List Node) (p p1 q : Pass) → Extends d e → PassIn d code p1 → p1.events.items ≡ p.events.items ++ event ∷ [] → p1.pending.items ≡ p.pending.items
+    → Arrives until code place 0 s d e p1 q → Tells until code place event s d e p q
+tells_one until code place event s d e p p1 q x within events pending arrives = record {
+  within = arrives.within;
+  size = arrives.size ∙ ap length pending;
+  told = λ v. ap (seen v e) arrives.told ∙ seen_stays d e x v p1.events.items within.events ∙ ap (seen v d) events ∙ seen_push v d p.events.items event;
+  leads = λ v. subst (λ ps. AllAlike until (suc place) (ways v e code q.pending.items) (arrived 0 (gone v d code s) (ways v d code ps))) pending (arrives.leads v);
+}
+
+on_by : (b : Bool) (m : Memory) (tell : Memory → List Seen) (ks : List Seen) → ks ≡ tell m → (if b then ks else []) ≡ on (if b then Some m else None) tell
+on_by true m tell ks e = e
+on_by false m tell ks e = refl
+
+-- an event under the slot's guard
+pub event_by : (v : ℕ → ℕ) (d d1 : List Node) (code : Listing) (s : Slot) (event : Event) (tell : Memory → List Seen) → Extends d d1 → SlotIn d code s → event.guard ≡ s.guard
+    → kind_seen v d1 event.line event.function event.kind ≡ tell (held v d code s) → event_seen v d1 event ≡ on (gone v d code s) tell
+event_by v d d1 code s event tell x h g k =
+    let a = ap (value v d1) g ∙ x.value_stays v s.guard h.guard.there in
+    ap (λ n. if holds n then kind_seen v d1 event.line event.function event.kind else []) a ∙ on_by (holds (value v d s.guard)) (held v d code s) tell (kind_seen v d1 event.line event.function event.kind) k
+
+same_way : (w : Option Memory) → updated (λ m. m) w ≡ w
+same_way None = refl
+same_way (Some m) = refl
+
+-- ---- checks
+
+unless_class : (b : Bool) (c : Class) → unless b c ≡ (if is_some (unless b c) then Some c else None)
+unless_class true c = refl
+unless_class false c = refl
+
+quotient_class : (z b : Bool) (c k : Class) → (if z then None else (if z then Some k else unless b c)) ≡ (if is_some (if z then None else (if z then Some k else unless b c)) then Some c else None)
+quotient_class true b c k = refl
+quotient_class false b c k = unless_class b c
+
+range_class : (op : ArithmeticOperator) (t : IntegerType) (x y : ℕ) → is_ranged op ≡ true → arithmetic_check op t t x y ≡ (if is_some (arithmetic_check op t t x y) then Some classes.Overflow else None)
+range_class arithmetics.Multiply t x y h = unless_class _ classes.Overflow
+range_class arithmetics.Add t x y h = unless_class _ classes.Overflow
+range_class arithmetics.Subtract t x y h = unless_class _ classes.Overflow
+range_class _ t x y h = absurd (false≢true h)
+
+second_of_and : (a b : Bool) → (a && b) ≡ true → b ≡ true
+second_of_and true b h = h
+second_of_and false b h = absurd (false≢true h)
+
+first_of_and : (a b : Bool) → (a && b) ≡ true → a ≡ true
+first_of_and true b h = refl
+first_of_and false b h = h
+
+range_fits : (registers : List IntegerType) (op : ArithmeticOperator) (t : IntegerType) (a b : ℕ) → check_fits registers (checks.Range op t a b) ≡ true → is_ranged op ≡ true
+range_fits registers op t a b h =
+    let pairs = first_of_and (is_signed t && is_ranged op && is_register registers a t) (is_wide registers b t) h in
+    second_of_and (is_signed t) (is_ranged op) (first_of_and (is_signed t && is_ranged op) (is_register registers a t) pairs)
+
+one_class : (registers : List IntegerType) (c : Condition) (m : Memory) → check_fits registers c ≡ true → check_class c m ≡ (if is_some (check_class c m) then Some (class_of c) else None)
+one_class registers (checks.Divisor b) m h = unless_class _ classes.Division
+one_class registers (checks.Quotient t a b) m h = quotient_class (register m b == 0) _ classes.Overflow classes.Division
+one_class registers (checks.Range op t a b) m h = range_class op t (register m a) (register m b) (range_fits registers op t a b h)
+one_class registers (checks.Negation t a) m h = unless_class _ classes.Overflow
+one_class registers (checks.Count t u count) m h = unless_class _ classes.Shift
+one_class registers (checks.LeftShift t u a count) m h = unless_class _ classes.Shift
+
+breaks_by : (c : Option Class) (k : Class) (b : Bool) (line f : ℕ) → c ≡ (if is_some c then Some k else None) → b ≡ is_some c → (if b then stopped (Broken k line f) ∷ [] else []) ≡ breaks c line f
+breaks_by None k b line f e h = if_false b (stopped (Broken k line f) ∷ []) [] h
+breaks_by (Some c) k b line f e h = let same : c ≡ k = cc in if_true b (stopped (Broken k line f) ∷ []) [] h ∙ ap (λ x. stopped (Broken x line f) ∷ []) (sym same)
+
+test_holds : (v : ℕ → ℕ) (d : List Node) (i : Id) (f : (ℕ → ℕ) → Bool) → IsTest d i f → holds (value v d i) ≡ f v
+test_holds v d i f made = ap holds (made.value_is v) ∙ holds_bit (f v)
+
+module _ (until : List ℕ) (code : Listing) (place line f : ℕ) (d d1 e : List Node) (s : Slot) (p q : Pass) (x : Extends d d1) (within : PassIn d code p) (slot : SlotIn d code s) where
+  goes_same : (v : ℕ → ℕ) (ws : Ways) → arrived 0 (updated (λ m. m) (gone v d code s)) ws ≡ arrived 0 (gone v d1 code s) ws
+  goes_same v ws = ap (λ w. arrived 0 w ws) (same_way (gone v d code s) ∙ sym (gone_stays d d1 x v code s slot))
+
+  pub passes_checked : (c : Condition) (failing : Id) (class : Class) → IsTest d1 failing (λ v. is_some (check_class c (held v d code s))) → check_fits code.registers c ≡ true → class ≡ class_of c
+      → Tells until code place (record { guard = s.guard; line = line; function = f; kind = Check class failing }) s d1 e p q → Passes until code place line f (operations.Check c) s d e p q
+  passes_checked c failing class made fits is tells_it =
+      passes_by_event until code place line f (operations.Check c) d d1 e s s p q x within (record { guard = s.guard; line = line; function = f; kind = Check class failing })
+      (λ v. let m = held v d code s in
+      event_by v d d1 code s (record { guard = s.guard; line = line; function = f; kind = Check class failing }) (tells v place line f (operations.Check c)) x slot refl
+      (ap (λ k. if holds (value v d1 failing) then stopped (Broken k line f) ∷ [] else []) is ∙ breaks_by (check_class c m) (class_of c) (holds (value v d1 failing)) line f (one_class code.registers c m fits) (test_holds v d1 failing _ made)))
+      goes_same tells_it
+
+  zero_is : (v : ℕ → ℕ) (a : ℕ) (node failing : Id) → IsTest d1 failing (λ v. value v d node == 0) → value v d node ≡ register (held v d code s) a → holds (value v d1 failing) ≡ (register (held v d code s) a == 0)
+  zero_is v a node failing made is = test_holds v d1 failing _ made ∙ ap (λ n. n == 0) is
+
+  pub passes_asserted : (a : ℕ) (node failing : Id) → IsTest d1 failing (λ v. value v d node == 0) → ((v : ℕ → ℕ) → value v d node ≡ register (held v d code s) a)
+      → Tells until code place (record { guard = s.guard; line = line; function = f; kind = Check classes.Assertion failing }) s d1 e p q → Passes until code place line f (operations.Assert a) s d e p q
+  passes_asserted a node failing made is tells_it =
+      passes_by_event until code place line f (operations.Assert a) d d1 e s s p q x within (record { guard = s.guard; line = line; function = f; kind = Check classes.Assertion failing })
+      (λ v. event_by v d d1 code s (record { guard = s.guard; line = line; function = f; kind = Check classes.Assertion failing }) (tells v place line f (operations.Assert a)) x slot refl
+      (ap (λ b. if b then stopped (Broken classes.Assertion line f) ∷ [] else []) (zero_is v a node failing made (is v))))
+      goes_same tells_it
+
+  pub passes_assumed : (a : ℕ) (node failing : Id) → IsTest d1 failing (λ v. value v d node == 0) → ((v : ℕ → ℕ) → value v d node ≡ register (held v d code s) a)
+      → Tells until code place (record { guard = s.guard; line = line; function = f; kind = Assume failing }) s d1 e p q → Passes until code place line f (operations.Assume a) s d e p q
+  passes_assumed a node failing made is tells_it =
+      passes_by_event until code place line f (operations.Assume a) d d1 e s s p q x within (record { guard = s.guard; line = line; function = f; kind = Assume failing })
+      (λ v. event_by v d d1 code s (record { guard = s.guard; line = line; function = f; kind = Assume failing }) (tells v place line f (operations.Assume a)) x slot refl
+      (ap (λ b. if b then stopped Blocked ∷ [] else []) (zero_is v a node failing made (is v))))
+      goes_same tells_it
+
+bit_of_word : (d : List Node) (i : Id) → IsWord d i 1 → IsBit d i
+bit_of_word d i h = record { there = h.there; width_is = h.width_is }
+
+pub failing_in : (d d1 : List Node) (code : Listing) (s : Slot) (failing : Id) (line f : ℕ) (class : Class) (t : (ℕ → ℕ) → Bool) → Extends d d1 → SlotIn d code s → IsTest d1 failing t → EventIn d1 (record { guard = s.guard; line = line; function = f; kind = Check class failing })
+failing_in d d1 code s failing line f class t x h made = record { guard = bit_of_word d1 s.guard (slot_stays d d1 x code s h).guard; kind = record { there = made.there; width_is = made.width_is } }
+
+pub assumed_in : (d d1 : List Node) (code : Listing) (s : Slot) (failing : Id) (line f : ℕ) (t : (ℕ → ℕ) → Bool) → Extends d d1 → SlotIn d code s → IsTest d1 failing t → EventIn d1 (record { guard = s.guard; line = line; function = f; kind = Assume failing })
+assumed_in d d1 code s failing line f t x h made = record { guard = bit_of_word d1 s.guard (slot_stays d d1 x code s h).guard; kind = record { there = made.there; width_is = made.width_is } }
+
+-- ---- draws and exits
+
+pub draw_in : (d d1 d2 : List Node) (code : Listing) (s : Slot) (answer : Id) (place line f bits : ℕ) → Extends d d1 → Extends d1 d2 → SlotIn d code s → Makes d d1 (Variable place bits) answer
+    → EventIn d2 (record { guard = s.guard; line = line; function = f; kind = Draw bits answer })
+draw_in d d1 d2 code s answer place line f bits x y h made = record {
+  guard = bit_of_word d2 s.guard (slot_stays d d2 (extends_more d d1 d2 x y) code s h).guard;
+  kind = (within_stays d1 d2 answer y made.there, y.width_stays answer made.there ∙ made.width_is);
+}
+
+pub passes_draw : (until : List ℕ) (code : Listing) (place line f r bits w : ℕ) (d d1 d2 e : List Node) (s next : Slot) (answer result : Id) (p q : Pass) → Extends d d1 → Extends d1 d2 → PassIn d code p → SlotIn d code s
+    → Makes d d1 (Variable place bits) answer → Makes d1 d2 (ZeroExtend answer w) result → ((v : ℕ → ℕ) → gone v d2 code next ≡ updated (λ m. with_register m r (value v d2 result)) (gone v d2 code s))
+    → Tells until code place (record { guard = s.guard; line = line; function = f; kind = Draw bits answer }) next d2 e p q → Passes until code place line f (operations.Draw r bits) s d e p q
+passes_draw until code place line f r bits w d d1 d2 e s next answer result p q x y within slot made wide gone_is tells_it =
+    let z = extends_more d d1 d2 x y in
+    passes_by_event until code place line f (operations.Draw r bits) d d2 e s next p q z within (record { guard = s.guard; line = line; function = f; kind = Draw bits answer })
+    (λ v. event_by v d d2 code s (record { guard = s.guard; line = line; function = f; kind = Draw bits answer }) (tells v place line f (operations.Draw r bits)) z slot refl
+    (ap (λ n. asked (actions.Draw bits) line f (answers.Word (word bits n)) ∷ []) (y.value_stays v answer made.there ∙ made.value_is v)))
+    (λ v ws.
+    let n : value v d2 result ≡ low_bits bits (v place) = wide.value_is v ∙ made.value_is v in
+    let g = gone_stays d d2 z v code s slot in
+    ap (λ w'. arrived 0 w' ws) (sym (gone_is v ∙ (λ i. updated (λ m. with_register m r (n i)) (g i)))))
+    tells_it
+
+pub exit_in : (d : List Node) (code : Listing) (s : Slot) (line f : ℕ) → SlotIn d code s → EventIn d (record { guard = s.guard; line = line; function = f; kind = Exit })
+exit_in d code s line f h = record { guard = bit_of_word d s.guard h.guard; kind = tt }
+
+pub passes_exit : (until : List ℕ) (code : Listing) (place line f : ℕ) (d : List Node) (s : Slot) (p q : Pass) → PassIn d code p → SlotIn d code s
+    → q.events.items ≡ p.events.items ++ record { guard = s.guard; line = line; function = f; kind = Exit } ∷ [] → q.pending.items ≡ p.pending.items → Passes until code place line f operations.Exit s d d p q
+passes_exit until code place line f d s p q within slot events pending =
+    let event : Event = record { guard = s.guard; line = line; function = f; kind = Exit } in
+    record {
+      within = told_in d code p q event within (exit_in d code s line f slot) events pending;
+      size = ap length pending;
+      told = λ v. ap (seen v d) events ∙ seen_push v d p.events.items event
+          ∙ ap (λ ys. seen v d p.events.items ++ ys) (event_by v d d code s event (tells v place line f operations.Exit) (extends_itself d) slot refl refl);
+      leads = λ v. subst (AllAlike until (suc place) (ways v d code q.pending.items)) (ap (ways v d code) pending) (all_alike_itself until (suc place) (ways v d code q.pending.items));
+    }

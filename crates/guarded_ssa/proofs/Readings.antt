@@ -1,0 +1,85 @@
+-- Two readings of code whose asks and ends are related give related meanings at each place.
+use Rattle.std.proofs.Common.{ℕ, zero, suc, Bool, true, false, List, [], ◌∷◌, Option, Some, None}
+use Rattle.std.specs.Prelude.{◌==◌, if◌then◌else◌}
+use Rattle.words.specs.declared.check.Class.{Class}
+use Rattle.words.specs.declared.check.Class.TheVariants as classes
+use Rattle.actions.specs.Behaviour.{word_64}
+use Rattle.actions.specs.declared.action.Action.TheVariants as actions
+use Rattle.actions.specs.declared.action.Answer.{Answer}
+use Rattle.actions.specs.declared.action.Next.{Next}
+use Rattle.actions.specs.declared.action.Next.TheVariants.{Act, Ended, Blocked, Broken}
+use Rattle.goto_prog.specs.declared.code.Operation.{Operation}
+use Rattle.goto_prog.specs.declared.code.Operation.TheVariants as operations
+use Rattle.goto_prog.specs.declared.code.Instruction.{Instruction}
+use Rattle.goto_prog.specs.Meaning.{Memory, Reading, register, with_register, word_of, check_class, at, or_else, operates, places, does, calculated}
+
+-- nothing is done next
+abbrev pub IsEnd : Next → Type 0
+IsEnd (Act action line f) = ⊥
+IsEnd (Ended v) = Unit {0}
+IsEnd Blocked = Unit {0}
+IsEnd (Broken class line f) = Unit {0}
+
+module _ {R S : Type 0} (o : Reading R) (q : Reading S) (T : ℕ → R → S → Type 0)
+    (lower : (p : ℕ) (r : R) (s : S) → T (suc p) r s → T p r s)
+    (stops : (p : ℕ) (end : Next) → IsEnd end → T p (o.stop end) (q.stop end))
+    (draws : (p bits line f : ℕ) (g : Answer → R) (h : Answer → S) → ((a : Answer) → T (suc p) (g a) (h a)) → T p (o.ask (actions.Draw bits) line f p g) (q.ask (actions.Draw bits) line f p h))
+    (exits : (p line f : ℕ) (g : Answer → R) (h : Answer → S) → ((a : Answer) → T (suc p) (g a) (h a)) → T p (o.ask actions.Exit line f p g) (q.ask actions.Exit line f p h)) where
+  abbrev AllRelated : ℕ → List (Memory → R) → List (Memory → S) → Type 0
+  AllRelated p [] [] = Unit {0}
+  AllRelated p [] (s ∷ ss) = ⊥
+  AllRelated p (r ∷ rs) [] = ⊥
+  AllRelated p (r ∷ rs) (s ∷ ss) = ((m : Memory) → T p (r m) (s m)) × AllRelated p rs ss
+
+  all_lower : (p : ℕ) (rs : List (Memory → R)) (ss : List (Memory → S)) → AllRelated (suc p) rs ss → AllRelated p rs ss
+  all_lower p [] [] h = tt
+  all_lower p [] (s ∷ ss) h = h
+  all_lower p (r ∷ rs) [] h = h
+  all_lower p (r ∷ rs) (s ∷ ss) h = ((λ m. lower p (r m) (s m) (h.0 m)), all_lower p rs ss h.1)
+
+  at_related : (p : ℕ) (rs : List (Memory → R)) (ss : List (Memory → S)) (n : ℕ) (m : Memory) → AllRelated p rs ss → T p (at o rs n m) (at q ss n m)
+  at_related p [] [] n m h = stops p (Ended (word_64 0)) tt
+  at_related p [] (s ∷ ss) n m h = absurd h
+  at_related p (r ∷ rs) [] n m h = absurd h
+  at_related p (r ∷ rs) (s ∷ ss) zero m h = h.0 m
+  at_related p (r ∷ rs) (s ∷ ss) (suc n) m h = at_related p rs ss n m h.1
+
+  or_related : (p : ℕ) (c : Option Class) (line f : ℕ) (r : R) (s : S) → T p r s → T p (or_else o c line f r) (or_else q c line f s)
+  or_related p None line f r s h = h
+  or_related p (Some c) line f r s h = stops p (Broken c line f) tt
+
+  choice_related : (p : ℕ) (b : Bool) (r r' : R) (s s' : S) → T p r s → T p r' s' → T p (if b then r else r') (if b then s else s')
+  choice_related p true r r' s s' h k = h
+  choice_related p false r r' s s' h k = k
+
+  module _ (p : ℕ) (rs : List (Memory → R)) (ss : List (Memory → S)) (h : AllRelated (suc p) rs ss) where
+    goes : (n : ℕ) (m : Memory) → T p (at o rs n m) (at q ss n m)
+    goes n m = at_related p rs ss n m (all_lower p rs ss h)
+
+    operation_related : (line f : ℕ) (op : Operation) (m : Memory) → T p (operates o false p line f op rs m) (operates q false p line f op ss m)
+    operation_related line f (operations.Constant r bits) m = goes 0 (calculated (operations.Constant r bits) m)
+    operation_related line f (operations.Copy r a) m = goes 0 (calculated (operations.Copy r a) m)
+    operation_related line f (operations.Load r t b) m = goes 0 (calculated (operations.Load r t b) m)
+    operation_related line f (operations.Store t b a) m = goes 0 (calculated (operations.Store t b a) m)
+    operation_related line f (operations.Convert r t u a) m = goes 0 (calculated (operations.Convert r t u a) m)
+    operation_related line f (operations.Sign r op t a) m = goes 0 (calculated (operations.Sign r op t a) m)
+    operation_related line f (operations.Arithmetic r op t u a b) m = goes 0 (calculated (operations.Arithmetic r op t u a b) m)
+    operation_related line f (operations.Compare r op t a b) m = goes 0 (calculated (operations.Compare r op t a b) m)
+    operation_related line f (operations.IsZero r a) m = goes 0 (calculated (operations.IsZero r a) m)
+    operation_related line f (operations.Skip n) m = goes n m
+    operation_related line f (operations.SkipIfZero a n) m = choice_related p (register m a == 0) _ _ _ _ (goes n m) (goes 0 m)
+    operation_related line f (operations.Check c) m = or_related p (check_class c m) line f _ _ (goes 0 m)
+    operation_related line f (operations.Assert a) m = choice_related p (register m a == 0) _ _ _ _ (stops p (Broken classes.Assertion line f) tt) (goes 0 m)
+    operation_related line f (operations.Assume a) m = choice_related p (register m a == 0) _ _ _ _ (stops p Blocked tt) (goes 0 m)
+    operation_related line f (operations.Draw r bits) m =
+        draws p bits line f (λ a. at o rs 0 (with_register m r (word_of a))) (λ a. at q ss 0 (with_register m r (word_of a))) (λ a. at_related (suc p) rs ss 0 (with_register m r (word_of a)) h)
+    operation_related line f operations.Exit m = exits p line f (λ a. o.stop (Ended (word_64 0))) (λ a. q.stop (Ended (word_64 0))) (λ a. stops (suc p) (Ended (word_64 0)) tt)
+
+  places_related : (p : ℕ) (code : List Instruction) → AllRelated p (places o false p code) (places q false p code)
+  places_related p [] = tt
+  places_related p (i ∷ code) =
+      let rest = places_related (suc p) code in
+      ((λ m. operation_related p (places o false (suc p) code) (places q false (suc p) code) rest i.line i.function i.operation m), all_lower p (places o false (suc p) code) (places q false (suc p) code) rest)
+
+  pub does_related : (p : ℕ) (code : List Instruction) (m : Memory) → T p (does o false p code m) (does q false p code m)
+  does_related p code m = at_related p (places o false p code) (places q false p code) 0 m (places_related p code)

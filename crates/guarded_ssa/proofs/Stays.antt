@@ -1,0 +1,103 @@
+-- What a valuation sees stays in a graph that has grown.
+use Rattle.std.proofs.Common.{◌≡◌, ℕ, List, [], ◌∷◌, ◌++◌, Option, Some, None, refl, ap, ◌∙◌}
+use Rattle.std.specs.Prelude.{if◌then◌else◌}
+use Rattle.std.specs.List.{All}
+use Rattle.std.proofs.lemmas.List.Elements.{All-head, All-tail, All-weaker}
+use Rattle.words.specs.BitVector.{word}
+use Rattle.actions.specs.declared.action.Action.TheVariants as actions
+use Rattle.actions.specs.declared.action.Answer.TheVariants as answers
+use Rattle.actions.specs.declared.action.Next.TheVariants.{Blocked, Broken}
+use Rattle.c_types.specs.declared.integers.IntegerType.{IntegerType}
+use Rattle.word_dag.specs.declared.nodes.Id.{Id}
+use Rattle.word_dag.specs.declared.nodes.Node.{Node}
+use Rattle.word_dag.specs.Meaning.{holds}
+use Rattle.word_dag.specs.Growth.{Extends}
+use Rattle.word_dag.proofs.Grown.{within_stays, all_within_stays, map_stays, map_widths_stay}
+use Rattle.value_nodes.specs.Values.{IsWord}
+use Rattle.goto_prog.specs.CodeThread.{Listing}
+use Rattle.guarded_ssa.specs.declared.forms.Event.{Event}
+use Rattle.guarded_ssa.specs.declared.forms.EventKind.{EventKind}
+use Rattle.guarded_ssa.specs.declared.forms.EventKind.TheVariants.{Draw, Exit, Check, Assume}
+use Rattle.guarded_ssa.specs.declared.slots.Slot.{Slot}
+use Rattle.guarded_ssa.specs.declared.pass.Pass.{Pass}
+use Rattle.guarded_ssa.specs.Ways.{asked, stopped}
+use Rattle.guarded_ssa.specs.Forms.{IsBit, KindIn, EventIn, FormIn, kind_seen, event_seen, seen}
+use Rattle.guarded_ssa.specs.Held.{AreWords, SlotIn, PendingIn, PassIn, stored, gone, way, ways}
+
+module _ (d e : List Node) (x : Extends d e) where
+  pub word_stays : (i : Id) (w : ℕ) → IsWord d i w → IsWord e i w
+  word_stays i w h = record { there = within_stays d e i x h.there; width_is = x.width_stays i h.there ∙ h.width_is }
+
+  pub words_stay : (types : List IntegerType) (ids : List Id) → AreWords d types ids → AreWords e types ids
+  words_stay types ids h = record { there = all_within_stays d e ids x h.there; widths = map_widths_stay d e ids x h.there ∙ h.widths }
+
+  pub slot_stays : (code : Listing) (s : Slot) → SlotIn d code s → SlotIn e code s
+  slot_stays code s h = record {
+    guard = word_stays s.guard 1 h.guard;
+    registers = words_stay code.registers s.registers.items h.registers;
+    blocks = words_stay code.blocks s.blocks.items h.blocks;
+  }
+
+  pub gone_stays : (v : ℕ → ℕ) (code : Listing) (s : Slot) → SlotIn d code s → gone v e code s ≡ gone v d code s
+  gone_stays v code s h =
+      let p = x.value_stays v s.guard h.guard.there in
+      let q = map_stays v d e s.registers.items x h.registers.there in
+      let r = map_stays v d e s.blocks.items x h.blocks.there in
+      λ i. if holds (p i) then Some (record { registers = q i; blocks = stored code.blocks (r i) }) else None
+
+  pending_stays : (code : Listing) (s : Option Slot) → PendingIn d code s → PendingIn e code s
+  pending_stays code None h = tt
+  pending_stays code (Some s) h = slot_stays code s h
+
+  way_stays : (v : ℕ → ℕ) (code : Listing) (s : Option Slot) → PendingIn d code s → way v e code s ≡ way v d code s
+  way_stays v code None h = refl
+  way_stays v code (Some s) h = gone_stays v code s h
+
+  pub ways_stay : (v : ℕ → ℕ) (code : Listing) (pending : List (Option Slot)) → All (PendingIn d code) pending → ways v e code pending ≡ ways v d code pending
+  ways_stay v code [] h = refl
+  ways_stay v code (s ∷ pending) h =
+      let p = way_stays v code s (All-head (PendingIn d code) s pending h) in
+      let q = ways_stay v code pending (All-tail (PendingIn d code) s pending h) in
+      λ i. p i ∷ q i
+
+  pub all_pending_stay : (code : Listing) (pending : List (Option Slot)) → All (PendingIn d code) pending → All (PendingIn e code) pending
+  all_pending_stay code pending h = All-weaker (PendingIn d code) (PendingIn e code) (λ s k. pending_stays code s k) pending h
+
+  -- ---- events
+
+  bit_stays : (i : Id) → IsBit d i → IsBit e i
+  bit_stays i h = record { there = within_stays d e i x h.there; width_is = x.width_stays i h.there ∙ h.width_is }
+
+  kind_stays : (k : EventKind) → KindIn d k → KindIn e k
+  kind_stays (Draw bits answer) h = (within_stays d e answer x h.0, x.width_stays answer h.0 ∙ h.1)
+  kind_stays Exit h = tt
+  kind_stays (Check class failing) h = bit_stays failing h
+  kind_stays (Assume failing) h = bit_stays failing h
+
+  event_in_stays : (event : Event) → EventIn d event → EventIn e event
+  event_in_stays event h = record { guard = bit_stays event.guard h.guard; kind = kind_stays event.kind h.kind }
+
+  pub form_stays : (es : List Event) → FormIn d es → FormIn e es
+  form_stays es h = All-weaker (EventIn d) (EventIn e) event_in_stays es h
+
+  kind_seen_stays : (v : ℕ → ℕ) (line f : ℕ) (k : EventKind) → KindIn d k → kind_seen v e line f k ≡ kind_seen v d line f k
+  kind_seen_stays v line f (Draw bits answer) h = ap (λ n. asked (actions.Draw bits) line f (answers.Word (word bits n)) ∷ []) (x.value_stays v answer h.0)
+  kind_seen_stays v line f Exit h = refl
+  kind_seen_stays v line f (Check class failing) h = ap (λ n. if holds n then stopped (Broken class line f) ∷ [] else []) (x.value_stays v failing h.there)
+  kind_seen_stays v line f (Assume failing) h = ap (λ n. if holds n then stopped Blocked ∷ [] else []) (x.value_stays v failing h.there)
+
+  event_stays : (v : ℕ → ℕ) (event : Event) → EventIn d event → event_seen v e event ≡ event_seen v d event
+  event_stays v event h =
+      let p = x.value_stays v event.guard h.guard.there in
+      let q = kind_seen_stays v event.line event.function event.kind h.kind in
+      λ i. if holds (p i) then q i else []
+
+  pub seen_stays : (v : ℕ → ℕ) (es : List Event) → FormIn d es → seen v e es ≡ seen v d es
+  seen_stays v [] h = refl
+  seen_stays v (event ∷ es) h =
+      let p = event_stays v event (All-head (EventIn d) event es h) in
+      let q = seen_stays v es (All-tail (EventIn d) event es h) in
+      λ i. p i ++ q i
+
+  pub pass_stays : (code : Listing) (p : Pass) → PassIn d code p → PassIn e code p
+  pass_stays code p h = record { events = form_stays p.events.items h.events; pending = all_pending_stay code p.pending.items h.pending }

@@ -1,0 +1,148 @@
+-- A pass over all of the code.
+use Rattle.std.proofs.Common.{◌≡◌, ℕ, zero, suc, ◌+◌, ◌<◌, ◌≤◌, true, false, List, [], ◌∷◌, ◌++◌, length, drop, get_or, Option, Some, None, refl, sym, ap, subst, ◌∙◌, arith, append_assoc}
+use Rattle.std.specs.Prelude.{replicate}
+use Rattle.std.specs.Prelude.{slice_get}
+use Rattle.std.proofs.Math.Seq.{drop-cons}
+use Rattle.std.proofs.lemmas.List.{length-map}
+use Rattle.std.proofs.lemmas.Option.{slice_get-get_or}
+use Rattle.goto_prog.specs.Fitting.{code_fits, operation_fits}
+use Rattle.goto_prog.proofs.Stepping.{fits_at}
+use Rattle.std.proofs.lemmas.List.Elements.{All-head, All-tail, All-same}
+use Rattle.actions.specs.Behaviour.{word_64}
+use Rattle.actions.specs.declared.action.Next.TheVariants.{Ended}
+use Rattle.word_dag.specs.declared.nodes.Node.{Node}
+use Rattle.goto_prog.specs.declared.code.Instruction.{Instruction}
+use Rattle.goto_prog.specs.Meaning.{Memory, does, places}
+use Rattle.goto_prog.specs.Threads.{behaving}
+use Rattle.goto_prog.specs.CodeThread.{Listing}
+use Rattle.guarded_ssa.specs.declared.forms.Event.{Event}
+use Rattle.guarded_ssa.specs.declared.slots.Slot.{Slot}
+use Rattle.guarded_ssa.specs.declared.pass.Pass.{Pass}
+use Rattle.guarded_ssa.specs.Runs.{stops, running}
+use Rattle.guarded_ssa.specs.Ways.{Ways, read, on, tells, told}
+use Rattle.guarded_ssa.specs.Forms.{FormIn, IsForm, AreForms, seen}
+use Rattle.guarded_ssa.specs.Reads.{Covers}
+use Rattle.guarded_ssa.specs.Held.{SlotIn, PendingIn, PassIn, Passes, Visits, gone, way, ways}
+use Rattle.guarded_ssa.proofs.Telling.{Nowhere, remaining, leaves_none, tells_all}
+use Rattle.guarded_ssa.proofs.Needs.{told_step}
+use Rattle.guarded_ssa.proofs.Valuations.{is_form}
+use Rattle.guarded_ssa.proofs.Passing.{append_nil}
+
+-- a place that is reached with a slot
+pub visits_slot : (until : List ℕ) (code : Listing) (place : ℕ) (i : Instruction) (d e : List Node) (p p1 q : Pass) (s : Slot) → p.pending.items ≡ Some s ∷ p1.pending.items → p1.events.items ≡ p.events.items
+    → Passes until code place i.line i.function i.operation s d e p1 q → Visits until code place i d e p q
+visits_slot until code place i d e p p1 q s pending events passes = record {
+  within = passes.within;
+  size = ap suc passes.size ∙ ap length (sym pending);
+  goes = λ v rest covers.
+      let w = gone v d code s in
+      let ws = ways v d code p1.pending.items in
+      let xs = ways v e code q.pending.items in
+      let before = seen v d p1.events.items in
+      let told_here = on w (tells v place i.line i.function i.operation) in
+      let step : told_here ++ told v (suc place) rest xs ≡ told v place (i ∷ rest) (w ∷ ws) = told_step until v place i rest w ws xs covers (passes.leads v) in
+      ap (λ ys. ys ++ told v (suc place) rest xs) (passes.told v) ∙ append_assoc before told_here (told v (suc place) rest xs) ∙ ap (λ ys. before ++ ys) step
+      ∙ (let a = ap (seen v d) events in let b = ap (λ ps. told v place (i ∷ rest) (ways v d code ps)) (sym pending) in λ k. a k ++ b k);
+}
+
+-- one that isn't
+pub visits_none : (until : List ℕ) (code : Listing) (place : ℕ) (i : Instruction) (d : List Node) (p q : Pass) → PassIn d code q → p.pending.items ≡ None ∷ q.pending.items → q.events.items ≡ p.events.items → Visits until code place i d d p q
+visits_none until code place i d p q within pending events = record {
+  within = within;
+  size = ap length (sym pending);
+  goes = λ v rest covers.
+      let ws = ways v d code q.pending.items in
+      let a = ap (seen v d) events in
+      let b : told v (suc place) rest ws ≡ told v place (i ∷ rest) (None ∷ ws) = ap (told v (suc place) rest) (sym (leaves_none v place i.operation ws)) in
+      let c = ap (λ ps. told v place (i ∷ rest) (ways v d code ps)) (sym pending) in
+      λ k. a k ++ ((b ∙ c) k);
+}
+
+-- what is left once the first is taken
+pub popped_in : (d : List Node) (code : Listing) (p q : Pass) (first : Option Slot) → PassIn d code p → p.pending.items ≡ first ∷ q.pending.items → q.events.items ≡ p.events.items → PassIn d code q
+popped_in d code p q first within pending events = record {
+  events = subst (FormIn d) (sym events) within.events;
+  pending = All-tail (PendingIn d code) first q.pending.items (All-same (PendingIn d code) (first ∷ q.pending.items) p.pending.items (sym pending) within.pending);
+}
+
+pub popped_first : (d : List Node) (code : Listing) (p q : Pass) (s : Slot) → PassIn d code p → p.pending.items ≡ Some s ∷ q.pending.items → SlotIn d code s
+popped_first d code p q s within pending =
+    All-head (PendingIn d code) (Some s) q.pending.items (All-same (PendingIn d code) (Some s ∷ q.pending.items) p.pending.items (sym pending) within.pending)
+
+-- ---- all of it
+
+covers_drop : (until : List ℕ) (p k q : ℕ) (code : List Instruction) → q ≡ p + k → Covers until p code → Covers until q (drop k code)
+covers_drop until p zero q code e h = (let f : q ≡ p = omega (arith, e) in subst (λ n. Covers until n code) (sym f) h)
+covers_drop until p (suc k) q [] e h = tt
+covers_drop until p (suc k) q (i ∷ code) e h = covers_drop until (suc p) k q code (omega (arith, e)) h.1
+
+pub visited : (until : List ℕ) (code : Listing) (place : ℕ) (z : Instruction) (all : (ℕ → ℕ) → Ways) (d e : List Node) (p q : Pass) → place < length code.instructions → Covers until 0 code.instructions
+    → Visits until code place (get_or code.instructions place z) d e p q
+    → ((v : ℕ → ℕ) → seen v d p.events.items ++ told v place (drop place code.instructions) (ways v d code p.pending.items) ≡ told v 0 code.instructions (all v))
+    → (v : ℕ → ℕ) → seen v e q.events.items ++ told v (place + 1) (drop (place + 1) code.instructions) (ways v e code q.pending.items) ≡ told v 0 code.instructions (all v)
+visited until code place z all d e p q lt covers visits so v =
+    let i = get_or code.instructions place z in
+    let rest = drop (suc place) code.instructions in
+    let n : place + 1 ≡ suc place = omega arith in
+    let front : drop place code.instructions ≡ i ∷ rest = drop-cons code.instructions place z lt in
+    ap (λ m. seen v e q.events.items ++ told v m (drop m code.instructions) (ways v e code q.pending.items)) n
+    ∙ visits.goes v rest (covers_drop until 0 (suc place) (suc place) code.instructions (omega arith) covers)
+    ∙ ap (λ xs. seen v d p.events.items ++ told v place xs (ways v d code p.pending.items)) (sym front) ∙ so v
+
+drop_all : (n : ℕ) (xs : List Instruction) → length xs ≤ n → drop n xs ≡ []
+drop_all zero [] l = refl
+drop_all zero (x ∷ xs) l = absurd (omega (arith, l))
+drop_all (suc n) [] l = refl
+drop_all (suc n) (x ∷ xs) l = drop_all n xs (omega (arith, l))
+
+pub visited_all : (code : Listing) (place : ℕ) (all : (ℕ → ℕ) → Ways) (d : List Node) (p : Pass) → length code.instructions ≤ place
+    → ((v : ℕ → ℕ) → seen v d p.events.items ++ told v place (drop place code.instructions) (ways v d code p.pending.items) ≡ told v 0 code.instructions (all v))
+    → (v : ℕ → ℕ) → seen v d p.events.items ≡ told v 0 code.instructions (all v)
+visited_all code place all d p le so v =
+    sym (ap (λ xs. seen v d p.events.items ++ told v place xs (ways v d code p.pending.items)) (drop_all place code.instructions le) ∙ append_nil (seen v d p.events.items)) ∙ so v
+
+pub visited_none : (code : Listing) (all : (ℕ → ℕ) → Ways) (d : List Node) (p : Pass) → p.events.items ≡ [] → ((v : ℕ → ℕ) → ways v d code p.pending.items ≡ all v)
+    → (v : ℕ → ℕ) → seen v d p.events.items ++ told v 0 code.instructions (ways v d code p.pending.items) ≡ told v 0 code.instructions (all v)
+visited_none code all d p none same v = let a = ap (seen v d) none in let b = same v in λ i. a i ++ told v 0 code.instructions (b i)
+
+-- ---- the form
+
+nowhere_none : (n : ℕ) → Nowhere (replicate n None)
+nowhere_none zero = tt
+nowhere_none (suc n) = nowhere_none n
+
+length_none : (n : ℕ) → length (replicate {A = Option Memory} n None) ≡ n
+length_none zero = refl
+length_none (suc n) = ap suc (length_none n)
+
+first_run : (v : ℕ → ℕ) (code : List Instruction) (m : Memory) (ws : Ways) → remaining (Some m ∷ ws) (places (running v) false 0 code) ≡ does (running v) false 0 code m
+first_run v [] m ws = refl
+first_run v (i ∷ code) m ws = refl
+
+pub form_of : (d : List Node) (es : List Event) (code : List Instruction) (m : Memory) → ((v : ℕ → ℕ) → seen v d es ≡ told v 0 code (Some m ∷ replicate (length code) None)) → IsForm (does behaving false 0 code m) d es
+form_of d es code m same =
+    is_form d es code m (λ v.
+    let ws = Some m ∷ replicate (length code) None in
+    ap (λ xs. read xs (stops (Ended (word_64 0)))) (same v) ∙ tells_all v code 0 ws (nowhere_none (length code)) (omega (arith, length_none (length code))) ∙ first_run v code m (replicate (length code) None))
+
+pub one_form : (d : List Node) (g : List (List Event)) (es : List Event) (code : Listing) (m : Memory) → g ≡ es ∷ [] → FormIn d es → ((v : ℕ → ℕ) → seen v d es ≡ told v 0 code.instructions (Some m ∷ replicate (length code.instructions) None))
+    → AreForms (does behaving false 0 code.instructions m) d g
+one_form d g es code m is within same = subst (AreForms (does behaving false 0 code.instructions m) d) (sym is) (form_of d es code.instructions m same, within)
+
+pub start_size : (d : List Node) (code : Listing) (pending : List (Option Slot)) (m : Memory) (n : ℕ) → ((v : ℕ → ℕ) → ways v d code pending ≡ Some m ∷ replicate n None) → length pending + 0 ≡ n + 1
+start_size d code pending m n is =
+    let v : ℕ → ℕ = λ x. 0 in
+    omega (arith, length-map pending (way v d code), ap length (is v), length_none n)
+
+pub fits_in : (code own : Listing) (is : List Instruction) (place : ℕ) (z : Instruction) → own ≡ code → is ≡ code.instructions → code_fits code.registers code.blocks code.instructions ≡ true → place < length is
+    → operation_fits own.registers own.blocks (length (drop (place + 1) own.instructions)) (get_or is place z).operation ≡ true
+fits_in code own is place z same same_is fits lt =
+    let Fits : Listing → Type 0 = λ k. operation_fits k.registers k.blocks (length (drop (place + 1) k.instructions)) (get_or is place z).operation ≡ true in
+    let there : place < length code.instructions = subst (λ (xs : List Instruction). place < length xs) same_is lt in
+    let found : slice_get code.instructions place ≡ Some (get_or is place z) = slice_get-get_or code.instructions place z there ∙ ap (λ (xs : List Instruction). Some (get_or xs place z)) (sym same_is) in
+    subst Fits (sym same) (fits_at code.registers code.blocks code.instructions place (get_or is place z) fits found)
+
+pub visits_own : (until : List ℕ) (code own : Listing) (is : List Instruction) (place : ℕ) (z : Instruction) (d e : List Node) (p q : Pass) → own ≡ code → is ≡ code.instructions → Visits until own place (get_or is place z) d e p q
+    → Visits until code place (get_or code.instructions place z) d e p q
+visits_own until code own is place z d e p q same same_is visits =
+    subst (λ (xs : List Instruction). Visits until code place (get_or xs place z) d e p q) same_is (subst (λ k. Visits until k place (get_or is place z) d e p q) same visits)

@@ -1,0 +1,32 @@
+use Rattle.std.proofs.Common.{◌∷◌, ◌<◌, List, subst, arith, length, Some, None}
+use Rattle.std.specs.Prelude.{replicate}
+use Rattle.word_dag.proofs.Grown.{extends_more}
+use Rattle.goto_prog.specs.declared.code.Instruction.{Instruction}
+use Rattle.goto_prog.specs.declared.code.Operation.TheVariants as operations
+use Rattle.goto_prog.specs.CodeThread.{first_memory}
+use Rattle.guarded_ssa.proofs.Visiting.{start_size, fits_in, visits_own, visited, visited_none}
+use Rattle.guarded_ssa.proofs.forming.events_of.Goals as goal
+
+pub loop-place-init : goal.loop-place-init
+loop-place-init c = record {
+  extends = c.start.ensures.extends;
+  within = c.in_ok-pass.ensures.within;
+  size = start_size c.start.new.dag c.args.code.now c.in_ok-pass.pass.pending.items (first_memory c.args.code.now) (length c.args.code.now.instructions) c.in_ok-pass.ensures.ways;
+  goes = visited_none c.args.code.now (λ v. Some (first_memory c.args.code.now) ∷ replicate (length c.args.code.now.instructions) None) c.start.new.dag c.in_ok-pass.pass c.in_ok-pass.ensures.events c.in_ok-pass.ensures.ways;
+}
+
+pub visit-requires-clause-fits : goal.visit-requires-clause-fits
+visit-requires-clause-fits c = fits_in c.args.code.now _ _ _ _ c.in_ok-plan.ensures.code c.instructions-instructions.ensures.is c.instructions-instructions.ensures.fits c.loop-place-test.true
+
+pub loop-place-preserved : goal.loop-place-preserved
+loop-place-preserved c =
+    let z : Instruction = record { line = 0; function = 0; operation = operations.Constant 0 0 } in
+    let visits = visits_own c.in_ok-plan.plan.until.items c.args.code.now c.in_ok-plan.plan.code.now c.instructions-instructions.result.now c.loop-place.place z c.loop-place.dag c.visit.new.dag c.loop-place.pass c.visit.new.self
+    c.in_ok-plan.ensures.code c.instructions-instructions.ensures.is c.in_ok-visit.ensures.visits in
+    record {
+      extends = extends_more _ _ _ c.loop-place.invariant.extends c.visit.ensures.extends;
+      within = visits.within;
+      size = omega (arith, visits.size, c.loop-place.invariant.size);
+      goes = visited c.in_ok-plan.plan.until.items c.args.code.now c.loop-place.place z (λ v. Some (first_memory c.args.code.now) ∷ replicate (length c.args.code.now.instructions) None) c.loop-place.dag c.visit.new.dag c.loop-place.pass c.visit.new.self
+          (subst (λ (xs : List Instruction). c.loop-place.place < length xs) c.instructions-instructions.ensures.is c.loop-place-test.true) c.in_ok-plan.ensures.covers visits c.loop-place.invariant.goes;
+    }

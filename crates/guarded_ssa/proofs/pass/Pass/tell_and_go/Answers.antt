@@ -1,0 +1,7 @@
+use Rattle.guarded_ssa.proofs.Passing.{tells_one, told_in}
+use Rattle.guarded_ssa.proofs.pass.Pass.tell_and_go.Goals as goal
+
+pub returns-clause-tells : goal.returns-clause-tells
+returns-clause-tells c =
+    tells_one _ _ _ _ c.args.slot _ _ c.args.self.now c.tell.new.self _ c.arrive.ensures.extends (told_in _ _ c.args.self.now c.tell.new.self _ c.requires.within c.requires.event c.in_ok-tell.ensures.events c.tell.ensures.pending)
+    c.in_ok-tell.ensures.events c.tell.ensures.pending c.in_ok-arrive.ensures.arrives

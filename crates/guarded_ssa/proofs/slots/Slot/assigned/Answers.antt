@@ -1,0 +1,10 @@
+use Rattle.guarded_ssa.proofs.Stays.{slot_stays}
+use Rattle.guarded_ssa.proofs.Passing.{assigned_gone}
+use Rattle.guarded_ssa.proofs.slots.Slot.assigned.Goals as goal
+
+pub put-requires-clause-within : goal.put-requires-clause-within
+put-requires-clause-within c = slot_stays _ _ c.result.ensures.extends _ _ c.requires.within
+
+pub returns-clause-gone : goal.returns-clause-gone
+returns-clause-gone c = λ v.
+    assigned_gone v c.args.dag.now c.result.new.dag c.args.plan.now.code.now c.args.self c.put.result c.args.operation c.into_of-into.result c.in_ok-id.id c.result.ensures.extends c.requires.within c.requires.sets c.into_of-into.ensures (c.in_ok-id.ensures.made.value_is v) (c.put.ensures.gone v)

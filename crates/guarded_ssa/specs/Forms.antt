@@ -1,0 +1,80 @@
+-- What guarded events tell under a valuation of the variables, and which thread they are a form of.
+use Rattle.std.specs.Prelude.{◌≡◌, ℕ, List, [], ◌∷◌, ◌++◌, All, if◌then◌else◌}
+use Rattle.words.specs.BitVector.{word}
+use Rattle.actions.specs.Behaviour.{Behaviour, word_64}
+use Rattle.actions.specs.LocalRun.{Exchange, IsLocalRun}
+use Rattle.actions.specs.declared.action.Action.TheVariants as actions
+use Rattle.actions.specs.declared.action.Answer.TheVariants as answers
+use Rattle.actions.specs.declared.action.Next.{Next}
+use Rattle.actions.specs.declared.action.Next.TheVariants.{Act, Ended, Blocked, Broken}
+use Rattle.word_dag.specs.declared.nodes.Id.{Id}
+use Rattle.word_dag.specs.declared.nodes.Node.{Node}
+use Rattle.word_dag.specs.Meaning.{width, value, holds}
+use Rattle.word_dag.specs.Growth.{Within}
+use Rattle.guarded_ssa.specs.declared.forms.Event.{Event}
+use Rattle.guarded_ssa.specs.declared.forms.EventKind.{EventKind}
+use Rattle.guarded_ssa.specs.declared.forms.EventKind.TheVariants.{Draw, Exit, Check, Assume}
+use Rattle.guarded_ssa.specs.Runs.{Run, stops, asks}
+use Rattle.guarded_ssa.specs.Ways.{Seen, asked, stopped, read}
+
+-- ---- under one valuation
+
+-- where the guard is true
+abbrev pub kind_seen : (ℕ → ℕ) → List Node → (line function : ℕ) → EventKind → List Seen
+kind_seen v d line f (Draw bits answer) = asked (actions.Draw bits) line f (answers.Word (word bits (value v d answer))) ∷ []
+kind_seen v d line f Exit = asked actions.Exit line f answers.Done ∷ stopped (Ended (word_64 0)) ∷ []
+kind_seen v d line f (Check class failing) = if holds (value v d failing) then stopped (Broken class line f) ∷ [] else []
+kind_seen v d line f (Assume failing) = if holds (value v d failing) then stopped Blocked ∷ [] else []
+
+abbrev pub event_seen : (ℕ → ℕ) → List Node → Event → List Seen
+event_seen v d e = if holds (value v d e.guard) then kind_seen v d e.line e.function e.kind else []
+
+abbrev pub seen : (ℕ → ℕ) → List Node → List Event → List Seen
+seen v d [] = []
+seen v d (e ∷ es) = event_seen v d e ++ seen v d es
+
+-- the run that the events tell; a thread that tells no end has ended with 0
+abbrev pub run_read : (ℕ → ℕ) → List Node → List Event → Run
+run_read v d es = read (seen v d es) (stops (Ended (word_64 0)))
+
+-- ---- under all
+
+-- the run begins with these exchanges, and this is what is next
+abbrev pub Begins : List Exchange → Next → Run → Type 0
+Begins [] next (stops end) = end ≡ next
+Begins [] next (asks action line f answer rest) = Act action line f ≡ next
+Begins (x ∷ run) next (stops end) = ⊥
+Begins (x ∷ run) next (asks action line f answer rest) =
+    (x.action ≡ action) × (x.line ≡ line) × (x.function ≡ f) × (x.answer ≡ answer) × Begins run next rest
+
+-- the run of each valuation, stopped anywhere, is a local run of the thread, and each local run is that of a valuation
+pub record IsForm (b : Behaviour) (d : List Node) (es : List Event) : Type 0 where
+  pub gives : (v : ℕ → ℕ) (run : List Exchange) (next : Next) → Begins run next (run_read v d es) → IsLocalRun b run next
+  pub has : (run : List Exchange) (next : Next) → IsLocalRun b run next → (v : ℕ → ℕ) × Begins run next (run_read v d es)
+
+-- ---- the nodes of events
+
+-- a node that is a truth value
+pub record IsBit (d : List Node) (i : Id) : Type 0 where
+  pub there : Within d i
+  pub width_is : width d i ≡ 1
+
+abbrev pub KindIn : List Node → EventKind → Type 0
+KindIn d (Draw bits answer) = Within d answer × (width d answer ≡ bits)
+KindIn d Exit = Unit {0}
+KindIn d (Check class failing) = IsBit d failing
+KindIn d (Assume failing) = IsBit d failing
+
+pub record EventIn (d : List Node) (e : Event) : Type 0 where
+  pub guard : IsBit d e.guard
+  pub kind : KindIn d e.kind
+
+-- each node that an event names is one of the graph, of the right width
+abbrev pub FormIn : List Node → List Event → Type 0
+FormIn d es = All (EventIn d) es
+
+-- one form, of thread 0
+abbrev pub AreForms : Behaviour → List Node → List (List Event) → Type 0
+AreForms b d [] = ⊥
+AreForms b d (es ∷ []) = IsForm b d es × FormIn d es
+AreForms b d (es ∷ (more ∷ others)) = ⊥

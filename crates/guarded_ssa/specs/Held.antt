@@ -1,0 +1,110 @@
+-- What the nodes of a slot hold under a valuation.
+use Rattle.std.specs.Prelude.{◌≡◌, length, ℕ, suc, List, [], ◌∷◌, ◌++◌, Option, Some, None, map, All, nat_lt, if◌then◌else◌}
+use Rattle.std.specs.Int.{to_le_bytes}
+use Rattle.c_types.specs.declared.integers.IntegerType.{IntegerType}
+use Rattle.c_types.specs.Integers.{width as type_width}
+use Rattle.c_values.specs.Variables.{Variables, storage}
+use Rattle.word_dag.specs.declared.nodes.Id.{Id}
+use Rattle.word_dag.specs.declared.nodes.Node.{Node}
+use Rattle.word_dag.specs.Meaning.{width, value, holds}
+use Rattle.word_dag.specs.Growth.{Within}
+use Rattle.value_nodes.specs.Values.{IsWord}
+use Rattle.goto_prog.specs.Meaning.{Memory}
+use Rattle.goto_prog.specs.CodeThread.{Listing}
+use Rattle.guarded_ssa.specs.declared.slots.Slot.{Slot}
+use Rattle.guarded_ssa.specs.declared.forms.Event.{Event}
+use Rattle.guarded_ssa.specs.declared.pass.Pass.{Pass}
+use Rattle.goto_prog.specs.declared.code.Operation.{Operation}
+use Rattle.goto_prog.specs.declared.code.Instruction.{Instruction}
+use Rattle.guarded_ssa.specs.Ways.{arrived, on, tells, leaves, told}
+use Rattle.guarded_ssa.specs.Reads.{AllAlike, Covers}
+use Rattle.guarded_ssa.specs.Forms.{FormIn, event_seen, seen}
+
+-- a node for each of these types, of its width
+pub record AreWords (d : List Node) (types : List IntegerType) (ids : List Id) : Type 0 where
+  pub there : All (Within d) ids
+  pub widths : map (width d) ids ≡ map type_width types
+
+-- and each is 0
+pub record AreZeros (d : List Node) (types : List IntegerType) (ids : List Id) : Type 0 where
+  pub words : AreWords d types ids
+  pub zero : (v : ℕ → ℕ) → map (value v d) ids ≡ map (λ t. 0) types
+
+-- the blocks of these types with these words
+abbrev pub stored : List IntegerType → List ℕ → Variables
+stored [] words = []
+stored (t ∷ types) [] = []
+stored (t ∷ types) (w ∷ words) = to_le_bytes (storage t) w ∷ stored types words
+
+module _ (v : ℕ → ℕ) (d : List Node) (code : Listing) where
+  abbrev pub held : Slot → Memory
+  held s = record { registers = map (value v d) s.registers.items; blocks = stored code.blocks (map (value v d) s.blocks.items) }
+
+  -- the memory with which the slot is reached, if it is
+  abbrev pub gone : Slot → Option Memory
+  gone s = if holds (value v d s.guard) then Some (held s) else None
+
+  abbrev pub way : Option Slot → Option Memory
+  way None = None
+  way (Some s) = gone s
+
+  abbrev pub ways : List (Option Slot) → List (Option Memory)
+  ways pending = map way pending
+
+pub record SlotIn (d : List Node) (code : Listing) (s : Slot) : Type 0 where
+  pub guard : IsWord d s.guard 1
+  pub registers : AreWords d code.registers s.registers.items
+  pub blocks : AreWords d code.blocks s.blocks.items
+
+abbrev pub PendingIn : List Node → Listing → Option Slot → Type 0
+PendingIn d code None = Unit {0}
+PendingIn d code (Some s) = SlotIn d code s
+
+-- ---- where ways meet
+
+-- the second, but the first where the register isn't needed at the place
+abbrev pub needed : {X : Type 0} → List ℕ → ℕ → List X → List X → List X
+needed [] place xs ys = []
+needed (u ∷ until) place [] ys = []
+needed (u ∷ until) place (x ∷ xs) [] = []
+needed (u ∷ until) place (x ∷ xs) (y ∷ ys) = (if nat_lt place u then y else x) ∷ needed until place xs ys
+
+-- the first words where the test is true, else the second
+pub record Joined (d e : List Node) (test : Id) (first second ids : List Id) : Type 0 where
+  pub there : All (Within e) ids
+  pub widths : map (width e) ids ≡ map (width d) first
+  pub values : (v : ℕ → ℕ) → map (value v e) ids ≡ (if holds (value v d test) then map (value v d) first else map (value v d) second)
+
+-- ---- a pass over code
+
+pub record PassIn (d : List Node) (code : Listing) (p : Pass) : Type 0 where
+  pub events : FormIn d p.events.items
+  pub pending : All (PendingIn d code) p.pending.items
+
+-- a slot has arrived n places behind the next
+pub record Arrives (until : List ℕ) (code : Listing) (place n : ℕ) (s : Slot) (d e : List Node) (p q : Pass) : Type 0 where
+  pub within : PassIn e code q
+  pub size : length q.pending.items ≡ length p.pending.items
+  pub told : q.events.items ≡ p.events.items
+  pub leads : (v : ℕ → ℕ) → AllAlike until (suc place) (ways v e code q.pending.items) (arrived n (gone v d code s) (ways v d code p.pending.items))
+
+-- an event is told, and a slot has arrived at the next place
+pub record Tells (until : List ℕ) (code : Listing) (place : ℕ) (event : Event) (s : Slot) (d e : List Node) (p q : Pass) : Type 0 where
+  pub within : PassIn e code q
+  pub size : length q.pending.items ≡ length p.pending.items
+  pub told : (v : ℕ → ℕ) → seen v e q.events.items ≡ seen v d p.events.items ++ event_seen v d event
+  pub leads : (v : ℕ → ℕ) → AllAlike until (suc place) (ways v e code q.pending.items) (arrived 0 (gone v d code s) (ways v d code p.pending.items))
+
+-- an operation reached with a slot has told its events, and has led to other places
+pub record Passes (until : List ℕ) (code : Listing) (place line function : ℕ) (o : Operation) (s : Slot) (d e : List Node) (p q : Pass) : Type 0 where
+  pub within : PassIn e code q
+  pub size : length q.pending.items ≡ length p.pending.items
+  pub told : (v : ℕ → ℕ) → seen v e q.events.items ≡ seen v d p.events.items ++ on (gone v d code s) (tells v place line function o)
+  pub leads : (v : ℕ → ℕ) → AllAlike until (suc place) (ways v e code q.pending.items) (leaves v place o (gone v d code s) (ways v d code p.pending.items))
+
+-- an instruction has been passed over: what the events and the rest of the code tell is the same as before it
+pub record Visits (until : List ℕ) (code : Listing) (place : ℕ) (i : Instruction) (d e : List Node) (p q : Pass) : Type 0 where
+  pub within : PassIn e code q
+  pub size : suc (length q.pending.items) ≡ length p.pending.items
+  pub goes : (v : ℕ → ℕ) (rest : List Instruction) → Covers until (suc place) rest
+      → seen v e q.events.items ++ told v (suc place) rest (ways v e code q.pending.items) ≡ seen v d p.events.items ++ told v place (i ∷ rest) (ways v d code p.pending.items)

@@ -1,0 +1,6 @@
+pub mod Runs
+pub mod Ways
+pub mod Forms
+pub mod Reads
+pub mod Held
+pub mod Results

@@ -1,0 +1,101 @@
+-- Which registers operations read, and how long a register is needed.
+use Rattle.std.specs.Prelude.{◌≡◌, ℕ, suc, ◌<◌, ◌≤◌, List, [], ◌∷◌, Option, Some, None, slice_index, length}
+use Rattle.goto_prog.specs.declared.code.Condition.{Condition}
+use Rattle.goto_prog.specs.declared.code.Condition.TheVariants as checks
+use Rattle.goto_prog.specs.declared.code.Operation.{Operation}
+use Rattle.goto_prog.specs.declared.code.Operation.TheVariants as operations
+use Rattle.goto_prog.specs.declared.code.Instruction.{Instruction}
+use Rattle.goto_prog.specs.Meaning.{Memory, register}
+
+-- ---- the registers that are read, two at most
+
+abbrev pub first_checked : Condition → Option ℕ
+first_checked (checks.Divisor b) = Some b
+first_checked (checks.Quotient t a b) = Some a
+first_checked (checks.Range op t a b) = Some a
+first_checked (checks.Negation t a) = Some a
+first_checked (checks.Count t u count) = Some count
+first_checked (checks.LeftShift t u a count) = Some a
+
+abbrev pub second_checked : Condition → Option ℕ
+second_checked (checks.Divisor b) = None
+second_checked (checks.Quotient t a b) = Some b
+second_checked (checks.Range op t a b) = Some b
+second_checked (checks.Negation t a) = None
+second_checked (checks.Count t u count) = None
+second_checked (checks.LeftShift t u a count) = Some count
+
+abbrev pub first_read : Operation → Option ℕ
+first_read (operations.Constant r bits) = None
+first_read (operations.Copy r a) = Some a
+first_read (operations.Load r t b) = None
+first_read (operations.Store t b a) = Some a
+first_read (operations.Convert r from to a) = Some a
+first_read (operations.Sign r op t a) = Some a
+first_read (operations.Arithmetic r op t u a b) = Some a
+first_read (operations.Compare r op t a b) = Some a
+first_read (operations.IsZero r a) = Some a
+first_read (operations.Skip n) = None
+first_read (operations.SkipIfZero a n) = Some a
+first_read (operations.Check c) = first_checked c
+first_read (operations.Assert a) = Some a
+first_read (operations.Assume a) = Some a
+first_read (operations.Draw r bits) = None
+first_read operations.Exit = None
+
+abbrev pub second_read : Operation → Option ℕ
+second_read (operations.Constant r bits) = None
+second_read (operations.Copy r a) = None
+second_read (operations.Load r t b) = None
+second_read (operations.Store t b a) = None
+second_read (operations.Convert r from to a) = None
+second_read (operations.Sign r op t a) = None
+second_read (operations.Arithmetic r op t u a b) = Some b
+second_read (operations.Compare r op t a b) = Some b
+second_read (operations.IsZero r a) = None
+second_read (operations.Skip n) = None
+second_read (operations.SkipIfZero a n) = None
+second_read (operations.Check c) = second_checked c
+second_read (operations.Assert a) = None
+second_read (operations.Assume a) = None
+second_read (operations.Draw r bits) = None
+second_read operations.Exit = None
+
+-- ---- `until` gives for each register the place behind its last read
+
+abbrev pub IsRead : List ℕ → ℕ → Option ℕ → Type 0
+IsRead until place None = Unit {0}
+IsRead until place (Some r) = r < length until → place < slice_index until r
+
+abbrev pub AreRead : List ℕ → ℕ → Operation → Type 0
+AreRead until place o = IsRead until place (first_read o) × IsRead until place (second_read o)
+
+-- each register is read as late or later
+pub record Later (until other : List ℕ) : Type 0 where
+  pub size : length other ≡ length until
+  pub each : (r : ℕ) → slice_index until r ≤ slice_index other r
+
+-- no instruction of the code, the first of which is at this place, reads a register behind that
+abbrev pub Covers : List ℕ → ℕ → List Instruction → Type 0
+Covers until place [] = Unit {0}
+Covers until place (i ∷ code) = AreRead until place i.operation × Covers until (suc place) code
+
+-- ---- memories that are the same to the code from a place on
+
+pub record Agree (until : List ℕ) (place : ℕ) (m n : Memory) : Type 0 where
+  pub size : length m.registers ≡ length n.registers
+  pub needed : (r : ℕ) → IsRead until place (Some r) → register m r ≡ register n r
+  pub blocks : m.blocks ≡ n.blocks
+
+abbrev pub Alike : List ℕ → ℕ → Option Memory → Option Memory → Type 0
+Alike until place None None = Unit {0}
+Alike until place None (Some n) = ⊥
+Alike until place (Some m) None = ⊥
+Alike until place (Some m) (Some n) = Agree until place m n
+
+-- the ways from this place on
+abbrev pub AllAlike : List ℕ → ℕ → List (Option Memory) → List (Option Memory) → Type 0
+AllAlike until place [] [] = Unit {0}
+AllAlike until place [] (x ∷ xs) = ⊥
+AllAlike until place (w ∷ ws) [] = ⊥
+AllAlike until place (w ∷ ws) (x ∷ xs) = Alike until place w x × AllAlike until (suc place) ws xs

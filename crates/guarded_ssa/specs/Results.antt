@@ -1,0 +1,57 @@
+-- The register that an operation sets, and to what.
+use Rattle.std.specs.Prelude.{ℕ, Bool, true, false, ◌==◌}
+use Rattle.core_tree.specs.Operations.{truth_bits, converted, arithmetic_value, sign_value, compared}
+use Rattle.core_tree.specs.declared.operators.ArithmeticOperator.{ArithmeticOperator}
+use Rattle.core_tree.specs.declared.operators.ArithmeticOperator.TheVariants as arithmetics
+use Rattle.words.specs.declared.check.Class.{Class}
+use Rattle.words.specs.declared.check.Class.TheVariants as classes
+use Rattle.c_values.specs.Variables.{read_variable}
+use Rattle.goto_prog.specs.declared.code.Condition.{Condition}
+use Rattle.goto_prog.specs.declared.code.Condition.TheVariants as checks
+use Rattle.goto_prog.specs.declared.code.Operation.{Operation}
+use Rattle.goto_prog.specs.declared.code.Operation.TheVariants as operations
+use Rattle.goto_prog.specs.Meaning.{Memory, register}
+
+abbrev pub sets_register : Operation → Bool
+sets_register (operations.Constant r bits) = true
+sets_register (operations.Copy r a) = true
+sets_register (operations.Load r t b) = true
+sets_register (operations.Convert r from to a) = true
+sets_register (operations.Sign r op t a) = true
+sets_register (operations.Arithmetic r op t u a b) = true
+sets_register (operations.Compare r op t a b) = true
+sets_register (operations.IsZero r a) = true
+sets_register _ = false
+
+abbrev pub into_of : Operation → ℕ
+into_of (operations.Constant r bits) = r
+into_of (operations.Copy r a) = r
+into_of (operations.Load r t b) = r
+into_of (operations.Convert r from to a) = r
+into_of (operations.Sign r op t a) = r
+into_of (operations.Arithmetic r op t u a b) = r
+into_of (operations.Compare r op t a b) = r
+into_of (operations.IsZero r a) = r
+into_of _ = 0
+
+abbrev pub result_of : Operation → Memory → ℕ
+result_of (operations.Constant r bits) m = bits
+result_of (operations.Copy r a) m = register m a
+result_of (operations.Load r t b) m = read_variable m.blocks b t
+result_of (operations.Convert r from to a) m = converted from to (register m a)
+result_of (operations.Sign r op t a) m = sign_value op t (register m a)
+result_of (operations.Arithmetic r op t u a b) m = arithmetic_value op t (register m a) (register m b)
+result_of (operations.Compare r op t a b) m = truth_bits (compared op t (register m a) (register m b))
+result_of (operations.IsZero r a) m = truth_bits (register m a == 0)
+result_of _ m = 0
+
+-- ---- checks
+
+-- the class that a check breaks
+abbrev pub class_of : Condition → Class
+class_of (checks.Divisor b) = classes.Division
+class_of (checks.Quotient t a b) = classes.Overflow
+class_of (checks.Range op t a b) = classes.Overflow
+class_of (checks.Negation t a) = classes.Overflow
+class_of (checks.Count t u count) = classes.Shift
+class_of (checks.LeftShift t u a count) = classes.Shift

@@ -1,0 +1,48 @@
+ghost use Rattle.std.specs.Prelude.{◌≡◌, ℕ, ◌∷◌, Some, None, length, replicate, IfOk};
+ghost use Rattle.word_dag.specs.Growth.{Extends};
+ghost use Rattle.goto_prog.specs.CodeThread.{first_memory};
+ghost use Rattle.goto_prog.specs.Flat.{plain_thread};
+ghost use Rattle.guarded_ssa.specs.Ways.{told};
+ghost use Rattle.guarded_ssa.specs.Forms.{FormIn, AreForms, seen};
+
+use crate::forms::{Event, ThreadForm};
+use crate::liveness::Plan;
+use crate::pass::Pass;
+use goto_prog::{Code, Unrolled};
+use std::alloc::{AllocError, Global};
+use word_dag::Dag;
+
+// The events of code, by one pass over it.
+fn events_of(alloc: Global, dag: &mut Dag, code: &Code) -> Result<Vec<Event>, AllocError>
+    ensures extends { Extends dag.old dag.new }
+    ensures within { IfOk result (λ es. FormIn dag.new es.items) }
+    ensures told { IfOk result (λ es. (v : ℕ → ℕ) → seen v dag.new es.items ≡ told v 0 code.now.instructions (Some (first_memory code.now) ∷ replicate (length code.now.instructions) None)) }
+{
+    let instructions = code.instructions();
+    if instructions.len() > u32::MAX as usize {
+        return Err(AllocError);
+    }
+    let plan = Plan::new(alloc, code)?;
+    let mut pass = Pass::start(alloc, dag, code)?;
+    for place in 0..instructions.len() {
+        pass.visit(dag, &plan, place, instructions[place])?;
+    }
+    Ok(pass.events)
+}
+
+/// The form of thread 0 of unrolled code, over nodes that are made in the graph. The answer to a draw is a
+/// variable with the number of the draw's place. Where there is no memory, or the code has 2 ^ 32
+/// instructions or more, the graph may have grown.
+pub fn threads(
+    alloc: Global,
+    unrolled: &Unrolled,
+    dag: &mut Dag,
+) -> Result<Vec<ThreadForm>, AllocError>
+    ensures extends { Extends dag.old dag.new }
+    ensures forms { IfOk result (λ fs. AreForms (plain_thread unrolled.now).behaves dag.new fs.items) }
+{
+    let events = events_of(alloc, dag, unrolled.main())?;
+    let mut forms = Vec::new(alloc);
+    forms.push(ThreadForm::new(events))?;
+    Ok(forms)
+}

@@ -1,0 +1,16 @@
+//! The runs of unrolled code as guarded events over a word graph: whatever the answers to its draws are,
+//! the events whose guards are true tell the run that they give.
+#![tactic(auto)]
+
+mod forming;
+mod forms;
+mod liveness;
+mod pass;
+mod slots;
+mod values;
+
+pub use forming::threads;
+pub use forms::{Event, EventId, EventKind, ThreadForm};
+
+#[cfg(test)]
+mod tests;

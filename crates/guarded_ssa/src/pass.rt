@@ -1,0 +1,464 @@
+ghost use Rattle.std.specs.Prelude.{
+  ◌≡◌,
+  ◌==◌,
+  ℕ,
+  ◌+◌,
+  ◌<◌,
+  ◌^◌,
+  true,
+  List,
+  [],
+  ◌∷◌,
+  ◌++◌,
+  ◌≤◌,
+  slice_index_or,
+  Some,
+  None,
+  length,
+  drop,
+  map,
+  replicate,
+  slice_set,
+  IfOk,
+  OnOk,
+};
+ghost use Rattle.word_dag.specs.Growth.{Within, Extends};
+ghost use Rattle.word_dag.specs.Meaning.{width, value};
+ghost use Rattle.c_types.specs.Integers.{width as type_width};
+ghost use Rattle.goto_prog.specs.Fitting.{is_there, is_register, check_fits, operation_fits};
+ghost use Rattle.goto_prog.specs.Running.{is_calculation};
+ghost use Rattle.guarded_ssa.specs.Forms.{EventIn};
+ghost use Rattle.goto_prog.specs.CodeThread.{first_memory};
+ghost use Rattle.guarded_ssa.specs.Held.{SlotIn, PassIn, Arrives, Tells, Passes, Visits, ways};
+
+use crate::forms::{Event, EventKind};
+use crate::liveness::Plan;
+use crate::slots::Slot;
+use crate::values::class_of;
+use c_types::IntegerType;
+use core_tree::ArithmeticOperator;
+use goto_prog::{Code, Condition, Instruction, Operation};
+use std::alloc::{AllocError, Global};
+use std::collections::VecDeque;
+use value_nodes::zero_test;
+use word_dag::{Dag, Node};
+use words::Class;
+
+// A pass over code: the events that were told so far, and for each place from the next on the memory with
+// which it is reached.
+#[derive(Drop)]
+pub struct Pass {
+    pub events: Vec<Event>,
+    pub pending: VecDeque<Option<Slot>>,
+}
+
+// The slot, and then this many places without one.
+fn followed(alloc: Global, first: Slot, count: usize) -> Result<VecDeque<Option<Slot>>, AllocError>
+    ensures { IfOk result (λ r. r.items ≡ Some first ∷ replicate count None) }
+{
+    let mut pending = VecDeque::new(alloc);
+    pending.push_back(Some(first))?;
+    'places: for _ in 0..count {
+        pending.push_back(None)?;
+    }
+    Ok(pending)
+}
+
+impl Pass {
+    // At the start of code.
+    pub fn start(alloc: Global, dag: &mut Dag, code: &Code) -> Result<Pass, AllocError>
+        ensures extends { Extends dag.old dag.new }
+        ensures within { IfOk result (PassIn dag.new code.now) }
+        ensures events { IfOk result (λ p. p.events.items ≡ []) }
+        ensures ways { IfOk result (λ p. (v : ℕ → ℕ) → ways v dag.new code.now p.pending.items ≡ Some (first_memory code.now) ∷ replicate (length code.now.instructions) None) }
+    {
+        let slot = Slot::start(alloc, dag, code)?;
+        let pending = followed(alloc, slot, code.instructions().len())?;
+        Ok(Pass {
+            events: Vec::new(alloc),
+            pending,
+        })
+    }
+
+    // A slot arrives n places behind the next.
+    pub fn arrive(
+        &mut self,
+        dag: &mut Dag,
+        plan: &Plan,
+        place: usize,
+        n: usize,
+        slot: Slot,
+    ) -> Result<(), AllocError>
+        requires until { length plan.now.until.items ≡ length plan.now.code.now.registers }
+        requires room { place + length self.old.pending.items < 2 ^ 64 }
+        requires within { PassIn dag.old plan.now.code.now self.old }
+        requires slot { SlotIn dag.old plan.now.code.now slot }
+        ensures extends { Extends dag.old dag.new }
+        ensures arrives { OnOk result (Arrives plan.now.until.items plan.now.code.now place n slot dag.old dag.new self.old self.new) }
+    {
+        if n < self.pending.len() {
+            let there = self.pending[n].take();
+            let slot = slot.met(dag, plan, place + 1 + n, there)?;
+            self.pending[n] = Some(slot);
+        }
+        Ok(())
+    }
+
+    // An event is told.
+    fn tell(&mut self, event: Event) -> Result<(), AllocError>
+        ensures events { OnOk result (self.new.events.items ≡ self.old.events.items ++ event ∷ []) }
+        ensures pending { self.new.pending.items ≡ self.old.pending.items }
+    {
+        self.events.push(event)?;
+        Ok(())
+    }
+
+    // An event is told, and a slot goes on to the next place.
+    fn tell_and_go(
+        &mut self,
+        dag: &mut Dag,
+        plan: &Plan,
+        place: usize,
+        slot: Slot,
+        event: Event,
+    ) -> Result<(), AllocError>
+        requires until { length plan.now.until.items ≡ length plan.now.code.now.registers }
+        requires room { place + length self.old.pending.items < 2 ^ 64 }
+        requires within { PassIn dag.old plan.now.code.now self.old }
+        requires slot { SlotIn dag.old plan.now.code.now slot }
+        requires event { EventIn dag.old event }
+        ensures extends { Extends dag.old dag.new }
+        ensures tells { OnOk result (Tells plan.now.until.items plan.now.code.now place event slot dag.old dag.new self.old self.new) }
+    {
+        self.tell(event)?;
+        self.arrive(dag, plan, place, 0, slot)?;
+        Ok(())
+    }
+
+    // An operation that sets a register or a block.
+    fn calculate(
+        &mut self,
+        dag: &mut Dag,
+        plan: &Plan,
+        place: usize,
+        i: Instruction,
+        slot: Slot,
+    ) -> Result<(), AllocError>
+        requires until { length plan.now.until.items ≡ length plan.now.code.now.registers }
+        requires room { place + length self.old.pending.items < 2 ^ 64 }
+        requires within { PassIn dag.old plan.now.code.now self.old }
+        requires slot { SlotIn dag.old plan.now.code.now slot }
+        requires fits { operation_fits plan.now.code.now.registers plan.now.code.now.blocks 0 i.operation ≡ true }
+        requires calculation { is_calculation i.operation ≡ true }
+        ensures extends { Extends dag.old dag.new }
+        ensures passes { OnOk result (Passes plan.now.until.items plan.now.code.now place i.line i.function (i.operation) slot dag.old dag.new self.old self.new) }
+    {
+        let next = slot.calculated(dag, plan, i.operation)?;
+        self.arrive(dag, plan, place, 0, next)?;
+        Ok(())
+    }
+
+    // A jump.
+    fn skip(
+        &mut self,
+        dag: &mut Dag,
+        plan: &Plan,
+        place: usize,
+        i: Instruction,
+        slot: Slot,
+        count: usize,
+    ) -> Result<(), AllocError>
+        requires until { length plan.now.until.items ≡ length plan.now.code.now.registers }
+        requires room { place + length self.old.pending.items < 2 ^ 64 }
+        requires within { PassIn dag.old plan.now.code.now self.old }
+        requires slot { SlotIn dag.old plan.now.code.now slot }
+        ensures extends { Extends dag.old dag.new }
+        ensures passes { OnOk result (Passes plan.now.until.items plan.now.code.now place i.line i.function (Operation.Skip count) slot dag.old dag.new self.old self.new) }
+    {
+        let _ = i;
+        self.arrive(dag, plan, place, count, slot)?;
+        Ok(())
+    }
+
+    // A jump where a register is 0.
+    fn branch(
+        &mut self,
+        dag: &mut Dag,
+        plan: &Plan,
+        place: usize,
+        i: Instruction,
+        slot: Slot,
+        operand: usize,
+        count: usize,
+    ) -> Result<(), AllocError>
+        requires until { length plan.now.until.items ≡ length plan.now.code.now.registers }
+        requires room { place + length self.old.pending.items < 2 ^ 64 }
+        requires within { PassIn dag.old plan.now.code.now self.old }
+        requires slot { SlotIn dag.old plan.now.code.now slot }
+        requires operand { is_there plan.now.code.now.registers operand ≡ true }
+        ensures extends { Extends dag.old dag.new }
+        ensures passes { OnOk result (Passes plan.now.until.items plan.now.code.now place i.line i.function (Operation.SkipIfZero operand count) slot dag.old dag.new self.old self.new) }
+    {
+        let _ = i;
+        let (zero, other) = slot.split(dag, plan, operand)?;
+        self.arrive(dag, plan, place, 0, other)?;
+        self.arrive(dag, plan, place, count, zero)?;
+        Ok(())
+    }
+
+    // A check.
+    fn check(
+        &mut self,
+        dag: &mut Dag,
+        plan: &Plan,
+        place: usize,
+        i: Instruction,
+        slot: Slot,
+        condition: Condition,
+    ) -> Result<(), AllocError>
+        requires until { length plan.now.until.items ≡ length plan.now.code.now.registers }
+        requires room { place + length self.old.pending.items < 2 ^ 64 }
+        requires within { PassIn dag.old plan.now.code.now self.old }
+        requires slot { SlotIn dag.old plan.now.code.now slot }
+        requires fits { check_fits plan.now.code.now.registers condition ≡ true }
+        ensures extends { Extends dag.old dag.new }
+        ensures passes { OnOk result (Passes plan.now.until.items plan.now.code.now place i.line i.function (Operation.Check condition) slot dag.old dag.new self.old self.new) }
+    {
+        let failing = slot.fails(dag, plan, condition)?;
+        let class = class_of(condition);
+        let event = Event {
+            guard: slot.guard,
+            line: i.line,
+            function: i.function,
+            kind: EventKind::Check { class, failing },
+        };
+        self.tell_and_go(dag, plan, place, slot, event)?;
+        Ok(())
+    }
+
+    // An assertion.
+    fn assert(
+        &mut self,
+        dag: &mut Dag,
+        plan: &Plan,
+        place: usize,
+        i: Instruction,
+        slot: Slot,
+        operand: usize,
+    ) -> Result<(), AllocError>
+        requires until { length plan.now.until.items ≡ length plan.now.code.now.registers }
+        requires room { place + length self.old.pending.items < 2 ^ 64 }
+        requires within { PassIn dag.old plan.now.code.now self.old }
+        requires slot { SlotIn dag.old plan.now.code.now slot }
+        requires operand { is_there plan.now.code.now.registers operand ≡ true }
+        ensures extends { Extends dag.old dag.new }
+        ensures passes { OnOk result (Passes plan.now.until.items plan.now.code.now place i.line i.function (Operation.Assert operand) slot dag.old dag.new self.old self.new) }
+    {
+        let node = slot.register(dag, plan, operand);
+        let failing = zero_test(dag, node)?;
+        let event = Event {
+            guard: slot.guard,
+            line: i.line,
+            function: i.function,
+            kind: EventKind::Check {
+                class: Class::Assertion,
+                failing,
+            },
+        };
+        self.tell_and_go(dag, plan, place, slot, event)?;
+        Ok(())
+    }
+
+    // An assumption.
+    fn assume(
+        &mut self,
+        dag: &mut Dag,
+        plan: &Plan,
+        place: usize,
+        i: Instruction,
+        slot: Slot,
+        operand: usize,
+    ) -> Result<(), AllocError>
+        requires until { length plan.now.until.items ≡ length plan.now.code.now.registers }
+        requires room { place + length self.old.pending.items < 2 ^ 64 }
+        requires within { PassIn dag.old plan.now.code.now self.old }
+        requires slot { SlotIn dag.old plan.now.code.now slot }
+        requires operand { is_there plan.now.code.now.registers operand ≡ true }
+        ensures extends { Extends dag.old dag.new }
+        ensures passes { OnOk result (Passes plan.now.until.items plan.now.code.now place i.line i.function (Operation.Assume operand) slot dag.old dag.new self.old self.new) }
+    {
+        let node = slot.register(dag, plan, operand);
+        let failing = zero_test(dag, node)?;
+        let event = Event {
+            guard: slot.guard,
+            line: i.line,
+            function: i.function,
+            kind: EventKind::Assume { failing },
+        };
+        self.tell_and_go(dag, plan, place, slot, event)?;
+        Ok(())
+    }
+
+    // A draw: its answer is the variable of its place.
+    fn draw(
+        &mut self,
+        dag: &mut Dag,
+        plan: &Plan,
+        place: usize,
+        i: Instruction,
+        slot: Slot,
+        into: usize,
+        bits: u32,
+    ) -> Result<(), AllocError>
+        requires until { length plan.now.until.items ≡ length plan.now.code.now.registers }
+        requires room { place + length self.old.pending.items < 2 ^ 64 }
+        requires within { PassIn dag.old plan.now.code.now self.old }
+        requires slot { SlotIn dag.old plan.now.code.now slot }
+        requires place { place < 2 ^ 32 }
+        requires into { is_there plan.now.code.now.registers into ≡ true }
+        requires positive { 1 ≤ bits }
+        requires width { bits ≤ type_width (slice_index_or plan.now.code.now.registers into IntegerType.Int) }
+        ensures extends { Extends dag.old dag.new }
+        ensures passes { OnOk result (Passes plan.now.until.items plan.now.code.now place i.line i.function (Operation.Draw into bits) slot dag.old dag.new self.old self.new) }
+    {
+        let width = plan.code.registers()[into].width();
+        let answer = dag.make(Node::Variable(place as u32, bits))?;
+        let word = dag.make(Node::ZeroExtend(answer, width))?;
+        let event = Event {
+            guard: slot.guard,
+            line: i.line,
+            function: i.function,
+            kind: EventKind::Draw { bits, answer },
+        };
+        let next = slot.put(dag, plan, into, word);
+        self.tell_and_go(dag, plan, place, next, event)?;
+        Ok(())
+    }
+
+    // The end of the process.
+    fn exit(
+        &mut self,
+        dag: &Dag,
+        plan: &Plan,
+        place: usize,
+        i: Instruction,
+        slot: Slot,
+    ) -> Result<(), AllocError>
+        requires within { PassIn dag.now plan.now.code.now self.old }
+        requires slot { SlotIn dag.now plan.now.code.now slot }
+        ensures passes { OnOk result (Passes plan.now.until.items plan.now.code.now place i.line i.function Operation.Exit slot dag.now dag.now self.old self.new) }
+    {
+        let event = Event {
+            guard: slot.guard,
+            line: i.line,
+            function: i.function,
+            kind: EventKind::Exit,
+        };
+        self.tell(event)?;
+        Ok(())
+    }
+
+    // One instruction, which is reached with a slot.
+    fn step(
+        &mut self,
+        dag: &mut Dag,
+        plan: &Plan,
+        place: usize,
+        i: Instruction,
+        slot: Slot,
+    ) -> Result<(), AllocError>
+        requires until { length plan.now.until.items ≡ length plan.now.code.now.registers }
+        requires room { place + length self.old.pending.items < 2 ^ 64 }
+        requires within { PassIn dag.old plan.now.code.now self.old }
+        requires slot { SlotIn dag.old plan.now.code.now slot }
+        requires place { place < 2 ^ 32 }
+        requires fits { operation_fits plan.now.code.now.registers plan.now.code.now.blocks (length (drop (place + 1) plan.now.code.now.instructions)) i.operation ≡ true }
+        ensures extends { Extends dag.old dag.new }
+        ensures passes { OnOk result (Passes plan.now.until.items plan.now.code.now place i.line i.function (i.operation) slot dag.old dag.new self.old self.new) }
+    {
+        match i.operation {
+            Operation::Skip { count } => self.skip(dag, plan, place, i, slot, count),
+            Operation::SkipIfZero { operand, count } => {
+                self.branch(dag, plan, place, i, slot, operand, count)
+            }
+            Operation::Check { condition } => { self.check(dag, plan, place, i, slot, condition) }
+            Operation::Assert { operand } => self.assert(dag, plan, place, i, slot, operand),
+            Operation::Assume { operand } => self.assume(dag, plan, place, i, slot, operand),
+            Operation::Draw { into, bits } => { self.draw(dag, plan, place, i, slot, into, bits) }
+            Operation::Exit => self.exit(dag, plan, place, i, slot),
+            Operation::Constant { into: _, bits: _ }
+            | Operation::Copy {
+                into: _,
+                operand: _,
+            }
+            | Operation::Load {
+                into: _,
+                type_: _,
+                block: _,
+            }
+            | Operation::Store {
+                type_: _,
+                block: _,
+                operand: _,
+            }
+            | Operation::Convert {
+                into: _,
+                from: _,
+                to: _,
+                operand: _,
+            }
+            | Operation::Sign {
+                into: _,
+                operator: _,
+                type_: _,
+                operand: _,
+            }
+            | Operation::Arithmetic {
+                into: _,
+                operator: _,
+                type_: _,
+                right_type: _,
+                left: _,
+                right: _,
+            }
+            | Operation::Compare {
+                into: _,
+                operator: _,
+                type_: _,
+                left: _,
+                right: _,
+            }
+            | Operation::IsZero {
+                into: _,
+                operand: _,
+            } => { self.calculate(dag, plan, place, i, slot) }
+        }
+    }
+
+    // One instruction, which may be reached.
+    pub fn visit(
+        &mut self,
+        dag: &mut Dag,
+        plan: &Plan,
+        place: usize,
+        i: Instruction,
+    ) -> Result<(), AllocError>
+        requires until { length plan.now.until.items ≡ length plan.now.code.now.registers }
+        requires room { place + length self.old.pending.items < 2 ^ 64 }
+        requires next { 0 < length self.old.pending.items }
+        requires within { PassIn dag.old plan.now.code.now self.old }
+        requires place { place < 2 ^ 32 }
+        requires fits { operation_fits plan.now.code.now.registers plan.now.code.now.blocks (length (drop (place + 1) plan.now.code.now.instructions)) i.operation ≡ true }
+        ensures extends { Extends dag.old dag.new }
+        ensures visits { OnOk result (Visits plan.now.until.items plan.now.code.now place i dag.old dag.new self.old self.new) }
+    {
+        match self.pending.pop_front() {
+            Some(Some(slot)) => {
+                self.step(dag, plan, place, i, slot)?;
+                Ok(())
+            }
+            Some(None) => Ok(()),
+            None => unreachable!(),
+        }
+    }
+}

@@ -1,0 +1,312 @@
+ghost use Rattle.std.specs.Prelude.{◌≡◌, ℕ, true, ◌+◌, slice_index_or, is_some, IfOk};
+ghost use Rattle.c_types.specs.Integers.{width as type_width};
+ghost use Rattle.core_tree.specs.Operations.{read_bits, converted, sign_value, arithmetic_value};
+ghost use Rattle.c_values.specs.Variables.{read_variable};
+ghost use Rattle.c_values.specs.Numbers.{are_operands_of};
+ghost use Rattle.word_dag.specs.Growth.{Within, Extends};
+ghost use Rattle.word_dag.specs.Meaning.{value};
+ghost use Rattle.value_nodes.specs.Values.{IsWord, IsValue, IsTest};
+ghost use Rattle.goto_prog.specs.Fitting.{is_there, is_register, is_wide, is_block, check_fits, operation_fits};
+ghost use Rattle.goto_prog.specs.Meaning.{register, check_class};
+ghost use Rattle.guarded_ssa.specs.Held.{SlotIn, held};
+ghost use Rattle.guarded_ssa.specs.Results.{sets_register, into_of, result_of, class_of};
+
+use crate::liveness::Plan;
+use crate::slots::Slot;
+use c_types::IntegerType;
+use core_tree::{ArithmeticOperator, SignOperator};
+use goto_prog::{Condition, Operation};
+use std::alloc::AllocError;
+use value_nodes::{
+    arithmetic, compared, constant, converted, count_fails, is_zero, left_shift_fails,
+    negation_fails, quotient_fails, range_fails, sign, zero_test,
+};
+use word_dag::{Dag, Id};
+use words::Class;
+
+impl Slot {
+    // The node of a register.
+    pub fn register(&self, dag: &Dag, plan: &Plan, r: usize) -> Id
+        requires within { SlotIn dag.now plan.now.code.now self.now }
+        requires there { is_there plan.now.code.now.registers r ≡ true }
+        ensures word { IsWord dag.now result (type_width (slice_index_or plan.now.code.now.registers r IntegerType.Int)) }
+        ensures value { (v : ℕ → ℕ) → value v dag.now result ≡ register (held v dag.now plan.now.code.now self.now) r }
+    {
+        self.registers[r]
+    }
+
+    // The node of a register of a type.
+    pub fn number(&self, dag: &Dag, plan: &Plan, r: usize, type_: IntegerType) -> Id
+        requires within { SlotIn dag.now plan.now.code.now self.now }
+        requires there { is_register plan.now.code.now.registers r type_ ≡ true }
+        ensures word { IsWord dag.now result (type_width type_) }
+        ensures value { (v : ℕ → ℕ) → value v dag.now result ≡ register (held v dag.now plan.now.code.now self.now) r }
+    {
+        self.register(dag, plan, r)
+    }
+
+    // The node of a register as wide as a type.
+    pub fn wide(&self, dag: &Dag, plan: &Plan, r: usize, type_: IntegerType) -> Id
+        requires within { SlotIn dag.now plan.now.code.now self.now }
+        requires there { is_wide plan.now.code.now.registers r type_ ≡ true }
+        ensures word { IsWord dag.now result (type_width type_) }
+        ensures value { (v : ℕ → ℕ) → value v dag.now result ≡ register (held v dag.now plan.now.code.now self.now) r }
+    {
+        self.register(dag, plan, r)
+    }
+
+    // The node of a block of a type.
+    pub fn block(&self, dag: &Dag, plan: &Plan, b: usize, type_: IntegerType) -> Id
+        requires within { SlotIn dag.now plan.now.code.now self.now }
+        requires there { is_block plan.now.code.now.blocks b type_ ≡ true }
+        ensures word { IsWord dag.now result (type_width type_) }
+        ensures value { (v : ℕ → ℕ) → read_variable (held v dag.now plan.now.code.now self.now).blocks b type_ ≡ read_bits type_ (value v dag.now result) }
+    {
+        let _ = dag.nodes();
+        self.blocks[b]
+    }
+
+    // What a load from a block gives.
+    fn loaded(
+        &self,
+        dag: &mut Dag,
+        plan: &Plan,
+        b: usize,
+        type_: IntegerType,
+    ) -> Result<Id, AllocError>
+        requires within { SlotIn dag.old plan.now.code.now self.now }
+        requires there { is_block plan.now.code.now.blocks b type_ ≡ true }
+        ensures extends { Extends dag.old dag.new }
+        ensures made { IfOk result (λ i. IsValue dag.new i (type_width type_) (λ v. read_variable (held v dag.old plan.now.code.now self.now).blocks b type_)) }
+    {
+        let id = self.block(dag, plan, b, type_);
+        match type_ {
+            IntegerType::Bool => converted(dag, type_, type_, id),
+            _ => Ok(id),
+        }
+    }
+
+    // What a conversion gives.
+    fn convert(
+        &self,
+        dag: &mut Dag,
+        plan: &Plan,
+        into: usize,
+        from: IntegerType,
+        to: IntegerType,
+        operand: usize,
+    ) -> Result<Id, AllocError>
+        requires within { SlotIn dag.old plan.now.code.now self.now }
+        requires into { is_register plan.now.code.now.registers into to ≡ true }
+        requires operand { is_register plan.now.code.now.registers operand from ≡ true }
+        ensures extends { Extends dag.old dag.new }
+        ensures made { IfOk result (λ i. IsValue dag.new i (type_width (slice_index_or plan.now.code.now.registers into IntegerType.Int)) (λ v. converted from to (register (held v dag.old plan.now.code.now self.now) operand))) }
+    {
+        let _ = into;
+        let a = self.number(dag, plan, operand, from);
+        let id = converted(dag, from, to, a)?;
+        Ok(id)
+    }
+
+    // What a sign operator gives.
+    fn sign(
+        &self,
+        dag: &mut Dag,
+        plan: &Plan,
+        into: usize,
+        operator: SignOperator,
+        type_: IntegerType,
+        operand: usize,
+    ) -> Result<Id, AllocError>
+        requires within { SlotIn dag.old plan.now.code.now self.now }
+        requires into { is_register plan.now.code.now.registers into type_ ≡ true }
+        requires operand { is_register plan.now.code.now.registers operand type_ ≡ true }
+        ensures extends { Extends dag.old dag.new }
+        ensures made { IfOk result (λ i. IsValue dag.new i (type_width (slice_index_or plan.now.code.now.registers into IntegerType.Int)) (λ v. sign_value operator type_ (register (held v dag.old plan.now.code.now self.now) operand))) }
+    {
+        let _ = into;
+        let a = self.number(dag, plan, operand, type_);
+        let id = sign(dag, operator, type_, a)?;
+        Ok(id)
+    }
+
+    // What an operation on two registers gives.
+    fn arithmetic(
+        &self,
+        dag: &mut Dag,
+        plan: &Plan,
+        into: usize,
+        operator: ArithmeticOperator,
+        types: (IntegerType, IntegerType),
+        operands: (usize, usize),
+    ) -> Result<Id, AllocError>
+        requires within { SlotIn dag.old plan.now.code.now self.now }
+        requires operands { are_operands_of operator types.0 types.1 ≡ true }
+        requires into { is_register plan.now.code.now.registers into types.0 ≡ true }
+        requires left { is_register plan.now.code.now.registers operands.0 types.0 ≡ true }
+        requires right { is_register plan.now.code.now.registers operands.1 types.1 ≡ true }
+        ensures extends { Extends dag.old dag.new }
+        ensures made { IfOk result (λ i. IsValue dag.new i (type_width (slice_index_or plan.now.code.now.registers into IntegerType.Int)) (λ v. arithmetic_value operator types.0 (register (held v dag.old plan.now.code.now self.now) operands.0) (register (held v dag.old plan.now.code.now self.now) operands.1))) }
+    {
+        let _ = into;
+        let a = self.number(dag, plan, operands.0, types.0);
+        let b = self.number(dag, plan, operands.1, types.1);
+        let id = arithmetic(dag, operator, types.0, types.1, a, b)?;
+        Ok(id)
+    }
+
+    // What an operation gives a register.
+    pub fn result(&self, dag: &mut Dag, plan: &Plan, operation: Operation) -> Result<Id, AllocError>
+        requires within { SlotIn dag.old plan.now.code.now self.now }
+        requires fits { operation_fits plan.now.code.now.registers plan.now.code.now.blocks 0 operation ≡ true }
+        requires sets { sets_register operation ≡ true }
+        ensures extends { Extends dag.old dag.new }
+        ensures made { IfOk result (λ i. IsValue dag.new i (type_width (slice_index_or plan.now.code.now.registers (into_of operation) IntegerType.Int)) (λ v. result_of operation (held v dag.old plan.now.code.now self.now))) }
+    {
+        match operation {
+            Operation::Constant { into, bits } => {
+                let type_ = plan.code.registers()[into];
+                constant(dag, bits, type_)
+            }
+            Operation::Copy { into: _, operand } => Ok(self.register(dag, plan, operand)),
+            Operation::Load {
+                into: _,
+                type_,
+                block,
+            } => self.loaded(dag, plan, block, type_),
+            Operation::Convert {
+                into,
+                from,
+                to,
+                operand,
+            } => self.convert(dag, plan, into, from, to, operand),
+            Operation::Sign {
+                into,
+                operator,
+                type_,
+                operand,
+            } => self.sign(dag, plan, into, operator, type_, operand),
+            Operation::Arithmetic {
+                into,
+                operator,
+                type_,
+                right_type,
+                left,
+                right,
+            } => {
+                self.arithmetic(
+                    dag,
+                    plan,
+                    into,
+                    operator,
+                    (type_, right_type),
+                    (left, right),
+                )
+            }
+            Operation::Compare {
+                into: _,
+                operator,
+                type_,
+                left,
+                right,
+            } => {
+                let a = self.number(dag, plan, left, type_);
+                let b = self.number(dag, plan, right, type_);
+                compared(dag, operator, type_, a, b)
+            }
+            Operation::IsZero { into: _, operand } => {
+                let a = self.register(dag, plan, operand);
+                is_zero(dag, a)
+            }
+            _ => unreachable!(),
+        }
+    }
+
+    // Whether a check is broken.
+    #[tactic(auto, using(crate::proofs::Ranged::ranged_same))]
+    pub fn fails(&self, dag: &mut Dag, plan: &Plan, condition: Condition) -> Result<Id, AllocError>
+        requires within { SlotIn dag.old plan.now.code.now self.now }
+        requires fits { check_fits plan.now.code.now.registers condition ≡ true }
+        ensures extends { Extends dag.old dag.new }
+        ensures made { IfOk result (λ i. IsTest dag.new i (λ v. is_some (check_class condition (held v dag.old plan.now.code.now self.now)))) }
+    {
+        match condition {
+            Condition::Divisor { divisor } => {
+                let b = self.register(dag, plan, divisor);
+                zero_test(dag, b)
+            }
+            Condition::Quotient { type_, left, right } => {
+                let a = self.number(dag, plan, left, type_);
+                let b = self.wide(dag, plan, right, type_);
+                quotient_fails(dag, type_, a, b)
+            }
+            Condition::Range {
+                operator,
+                type_,
+                left,
+                right,
+            } => {
+                let a = self.number(dag, plan, left, type_);
+                let b = self.wide(dag, plan, right, type_);
+                range_fails(dag, operator, type_, a, b)
+            }
+            Condition::Negation { type_, operand } => {
+                let a = self.number(dag, plan, operand, type_);
+                negation_fails(dag, type_, a)
+            }
+            Condition::Count {
+                type_,
+                count_type,
+                count,
+            } => {
+                let b = self.number(dag, plan, count, count_type);
+                count_fails(dag, type_, count_type, b)
+            }
+            Condition::LeftShift {
+                type_,
+                count_type,
+                left,
+                count,
+            } => {
+                let a = self.number(dag, plan, left, type_);
+                let b = self.number(dag, plan, count, count_type);
+                left_shift_fails(dag, type_, count_type, a, b)
+            }
+        }
+    }
+}
+
+// The class that a check breaks.
+pub fn class_of(condition: Condition) -> Class
+    ensures { result ≡ class_of condition }
+{
+    match condition {
+        Condition::Divisor { divisor: _ } => Class::Division,
+        Condition::Quotient {
+            type_: _,
+            left: _,
+            right: _,
+        }
+        | Condition::Range {
+            operator: _,
+            type_: _,
+            left: _,
+            right: _,
+        }
+        | Condition::Negation {
+            type_: _,
+            operand: _,
+        } => Class::Overflow,
+        Condition::Count {
+            type_: _,
+            count_type: _,
+            count: _,
+        }
+        | Condition::LeftShift {
+            type_: _,
+            count_type: _,
+            left: _,
+            count: _,
+        } => Class::Shift,
+    }
+}

@@ -1,0 +1,6 @@
+//! The formula of a file with one thread: it is true of the runs that break a check.
+#![tactic(auto)]
+
+mod formula;
+
+pub use formula::{Formula, Sets, sequential};

@@ -1,0 +1,6 @@
+//! The run that breaks a check, out of the values that make a formula true.
+#![tactic(auto)]
+
+mod building;
+
+pub use building::build;

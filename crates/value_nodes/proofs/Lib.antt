@@ -1,0 +1,5 @@
+pub mod Made
+pub mod Conversions
+pub mod Shifting
+pub mod Checking
+pub mod Blocks

@@ -1,0 +1,70 @@
+use crate::{arithmetic, compared, converted, loaded, stored};
+use c_types::IntegerType;
+use core_tree::{ArithmeticOperator, Comparison};
+use std::test::*;
+use word_dag::{Dag, Id, Node, Valuation};
+
+// The value of a node of a graph without variables.
+fn value_of(rt: &HostRuntime, dag: &Dag, id: Id) -> Result<u64, Fail> {
+    let valuation = Valuation::from_values(Vec::new(rt.alloc()));
+    if id.index < dag.len() {
+        return Ok(dag.value(rt.alloc(), &valuation, id)?.bits());
+    }
+    Ok(0)
+}
+
+#[test]
+fn operations_give_what_c_gives(rt: HostRuntime) -> Result<(), Fail> {
+    let int = IntegerType::Int;
+    let mut dag = Dag::new(rt.alloc());
+    let minus_seven = dag.make(Node::Constant(4_294_967_289, 32))?;
+    let two = dag.make(Node::Constant(2, 32))?;
+    let quotient = arithmetic(
+        &mut dag,
+        ArithmeticOperator::Divide,
+        int,
+        int,
+        minus_seven,
+        two,
+    )?;
+    let rest = arithmetic(
+        &mut dag,
+        ArithmeticOperator::Remainder,
+        int,
+        int,
+        minus_seven,
+        two,
+    )?;
+    let half = arithmetic(
+        &mut dag,
+        ArithmeticOperator::ShiftRight,
+        int,
+        int,
+        minus_seven,
+        two,
+    )?;
+    let less = compared(&mut dag, Comparison::Less, int, minus_seven, two)?;
+    let narrow = converted(&mut dag, int, IntegerType::UnsignedChar, minus_seven)?;
+    let wide = converted(&mut dag, int, IntegerType::Long, minus_seven)?;
+    let truth = converted(&mut dag, int, IntegerType::Bool, minus_seven)?;
+    assert_eq!(rt; value_of(&rt, &dag, quotient)?, 4_294_967_293);
+    assert_eq!(rt; value_of(&rt, &dag, rest)?, 4_294_967_295);
+    assert_eq!(rt; value_of(&rt, &dag, half)?, 4_294_967_294);
+    assert_eq!(rt; value_of(&rt, &dag, less)?, 1);
+    assert_eq!(rt; value_of(&rt, &dag, narrow)?, 249);
+    assert_eq!(rt; value_of(&rt, &dag, wide)?, 18_446_744_073_709_551_609);
+    assert_eq!(rt; value_of(&rt, &dag, truth)?, 1);
+    Ok(())
+}
+
+#[test]
+fn bytes_give_the_number_back(rt: HostRuntime) -> Result<(), Fail> {
+    let mut dag = Dag::new(rt.alloc());
+    let number = dag.make(Node::Constant(16_909_060, 32))?;
+    let bytes = stored(rt.alloc(), &mut dag, IntegerType::Int, number)?;
+    assert_eq!(rt; bytes.len(), 4);
+    assert_eq!(rt; value_of(&rt, &dag, bytes[0])?, 4);
+    let whole = loaded(&mut dag, IntegerType::Int, &bytes)?;
+    assert_eq!(rt; value_of(&rt, &dag, whole)?, 16_909_060);
+    Ok(())
+}
