@@ -1,9 +1,13 @@
--- From a verdict on the bytes that were read to an answer on the file.
-use Rattle.std.proofs.Common.{◌≡◌, ℕ, ◌≤◌, ◌<◌, List, [], length, take, Option, Some, None, sym, refl, ap, ◌∙◌, subst, arith}
+-- From a finding on the bytes that were read to an answer on the file.
+use Rattle.std.proofs.Common.{◌≡◌, inl, inr, ℕ, ◌≤◌, ◌<◌, List, [], length, take, Option, Some, None, sym, refl, ap, ◌∙◌, subst, arith}
 use Rattle.std.proofs.lemmas.List.{take_all, length-take}
 use Rattle.std.specs.Prelude.{IfSome}
-use Rattle.cbmc_top.specs.Answers.{Answer, usage, read_fault, limited, refused, successful, failed, Decides, Allows, Answered}
+use Rattle.core_tree.specs.Ranges.{Limits}
+use Rattle.cbmc_top.specs.Answers.{Answer, usage, read_fault, limited, refused, successful, failed, standard_limits, Decides, Allows, Answered, IsReadFrom}
 use Rattle.cbmc_top.specs.Calls.{WasRead}
+use Rattle.cbmc_top.specs.Verdicts.{answer_of}
+use Rattle.cbmc_top.specs.declared.finding.Finding.{Finding}
+use Rattle.cbmc_top.specs.declared.finding.Finding.TheVariants as findings
 
 small_whole : (b bytes : List ℕ) → bytes ≡ take 1048577 b → length bytes ≤ 1048576 → bytes ≡ b
 small_whole b bytes e few = e ∙ take_all 1048577 b (omega (arith, ap length e, length-take 1048577 b))
@@ -11,33 +15,44 @@ small_whole b bytes e few = e ∙ take_all 1048577 b (omega (arith, ap length e,
 long_whole : (b bytes : List ℕ) → bytes ≡ take 1048577 b → 1048576 < length bytes → 1048576 < length b
 long_whole b bytes e long = omega (arith, ap length e, length-take 1048577 b)
 
-decides_whole : (b bytes : List ℕ) (a : Answer) → bytes ≡ take 1048577 b → Decides bytes a → Decides b a
-decides_whole b bytes usage e d = d
-decides_whole b bytes read_fault e d = d
-decides_whole b bytes (limited limit) e d = (d.0, long_whole b bytes e d.1)
-decides_whole b bytes (refused number line rule) e d = subst (λ x. Decides x (refused number line rule)) (small_whole b bytes e d.0) d
-decides_whole b bytes successful e d = subst (λ x. Decides x successful) (small_whole b bytes e d.0) d
-decides_whole b bytes (failed f) e d = subst (λ x. Decides x (failed f)) (small_whole b bytes e d.0) d
+decides_whole : (limits : Limits) (b bytes : List ℕ) (a : Answer) → bytes ≡ take 1048577 b → Decides limits bytes a → Decides limits b a
+decides_whole limits b bytes a e (inl x) = inl (long_whole b bytes e x.0, x.1)
+decides_whole limits b bytes a e (inr x) = inr (subst (λ y. IsReadFrom limits y a) (small_whole b bytes e x.short) x)
 
-allows_decided : (name bytes : List ℕ) (rose : List ℕ → Type 0) (a : Answer) → Decides bytes a → Allows (Some name) bytes rose a
-allows_decided name bytes rose usage d = d
-allows_decided name bytes rose read_fault d = absurd d
-allows_decided name bytes rose (limited limit) d = d
-allows_decided name bytes rose (refused number line rule) d = d
-allows_decided name bytes rose successful d = d
-allows_decided name bytes rose (failed f) d = d
+-- what is found of a file is an answer of the checker's own
+abbrev pub IsFinding : Answer → Type 0
+IsFinding usage = ⊥
+IsFinding read_fault = ⊥
+IsFinding (limited limit) = Unit {0}
+IsFinding (refused cause) = Unit {0}
+IsFinding successful = Unit {0}
+IsFinding (failed f) = Unit {0}
+
+is_finding : (f : Finding) → IsFinding (answer_of f)
+is_finding findings.Successful = tt
+is_finding (findings.Failed f) = tt
+is_finding (findings.Refused r) = tt
+is_finding (findings.Limited l) = tt
+
+allows_decided : (name bytes : List ℕ) (rose : List ℕ → Type 0) (a : Answer) → IsFinding a → Decides standard_limits bytes a → Allows (Some name) bytes rose a
+allows_decided name bytes rose usage i d = i
+allows_decided name bytes rose read_fault i d = absurd i
+allows_decided name bytes rose (limited limit) i d = d
+allows_decided name bytes rose (refused cause) i d = d
+allows_decided name bytes rose successful i d = d
+allows_decided name bytes rose (failed f) i d = d
 
 -- the bytes that an answer is about: those told, or those read
 with_bytes : (name : List ℕ) (holds : List ℕ → Option (List ℕ)) (rose : List ℕ → Type 0) (a : Answer) (held : Option (List ℕ)) → holds name ≡ held → (bytes : List ℕ) → IfSome held (λ b. bytes ≡ b) → Allows (Some name) bytes rose a
     → Answered (Some name) holds rose a
 with_bytes name holds rose a held e bytes told allowed = record { bytes = bytes; told = subst (λ h. IfSome h (λ b. bytes ≡ b)) (sym e) told; allowed = allowed }
 
-verdict_on : (name : List ℕ) (holds : List ℕ → Option (List ℕ)) (rose : List ℕ → Type 0) (a : Answer) (held : Option (List ℕ)) → holds name ≡ held → (bytes : List ℕ) → WasRead held bytes → Decides bytes a → Answered (Some name) holds rose a
-verdict_on name holds rose a None e bytes read d = with_bytes name holds rose a None e bytes tt (allows_decided name bytes rose a d)
-verdict_on name holds rose a (Some b) e bytes read d = with_bytes name holds rose a (Some b) e b refl (allows_decided name b rose a (decides_whole b bytes a read.told d))
+verdict_on : (name : List ℕ) (holds : List ℕ → Option (List ℕ)) (rose : List ℕ → Type 0) (a : Answer) (held : Option (List ℕ)) → holds name ≡ held → (bytes : List ℕ) → WasRead held bytes → IsFinding a → Decides standard_limits bytes a → Answered (Some name) holds rose a
+verdict_on name holds rose a None e bytes read i d = with_bytes name holds rose a None e bytes tt (allows_decided name bytes rose a i d)
+verdict_on name holds rose a (Some b) e bytes read i d = with_bytes name holds rose a (Some b) e b refl (allows_decided name b rose a i (decides_whole standard_limits b bytes a read.told d))
 
-pub answered_checked : (name : List ℕ) (holds : List ℕ → Option (List ℕ)) (rose : List ℕ → Type 0) (a : Answer) (bytes : List ℕ) → WasRead (holds name) bytes → Decides bytes a → Answered (Some name) holds rose a
-answered_checked name holds rose a bytes read d = verdict_on name holds rose a (holds name) refl bytes read d
+pub answered_checked : (name : List ℕ) (holds : List ℕ → Option (List ℕ)) (rose : List ℕ → Type 0) (f : Finding) (bytes : List ℕ) → WasRead (holds name) bytes → Decides standard_limits bytes (answer_of f) → Answered (Some name) holds rose (answer_of f)
+answered_checked name holds rose f bytes read d = verdict_on name holds rose (answer_of f) (holds name) refl bytes read (is_finding f) d
 
 fault_on : (name : List ℕ) (holds : List ℕ → Option (List ℕ)) (rose : List ℕ → Type 0) (held : Option (List ℕ)) → holds name ≡ held → rose name → Answered (Some name) holds rose read_fault
 fault_on name holds rose None e r = with_bytes name holds rose read_fault None e [] tt r

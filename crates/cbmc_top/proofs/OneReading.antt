@@ -10,14 +10,16 @@ use Rattle.std.specs.Char.{is_ascii_digit}
 use Rattle.std.specs.Fmt.{decimal}
 use Rattle.std.specs.List.{flat_map}
 use Rattle.std.specs.Str.{bytes_eq}
-use Rattle.words.specs.declared.Class.{Class}
-use Rattle.words.specs.declared.Class.TheVariants.{Assertion, Overflow, Division, Shift, Null, InvalidPointer, Lifetime, Bounds, Readonly, MixedSize, Pointer, Free, MallocLimit, Mutex, Join, Return, Unwind, Recursion}
-use Rattle.cbmc_top.specs.Tokens.{is_letter, is_word_byte, all_word_bytes}
+use Rattle.words.specs.declared.check.Class.{Class}
+use Rattle.words.specs.declared.check.Class.TheVariants.{Assertion, Overflow, Division, Shift, Null, InvalidPointer, Lifetime, Bounds, Readonly, MixedSize, Pointer, Free, MallocLimit, Mutex, Join, Return, Unwind, Recursion}
+use Rattle.cbmc_top.specs.Identifiers.{is_letter, is_word_byte, all_word_bytes, is_identifier}
 use Rattle.cbmc_top.specs.FileNames.{is_name_byte, all_name_bytes}
-use Rattle.cbmc_top.specs.Report.{class_name, line_of, Head, head_text, Failure, violated_line, spaced_words, inputs_line, spaced_rows, schedule_line, failure_text, IsHead, is_identifier, IsDrawn, IsRow, IsTold}
-use Rattle.cbmc_top.proofs.DigitRuns.{and_both}
-use Rattle.cbmc_top.proofs.Grammar.{some_is}
+use Rattle.cbmc_top.specs.Report.{class_name, line_of, Head, head_text, Failure, violated_line, spaced_words, inputs_line, spaced_rows, schedule_line, failure_text, IsHead, IsDrawn, IsRow, IsTold}
+use Rattle.cbmc_top.proofs.Both.{and_both}
 use Rattle.cbmc_top.proofs.Runs.{head_is, tail_is, cons_is, passes, passes_all, one_run, one_number, one_end, decimal_passes}
+
+some_is : {A : Type 0} {x y : A} → Some x ≡ Some y → x ≡ y
+some_is e = cc
 
 abbrev other_than : ℕ → ℕ → Bool
 other_than d c = not (eqb c d)

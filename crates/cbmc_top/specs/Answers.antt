@@ -1,20 +1,34 @@
 -- What the checker may answer.
-use Rattle.std.specs.Prelude.{◌≡◌, ◌⊎◌, ℕ, ◌<◌, ◌≤◌, true, ◌==◌, List, [], ◌∷◌, ◌++◌, length, Option, Some, None, replicate, if◌then◌else◌, codes, IfSome}
+use Rattle.std.specs.Prelude.{◌≡◌, ◌⊎◌, ℕ, ◌<◌, ◌≤◌, true, false, nat_le, List, [], ◌∷◌, ◌++◌, length, slice_get, Option, Some, None, option_map, replicate, if◌then◌else◌, codes, IfSome, Result, Ok, Err}
 use Rattle.std.specs.List.{flat_map}
-use Rattle.words.specs.declared.Check.{Check}
+use Rattle.words.specs.declared.check.Check.{Check}
 use Rattle.outside.specs.Sink.{appended}
-use Rattle.cbmc_top.specs.Program.{IsProgram}
-use Rattle.cbmc_top.specs.Run.{Inputs, IsSafe, Replays}
+use Rattle.c_lexer.specs.declared.token.Token.{Token}
+use Rattle.c_lexer.specs.declared.fault.LexError.{LexError}
+use Rattle.c_lexer.specs.declared.fault.LexError.TheVariants as errors
+use Rattle.c_lexer.specs.Cutting.{IsCutInto, bytes_of, last_line_of}
+use Rattle.c_tree.specs.Statements.{Definitions}
+use Rattle.c_tree.specs.Files.{IsFile}
+use Rattle.c_parse_expr.specs.Standing.{line_at}
+use Rattle.c_parse_decl.specs.Standing.{EndsAt}
+use Rattle.core_tree.specs.Trees.{Procedure}
+use Rattle.core_tree.specs.Ranges.{Limits, Cause}
+use Rattle.core_tree.specs.declared.refusal.Limit.{Limit}
+use Rattle.core_tree.specs.declared.refusal.Limit.TheVariants.{FileBytes, Tokens}
+use Rattle.c_elab_expr.specs.Typing.{Fault}
+use Rattle.c_elab_decl.specs.Elaborated.{elaborated}
+use Rattle.c_profile.specs.Rules.{Breach, first_breach}
+use Rattle.interleave.specs.Replay.{Replays}
+use Rattle.goto_unwind.specs.Counts.{passed}
+use Rattle.cbmc_top.specs.Programs.{directive_line}
+use Rattle.cbmc_top.specs.Executions.{bounded_world, IsVerified}
 use Rattle.cbmc_top.specs.Report.{Head, Failure, IsTold, line_of, success_text, failure_text, refusal_text, limit_text}
-use Rattle.cbmc_top.specs.declared.options.Limit.{Limit}
-use Rattle.cbmc_top.specs.declared.options.Limit.TheVariants.{FileBytes}
-use Rattle.cbmc_top.specs.declared.program.Item.{Item}
 
 pub data Answer : Type 0 where
   usage : Answer
   read_fault : Answer
   limited : Limit → Answer
-  refused : (number line : ℕ) (rule : Option ℕ) → Answer
+  refused : Cause → Answer
   successful : Answer
   failed : Failure → Answer
 
@@ -22,69 +36,148 @@ abbrev pub status_of : Answer → ℕ
 status_of usage = 1
 status_of read_fault = 8
 status_of (limited limit) = 7
-status_of (refused number line rule) = 6
+status_of (refused cause) = 6
 status_of successful = 0
 status_of (failed f) = 10
 
+-- the bounds of a command without options
+abbrev pub standard_limits : Limits
+standard_limits = record { unwind = 8; set = []; assertions = true; malloc_limit = 256; malloc_may_fail = false }
+
 -- the head of a verdict on a file
 abbrev pub head_of : List ℕ → Head
-head_of name = record { name = name; unwind = 8; assertions = true }
+head_of name = record { name = name; unwind = standard_limits.unwind; assertions = standard_limits.assertions }
 
 abbrev pub text_of : List ℕ → Answer → List ℕ
 text_of name usage = line_of (codes "usage: cbmc FILE [OPTIONS]")
 text_of name read_fault = line_of (codes "read fault")
 text_of name (limited limit) = limit_text limit
-text_of name (refused number line rule) = refusal_text number line rule
+text_of name (refused cause) = refusal_text cause.number cause.line cause.rule
 text_of name successful = success_text (head_of name)
 text_of name (failed f) = failure_text (head_of name) f
-
--- the words of a thread, none where it isn't listed
-abbrev pub words_of : List (ℕ × List ℕ) → Inputs
-words_of [] t = []
-words_of (e ∷ entries) t = if e.0 == t then e.1 else words_of entries t
 
 -- the turns of the rows, one after another
 abbrev pub turns_of : List (ℕ × ℕ) → List ℕ
 turns_of rows = flat_map (λ (row : ℕ × ℕ). replicate row.1 row.0) rows
 
--- the names of the functions, by number
-abbrev pub function_name : ℕ → Option (List ℕ)
-function_name n = if n == 0 then Some (codes "main") else None
+-- the name of the function with this number
+abbrev pub name_in : List Procedure → ℕ → Option (List ℕ)
+name_in functions number = option_map (λ f. f.name) (slice_get functions number)
 
--- The failure is a run of these items that breaks a check: on its inputs and its turns, the run breaks exactly the
--- check of this class, on this line, of this function and this thread.
-pub record IsFailure (items : List Item) (f : Failure) : Type 0 where
+-- The failure is a run of the program that breaks a check: on its inputs and its turns, the run breaks exactly the check of
+-- this class, on this line, of this function and this thread.
+pub record IsFailure (limits : Limits) (functions : List Procedure) (f : Failure) : Type 0 where
   pub check : Check
-  pub replays : Replays items (words_of f.inputs) (turns_of f.rows) check
+  pub replays : Replays (bounded_world limits functions) f.inputs (turns_of f.rows) check
   pub class : f.class ≡ check.class
   pub line : f.line ≡ check.line
-  pub function : function_name check.function ≡ Some f.function
+  pub function : name_in functions check.function ≡ Some f.function
   pub thread : f.thread ≡ check.thread
   pub told : IsTold f
 
--- What a file of these bytes may be answered, in the order of refusals: its size, its form, its runs.
-abbrev pub Decides : List ℕ → Answer → Type 0
-Decides bytes usage = ⊥
-Decides bytes read_fault = ⊥
-Decides bytes (limited limit) = (limit ≡ FileBytes) × (1048576 < length bytes)
-Decides bytes (refused number line rule) = (length bytes ≤ 1048576) × (number ≡ 10) × (line ≡ 1) × (rule ≡ None) × ((items : List Item) → IsProgram bytes items → ⊥)
-Decides bytes successful = (length bytes ≤ 1048576) × (items : List Item) × IsProgram bytes items × IsSafe items
-Decides bytes (failed f) = (length bytes ≤ 1048576) × (items : List Item) × IsProgram bytes items × IsFailure items f
+-- ---- What a file may be answered: the first of these stages that stops it decides, and after the last of them its runs.
+
+abbrev pub refusal : ℕ → ℕ → Option ℕ → Answer
+refusal n l r = refused (record { number = n; line = l; rule = r })
+
+abbrev pub AfterCounts : Limits → List Procedure → Answer → Type 0
+AfterCounts limits functions usage = ⊥
+AfterCounts limits functions read_fault = ⊥
+AfterCounts limits functions (limited limit) = ⊥
+AfterCounts limits functions (refused cause) = ⊥
+AfterCounts limits functions successful = IsVerified limits functions
+AfterCounts limits functions (failed f) = IsFailure limits functions f
+
+-- a count passes its limit
+abbrev pub AtCounts : Limits → List Procedure → Option Limit → Answer → Type 0
+AtCounts limits functions (Some limit) answer = answer ≡ limited limit
+AtCounts limits functions None answer = AfterCounts limits functions answer
+
+-- a rule of the profile is broken
+abbrev pub AtProfile : Limits → List Procedure → Option Breach → Answer → Type 0
+AtProfile limits functions (Some b) answer = answer ≡ refusal 12 b.line (Some b.rule)
+AtProfile limits functions None answer = AtCounts limits functions (passed functions limits) answer
+
+-- a rule of typing is broken
+abbrev pub AtTyping : Limits → Result (List Procedure) Fault → Answer → Type 0
+AtTyping limits (Err f) answer = answer ≡ refusal 11 f.line (Some f.rule)
+AtTyping limits (Ok functions) answer = AtProfile limits functions (first_breach functions) answer
+
+-- the tokens are no file: the first definition that has no tree stands at the rest
+pub record HasNoTree (bytes : List ℕ) (last_line : ℕ) (tokens : List Token) (answer : Answer) : Type 0 where
+  pub none : (tree : Definitions) → IsFile bytes tokens tree → ⊥
+  pub rest : List Token
+  pub ends : EndsAt bytes tokens rest
+  pub on : answer ≡ refusal 10 (line_at last_line rest) None
+
+pub record HasTree (limits : Limits) (bytes : List ℕ) (tokens : List Token) (answer : Answer) : Type 0 where
+  pub tree : Definitions
+  pub is_tree : IsFile bytes tokens tree
+  pub on : AtTyping limits (elaborated tree) answer
+
+abbrev pub AtTree : Limits → List ℕ → List Token → Answer → Type 0
+AtTree limits file tokens answer = HasNoTree (bytes_of file) (last_line_of file) tokens answer ⊎ HasTree limits (bytes_of file) tokens answer
+
+-- the line of the 200,001st token
+abbrev pub extra_line : List Token → Option ℕ
+extra_line tokens = option_map (λ t. t.line) (slice_get tokens 200000)
+
+-- the line of a directive, and that of a token too many: the first line decides, and on one line the directive
+abbrev pub stops_at : Option ℕ → Option ℕ → Option Answer
+stops_at None None = None
+stops_at (Some directive) None = Some (refusal 5 directive None)
+stops_at None (Some extra) = Some (limited Tokens)
+stops_at (Some directive) (Some extra) = if nat_le directive extra then Some (refusal 5 directive None) else Some (limited Tokens)
+
+abbrev pub screened : List Token → Option Answer
+screened tokens = stops_at (directive_line tokens) (extra_line tokens)
+
+-- there is a directive, or a token too many
+abbrev pub AtTokens : Limits → List ℕ → List Token → Option Answer → Answer → Type 0
+AtTokens limits file tokens (Some stop) answer = answer ≡ stop
+AtTokens limits file tokens None answer = AtTree limits file tokens answer
+
+abbrev pub lexing_answer : LexError → Option Answer
+lexing_answer (errors.BadByte line) = Some (refusal 1 line None)
+lexing_answer (errors.Unclosed line) = Some (refusal 2 line None)
+lexing_answer (errors.BadConstant line) = Some (refusal 3 line None)
+lexing_answer (errors.Foreign line) = Some (refusal 4 line None)
+lexing_answer errors.Memory = None
+
+-- the file has no cutting into tokens
+abbrev pub AtLexing : Limits → List ℕ → Result (List Token) LexError → Answer → Type 0
+AtLexing limits file (Err error) answer = lexing_answer error ≡ Some answer
+AtLexing limits file (Ok tokens) answer = AtTokens limits file tokens (screened tokens) answer
+
+-- the file is too long
+abbrev pub IsTooLong : List ℕ → Answer → Type 0
+IsTooLong file answer = (1048576 < length file) × (answer ≡ limited FileBytes)
+
+pub record IsReadFrom (limits : Limits) (file : List ℕ) (answer : Answer) : Type 0 where
+  pub short : length file ≤ 1048576
+  pub found : Result (List Token) LexError
+  pub cut : IsCutInto file found
+  pub on : AtLexing limits file found answer
+
+abbrev pub Decides : Limits → List ℕ → Answer → Type 0
+Decides limits file answer = IsTooLong file answer ⊎ IsReadFrom limits file answer
+
+-- ---- commands
 
 -- An answer to a command, where its file holds these bytes, and rose says of a name that reading it failed.
 abbrev pub Allows : Option (List ℕ) → List ℕ → (List ℕ → Type 0) → Answer → Type 0
 Allows None bytes rose usage = Unit {0}
 Allows None bytes rose read_fault = ⊥
 Allows None bytes rose (limited limit) = ⊥
-Allows None bytes rose (refused number line rule) = ⊥
+Allows None bytes rose (refused cause) = ⊥
 Allows None bytes rose successful = ⊥
 Allows None bytes rose (failed f) = ⊥
 Allows (Some name) bytes rose usage = ⊥
 Allows (Some name) bytes rose read_fault = rose name
-Allows (Some name) bytes rose (limited limit) = Decides bytes (limited limit)
-Allows (Some name) bytes rose (refused number line rule) = Decides bytes (refused number line rule)
-Allows (Some name) bytes rose successful = Decides bytes successful
-Allows (Some name) bytes rose (failed f) = Decides bytes (failed f)
+Allows (Some name) bytes rose (limited limit) = Decides standard_limits bytes (limited limit)
+Allows (Some name) bytes rose (refused cause) = Decides standard_limits bytes (refused cause)
+Allows (Some name) bytes rose successful = Decides standard_limits bytes successful
+Allows (Some name) bytes rose (failed f) = Decides standard_limits bytes (failed f)
 
 -- an answer that is allowed for the bytes that the source tells, or for some bytes, where it tells none
 pub record Answered (command : Option (List ℕ)) (holds : List ℕ → Option (List ℕ)) (rose : List ℕ → Type 0) (answer : Answer) : Type 0 where
@@ -107,6 +200,15 @@ pub record Reported (command : Option (List ℕ)) (holds : List ℕ → Option (
   pub answered : Answered command holds rose answer
   pub status_is : status ≡ status_of answer
   pub text_is : text ≡ text_of (name_of command) answer
+
+-- the answer tells what the runs of a program do
+abbrev pub AreRuns : Answer → Type 0
+AreRuns usage = ⊥
+AreRuns read_fault = ⊥
+AreRuns (limited limit) = ⊥
+AreRuns (refused cause) = ⊥
+AreRuns successful = Unit {0}
+AreRuns (failed f) = Unit {0}
 
 abbrev pub IsOneOf : List ℕ → ℕ → Type 0
 IsOneOf [] n = ⊥

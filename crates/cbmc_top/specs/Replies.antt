@@ -7,4 +7,4 @@ use Rattle.cbmc_top.specs.declared.call.Reply.TheVariants.{Usage, ReadFault, Che
 abbrev pub reply_of : Reply → Answer
 reply_of Usage = usage
 reply_of ReadFault = read_fault
-reply_of (Checked verdict) = answer_of verdict
+reply_of (Checked finding) = answer_of finding

@@ -1,13 +1,13 @@
 -- The texts of the answers.
-use Rattle.std.specs.Prelude.{◌≡◌, ◌≢◌, ℕ, ◌<◌, ◌≤◌, ◌^◌, Bool, true, false, ◌&&◌, ◌==◌, List, [], ◌∷◌, ◌++◌, length, Option, Some, None, All, if◌then◌else◌, codes}
+use Rattle.std.specs.Prelude.{◌≡◌, ◌≢◌, ℕ, ◌<◌, ◌≤◌, ◌^◌, Bool, true, ◌==◌, List, [], ◌∷◌, ◌++◌, length, Option, Some, None, All, if◌then◌else◌, codes}
 use Rattle.std.specs.List.{flat_map}
 use Rattle.std.specs.Fmt.{decimal}
-use Rattle.words.specs.declared.Class.{Class}
-use Rattle.words.specs.declared.Class.TheVariants.{Assertion, Overflow, Division, Shift, Null, InvalidPointer, Lifetime, Bounds, Readonly, MixedSize, Pointer, Free, MallocLimit, Mutex, Join, Return, Unwind, Recursion}
+use Rattle.words.specs.declared.check.Class.{Class}
+use Rattle.words.specs.declared.check.Class.TheVariants.{Assertion, Overflow, Division, Shift, Null, InvalidPointer, Lifetime, Bounds, Readonly, MixedSize, Pointer, Free, MallocLimit, Mutex, Join, Return, Unwind, Recursion}
 use Rattle.cbmc_top.specs.FileNames.{all_name_bytes}
-use Rattle.cbmc_top.specs.Tokens.{is_letter, all_word_bytes}
-use Rattle.cbmc_top.specs.declared.options.Limit.{Limit}
-use Rattle.cbmc_top.specs.declared.options.Limit.TheVariants.{FileBytes, Tokens, Places, Threads, Actions, Objects, ObjectBytes}
+use Rattle.cbmc_top.specs.Identifiers.{is_identifier}
+use Rattle.core_tree.specs.declared.refusal.Limit.{Limit}
+use Rattle.core_tree.specs.declared.refusal.Limit.TheVariants.{FileBytes, Tokens, Places, Threads, Actions, Objects, ObjectBytes}
 
 abbrev pub class_name : Class → List ℕ
 class_name Assertion = codes "assertion"
@@ -64,8 +64,11 @@ spaced_words words = flat_map (λ w. 32 ∷ decimal w) words
 abbrev pub inputs_line : ℕ × List ℕ → List ℕ
 inputs_line entry = codes "inputs " ++ (decimal entry.0 ++ (58 ∷ (spaced_words entry.1 ++ 10 ∷ [])))
 
+abbrev pub spaced_row : ℕ × ℕ → List ℕ
+spaced_row row = 32 ∷ (decimal row.0 ++ (codes "x" ++ decimal row.1))
+
 abbrev pub spaced_rows : List (ℕ × ℕ) → List ℕ
-spaced_rows rows = flat_map (λ (row : ℕ × ℕ). 32 ∷ (decimal row.0 ++ (codes "x" ++ decimal row.1))) rows
+spaced_rows rows = flat_map spaced_row rows
 
 abbrev pub schedule_line : List (ℕ × ℕ) → List ℕ
 schedule_line rows = codes "schedule" ++ (spaced_rows rows ++ 10 ∷ [])
@@ -109,10 +112,6 @@ limit_text limit = codes "limit " ++ (limit_name limit ++ (32 ∷ (decimal (limi
 pub record IsHead (h : Head) : Type 0 where
   pub name : all_name_bytes h.name ≡ true
   pub unwind : h.unwind ≤ 1000
-
-abbrev pub is_identifier : List ℕ → Bool
-is_identifier [] = false
-is_identifier (c ∷ cs) = is_letter c && all_word_bytes cs
 
 -- the words of a thread that drew
 pub record IsDrawn (entry : ℕ × List ℕ) : Type 0 where

@@ -3,19 +3,23 @@
 ghost use Rattle.std.specs.Prelude.{◌≡◌, ◌≢◌, ℕ, List, [], ◌∷◌, ◌+◌, ◌<◌, ◌≤◌, ◌++◌, ◌⊎◌, length, take, map, string_bytes, vec_len, Option, Some, None, IfOk, IfSome, IsErrOf, OnOk, OnErr};
 ghost use Rattle.outside.specs.Count.{Rose, HasCause};
 ghost use Rattle.outside.specs.Sink.{appended};
-ghost use Rattle.cbmc_top.specs.Program.{IsProgram};
-ghost use Rattle.cbmc_top.specs.Run.{IsSafe};
-ghost use Rattle.cbmc_top.specs.Report.{Failure, failure_text};
+ghost use Rattle.core_tree.specs.Trees.{Procedure};
+ghost use Rattle.core_tree.specs.Ranges.{Cause};
+ghost use Rattle.core_tree.specs.declared.refusal.Limit.{Limit};
+ghost use Rattle.cbmc_top.specs.Programs.{IsFileOf, IsCheckable};
+ghost use Rattle.cbmc_top.specs.Executions.{IsVerified};
+ghost use Rattle.cbmc_top.specs.Report.{Failure, failure_text, refusal_text, limit_text};
 ghost use Rattle.cbmc_top.specs.Command.{command_of};
-ghost use Rattle.cbmc_top.specs.Answers.{Answer, Answered, Decides, IsFailure, IsOneOf, Reported, TookPart, head_of, name_of, status_of, text_of};
-ghost use Rattle.cbmc_top.specs.declared.program.Item.{Item};
+ghost use Rattle.cbmc_top.specs.Answers.{Answer, Answered, Decides, IsFailure, IsOneOf, Reported, TookPart, head_of, limited, name_of, refused, standard_limits, status_of, text_of};
 ghost use Rattle.cbmc_top.specs.Verdicts.{answer_of};
 ghost use Rattle.cbmc_top.specs.Replies.{reply_of};
 ghost use Rattle.cbmc_top.specs.Calls.{WasRead, HasReadMore};
 
-use crate::options::{Bounds, Job, Options, Task, command};
+use crate::finding::{Finding, examine};
+use crate::laws::{one_answer, runs_answer};
+use crate::options::command;
 use crate::report::{failure, limit, refusal, success};
-use crate::verdict::{Verdict, check_bytes};
+use core_tree::Bounds;
 use outside::{Failed, ReadError, Sink, Source};
 use std::alloc::{AllocError, Global};
 
@@ -103,23 +107,14 @@ fn smaller(a: usize, b: usize) -> usize
 enum Reply {
     Usage,
     ReadFault,
-    Checked(Verdict),
+    Checked(Finding),
 }
 
-/// The verdict on a file.
-fn checked(alloc: Global, name: &str, bytes: &[u8]) -> Result<Verdict, AllocError>
-    ensures { IfOk result (λ v. Decides bytes.now (answer_of v)) }
+/// The bounds of a command without options.
+fn standard_bounds(alloc: Global) -> Bounds
+    ensures { result ≡ standard_limits }
 {
-    let options = Options {
-        name: String::from_str(alloc, name)?,
-        bounds: Bounds::standard(),
-        budget: 1_000_000,
-        task: Task {
-            job: Job::Check,
-            generate: None,
-        },
-    };
-    check_bytes(alloc, bytes, &options)
+    Bounds::new(8, Vec::new(alloc), true, 256, false)
 }
 
 /// The answer to a command on a file.
@@ -130,7 +125,11 @@ fn reply_to<S: Source>(alloc: Global, name: &str, files: &mut S) -> Result<Reply
     ensures answered { IfOk result (λ r. Answered (Some name.now) (S.holds files.old) (λ n. Rose (S.faults files.old n) (S.faults files.new n)) (reply_of r)) }
 {
     match read_file(alloc, files, name) {
-        Ok(bytes) => Ok(Reply::Checked(checked(alloc, name, &bytes)?)),
+        Ok(bytes) => {
+            let bounds = standard_bounds(alloc);
+            let finding = examine(alloc, &bytes, &bounds)?;
+            Ok(Reply::Checked(finding))
+        }
         Err(ReadError::Failed) => Ok(Reply::ReadFault),
         Err(ReadError::Memory) => Err(AllocError),
     }
@@ -150,29 +149,29 @@ fn report_reply(alloc: Global, name: &str, reply: &Reply) -> Result<Report, Allo
             let text = String::from_str(alloc, "read fault\n")?;
             Ok(Report { status: 8, text })
         }
-        Reply::Checked(verdict) => report_verdict(alloc, name, verdict),
+        Reply::Checked(finding) => report_finding(alloc, name, finding),
     }
 }
 
-/// The text of a verdict, with its status.
-fn report_verdict(alloc: Global, name: &str, verdict: &Verdict) -> Result<Report, AllocError>
-    ensures status { IfOk result (λ r. r.status ≡ status_of (answer_of verdict.now)) }
-    ensures text { IfOk result (λ r. string_bytes r.text ≡ text_of name.now (answer_of verdict.now)) }
+/// The text of what was found, with its status.
+fn report_finding(alloc: Global, name: &str, finding: &Finding) -> Result<Report, AllocError>
+    ensures status { IfOk result (λ r. r.status ≡ status_of (answer_of finding.now)) }
+    ensures text { IfOk result (λ r. string_bytes r.text ≡ text_of name.now (answer_of finding.now)) }
 {
-    match verdict {
-        Verdict::Successful => {
+    match finding {
+        Finding::Successful => {
             let text = success(alloc, name)?;
             Ok(Report { status: 0, text })
         }
-        Verdict::Failed(trace) => {
-            let text = failure(alloc, name, trace)?;
+        Finding::Failed(failing) => {
+            let text = failure(alloc, name, failing)?;
             Ok(Report { status: 10, text })
         }
-        Verdict::Refused(refused) => {
-            let text = refusal(alloc, refused)?;
+        Finding::Refused(refused) => {
+            let text = refusal(alloc, *refused)?;
             Ok(Report { status: 6, text })
         }
-        Verdict::Limited(limited) => {
+        Finding::Limited(limited) => {
             let text = limit(alloc, *limited)?;
             Ok(Report { status: 7, text })
         }
@@ -224,17 +223,18 @@ fn answer_words<S: Source>(
 /// that breaks one, 1 where the words are no command, 6 where the file is refused, 7 where a limit is passed, 8 where
 /// reading the file failed, 9 where writing failed, and 12 where there was no memory.
 pub fn top<S: Source, K: Sink>(alloc: Global, words: &[String], files: &mut S, out: &mut K) -> Done
-    // A success is sound: no inputs and no schedule break a check of the file.
+    // A success is sound: no inputs and no schedule break a check of the file's program within the unwinding, and with
+    // unwinding assertions none at all.
     ensures success { result.status ≡ 0 → (name bytes : List ℕ) → command_of (map string_bytes words.now) ≡ Some name → S.holds files.old name ≡ Some bytes
-        → (items : List Item) × IsProgram bytes items × IsSafe items }
+        → (functions : List Procedure) × IsFileOf bytes functions × IsVerified standard_limits functions }
 
     // A failure replays: its text tells inputs and a schedule on which the run breaks exactly the check that it tells.
     ensures failure { result.status ≡ 10 → (name bytes : List ℕ) → command_of (map string_bytes words.now) ≡ Some name → S.holds files.old name ≡ Some bytes
-        → (items : List Item) × (f : Failure) × IsProgram bytes items × IsFailure items f × (K.taken out.new ≡ appended (K.taken out.old) (failure_text (head_of name) f)) }
+        → (functions : List Procedure) × (f : Failure) × IsFileOf bytes functions × IsFailure standard_limits functions f × (K.taken out.new ≡ appended (K.taken out.old) (failure_text (head_of name) f)) }
 
-    // It is complete: a file of the form and within the limit gets one of the two, where no fault was counted.
-    ensures complete { (name bytes : List ℕ) (items : List Item) → command_of (map string_bytes words.now) ≡ Some name → S.holds files.old name ≡ Some bytes
-        → length bytes ≤ 1048576 → IsProgram bytes items
+    // It is complete: a file in the profile of which no count passes its limit gets one of the two, where no fault was counted.
+    ensures complete { (name bytes : List ℕ) (functions : List Procedure) → command_of (map string_bytes words.now) ≡ Some name → S.holds files.old name ≡ Some bytes
+        → IsCheckable standard_limits bytes functions
         → (Rose (S.faults files.old name) (S.faults files.new name) → ⊥) → (Rose (K.faults out.old) (K.faults out.new) → ⊥)
         → IsOneOf (0 ∷ 10 ∷ 12 ∷ []) result.status }
 
@@ -242,17 +242,18 @@ pub fn top<S: Source, K: Sink>(alloc: Global, words: &[String], files: &mut S, o
     ensures usage { result.status ≡ 1 → command_of (map string_bytes words.now) ≡ None }
     ensures usage_only { command_of (map string_bytes words.now) ≡ None → IsOneOf (1 ∷ 9 ∷ 12 ∷ []) result.status }
 
-    // A passed limit comes exactly where the file is too long, beside faults and want of memory.
-    ensures limited { result.status ≡ 7 → (name bytes : List ℕ) → command_of (map string_bytes words.now) ≡ Some name → S.holds files.old name ≡ Some bytes → 1048576 < length bytes }
-    ensures limited_only { (name bytes : List ℕ) → command_of (map string_bytes words.now) ≡ Some name → S.holds files.old name ≡ Some bytes
-        → 1048576 < length bytes → (Rose (S.faults files.old name) (S.faults files.new name) → ⊥) → IsOneOf (7 ∷ 9 ∷ 12 ∷ []) result.status }
+    // A passed limit comes exactly where a count of the file passes its limit and no refusal precedes it, beside faults and want
+    // of memory.
+    ensures limited { result.status ≡ 7 → (name bytes : List ℕ) → command_of (map string_bytes words.now) ≡ Some name → S.holds files.old name ≡ Some bytes
+        → (limit : Limit) × Decides standard_limits bytes (limited limit) × (K.taken out.new ≡ appended (K.taken out.old) (limit_text limit)) }
+    ensures limited_only { (name bytes : List ℕ) (limit : Limit) → command_of (map string_bytes words.now) ≡ Some name → S.holds files.old name ≡ Some bytes
+        → Decides standard_limits bytes (limited limit) → (Rose (S.faults files.old name) (S.faults files.new name) → ⊥) → IsOneOf (7 ∷ 9 ∷ 12 ∷ []) result.status }
 
-    // A refusal comes exactly where a file within the limit is not of the form, beside faults and want of memory.
+    // A refusal comes exactly where it holds of the file and nothing precedes it, beside faults and want of memory.
     ensures refused { result.status ≡ 6 → (name bytes : List ℕ) → command_of (map string_bytes words.now) ≡ Some name → S.holds files.old name ≡ Some bytes
-        → (length bytes ≤ 1048576) × ((items : List Item) → IsProgram bytes items → ⊥) }
-    ensures refused_only { (name bytes : List ℕ) → command_of (map string_bytes words.now) ≡ Some name → S.holds files.old name ≡ Some bytes
-        → length bytes ≤ 1048576 → ((items : List Item) → IsProgram bytes items → ⊥) → (Rose (S.faults files.old name) (S.faults files.new name) → ⊥)
-        → IsOneOf (6 ∷ 9 ∷ 12 ∷ []) result.status }
+        → (cause : Cause) × Decides standard_limits bytes (refused cause) × (K.taken out.new ≡ appended (K.taken out.old) (refusal_text cause.number cause.line cause.rule)) }
+    ensures refused_only { (name bytes : List ℕ) (cause : Cause) → command_of (map string_bytes words.now) ≡ Some name → S.holds files.old name ≡ Some bytes
+        → Decides standard_limits bytes (refused cause) → (Rose (S.faults files.old name) (S.faults files.new name) → ⊥) → IsOneOf (6 ∷ 9 ∷ 12 ∷ []) result.status }
 
     // A read fault comes only for a FILE, and only where its count rose.
     ensures read_fault { result.status ≡ 8 → (name : List ℕ) × (command_of (map string_bytes words.now) ≡ Some name) × Rose (S.faults files.old name) (S.faults files.new name) }
@@ -270,6 +271,8 @@ pub fn top<S: Source, K: Sink>(alloc: Global, words: &[String], files: &mut S, o
     ensures others { (other : List ℕ) → command_of (map string_bytes words.now) ≢ Some other → S.faults files.new other ≡ S.faults files.old other }
     ensures sink_later { K.faults out.old ≤ K.faults out.new }
 {
+    one_answer();
+    runs_answer();
     let report = match answer_words(alloc, words, files) {
         Ok(report) => report,
         Err(_) => return Done { status: 12 },

@@ -1,23 +1,29 @@
 //! Checks one C file: the words of the command line and the bytes of the file in, the report and the status out.
 //!
 //! `top` is the whole of it. Its clauses say when each answer comes: a success only where no inputs and no schedule break
-//! a check of the file, a failure only with a run that breaks the check that is told, and one of the two for each file
-//! of the accepted form.
+//! a check of the file's program, a failure only with a run that breaks the check that is told, one of the two for each
+//! file in the profile of which no count passes its limit, and a refusal or a limit exactly where it is the first thing
+//! that stops the file.
 #![tactic(auto)]
 
+mod accepting;
 mod call;
+mod failing;
+mod finding;
 mod laws;
-mod names;
+#[cfg(test)]
+mod machines;
 mod options;
-mod program;
 mod report;
-mod search;
+#[cfg(test)]
+mod run_tests;
+mod searching;
+mod stop;
 #[cfg(test)]
 mod tests;
-mod tokens;
 mod verdict;
 
 pub use call::{Done, top};
-pub use laws::{one_program, one_reading};
-pub use options::{Bounds, Job, Limit, Options, Refusal, Task};
-pub use verdict::{Trace, Verdict, check_bytes};
+pub use laws::{one_answer, one_program, one_reading, runs_answer};
+pub use options::{Job, Options, Task};
+pub use verdict::{Verdict, check_bytes};

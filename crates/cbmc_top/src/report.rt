@@ -1,16 +1,16 @@
 //! The texts of the answers.
 
-ghost use Rattle.std.specs.Prelude.{◌≡◌, ℕ, [], ◌∷◌, ◌++◌, length, IfOk, OnOk, string_bytes, codes};
-ghost use Rattle.std.specs.Fmt.{decimal};
+ghost use Rattle.std.specs.Prelude.{◌≡◌, ◌++◌, map, IfOk, OnOk, string_bytes};
 ghost use Rattle.std.specs.List.{flat_map};
-ghost use Rattle.cbmc_top.specs.Report.{head_text, success_text, failure_text, violated_line, spaced_words, inputs_line, schedule_line, refusal_name, refusal_text, limit_name, limit_value, limit_text};
+ghost use Rattle.cbmc_top.specs.Report.{head_text, success_text, failure_text, violated_line, class_name, spaced_words, inputs_line, spaced_row, schedule_line, refusal_name, refusal_text, limit_name, limit_value, limit_text};
 ghost use Rattle.cbmc_top.specs.Answers.{head_of};
-ghost use Rattle.cbmc_top.specs.Verdicts.{entries_of, failure_of};
+ghost use Rattle.cbmc_top.specs.Verdicts.{entry_of, row_of, failure_of};
 
-use crate::options::{Limit, Refusal};
-use crate::verdict::Trace;
+use crate::failing::{Drawn, Failing, Row};
+use core_tree::{Limit, Refusal};
 use std::alloc::{AllocError, Global};
 use std::fmt::Write;
+use words::Class;
 
 /// The first lines of a verdict on a file, under the bounds of a command without options.
 fn head(alloc: Global, name: &str) -> Result<String, AllocError>
@@ -30,7 +30,7 @@ pub fn success(alloc: Global, name: &str) -> Result<String, AllocError>
 }
 
 /// Appends words, each behind a space.
-fn push_words(text: &mut String, words: &[u32]) -> Result<(), AllocError>
+fn push_words(text: &mut String, words: &[u64]) -> Result<(), AllocError>
     ensures { OnOk result (string_bytes text.new ≡ string_bytes text.old ++ spaced_words words.now) }
 {
     for word in words {
@@ -39,51 +39,104 @@ fn push_words(text: &mut String, words: &[u32]) -> Result<(), AllocError>
     Ok(())
 }
 
-/// Appends the line of the words of thread 0, where it drew any.
-fn push_inputs(text: &mut String, words: &[u32]) -> Result<(), AllocError>
-    ensures { OnOk result (string_bytes text.new ≡ string_bytes text.old ++ flat_map inputs_line (entries_of words.now)) }
+/// Appends the line of the words of a thread.
+fn push_drawn(text: &mut String, drawn: &Drawn) -> Result<(), AllocError>
+    ensures { OnOk result (string_bytes text.new ≡ string_bytes text.old ++ inputs_line (entry_of drawn.now)) }
 {
-    if words.is_empty() {
-        return Ok(());
-    }
-    let thread: u32 = 0;
+    let thread = drawn.thread;
     write!(text, "inputs {thread}:")?;
-    push_words(text, words)?;
+    push_words(text, &drawn.words)?;
     text.push_str("\n")?;
     Ok(())
 }
 
-/// Appends the line of a broken assertion of main.
-fn push_violated(text: &mut String, trace: &Trace) -> Result<(), AllocError>
-    ensures { OnOk result (string_bytes text.new ≡ string_bytes text.old ++ violated_line (failure_of trace.now)) }
+/// Appends a line for each thread that drew.
+fn push_inputs(text: &mut String, inputs: &[Drawn]) -> Result<(), AllocError>
+    ensures { OnOk result (string_bytes text.new ≡ string_bytes text.old ++ flat_map (λ d. inputs_line (entry_of d)) inputs.now) }
 {
-    let line = trace.line;
-    let class = "assertion";
-    let function = "main";
-    let thread: u32 = 0;
+    for drawn in inputs {
+        push_drawn(text, drawn)?;
+    }
+    Ok(())
+}
+
+fn name_of_class(class: Class) -> &'static str
+    ensures { result.now ≡ class_name class }
+{
+    match class {
+        Class::Assertion => "assertion",
+        Class::Overflow => "overflow",
+        Class::Division => "division",
+        Class::Shift => "shift",
+        Class::Null => "null",
+        Class::InvalidPointer => "invalid-pointer",
+        Class::Lifetime => "lifetime",
+        Class::Bounds => "bounds",
+        Class::Readonly => "readonly",
+        Class::MixedSize => "mixed-size",
+        Class::Pointer => "pointer",
+        Class::Free => "free",
+        Class::MallocLimit => "malloc-limit",
+        Class::Mutex => "mutex",
+        Class::Join => "join",
+        Class::Return => "return",
+        Class::Unwind => "unwind",
+        Class::Recursion => "recursion",
+    }
+}
+
+/// Appends the line of the broken check.
+fn push_violated(text: &mut String, failing: &Failing) -> Result<(), AllocError>
+    ensures { OnOk result (string_bytes text.new ≡ string_bytes text.old ++ violated_line (failure_of failing.now)) }
+{
+    let check = failing.trace.check;
+    let class = name_of_class(check.class);
+    let line = check.line;
+    let thread = check.thread;
+    let function = failing.function.as_str();
     write!(
         text,
         "violated {class} line {line} function {function} thread {thread}\n"
     )
 }
 
-/// Appends the schedule of so many turns of thread 0.
-fn push_schedule(text: &mut String, turns: usize) -> Result<(), AllocError>
-    ensures { OnOk result (string_bytes text.new ≡ string_bytes text.old ++ schedule_line ((0, turns) ∷ [])) }
+/// Appends a row of a schedule, behind a space.
+fn push_row(text: &mut String, row: &Row) -> Result<(), AllocError>
+    ensures { OnOk result (string_bytes text.new ≡ string_bytes text.old ++ spaced_row (row_of row.now)) }
 {
-    let thread: u32 = 0;
-    write!(text, "schedule {thread}x{turns}\n")
+    let thread = row.thread;
+    let turns = row.turns;
+    write!(text, " {thread}x{turns}")
+}
+
+/// Appends the rows of a schedule, each behind a space.
+fn push_rows(text: &mut String, rows: &[Row]) -> Result<(), AllocError>
+    ensures { OnOk result (string_bytes text.new ≡ string_bytes text.old ++ flat_map (λ r. spaced_row (row_of r)) rows.now) }
+{
+    for row in rows {
+        push_row(text, row)?;
+    }
+    Ok(())
+}
+
+/// Appends the line of the schedule.
+fn push_schedule(text: &mut String, rows: &[Row]) -> Result<(), AllocError>
+    ensures { OnOk result (string_bytes text.new ≡ string_bytes text.old ++ schedule_line (map row_of rows.now)) }
+{
+    text.push_str("schedule")?;
+    push_rows(text, rows)?;
+    text.push_str("\n")?;
+    Ok(())
 }
 
 /// The text of a failure.
-pub fn failure(alloc: Global, name: &str, trace: &Trace) -> Result<String, AllocError>
-    ensures { IfOk result (λ text. string_bytes text ≡ failure_text (head_of name.now) (failure_of trace.now)) }
+pub fn failure(alloc: Global, name: &str, failing: &Failing) -> Result<String, AllocError>
+    ensures { IfOk result (λ text. string_bytes text ≡ failure_text (head_of name.now) (failure_of failing.now)) }
 {
     let mut text = head(alloc, name)?;
-    push_violated(&mut text, trace)?;
-    let words = trace.words.as_slice();
-    push_inputs(&mut text, words)?;
-    push_schedule(&mut text, words.len() + 1)?;
+    push_violated(&mut text, failing)?;
+    push_inputs(&mut text, &failing.inputs)?;
+    push_schedule(&mut text, &failing.rows)?;
     text.push_str("VERIFICATION FAILED\n")?;
     Ok(text)
 }
@@ -106,13 +159,13 @@ fn name_of_refusal(number: u32) -> &'static str
 }
 
 /// The text of a refusal.
-pub fn refusal(alloc: Global, refused: &Refusal) -> Result<String, AllocError>
-    ensures { IfOk result (λ text. string_bytes text ≡ refusal_text refused.now.number refused.now.line refused.now.rule) }
+pub fn refusal(alloc: Global, refused: Refusal) -> Result<String, AllocError>
+    ensures { IfOk result (λ text. string_bytes text ≡ refusal_text refused.number refused.line refused.rule) }
 {
-    let number = refused.number;
-    let line = refused.line;
+    let number = refused.number();
+    let line = refused.line();
     let name = name_of_refusal(number);
-    match refused.rule {
+    match refused.rule() {
         None => format!(in alloc; "refused {number} {name} line {line}\n"),
         Some(rule) => format!(in alloc; "refused {number} {name} line {line} rule {rule}\n"),
     }

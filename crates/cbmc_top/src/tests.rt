@@ -1,6 +1,12 @@
-//! The worked examples of the accepted form, through the top call.
+//! Worked examples, through the top call.
 
-use crate::{Bounds, Job, Options, Task, Verdict, check_bytes, one_program, one_reading, top};
+ghost use Rattle.std.specs.Prelude.{◌≡◌, IfOk};
+
+use crate::{
+    Job, Options, Task, Verdict, check_bytes, one_answer, one_program, one_reading, runs_answer,
+    top,
+};
+use core_tree::{Bounds, Refusal};
 use outside::{HeldFile, MemSink, MemSource, SureSink, SureSource};
 use std::alloc::{AllocError, Global};
 use std::test::Fail;
@@ -65,37 +71,33 @@ fn outcome(
     Ok((done.status, sink))
 }
 
-/// Each file of the form, or almost of it, with its answer.
-static FILES: [(&str, u8, &str); 22] = [
+/// Files with their answers.
+static FILES: [(&str, u8, &str); 38] = [
     (SEVEN, 10, SEVEN_BREAKS),
-    ("", 6, SYNTAX),
     (
-        "int main(void){int x=nondet_int();int y=x;assert(x==y);return 0;}",
-        0,
-        SAFE,
+        "int main(void){int x=nondet_int();if(x>0)x=x+1;return 0;}",
+        10,
+        "file a.c unwind 8\nviolated overflow line 1 function main thread 0\ninputs 0: 2147483647\nschedule 0x2\nVERIFICATION FAILED\n",
     ),
     (
-        "int main(void){int x=nondet_int();assert(x!=7)return 0;}",
-        6,
-        SYNTAX,
+        "int main(void){int d=nondet_int();__CPROVER_assume(d==-1);return (-2147483647-1)/d;}",
+        10,
+        "file a.c unwind 8\nviolated overflow line 1 function main thread 0\ninputs 0: 4294967295\nschedule 0x2\nVERIFICATION FAILED\n",
     ),
-    ("int main(void){return 2147483647;}", 0, SAFE),
-    ("int main(void){return 2147483648;}", 6, SYNTAX),
-    ("int main(void){return 08;}", 6, SYNTAX),
-    ("int main(void){return 0;};", 6, SYNTAX),
-    ("int main(void){return x;}", 6, SYNTAX),
-    ("int main(void){int x=1;int x=2;return x;}", 6, SYNTAX),
-    ("int main(void){int while=1;return 0;}", 6, SYNTAX),
-    ("int main(void){int nondet_int=1;return 0;}", 6, SYNTAX),
-    ("int main(void){int x=1;assert(x=1);return 0;}", 6, SYNTAX),
-    ("int main(void){int x=1;assert(x===1);return 0;}", 6, SYNTAX),
-    ("int main(void){int x=1;assert(x= =1);return 0;}", 6, SYNTAX),
-    ("intmain(void){return 0;}", 6, SYNTAX),
-    ("int\tmain (\nvoid ) { return 7 ; }\n", 0, SAFE),
     (
-        "int main(void){int _=0;int __=_;assert(__!=1);assert(_==0);return _;}",
-        0,
-        SAFE,
+        "int main(void){\nint d=nondet_int();\nreturn 7\n/\nd;}",
+        10,
+        "file a.c unwind 8\nviolated division line 4 function main thread 0\ninputs 0: 0\nschedule 0x2\nVERIFICATION FAILED\n",
+    ),
+    (
+        "int main(void){int n=nondet_int();__CPROVER_assume(n>30&&n<33);return 1>>n;}",
+        10,
+        "file a.c unwind 8\nviolated shift line 1 function main thread 0\ninputs 0: 32\nschedule 0x2\nVERIFICATION FAILED\n",
+    ),
+    (
+        "int main(void){int x;assert(x!=3);return 0;}",
+        10,
+        "file a.c unwind 8\nviolated assertion line 1 function main thread 0\ninputs 0: 3\nschedule 0x2\nVERIFICATION FAILED\n",
     ),
     (
         "int main(void){assert(3\n==\n4);return 0;}",
@@ -103,19 +105,95 @@ static FILES: [(&str, u8, &str); 22] = [
         "file a.c unwind 8\nviolated assertion line 1 function main thread 0\nschedule 0x1\nVERIFICATION FAILED\n",
     ),
     (
-        "int main(void){\nint a=nondet_int();\nint b=nondet_int();\nint c=a;\nassert(a==c);\n\nassert(c==b);\nassert(0==1);return 0;}",
+        "int main(void){\nint a=nondet_int();\nint b=nondet_int();\n__CPROVER_assume(a==5&&b==6);\nassert(a<b);\n\nassert(b<a);\nassert(0);return 0;}",
         10,
-        "file a.c unwind 8\nviolated assertion line 7 function main thread 0\ninputs 0: 1 0\nschedule 0x3\nVERIFICATION FAILED\n",
+        "file a.c unwind 8\nviolated assertion line 7 function main thread 0\ninputs 0: 5 6\nschedule 0x3\nVERIFICATION FAILED\n",
     ),
     (
-        "int main(void){int a=nondet_int();int b=nondet_int();assert(b==0);return 0;}",
-        10,
-        "file a.c unwind 8\nviolated assertion line 1 function main thread 0\ninputs 0: 0 1\nschedule 0x3\nVERIFICATION FAILED\n",
+        "int main(void){int x=nondet_int();int y=x;assert(x==y);return 0;}",
+        0,
+        SAFE,
     ),
     (
-        "int main(void){int a=nondet_int();int b=a;assert(a!=b);return 0;}",
-        10,
-        "file a.c unwind 8\nviolated assertion line 1 function main thread 0\ninputs 0: 0\nschedule 0x2\nVERIFICATION FAILED\n",
+        "int main(void){int x=nondet_int();__CPROVER_assume(x>=0);if(x==2147483647)x=0;else x=x+1;assert(x>=0);return x;}",
+        0,
+        SAFE,
+    ),
+    (
+        "int main(void){__CPROVER_assume(0);assert(0);return 0;}",
+        0,
+        SAFE,
+    ),
+    ("int main(void){return 0;assert(0);}", 0, SAFE),
+    ("int main(void){return 2147483647;}", 0, SAFE),
+    (
+        "int main(void){int nondet_int=1;return nondet_int;}",
+        0,
+        SAFE,
+    ),
+    ("int main(void){int x=0;assert(x=1);return 0;}", 0, SAFE),
+    ("int\tmain (\nvoid ) { return 7 ; }\n", 0, SAFE),
+    (
+        "int main(void){int _=0;int __=_;assert(__!=1);assert(_==0);return _;}",
+        0,
+        SAFE,
+    ),
+    (
+        "int main(void){{int x=1;assert(x);}int x=2;assert(x==2);}",
+        0,
+        SAFE,
+    ),
+    ("", 6, SYNTAX),
+    ("\n\n", 6, "refused 10 Syntax line 3\n"),
+    (
+        "int main(void){int x=nondet_int();assert(x!=7)return 0;}",
+        6,
+        SYNTAX,
+    ),
+    ("int main(void){return 0;};", 6, SYNTAX),
+    ("int main(void){int while=1;return 0;}", 6, SYNTAX),
+    ("int main(void){int x=1;assert(x===1);return 0;}", 6, SYNTAX),
+    ("int main(void){int x=1;assert(x= =1);return 0;}", 6, SYNTAX),
+    ("intmain(void){return 0;}", 6, SYNTAX),
+    (
+        "int main(void){return 0;}\nint x;",
+        6,
+        "refused 10 Syntax line 2\n",
+    ),
+    (
+        "int main(void){return 08;}",
+        6,
+        "refused 3 BadConstant line 1\n",
+    ),
+    ("int x;\nfloat y;\n", 6, "refused 4 Foreign line 2\n"),
+    ("int x;\n/*abc", 6, "refused 2 Unclosed line 2\n"),
+    ("int x;\n\n@", 6, "refused 1 BadByte line 3\n"),
+    ("int x\n\n#define A\n@", 6, "refused 1 BadByte line 4\n"),
+    ("int x\n\n#define A\n", 6, "refused 5 Directive line 3\n"),
+    (
+        "int main(void){\nreturn 0;} # x",
+        6,
+        "refused 5 Directive line 2\n",
+    ),
+    (
+        "int main(void){return x;}",
+        6,
+        "refused 11 Typing line 1 rule 1\n",
+    ),
+    (
+        "int main(void){int x=1;\nint x=2;return x;}",
+        6,
+        "refused 11 Typing line 2 rule 2\n",
+    ),
+    (
+        "int main(void){\n1=2;return x;}",
+        6,
+        "refused 11 Typing line 2 rule 9\n",
+    ),
+    (
+        "int main(void){\nreturn;}",
+        6,
+        "refused 11 Typing line 2 rule 16\n",
     ),
 ];
 
@@ -199,7 +277,42 @@ fn words_and_faults_are_answered(rt: HostRuntime) -> Result<(), Fail> {
     Ok(())
 }
 
-/// The ends that never fail, the size limit, and the call on bytes alone.
+/// Tokens before and behind the limit: how many `;` begin the file, what follows, and the answer.
+static COUNTS: [(usize, &str, u8, &str); 2] = [
+    (200_000, "", 6, SYNTAX),
+    (200_001, "", 7, "limit tokens 200000\n"),
+];
+
+static SAME_LINE: [(usize, &str, u8, &str); 2] = [
+    (200_000, "#", 6, "refused 5 Directive line 1\n"),
+    (200_001, "#", 6, "refused 5 Directive line 1\n"),
+];
+
+static NEXT_LINE: [(usize, &str, u8, &str); 2] = [
+    (200_001, "\n#", 7, "limit tokens 200000\n"),
+    (200_000, "\n;#", 6, "refused 5 Directive line 2\n"),
+];
+
+static BEFORE_FAULTS: [(usize, &str, u8, &str); 2] = [
+    (200_000, "\n#", 6, "refused 5 Directive line 2\n"),
+    (200_001, "\n@", 6, "refused 1 BadByte line 2\n"),
+];
+
+/// Whether a file of this many `;` and of these bytes behind them has this answer.
+fn is_answered(
+    alloc: Global,
+    count: usize,
+    rest: &str,
+    status: u8,
+    text: &str,
+) -> Result<bool, AllocError> {
+    let mut file = vec![in alloc; b';'; count]?;
+    file.extend_from_slice(rest.as_bytes())?;
+    let (answer, sink) = outcome(alloc, &A, &file, WELL)?;
+    Ok(answer == status && sink.taken() == text.as_bytes())
+}
+
+/// The ends that never fail, and the size limit.
 #[test]
 fn sizes_are_limited(rt: HostRuntime) -> Result<(), Fail> {
     let alloc = rt.alloc();
@@ -210,23 +323,88 @@ fn sizes_are_limited(rt: HostRuntime) -> Result<(), Fail> {
         let done = top(alloc, &words, &mut source, &mut SureSink);
         assert_eq!(rt; done.status, status, "{size} spaces");
     }
-    let options = Options {
+    Ok(())
+}
+
+#[test]
+fn tokens_are_limited(rt: HostRuntime) -> Result<(), Fail> {
+    for (count, rest, status, text) in &COUNTS {
+        assert!(rt;
+            is_answered(rt.alloc(), *count, rest, *status, text)?,
+            "{count} tokens and {rest}"
+        );
+    }
+    Ok(())
+}
+
+#[test]
+fn directives_come_first_on_a_line(rt: HostRuntime) -> Result<(), Fail> {
+    for (count, rest, status, text) in &SAME_LINE {
+        assert!(rt;
+            is_answered(rt.alloc(), *count, rest, *status, text)?,
+            "{count} tokens and {rest}"
+        );
+    }
+    Ok(())
+}
+
+#[test]
+fn the_lower_line_decides(rt: HostRuntime) -> Result<(), Fail> {
+    for (count, rest, status, text) in &NEXT_LINE {
+        assert!(rt;
+            is_answered(rt.alloc(), *count, rest, *status, text)?,
+            "{count} tokens and {rest}"
+        );
+    }
+    Ok(())
+}
+
+#[test]
+fn faults_of_tokens_come_first(rt: HostRuntime) -> Result<(), Fail> {
+    for (count, rest, status, text) in &BEFORE_FAULTS {
+        assert!(rt;
+            is_answered(rt.alloc(), *count, rest, *status, text)?,
+            "{count} tokens and {rest}"
+        );
+    }
+    Ok(())
+}
+
+/// The options of a command without options, on a file `a.c`.
+fn plain_options(alloc: Global) -> Result<Options, AllocError>
+    ensures { IfOk result (λ o. o.task.job ≡ Job.Check) }
+{
+    Ok(Options {
         name: String::from_str(alloc, "a.c")?,
-        bounds: Bounds::standard(),
+        bounds: Bounds::new(8, Vec::new(alloc), true, 256, false),
         budget: 1,
         task: Task {
             job: Job::Check,
             generate: None,
         },
-    };
+    })
+}
+
+/// The call on bytes alone.
+#[test]
+fn bytes_are_checked(rt: HostRuntime) -> Result<(), Fail> {
+    let alloc = rt.alloc();
+    let options = plain_options(alloc)?;
     match check_bytes(alloc, SEVEN.as_bytes(), &options)? {
         Verdict::Failed(trace) => {
-            assert_eq!(rt; trace.words.as_slice(), [7].as_slice());
-            assert_eq!(rt; trace.line, 1);
+            assert_eq!(rt; trace.inputs.words(0), [7].as_slice());
+            assert_eq!(rt; trace.schedule.as_slice(), [0, 0].as_slice());
+            assert_eq!(rt; trace.check.line, 1);
         }
         _ => assert!(rt; false),
     }
+    match check_bytes(alloc, b"int x;", &options)? {
+        Verdict::Refused(refused) => assert_eq!(rt; refused, Refusal::new(10, 1, None)),
+        _ => assert!(rt; false),
+    }
     one_program();
+    one_answer();
+    runs_answer();
     one_reading();
     Ok(())
 }

@@ -1,38 +1,18 @@
 //! The verdict on the bytes of a file.
 
-ghost use Rattle.std.specs.Prelude.{◌≡◌, ◌+◌, ◌<◌, ◌^◌, length, IfOk};
-ghost use Rattle.cbmc_top.specs.Answers.{Decides};
-ghost use Rattle.cbmc_top.specs.Search.{words_of, found_of, IsSmall};
-ghost use Rattle.cbmc_top.specs.Verdicts.{answer_of};
+ghost use Rattle.std.specs.Prelude.{◌≡◌, IfOk};
+ghost use Rattle.cbmc_top.specs.Verdicts.{IsVerdict};
 
-use crate::options::{Job, Limit, Options, Refusal};
-use crate::program::read_program;
-use crate::search::{Break, Change, find_break};
-use crate::tokens::cut;
+use crate::finding::{Finding, examine};
+use crate::options::{Job, Options};
+use core_tree::{Limit, Refusal};
+use interleave::Trace;
 use std::alloc::{AllocError, Global};
-
-/// The greatest size of a file in bytes.
-const FILE_BYTES: usize = 1_048_576;
-
-/// The refusal of a file that is not of the accepted form.
-const SYNTAX: Refusal = Refusal {
-    number: 10,
-    line: 1,
-    rule: None,
-};
-
-/// A run that breaks an assertion of main: the line of the assertion, and the input words of thread 0, which are exactly
-/// the words that it draws. Its schedule is one turn of thread 0 for each draw, and one more, which breaks.
-#[derive(Drop)]
-pub struct Trace {
-    pub line: u32,
-    pub words: Vec<u32>,
-}
 
 /// What is said of a file.
 #[derive(Drop)]
 pub enum Verdict {
-    /// No run breaks a check.
+    /// No run within the bounds breaks a check.
     Successful,
     /// A run that breaks a check.
     Failed(Trace),
@@ -42,40 +22,16 @@ pub enum Verdict {
     Limited(Limit),
 }
 
-/// The run that breaks the assertion that was found.
-fn trace_of(alloc: Global, found: Break) -> Result<Trace, AllocError>
-    ensures line { IfOk result (λ t. t.line ≡ found.line) }
-    ensures words { IfOk result (λ t. t.words.items ≡ words_of (found_of found)) }
-    ensures told { IfOk result (λ t. (t.line < 2 ^ 32) × (length t.words.items + 1 < 2 ^ 64)) }
-{
-    let mut words = vec![in alloc; 0u32; found.draws]?;
-    if let Change::Set(place, value) = found.change {
-        if place < words.len() {
-            words[place] = value;
-        }
-    }
-    Ok(Trace {
-        line: found.line,
-        words,
-    })
-}
-
-/// Checks the bytes of a file: its size, its form, and all its runs.
+/// The verdict on the bytes of a file under these bounds: why it is refused or which limit it passes, in the order of its
+/// size, its tokens, its tree, its typing, the profile and its counts; else whether a run breaks a check.
 pub fn check_bytes(alloc: Global, file: &[u8], options: &Options) -> Result<Verdict, AllocError>
     requires { options.now.task.job ≡ Job.Check }
-    ensures { IfOk result (λ v. Decides file.now (answer_of v)) }
+    ensures { IfOk result (λ v. IsVerdict options.now.bounds file.now v) }
 {
-    if file.len() > FILE_BYTES {
-        return Ok(Verdict::Limited(Limit::FileBytes));
-    }
-    let Some(tokens) = cut(alloc, file)? else {
-        return Ok(Verdict::Refused(SYNTAX));
-    };
-    let Some(items) = read_program(alloc, &tokens)? else {
-        return Ok(Verdict::Refused(SYNTAX));
-    };
-    match find_break(alloc, &items)? {
-        None => Ok(Verdict::Successful),
-        Some(found) => Ok(Verdict::Failed(trace_of(alloc, found)?)),
+    match examine(alloc, file, &options.bounds)? {
+        Finding::Successful => Ok(Verdict::Successful),
+        Finding::Failed(failing) => Ok(Verdict::Failed(failing.trace)),
+        Finding::Refused(refused) => Ok(Verdict::Refused(refused)),
+        Finding::Limited(limit) => Ok(Verdict::Limited(limit)),
     }
 }

@@ -1,5 +1,5 @@
-use Rattle.cbmc_top.proofs.Deciding.{same_program}
+use Rattle.cbmc_top.proofs.Stages.{one_program}
 use Rattle.cbmc_top.proofs.laws.one_program.Goals as goal
 
 pub returns : goal.returns
-returns c = same_program
+returns c = one_program c.one_cutting.ensures c.one_file.ensures

@@ -1,0 +1,108 @@
+-- A trace of a program is the failure that is told.
+use Rattle.std.proofs.Common.{◌≡◌, ℕ, suc, zero, ◌<◌, ◌^◌, true, List, [], ◌∷◌, length, Option, Some, None, option_map, Result, Ok, Err, sym, refl, ap, ◌∙◌, subst, arith, All}
+use Rattle.std.specs.Prelude.{slice_get, codes}
+use Rattle.std.specs.Str.{IsAscii, IsUtf8}
+use Rattle.std.proofs.lemmas.Str.{IsUtf8-from_ascii}
+use Rattle.core_tree.specs.declared.functions.Function.{Function}
+use Rattle.core_tree.specs.declared.functions.Name.{Name}
+use Rattle.core_tree.specs.Trees.{Procedure, view_core}
+use Rattle.core_tree.specs.Ranges.{Limits}
+use Rattle.c_tree.specs.Statements.{Definitions, no_more, defines}
+use Rattle.c_elab_expr.specs.Scopes.{Scoped}
+use Rattle.c_elab_expr.specs.Nodes.{◌>>=◌}
+use Rattle.c_elab_expr.specs.Typing.{on_line}
+use Rattle.c_elab_decl.specs.Elaborated.{typed_definitions, typed_statement, with_function, undeclared, main}
+use Rattle.c_types.specs.declared.integers.IntegerType.{IntegerType}
+use Rattle.core_tree.specs.Trees.{Statement}
+use Rattle.std.proofs.lemmas.Bool.Decides.{nat_tests}
+use Rattle.interleave.specs.Inputs.{InputLists}
+use Rattle.cbmc_top.proofs.Both.{and_both}
+use Rattle.cbmc_top.proofs.Congruent.{SameWords, replays_same}
+use Rattle.interleave.specs.Replay.{Replays}
+use Rattle.interleave.specs.declared.inputs.Trace.{Trace}
+use Rattle.cbmc_top.specs.Identifiers.{is_letter, is_word_byte, all_word_bytes, is_identifier}
+use Rattle.cbmc_top.specs.Programs.{IsAccepted}
+use Rattle.cbmc_top.specs.Executions.{bounded_world}
+use Rattle.cbmc_top.specs.Report.{IsDrawn, IsRow, AreRising, AreMaximal}
+use Rattle.cbmc_top.specs.Answers.{turns_of, name_in, IsFailure}
+use Rattle.cbmc_top.specs.Verdicts.{IsBroken}
+use Rattle.cbmc_top.proofs.Named.{broken_there}
+
+-- ---- names
+
+some_is : {A : Type 0} {x y : A} → Some x ≡ Some y → x ≡ y
+some_is e = cc
+
+ok_from : {A B E : Type 0} (r : Result A E) (f : A → Result B E) (y : B) → (r >>= f) ≡ Ok y → (x : A) × (r ≡ Ok x) × (f x ≡ Ok y)
+ok_from (Ok x) f y e = (x, refl, e)
+ok_from (Err z) f y e = cc
+
+ok_is : {A E : Type 0} (x y : A) (r : Result A E) → r ≡ Ok x → r ≡ Ok y → x ≡ y
+ok_is x y r p q = cc
+
+first_or_later : (t : Scoped) (rest : Definitions) (line : ℕ) (vs : List IntegerType) (b : Statement) (fs : List Procedure) (n : ℕ) (x : List ℕ) → ((m : ℕ) (y : List ℕ) → name_in fs m ≡ Some y → y ≡ codes "main")
+    → name_in (main line vs b ∷ fs) n ≡ Some x → x ≡ codes "main"
+first_or_later t rest line vs b fs zero x later h = some_is (sym h)
+first_or_later t rest line vs b fs (suc n) x later h = later n x h
+
+all_main : (s : Scoped) (d : Definitions) (functions : List Procedure) → typed_definitions s d ≡ Ok functions → (n : ℕ) (x : List ℕ) → name_in functions n ≡ Some x → x ≡ codes "main"
+all_main s no_more functions e n x h = let none : [] ≡ functions = ok_is [] functions (Ok []) refl e in let no : None ≡ Some x = subst (λ fs. name_in fs n ≡ Some x) (sym none) h in cc
+all_main s (defines line name_line body rest) functions e n x h =
+    let a = ok_from (on_line name_line (undeclared 0 s (codes "main")))
+    (λ fresh. typed_statement (with_function s (codes "main")) body >>= λ y. typed_definitions (record y.1 { variables = [] }) rest >>= λ fs. Ok (main name_line y.1.variables y.0 ∷ fs)) functions e in
+    let b = ok_from (typed_statement (with_function s (codes "main")) body) (λ y. typed_definitions (record y.1 { variables = [] }) rest >>= λ fs. Ok (main name_line y.1.variables y.0 ∷ fs)) functions a.2 in
+    let c = ok_from (typed_definitions (record b.0.1 { variables = [] }) rest) (λ fs. Ok (main name_line b.0.1.variables b.0.0 ∷ fs)) functions b.2 in
+    let whole : (main name_line b.0.1.variables b.0.0 ∷ c.0) ≡ functions = ok_is (main name_line b.0.1.variables b.0.0 ∷ c.0) functions (Ok (main name_line b.0.1.variables b.0.0 ∷ c.0)) refl c.2 in
+    first_or_later (record b.0.1 { variables = [] }) rest name_line b.0.1.variables b.0.0 c.0 n x (all_main (record b.0.1 { variables = [] }) rest c.0 c.1) (subst (λ fs. name_in fs n ≡ Some x) (sym whole) h)
+
+-- The name of the function that a broken check stands in.
+pub named : (bytes : List ℕ) (functions : List Procedure) (limits : Limits) (t : Trace) → IsAccepted bytes functions → IsBroken limits functions t → (name : List ℕ) × (name_in functions t.check.function ≡ Some name) × (is_identifier name ≡ true)
+named bytes functions limits t a r =
+    let x = broken_there functions t.inputs t.schedule t.check r in
+    let p = a.program in
+    let is_main = all_main (record { bindings = []; variables = [] }) p.tree functions p.typed t.check.function x.0 x.1 in
+    (x.0, x.1, ap is_identifier is_main)
+
+pub name_found : (core : List Function) (number : ℕ) (o : Option Name) → o ≡ option_map (λ (f : Function). f.name) (slice_get core number) → name_in (view_core core) number ≡ option_map (λ (n : Name). n.bytes.items) o
+name_found [] number o e = rw e refl
+name_found (f ∷ core) zero o e = rw e refl
+name_found (f ∷ core) (suc n) o e = name_found core n o e
+
+letter_small : (c : ℕ) → is_letter c ≡ true → c < 128
+letter_small c h = grind (arith, nat_tests)
+
+word_small : (c : ℕ) → is_word_byte c ≡ true → c < 128
+word_small c h = grind (arith, nat_tests)
+
+words_ascii : (cs : List ℕ) → all_word_bytes cs ≡ true → IsAscii cs
+words_ascii [] h i = omega arith
+words_ascii (c ∷ cs) h zero = word_small c (and_both (is_word_byte c) (all_word_bytes cs) h).0
+words_ascii (c ∷ cs) h (suc i) = words_ascii cs (and_both (is_word_byte c) (all_word_bytes cs) h).1 i
+
+identifier_ascii : (cs : List ℕ) → is_identifier cs ≡ true → IsAscii cs
+identifier_ascii [] h i = omega arith
+identifier_ascii (c ∷ cs) h zero = letter_small c (and_both (is_letter c) (all_word_bytes cs) h).0
+identifier_ascii (c ∷ cs) h (suc i) = words_ascii cs (and_both (is_letter c) (all_word_bytes cs) h).1 i
+
+pub identifier_utf8 : (cs : List ℕ) → is_identifier cs ≡ true → IsUtf8 cs
+identifier_utf8 cs h = IsUtf8-from_ascii cs (identifier_ascii cs h)
+
+-- ---- the failure
+
+pub is_failure : (limits : Limits) (functions : List Procedure) (t : Trace) (name : List ℕ) (inputs : InputLists) (rows : List (ℕ × ℕ)) → IsBroken limits functions t
+    → name_in functions t.check.function ≡ Some name → is_identifier name ≡ true → SameWords inputs t.inputs → All IsDrawn inputs → AreRising inputs
+    → turns_of rows ≡ t.schedule → All IsRow rows → 0 < length rows → AreMaximal rows → t.check.line < 2 ^ 32 → t.check.thread < 2 ^ 32
+    → IsFailure limits functions (record { class = t.check.class; line = t.check.line; function = name; thread = t.check.thread; inputs = inputs; rows = rows })
+is_failure limits functions t name inputs rows broken found word same drawn rising turns each some maximal line thread = record {
+  check = t.check;
+  replays = subst (λ schedule. Replays (bounded_world limits functions) inputs schedule t.check) (sym turns)
+      (replays_same (bounded_world limits functions) t.inputs inputs t.schedule t.check (λ k. sym (same k)) broken);
+  class = refl;
+  line = refl;
+  function = found;
+  thread = refl;
+  told = record { line = line; function = word; thread = thread; drawn = drawn; rising = rising; rows = each; some = some; maximal = maximal };
+}
+
+pub same_identifier : (functions : List Procedure) (number : ℕ) (name : List ℕ) → (x : List ℕ) × (name_in functions number ≡ Some x) × (is_identifier x ≡ true) → name_in functions number ≡ Some name → is_identifier name ≡ true
+same_identifier functions number name x e = ap is_identifier (some_is (sym e ∙ x.1)) ∙ x.2

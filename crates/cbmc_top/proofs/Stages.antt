@@ -1,0 +1,226 @@
+-- The stages that a file goes through, one after another.
+use Rattle.std.proofs.Common.{◌≡◌, ◌≤◌, ◌⊎◌, inl, inr, ℕ, zero, suc, true, false, List, [], ◌∷◌, length, Option, Some, None, option_map, Result, Ok, Err, sym, refl, ap, ◌∙◌, subst, arith}
+use Rattle.std.specs.Prelude.{slice_get, nat_le, cond}
+use Rattle.c_lexer.specs.declared.token.Token.{Token}
+use Rattle.c_lexer.specs.declared.fault.LexError.{LexError}
+use Rattle.c_lexer.specs.declared.fault.LexError.TheVariants as errors
+use Rattle.c_lexer.specs.Cutting.{IsCutInto, bytes_of, last_line_of}
+use Rattle.c_tree.specs.Statements.{Definitions}
+use Rattle.c_tree.specs.Files.{IsFile}
+use Rattle.c_parse_expr.specs.Standing.{line_at}
+use Rattle.c_parse_decl.specs.Standing.{EndsAt}
+use Rattle.core_tree.specs.Trees.{Procedure}
+use Rattle.core_tree.specs.Ranges.{Limits}
+use Rattle.core_tree.specs.declared.refusal.Limit.{Limit}
+use Rattle.core_tree.specs.declared.refusal.Limit.TheVariants.{Tokens}
+use Rattle.c_elab_expr.specs.Typing.{Fault}
+use Rattle.c_elab_decl.specs.Elaborated.{elaborated}
+use Rattle.c_profile.specs.Rules.{Breach, first_breach}
+use Rattle.goto_unwind.specs.Counts.{passed}
+use Rattle.cbmc_top.specs.Programs.{directive_line, IsFileOf, IsAccepted, IsCheckable}
+use Rattle.cbmc_top.specs.Answers.{Answer, usage, read_fault, limited, refused, successful, failed, refusal, AfterCounts, AtCounts, AtProfile, AtTyping, HasTree, AtTree, extra_line, stops_at, screened, AtTokens, lexing_answer, AtLexing, Decides, AreRuns}
+use Rattle.cbmc_top.specs.Stops.{StopsWith, HasNoTyping, IsOutside, IsPassed}
+use Rattle.cbmc_top.specs.declared.stop.Stop.{Stop}
+use Rattle.cbmc_top.specs.declared.stop.Stop.TheVariants as stops
+
+some_is : {A : Type 0} {x y : A} → Some x ≡ Some y → x ≡ y
+some_is e = cc
+
+pub stop_map : (s : Stop) (P Q : Answer → Type 0) → ((a : Answer) → P a → Q a) → StopsWith s P → StopsWith s Q
+stop_map (stops.Refused r) P Q f x = f (refused r) x
+stop_map (stops.Limited l) P Q f x = f (limited l) x
+stop_map stops.Memory P Q f x = tt
+
+-- ---- from a stage to the whole
+
+pub from_tokens : (limits : Limits) (file : List ℕ) (tokens : List Token) (o : Option Answer) (a : Answer) → length file ≤ 1048576 → IsCutInto file (Ok tokens) → screened tokens ≡ o → AtTokens limits file tokens o a → Decides limits file a
+from_tokens limits file tokens o a short cut is on = inr (record { short = short; found = Ok tokens; cut = cut; on = subst (λ x. AtTokens limits file tokens x a) (sym is) on })
+
+pub from_typing : (limits : Limits) (bytes : List ℕ) (tokens : List Token) (tree : Definitions) (r : Result (List Procedure) Fault) (a : Answer) → IsFile bytes tokens tree → elaborated tree ≡ r → AtTyping limits r a → HasTree limits bytes tokens a
+from_typing limits bytes tokens tree r a is_tree is on = record { tree = tree; is_tree = is_tree; on = subst (λ x. AtTyping limits x a) (sym is) on }
+
+pub no_typing : (limits : Limits) (bytes : List ℕ) (tokens : List Token) (tree : Definitions) (a : Answer) → IsFile bytes tokens tree → HasNoTyping tree a → HasTree limits bytes tokens a
+no_typing limits bytes tokens tree a is_tree x = from_typing limits bytes tokens tree (Err x.0) a is_tree x.1 x.2
+
+from_profile : (limits : Limits) (functions : List Procedure) (o : Option Breach) (a : Answer) → first_breach functions ≡ o → AtProfile limits functions o a → AtTyping limits (Ok functions) a
+from_profile limits functions o a is on = subst (λ x. AtProfile limits functions x a) (sym is) on
+
+pub outside : (limits : Limits) (bytes : List ℕ) (tokens : List Token) (tree : Definitions) (functions : List Procedure) (a : Answer) → IsFile bytes tokens tree → elaborated tree ≡ Ok functions → IsOutside functions a → HasTree limits bytes tokens a
+outside limits bytes tokens tree functions a is_tree typed x = from_typing limits bytes tokens tree (Ok functions) a is_tree typed (from_profile limits functions (Some x.0) a x.1 x.2)
+
+-- ---- files that are accepted
+
+nothing_stops : (x y : Option ℕ) → stops_at x y ≡ None → (x ≡ None) × (y ≡ None)
+nothing_stops None None e = (refl, refl)
+nothing_stops (Some l) None e = cc
+nothing_stops None (Some m) e = cc
+nothing_stops (Some l) (Some m) e = elim (nat_le l m) as (λ b. cond {A = Option Answer} b (Some (refusal 5 l None)) (Some (limited Tokens)) ≡ None → (Some l ≡ None) × (Some m ≡ None)) [ true ↦ λ h. cc | false ↦ λ h. cc ] e
+
+none_there : (tokens : List Token) (n : ℕ) → option_map (λ (t : Token). t.line) (slice_get tokens n) ≡ None → length tokens ≤ n
+none_there [] n e = omega arith
+none_there (t ∷ ts) zero e = cc
+none_there (t ∷ ts) (suc n) e = let more = none_there ts n e in omega (arith, more)
+
+there_none : (tokens : List Token) (n : ℕ) → length tokens ≤ n → option_map (λ (t : Token). t.line) (slice_get tokens n) ≡ None
+there_none [] n le = refl
+there_none (t ∷ ts) zero le = absurd (omega (arith, le))
+there_none (t ∷ ts) (suc n) le = there_none ts n (omega (arith, le))
+
+pub is_accepted : (file : List ℕ) (tokens : List Token) (tree : Definitions) (functions : List Procedure) → length file ≤ 1048576 → IsCutInto file (Ok tokens) → screened tokens ≡ None → IsFile (bytes_of file) tokens tree → elaborated tree ≡ Ok functions
+    → first_breach functions ≡ None → IsAccepted file functions
+is_accepted file tokens tree functions short cut fine is_tree typed in_profile =
+    let x = nothing_stops (directive_line tokens) (extra_line tokens) fine in
+    record {
+      short = short;
+      program = record { tokens = tokens; cut = cut; plain = x.0; tree = tree; is_tree = is_tree; typed = typed; in_profile = in_profile };
+      few = none_there tokens 200000 x.1;
+    }
+
+fine_tokens : (tokens : List Token) → directive_line tokens ≡ None → length tokens ≤ 200000 → screened tokens ≡ None
+fine_tokens tokens plain few = ap (λ o. stops_at o (extra_line tokens)) plain ∙ ap (λ o. stops_at None o) (there_none tokens 200000 few)
+
+pub accepted_decides : (limits : Limits) (file : List ℕ) (functions : List Procedure) (o : Option Limit) (a : Answer) → IsAccepted file functions → passed functions limits ≡ o → AtCounts limits functions o a → Decides limits file a
+accepted_decides limits file functions o a x is on =
+    let p = x.program in
+    let counts : AtCounts limits functions (passed functions limits) a = subst (λ y. AtCounts limits functions y a) (sym is) on in
+    from_tokens limits file p.tokens None a x.short p.cut (fine_tokens p.tokens p.plain x.few)
+    (inr (from_typing limits (bytes_of file) p.tokens p.tree (Ok functions) a p.is_tree p.typed (from_profile limits functions None a p.in_profile counts)))
+
+pub accepted_passed : (limits : Limits) (file : List ℕ) (functions : List Procedure) (a : Answer) → IsAccepted file functions → IsPassed limits functions a → Decides limits file a
+accepted_passed limits file functions a x p = accepted_decides limits file functions (Some p.0) a x p.1 p.2
+
+-- ---- from an answer about runs to the program
+
+no_runs : (a b : Answer) → (AreRuns b → ⊥) → a ≡ b → AreRuns a → ⊥
+no_runs a b none e runs = none (subst AreRuns e runs)
+
+lexing_no_runs : (e : LexError) (a : Answer) → lexing_answer e ≡ Some a → AreRuns a → ⊥
+lexing_no_runs (errors.BadByte line) a e runs = subst AreRuns (sym (some_is e)) runs
+lexing_no_runs (errors.Unclosed line) a e runs = subst AreRuns (sym (some_is e)) runs
+lexing_no_runs (errors.BadConstant line) a e runs = subst AreRuns (sym (some_is e)) runs
+lexing_no_runs (errors.Foreign line) a e runs = subst AreRuns (sym (some_is e)) runs
+lexing_no_runs errors.Memory a e runs = cc
+
+stop_no_runs : (x y : Option ℕ) (s : Answer) → stops_at x y ≡ Some s → AreRuns s → ⊥
+stop_no_runs None None s e runs = cc
+stop_no_runs (Some l) None s e runs = subst AreRuns (sym (some_is e)) runs
+stop_no_runs None (Some m) s e runs = subst AreRuns (sym (some_is e)) runs
+stop_no_runs (Some l) (Some m) s e runs = elim (nat_le l m) as (λ b. cond {A = Option Answer} b (Some (refusal 5 l None)) (Some (limited Tokens)) ≡ Some s → ⊥) [ true ↦ λ h. subst AreRuns (sym (some_is h)) runs | false ↦ λ h. subst AreRuns (sym (some_is h)) runs ] e
+
+-- what the answer says of the program of the file
+pub record Told (limits : Limits) (file : List ℕ) (answer : Answer) : Type 0 where
+  pub functions : List Procedure
+  pub program : IsFileOf file functions
+  pub runs : AfterCounts limits functions answer
+
+told_counts : (limits : Limits) (file : List ℕ) (functions : List Procedure) (o : Option Limit) (a : Answer) → AreRuns a → IsFileOf file functions → AtCounts limits functions o a → Told limits file a
+told_counts limits file functions None a runs p on = record { functions = functions; program = p; runs = on }
+told_counts limits file functions (Some l) a runs p on = absurd (no_runs a (limited l) (λ x. x) on runs)
+
+-- a file's tokens and tree, as far as they have come
+record HasCome (file : List ℕ) (tokens : List Token) (tree : Definitions) : Type 0 where
+  cut : IsCutInto file (Ok tokens)
+  plain : directive_line tokens ≡ None
+  is_tree : IsFile (bytes_of file) tokens tree
+
+told_profile : (limits : Limits) (file : List ℕ) (tokens : List Token) (tree : Definitions) (functions : List Procedure) (o : Option Breach) (a : Answer) → AreRuns a → HasCome file tokens tree → elaborated tree ≡ Ok functions → first_breach functions ≡ o
+    → AtProfile limits functions o a → Told limits file a
+told_profile limits file tokens tree functions None a runs h typed is on =
+    told_counts limits file functions (passed functions limits) a runs (record { tokens = tokens; cut = h.cut; plain = h.plain; tree = tree; is_tree = h.is_tree; typed = typed; in_profile = is }) on
+told_profile limits file tokens tree functions (Some b) a runs h typed is on = absurd (no_runs a (refusal 12 b.line (Some b.rule)) (λ x. x) on runs)
+
+told_typing : (limits : Limits) (file : List ℕ) (tokens : List Token) (tree : Definitions) (r : Result (List Procedure) Fault) (a : Answer) → AreRuns a → HasCome file tokens tree → elaborated tree ≡ r → AtTyping limits r a → Told limits file a
+told_typing limits file tokens tree (Ok functions) a runs h is on = told_profile limits file tokens tree functions (first_breach functions) a runs h is refl on
+told_typing limits file tokens tree (Err f) a runs h is on = absurd (no_runs a (refusal 11 f.line (Some f.rule)) (λ x. x) on runs)
+
+told_tree : (limits : Limits) (file : List ℕ) (tokens : List Token) (a : Answer) → AreRuns a → IsCutInto file (Ok tokens) → directive_line tokens ≡ None → AtTree limits file tokens a → Told limits file a
+told_tree limits file tokens a runs cut plain (inl n) = absurd (no_runs a (refusal 10 (line_at (last_line_of file) n.rest) None) (λ x. x) n.on runs)
+told_tree limits file tokens a runs cut plain (inr t) = told_typing limits file tokens t.tree (elaborated t.tree) a runs (record { cut = cut; plain = plain; is_tree = t.is_tree }) refl t.on
+
+told_tokens : (limits : Limits) (file : List ℕ) (tokens : List Token) (o : Option Answer) (a : Answer) → AreRuns a → IsCutInto file (Ok tokens) → screened tokens ≡ o → AtTokens limits file tokens o a → Told limits file a
+told_tokens limits file tokens None a runs cut is on = told_tree limits file tokens a runs cut (nothing_stops (directive_line tokens) (extra_line tokens) is).0 on
+told_tokens limits file tokens (Some s) a runs cut is on = absurd (stop_no_runs (directive_line tokens) (extra_line tokens) s is (subst AreRuns on runs))
+
+told_lexing : (limits : Limits) (file : List ℕ) (found : Result (List Token) LexError) (a : Answer) → AreRuns a → IsCutInto file found → AtLexing limits file found a → Told limits file a
+told_lexing limits file (Ok tokens) a runs cut on = told_tokens limits file tokens (screened tokens) a runs cut refl on
+told_lexing limits file (Err e) a runs cut on = absurd (lexing_no_runs e a on runs)
+
+pub told : (limits : Limits) (file : List ℕ) (a : Answer) → AreRuns a → Decides limits file a → Told limits file a
+told limits file a runs (inl long) = absurd (no_runs a (limited _) (λ x. x) long.1 runs)
+told limits file a runs (inr x) = told_lexing limits file x.found a runs x.cut x.on
+
+-- ---- one answer
+
+abbrev pub Same : Answer → Answer → Type 0
+Same a b = (a ≡ b) ⊎ (AreRuns a × AreRuns b)
+
+runs_of : (limits : Limits) (functions : List Procedure) (a : Answer) → AfterCounts limits functions a → AreRuns a
+runs_of limits functions usage x = x
+runs_of limits functions read_fault x = x
+runs_of limits functions (limited l) x = x
+runs_of limits functions (refused c) x = x
+runs_of limits functions successful x = tt
+runs_of limits functions (failed f) x = tt
+
+both_counts : (limits : Limits) (functions : List Procedure) (o : Option Limit) (a b : Answer) → AtCounts limits functions o a → AtCounts limits functions o b → Same a b
+both_counts limits functions None a b x y = inr (runs_of limits functions a x, runs_of limits functions b y)
+both_counts limits functions (Some l) a b x y = inl (x ∙ sym y)
+
+both_profile : (limits : Limits) (functions : List Procedure) (o : Option Breach) (a b : Answer) → AtProfile limits functions o a → AtProfile limits functions o b → Same a b
+both_profile limits functions None a b x y = both_counts limits functions (passed functions limits) a b x y
+both_profile limits functions (Some l) a b x y = inl (x ∙ sym y)
+
+both_typing : (limits : Limits) (r : Result (List Procedure) Fault) (a b : Answer) → AtTyping limits r a → AtTyping limits r b → Same a b
+both_typing limits (Ok functions) a b x y = both_profile limits functions (first_breach functions) a b x y
+both_typing limits (Err f) a b x y = inl (x ∙ sym y)
+
+ok_is : {A B : Type 0} {a b : A} (x : Result A B) → x ≡ Ok a → x ≡ Ok b → a ≡ b
+ok_is x p q = cc
+
+module _ (one_cut : (file : List ℕ) (a b : Result (List Token) LexError) → IsCutInto file a → IsCutInto file b → a ≡ b)
+    (one_tree : (bytes : List ℕ) (tokens : List Token) (a b : Definitions) → IsFile bytes tokens a → IsFile bytes tokens b → a ≡ b) where
+  pub one_program : (file : List ℕ) (some others : List Procedure) → IsFileOf file some → IsFileOf file others → some ≡ others
+  one_program file some others p q =
+      let tokens : p.tokens ≡ q.tokens = ok_is (Ok p.tokens) refl (one_cut file (Ok p.tokens) (Ok q.tokens) p.cut q.cut) in
+      let tree : p.tree ≡ q.tree = one_tree (bytes_of file) q.tokens p.tree q.tree (subst (λ ts. IsFile (bytes_of file) ts p.tree) tokens p.is_tree) q.is_tree in
+      ok_is (elaborated p.tree) p.typed (ap elaborated tree ∙ q.typed)
+
+  counts_of_tree : (limits : Limits) (file : List ℕ) (functions : List Procedure) (p : IsFileOf file functions) (a : Answer) → AtTree limits file p.tokens a → AtCounts limits functions (passed functions limits) a
+  counts_of_tree limits file functions p a (inl n) = absurd (n.none p.tree p.is_tree)
+  counts_of_tree limits file functions p a (inr t) =
+      let tree : t.tree ≡ p.tree = one_tree (bytes_of file) p.tokens t.tree p.tree t.is_tree p.is_tree in
+      let typing : AtTyping limits (Ok functions) a = subst (λ r. AtTyping limits r a) (ap elaborated tree ∙ p.typed) t.on in
+      subst (λ o. AtProfile limits functions o a) p.in_profile typing
+
+  pub counts_of : (limits : Limits) (file : List ℕ) (functions : List Procedure) (a : Answer) → IsAccepted file functions → Decides limits file a → AtCounts limits functions (passed functions limits) a
+  counts_of limits file functions a x (inl long) = let short = x.short in absurd (omega (arith, long.0, short))
+  counts_of limits file functions a x (inr r) =
+      let p = x.program in
+      let lexing : AtLexing limits file (Ok p.tokens) a = subst (λ f. AtLexing limits file f a) (one_cut file r.found (Ok p.tokens) r.cut p.cut) r.on in
+      counts_of_tree limits file functions p a (subst (λ o. AtTokens limits file p.tokens o a) (fine_tokens p.tokens p.plain x.few) lexing)
+
+  pub runs_answer : (limits : Limits) (file : List ℕ) (functions : List Procedure) (a : Answer) → IsCheckable limits file functions → Decides limits file a → AfterCounts limits functions a
+  runs_answer limits file functions a x d = subst (λ o. AtCounts limits functions o a) x.counts (counts_of limits file functions a x.accepted d)
+
+  module _ (one_rest : (bytes : List ℕ) (tokens a b : List Token) → EndsAt bytes tokens a → EndsAt bytes tokens b → a ≡ b) where
+    both_tree : (limits : Limits) (file : List ℕ) (tokens : List Token) (a b : Answer) → AtTree limits file tokens a → AtTree limits file tokens b → Same a b
+    both_tree limits file tokens a b (inl x) (inl y) = inl (x.on ∙ ap (λ rest. refusal 10 (line_at (last_line_of file) rest) None) (one_rest (bytes_of file) tokens x.rest y.rest x.ends y.ends) ∙ sym y.on)
+    both_tree limits file tokens a b (inl x) (inr y) = absurd (x.none y.tree y.is_tree)
+    both_tree limits file tokens a b (inr x) (inl y) = absurd (y.none x.tree x.is_tree)
+    both_tree limits file tokens a b (inr x) (inr y) =
+        both_typing limits (elaborated y.tree) a b (subst (λ t. AtTyping limits (elaborated t) a) (one_tree (bytes_of file) tokens x.tree y.tree x.is_tree y.is_tree) x.on) y.on
+
+    both_tokens : (limits : Limits) (file : List ℕ) (tokens : List Token) (o : Option Answer) (a b : Answer) → AtTokens limits file tokens o a → AtTokens limits file tokens o b → Same a b
+    both_tokens limits file tokens None a b x y = both_tree limits file tokens a b x y
+    both_tokens limits file tokens (Some s) a b x y = inl (x ∙ sym y)
+
+    both_lexing : (limits : Limits) (file : List ℕ) (found : Result (List Token) LexError) (a b : Answer) → AtLexing limits file found a → AtLexing limits file found b → Same a b
+    both_lexing limits file (Ok tokens) a b x y = both_tokens limits file tokens (screened tokens) a b x y
+    both_lexing limits file (Err e) a b x y = inl (some_is (sym x ∙ y))
+
+    pub one_answer : (limits : Limits) (file : List ℕ) (a b : Answer) → Decides limits file a → Decides limits file b → Same a b
+    one_answer limits file a b (inl x) (inl y) = inl (x.1 ∙ sym y.1)
+    one_answer limits file a b (inl x) (inr y) = let short = y.short in absurd (omega (arith, x.0, short))
+    one_answer limits file a b (inr x) (inl y) = let short = x.short in absurd (omega (arith, y.0, short))
+    one_answer limits file a b (inr x) (inr y) =
+        both_lexing limits file y.found a b (subst (λ f. AtLexing limits file f a) (one_cut file x.found y.found x.cut y.cut) x.on) y.on

@@ -1,0 +1,31 @@
+-- What the code's reasons for not going on say.
+use Rattle.std.specs.Prelude.{◌≡◌, List, Some, Err}
+use Rattle.core_tree.specs.Trees.{Procedure}
+use Rattle.core_tree.specs.Ranges.{Limits}
+use Rattle.core_tree.specs.declared.refusal.Limit.{Limit}
+use Rattle.c_tree.specs.Statements.{Definitions}
+use Rattle.c_elab_expr.specs.Typing.{Fault}
+use Rattle.c_elab_decl.specs.Elaborated.{elaborated}
+use Rattle.c_profile.specs.Rules.{Breach, first_breach}
+use Rattle.goto_unwind.specs.Counts.{passed}
+use Rattle.cbmc_top.specs.Answers.{Answer, limited, refused, refusal}
+use Rattle.cbmc_top.specs.declared.stop.Stop.{Stop}
+use Rattle.cbmc_top.specs.declared.stop.Stop.TheVariants as stops
+
+-- the answer that a stop is, is one of these; want of memory may come at any moment
+abbrev pub StopsWith : Stop → (Answer → Type 0) → Type 0
+StopsWith (stops.Refused r) allowed = allowed (refused r)
+StopsWith (stops.Limited l) allowed = allowed (limited l)
+StopsWith stops.Memory allowed = Unit {0}
+
+-- a rule of typing is broken
+abbrev pub HasNoTyping : Definitions → Answer → Type 0
+HasNoTyping tree answer = (f : Fault) × (elaborated tree ≡ Err f) × (answer ≡ refusal 11 f.line (Some f.rule))
+
+-- a rule of the profile is broken
+abbrev pub IsOutside : List Procedure → Answer → Type 0
+IsOutside functions answer = (b : Breach) × (first_breach functions ≡ Some b) × (answer ≡ refusal 12 b.line (Some b.rule))
+
+-- a count passes its limit
+abbrev pub IsPassed : Limits → List Procedure → Answer → Type 0
+IsPassed limits functions answer = (limit : Limit) × (passed functions limits ≡ Some limit) × (answer ≡ limited limit)

@@ -1,0 +1,156 @@
+//! From the bytes of a file to its program.
+
+ghost use Rattle.std.specs.Prelude.{◌≡◌, ◌≤◌, ◌<◌, length, Ok, Some, None, IfOk, IfErr};
+ghost use Rattle.c_lexer.specs.Cutting.{IsCutInto, bytes_of, last_line_of};
+ghost use Rattle.c_tree.specs.Statements.{view_file};
+ghost use Rattle.c_tree.specs.Files.{IsFile};
+ghost use Rattle.core_tree.specs.Trees.{view_core};
+ghost use Rattle.core_tree.specs.Ranges.{Limits};
+ghost use Rattle.c_elab_decl.specs.Elaborated.{elaborated};
+ghost use Rattle.c_profile.specs.Rules.{first_breach};
+ghost use Rattle.cbmc_top.specs.Programs.{directive_line, IsAccepted};
+ghost use Rattle.cbmc_top.specs.Answers.{Decides, HasNoTree, AtLexing, screened, extra_line, lexing_answer};
+ghost use Rattle.cbmc_top.specs.Stops.{StopsWith, HasNoTyping, IsOutside};
+
+use crate::stop::Stop;
+use c_elab_decl::elaborate;
+use c_elab_expr::TypingError;
+use c_lexer::{LexError, Mark, Token, Tokens, lex};
+use c_parse_decl::{ParseError, parse};
+use c_parse_expr::is_mark;
+use c_profile::{Admitted, admit};
+use c_tree::File;
+use core_tree::{Core, Limit, Refusal};
+use std::alloc::Global;
+
+/// The greatest size of a file in bytes.
+const FILE_BYTES: usize = 1_048_576;
+
+/// The greatest number of tokens.
+const TOKENS: usize = 200_000;
+
+/// The line of the first `#`.
+fn directive_line(tokens: &[Token]) -> Option<u32>
+    ensures { result ≡ directive_line tokens.now }
+{
+    tokens
+        .iter()
+        .find(|token| is_mark(Mark::Hash, token.kind))
+        .map(|token| token.line)
+}
+
+/// The line of the first token that is too much.
+fn extra_line(tokens: &[Token]) -> Option<u32>
+    ensures { result ≡ extra_line tokens.now }
+{
+    tokens.get(TOKENS).map(|token| token.line)
+}
+
+/// The refusal of a directive.
+fn directive_on(line: u32) -> Stop
+    ensures { result ≡ Stop.Refused (record { number = 5; line = line; rule = None }) }
+{
+    Stop::Refused(Refusal::new(5, line, None))
+}
+
+/// Whether there is no directive and no token too much. Where both stand, the first line decides, and on one line the
+/// directive.
+fn screen(tokens: &[Token]) -> Result<(), Stop>
+    ensures fine { IfOk result (λ _. screened tokens.now ≡ None) }
+    ensures stop { IfErr result (λ s. StopsWith s (λ a. screened tokens.now ≡ Some a)) }
+{
+    match (directive_line(tokens), extra_line(tokens)) {
+        (None, None) => Ok(()),
+        (None, Some(_)) => Err(Stop::Limited(Limit::Tokens)),
+        (Some(line), None) => Err(directive_on(line)),
+        (Some(line), Some(extra)) => {
+            if line <= extra {
+                Err(directive_on(line))
+            } else {
+                Err(Stop::Limited(Limit::Tokens))
+            }
+        }
+    }
+}
+
+/// The refusal of a text that has no tokens.
+fn lexing_stop(error: LexError) -> Stop
+    ensures { StopsWith result (λ a. lexing_answer error ≡ Some a) }
+{
+    match error {
+        LexError::BadByte { line } => Stop::Refused(Refusal::new(1, line, None)),
+        LexError::Unclosed { line } => Stop::Refused(Refusal::new(2, line, None)),
+        LexError::BadConstant { line } => Stop::Refused(Refusal::new(3, line, None)),
+        LexError::Foreign { line } => Stop::Refused(Refusal::new(4, line, None)),
+        LexError::Memory => Stop::Memory,
+    }
+}
+
+/// The tokens of a file: they are not too many, and none is a directive's.
+fn tokens_of(alloc: Global, file: &[u8]) -> Result<Tokens, Stop>
+    requires { length file.now ≤ 1048576 }
+    ensures cut { IfOk result (λ t. IsCutInto file.now (Ok t.tokens.items)) }
+    ensures bytes { IfOk result (λ t. t.bytes.items ≡ bytes_of file.now) }
+    ensures last_line { IfOk result (λ t. t.last_line ≡ last_line_of file.now) }
+    ensures fine { IfOk result (λ t. screened t.tokens.items ≡ None) }
+    ensures stop { IfErr result (λ s. (limits : Limits) → StopsWith s (Decides limits file.now)) }
+{
+    match lex(alloc, file) {
+        Ok(tokens) => {
+            screen(&tokens.tokens)?;
+            Ok(tokens)
+        }
+        Err(error) => Err(lexing_stop(error)),
+    }
+}
+
+/// The tree of a file.
+fn tree_of(alloc: Global, tokens: &Tokens) -> Result<File, Stop>
+    ensures found { IfOk result (λ f. IsFile tokens.now.bytes.items tokens.now.tokens.items (view_file f)) }
+    ensures stop { IfErr result (λ s. StopsWith s (HasNoTree tokens.now.bytes.items tokens.now.last_line tokens.now.tokens.items)) }
+{
+    match parse(alloc, tokens) {
+        Ok(file) => Ok(file),
+        Err(ParseError::Syntax { line }) => Err(Stop::Refused(Refusal::new(10, line, None))),
+        Err(ParseError::Memory) => Err(Stop::Memory),
+    }
+}
+
+/// The typed tree of a file.
+fn typed_file(alloc: Global, file: &File) -> Result<Core, Stop>
+    ensures found { IfOk result (λ c. elaborated (view_file file.now) ≡ Ok (view_core c)) }
+    ensures stop { IfErr result (λ s. StopsWith s (HasNoTyping (view_file file.now))) }
+{
+    match elaborate(alloc, file) {
+        Ok(core) => Ok(core),
+        Err(TypingError::Typing { line, rule }) => {
+            Err(Stop::Refused(Refusal::new(11, line, Some(rule))))
+        }
+        Err(TypingError::Memory) => Err(Stop::Memory),
+    }
+}
+
+/// The typed file, if it is in the profile.
+fn in_profile(core: Core) -> Result<Admitted, Stop>
+    ensures found { IfOk result (λ f. (f ≡ core) × (first_breach (view_core core) ≡ None)) }
+    ensures stop { IfErr result (λ s. StopsWith s (IsOutside (view_core core))) }
+{
+    match admit(core) {
+        Ok(file) => Ok(file),
+        Err(outside) => Err(Stop::Refused(Refusal::new(12, outside.line, Some(outside.rule)))),
+    }
+}
+
+/// The program of a file, or the first thing that stops it: its size, its tokens, its tree, its typing, the profile.
+pub fn accept(alloc: Global, file: &[u8]) -> Result<Admitted, Stop>
+    ensures found { IfOk result (λ f. IsAccepted file.now (view_core f)) }
+    ensures stop { IfErr result (λ s. (limits : Limits) → StopsWith s (Decides limits file.now)) }
+{
+    if file.len() > FILE_BYTES {
+        return Err(Stop::Limited(Limit::FileBytes));
+    }
+    let tokens = tokens_of(alloc, file)?;
+    let tree = tree_of(alloc, &tokens)?;
+    let core = typed_file(alloc, &tree)?;
+    in_profile(core)
+}

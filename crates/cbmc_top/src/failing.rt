@@ -1,0 +1,145 @@
+//! A run that breaks a check, as the texts tell it.
+
+ghost use Rattle.std.specs.Prelude.{◌≡◌, ℕ, ◌+◌, ◌^◌, ◌<◌, ◌≤◌, true, List, [], ◌∷◌, ◌++◌, length, OnOk, map, string_bytes, All, IfOk, Some};
+ghost use Rattle.core_tree.specs.Trees.{view_core};
+ghost use Rattle.interleave.specs.Inputs.{words_of};
+ghost use Rattle.cbmc_top.specs.Identifiers.{is_identifier};
+ghost use Rattle.cbmc_top.specs.Programs.{IsAccepted};
+ghost use Rattle.cbmc_top.specs.Report.{IsDrawn, IsRow, AreRising, AreMaximal};
+ghost use Rattle.cbmc_top.specs.Answers.{turns_of, name_in, IsFailure};
+ghost use Rattle.cbmc_top.specs.Verdicts.{drew, entry_of, row_of, failure_of, IsBroken};
+
+use c_profile::Admitted;
+use core_tree::{Bounds, Core, function_name};
+use interleave::{Inputs, Trace};
+use std::alloc::{AllocError, Global};
+
+/// The words that a thread drew.
+#[derive(Drop)]
+pub struct Drawn {
+    pub thread: u32,
+    pub words: Vec<u64>,
+}
+
+/// Turns of one thread, one after another.
+#[derive(Clone, Copy, Debug)]
+pub struct Row {
+    pub thread: u32,
+    pub turns: u64,
+}
+
+/// A run that breaks a check: the name of the check's function, the words of each thread that drew, and the schedule as
+/// rows that are as long as can be.
+#[derive(Drop)]
+pub struct Failing {
+    pub trace: Trace,
+    pub function: String,
+    pub inputs: Vec<Drawn>,
+    pub rows: Vec<Row>,
+}
+
+/// Adds the words of a thread, where it drew any.
+fn push_drawn(
+    alloc: Global,
+    all: &mut Vec<Drawn>,
+    thread: u32,
+    words: &[u64],
+) -> Result<(), AllocError>
+    ensures same { OnOk result (map entry_of all.new.items ≡ map entry_of all.old.items ++ drew ((thread, words.now) ∷ [])) }
+    ensures drawn { OnOk result (All IsDrawn (map entry_of all.old.items) → All IsDrawn (map entry_of all.new.items)) }
+{
+    if words.is_empty() {
+        return Ok(());
+    }
+    let words = words.to_vec(alloc)?;
+    all.push(Drawn { thread, words })?;
+    Ok(())
+}
+
+/// The threads that drew, with their words, by rising thread number.
+fn drawn_of(alloc: Global, inputs: &Inputs) -> Result<Vec<Drawn>, AllocError>
+    ensures words { IfOk result (λ all. (t : ℕ) → words_of (map entry_of all.items) t ≡ words_of inputs.now t) }
+    ensures drawn { IfOk result (λ all. All IsDrawn (map entry_of all.items)) }
+    ensures rising { IfOk result (λ all. AreRising (map entry_of all.items)) }
+{
+    let mut all = Vec::new(alloc);
+    for (thread, words) in inputs.lists().iter() {
+        push_drawn(alloc, &mut all, *thread, words.as_slice())?;
+    }
+    Ok(all)
+}
+
+/// The last row after one more turn, of this thread. Where it is another one, the row before it is added to the rows.
+fn next_row(rows: &mut Vec<Row>, last: Row, thread: u32) -> Result<Row, AllocError>
+    requires { last.turns + 1 < 2 ^ 64 }
+    ensures turns { IfOk result (λ row. turns_of (map row_of rows.new.items ++ row_of row ∷ []) ≡ turns_of (map row_of rows.old.items ++ row_of last ∷ []) ++ thread ∷ []) }
+    ensures rows { IfOk result (λ row. All IsRow (map row_of rows.old.items ++ row_of last ∷ []) → All IsRow (map row_of rows.new.items ++ row_of row ∷ [])) }
+    ensures maximal { IfOk result (λ row. AreMaximal (map row_of rows.old.items ++ row_of last ∷ []) → AreMaximal (map row_of rows.new.items ++ row_of row ∷ [])) }
+    ensures few { IfOk result (λ row. row.turns ≤ last.turns + 1) }
+{
+    if thread == last.thread {
+        return Ok(Row {
+            thread,
+            turns: last.turns + 1,
+        });
+    }
+    rows.push(last)?;
+    Ok(Row { thread, turns: 1 })
+}
+
+/// The rows of a schedule.
+fn rows_of(alloc: Global, schedule: &[u32]) -> Result<Vec<Row>, AllocError>
+    requires { 0 < length schedule.now }
+    ensures turns { IfOk result (λ rows. turns_of (map row_of rows.items) ≡ schedule.now) }
+    ensures rows { IfOk result (λ rows. All IsRow (map row_of rows.items)) }
+    ensures some { IfOk result (λ rows. 0 < length (map row_of rows.items)) }
+    ensures maximal { IfOk result (λ rows. AreMaximal (map row_of rows.items)) }
+{
+    let mut rows = Vec::new(alloc);
+    let mut last = Row {
+        thread: schedule[0],
+        turns: 1,
+    };
+    'turns: for place in 1..schedule.len() {
+        last = next_row(&mut rows, last, schedule[place])?;
+    }
+    rows.push(last)?;
+    Ok(rows)
+}
+
+/// The name of the function with this number.
+fn name_of(alloc: Global, core: &Core, function: u32) -> Result<String, AllocError>
+    requires { (name : List ℕ) × (name_in (view_core core.now) function ≡ Some name) × (is_identifier name ≡ true) }
+    ensures { IfOk result (λ name. name_in (view_core core.now) function ≡ Some (string_bytes name)) }
+{
+    let Some(name) = function_name(core, function) else {
+        unreachable!()
+    };
+    String::from_utf8_lossy(alloc, &name.bytes)
+}
+
+/// The failure that a trace of a program is.
+pub fn described(
+    alloc: Global,
+    file: &Admitted,
+    bounds: &Bounds,
+    trace: Trace,
+) -> Result<Failing, AllocError>
+    requires accepted { (bytes : List ℕ) × IsAccepted bytes (view_core file.now) }
+    requires broken { IsBroken bounds.now (view_core file.now) trace }
+    ensures trace { IfOk result (λ f. f.trace ≡ trace) }
+    ensures failure { IfOk result (λ f. IsFailure bounds.now (view_core file.now) (failure_of f)) }
+{
+    // Read, so that they are known to fit.
+    let _line = trace.check.line;
+    let _thread = trace.check.thread;
+    let function = name_of(alloc, file.core(), trace.check.function)?;
+    let inputs = drawn_of(alloc, &trace.inputs)?;
+    let rows = rows_of(alloc, trace.schedule.as_slice())?;
+    Ok(Failing {
+        trace,
+        function,
+        inputs,
+        rows,
+    })
+}

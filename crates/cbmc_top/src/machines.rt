@@ -1,0 +1,95 @@
+// Runs of C text on the machine of the typed source and on those of its flat code.
+
+use actions::{Machine, Store};
+use c_elab_decl::elaborate;
+use c_interp::run;
+use c_lexer::lex;
+use c_parse_decl::parse;
+use c_profile::{Admitted, admit};
+use core_tree::Bounds;
+use goto_checks::insert;
+use goto_lower::lower;
+use goto_prog::{PlainThread, StrictThread, UnrolledThread};
+use goto_unwind::unwind;
+use interleave::{Inputs, Outcome, Schedule, System, Turn, Words};
+use std::alloc::{AllocError, Global};
+use std::test::Fail;
+
+// The typed file of a text.
+fn admitted(alloc: Global, text: &[u8]) -> Result<Admitted, Fail> {
+    if text.len() > 10_000_000 {
+        return Err(Fail::from("too long"));
+    }
+    let tokens = lex(alloc, text)?;
+    let file = parse(alloc, &tokens)?;
+    let core = elaborate(alloc, &file)?;
+    match admit(core) {
+        Ok(file) => Ok(file),
+        Err(_) => Err(Fail::from("no main")),
+    }
+}
+
+// How the run of a machine ends on these inputs by this schedule.
+fn end_of<M: Machine>(
+    alloc: Global,
+    first: M,
+    inputs: &Inputs,
+    schedule: &Schedule,
+) -> Result<Outcome, AllocError> {
+    let mut system = System::new(alloc, first, Store::new(alloc))?;
+    for t in schedule.as_slice() {
+        if !system.has_numbers(*t)? {
+            return Ok(Outcome::Fine);
+        }
+        if let Turn::Broken(check) = system.turn(*t, inputs)? {
+            return Ok(Outcome::Broken(check));
+        }
+    }
+    Ok(Outcome::Fine)
+}
+
+// The words of ints.
+fn words_of(alloc: Global, ints: &[i32]) -> Result<Words, AllocError> {
+    let mut words = Vec::new(alloc);
+    for int in ints {
+        words.push(u32::from_le_bytes(int.to_le_bytes()) as u64)?;
+    }
+    Ok(Words::new(words))
+}
+
+// How the runs of a text end that draw these ints, in six turns of thread 0: the source's, and those of
+// its strict, its checked and its unrolled code.
+pub fn outcomes(alloc: Global, text: &[u8], ints: &[i32]) -> Result<[Outcome; 4], Fail> {
+    let file = admitted(alloc, text)?;
+    let bounds = Bounds::new(1, Vec::new(alloc), true, 1, false);
+    let mut inputs = Inputs::new(alloc);
+    inputs.insert(0, words_of(alloc, ints)?)?;
+    let schedule = Schedule::new(vec![in alloc; 0; 6]?);
+    let source = run(alloc, &file, &bounds, &inputs, &schedule)?;
+    let goto = lower(alloc, &file)?;
+    let strict = end_of(
+        alloc,
+        StrictThread::new(alloc, &goto, &bounds)?,
+        &inputs,
+        &schedule,
+    )?;
+    let checked = insert(alloc, goto)?;
+    let plain = end_of(
+        alloc,
+        PlainThread::new(alloc, &checked, &bounds)?,
+        &inputs,
+        &schedule,
+    )?;
+    match unwind(alloc, &file, &checked, &bounds) {
+        Ok(unrolled) => {
+            let first = UnrolledThread::new(alloc, &unrolled)?;
+            Ok([
+                source,
+                strict,
+                plain,
+                end_of(alloc, first, &inputs, &schedule)?,
+            ])
+        }
+        Err(_) => Err(Fail::from("too many places")),
+    }
+}
