@@ -15,7 +15,7 @@ use Rattle.guarded_ssa.specs.Ways.{Ways, either, arrived}
 use Rattle.guarded_ssa.specs.Forms.{FormIn, EventIn}
 use Rattle.guarded_ssa.specs.Reads.{Alike, AllAlike}
 use Rattle.guarded_ssa.specs.Held.{SlotIn, PendingIn, PassIn, Arrives, gone, way, ways}
-use Rattle.guarded_ssa.proofs.Needs.{all_alike_itself}
+use Rattle.guarded_ssa.proofs.Needs.{all_alike_itself, alike_itself, either_alike}
 use Rattle.guarded_ssa.proofs.Stays.{form_stays, all_pending_stay, ways_stay}
 
 set_set : {X : Type 0} (xs : List X) (n : ℕ) (x y : X) → slice_set (slice_set xs n x) n y ≡ slice_set xs n y
@@ -38,6 +38,13 @@ way_at : (v : ℕ → ℕ) (d : List Node) (code : Listing) (pending : List (Opt
 way_at v d code [] n z lt = absurd (omega (arith, lt))
 way_at v d code (s ∷ pending) zero z lt = refl
 way_at v d code (s ∷ pending) (suc n) z lt = way_at v d code pending n z (omega (arith, lt))
+
+-- what is needed of a slot meets another
+pub meets_alike : (v : ℕ → ℕ) (until : List ℕ) (code : Listing) (q : ℕ) (s needed t : Slot) (there : Option Slot) (d e : List Node) → Alike until q (gone v d code needed) (gone v d code s) → gone v e code t ≡ either (gone v d code needed) (way v d code there)
+    → Alike until q (gone v e code t) (either (gone v d code s) (way v d code there))
+meets_alike v until code q s needed t there d e alike is =
+    let w = way v d code there in
+    subst (λ m. Alike until q m (either (gone v d code s) w)) (sym is) (either_alike until q (gone v d code needed) (gone v d code s) w w alike (alike_itself until q w))
 
 pub arrives_there : (until : List ℕ) (code : Listing) (place q n : ℕ) (s t : Slot) (there z : Option Slot) (d e : List Node) (old new : Pass) → Extends d e → PassIn d code old → SlotIn e code t
     → n < length old.pending.items → q ≡ place + 1 + n → there ≡ get_or old.pending.items n z

@@ -2,7 +2,10 @@ pub mod Telling
 pub mod Readings
 pub mod Valuations
 pub mod Needs
+pub mod Sorted
 pub mod Stays
+pub mod Joining
+pub mod Setting
 pub mod Merging
 pub mod Noting
 pub mod Arriving

@@ -1,16 +1,17 @@
 -- Words of slots, and slots that meet.
-use Rattle.std.proofs.Common.{◌≡◌, ℕ, zero, suc, ◌+◌, ◌<◌, ◌≤◌, ◌^◌, Bool, true, false, ◌||◌, ◌&&◌, nat_lt, List, [], ◌∷◌, ◌++◌, length, map, take, get_or, Some, None, refl, sym, ap, subst, ◌∙◌, arith, add-one}
+use Rattle.std.proofs.Common.{◌≡◌, ℕ, zero, suc, ◌+◌, ◌<◌, ◌^◌, Bool, true, false, ◌||◌, ◌&&◌, nat_lt, List, [], ◌∷◌, ◌++◌, length, map, Option, take, get_or, Some, None, inl, inr, refl, sym, ap, subst, ◌∙◌, arith}
 use Rattle.std.specs.Prelude.{not, ◌==◌, if◌then◌else◌, slice_index, slice_set, slice_index_or}
-use Rattle.std.specs.List.{All}
+use Rattle.std.specs.List.{All, filter}
 use Rattle.std.specs.Int.{Width, w8, w16, w32, w64, to_le_bytes, from_le_bytes}
 use Rattle.std.proofs.lemmas.Nat.{from_le_bytes-to_le_bytes_2, from_le_bytes-to_le_bytes_4, from_le_bytes-to_le_bytes_8}
-use Rattle.std.proofs.lemmas.List.{take_more, map_push, length-map, get_or-map}
-use Rattle.std.proofs.lemmas.List.Elements.{All-cons, All-head, All-tail, All-nil, All-push, All-get_or}
+use Rattle.std.proofs.lemmas.List.{take_more, map_push, length-map, get_or-map, get_or_default}
+use Rattle.std.proofs.lemmas.List.Elements.{All-cons, All-head, All-tail, All-nil, All-push, All-get_or, All-filter}
+use Rattle.std.proofs.lemmas.Bool.{cases_lt, cases_Bool}
 use Rattle.std.proofs.lemmas.Bool.Decides.{nat_tests}
 use Rattle.c_types.specs.declared.integers.IntegerType.{IntegerType}
 use Rattle.c_types.specs.declared.integers.IntegerType.TheVariants as types
 use Rattle.c_types.specs.Integers.{width as type_width, number_of, same_integer}
-use Rattle.c_values.specs.Variables.{storage, first_variables, read_variable}
+use Rattle.c_values.specs.Variables.{Variables, storage, first_variables, read_variable}
 use Rattle.core_tree.specs.Operations.{read_bits}
 use Rattle.word_dag.specs.Fitting.{is_ordered}
 use Rattle.value_nodes.proofs.Made.{word_below}
@@ -26,48 +27,22 @@ use Rattle.value_nodes.specs.Values.{IsWord, IsValue, IsTest}
 use Rattle.goto_prog.specs.Meaning.{Memory, register}
 use Rattle.goto_prog.specs.Fitting.{is_there, is_register, is_block}
 use Rattle.goto_prog.specs.CodeThread.{Listing, first_memory}
+use Rattle.guarded_ssa.specs.declared.registers.Live.{Live}
+use Rattle.guarded_ssa.specs.declared.registers.Zeros.{Zeros}
 use Rattle.guarded_ssa.specs.declared.slots.Slot.{Slot}
 use Rattle.guarded_ssa.specs.Ways.{either, kept}
-use Rattle.guarded_ssa.specs.Reads.{IsRead, Alike}
-use Rattle.guarded_ssa.proofs.Stays.{words_stay, gone_stays}
-use Rattle.guarded_ssa.specs.Held.{AreWords, AreZeros, Joined, SlotIn, needed, stored, held, gone}
-
-pub if_true : {X : Type 0} (b : Bool) (x y : X) → b ≡ true → (if b then x else y) ≡ x
-if_true b x y h = λ i. if h i then x else y
-
-pub if_false : {X : Type 0} (b : Bool) (x y : X) → b ≡ false → (if b then x else y) ≡ y
-if_false b x y h = λ i. if h i then x else y
+use Rattle.guarded_ssa.specs.Reads.{Agree, Alike}
+use Rattle.guarded_ssa.specs.Registers.{ZerosIn, IsLive, AreLive, Merged, find, word_or_0, words_from, zero_of}
+use Rattle.guarded_ssa.proofs.Sorted.{kept_rise, kept_found, all_words, words_first, words_behind, words_joined, found, past, are_same}
+use Rattle.guarded_ssa.proofs.Joining.{zero_is}
+use Rattle.guarded_ssa.proofs.Stays.{slot_stays, gone_stays, live_stay, found_stays, words_of_stay}
+use Rattle.guarded_ssa.specs.Held.{AreWords, Joined, SlotIn, stored, held, gone}
 
 pub holds_bit : (b : Bool) → holds (bit_value b) ≡ b
 holds_bit true = refl
 holds_bit false = refl
 
 -- ---- words
-
-pub words_none : (d : List Node) → AreWords d [] []
-words_none d = record { there = All-nil (Within d); widths = refl }
-
-pub zeros_none : (d : List Node) → AreZeros d [] []
-zeros_none d = record { words = words_none d; zero = λ v. refl }
-
-pub zeros_more : (d e : List Node) (ts : List IntegerType) (ids new : List Id) (i : ℕ) (z : IntegerType) (id : Id) → Extends d e → i < length ts → IsValue e id (type_width (get_or ts i z)) (λ v. 0) → new ≡ ids ++ id ∷ []
-    → AreZeros d (take i ts) ids → AreZeros e (take (i + 1) ts) new
-zeros_more d e ts ids new i z id x lt made is zeros =
-    let words = zeros.words in
-    let p = map_widths_stay d e ids x words.there ∙ words.widths in
-    let q = made.width_is in
-    let r = ap (map type_width) (take_more ts i z lt) ∙ map_push type_width (take i ts) (get_or ts i z) in
-    let r' = ap (map (λ (t : IntegerType). 0)) (take_more ts i z lt) ∙ map_push (λ (t : IntegerType). 0) (take i ts) (get_or ts i z) in
-    record {
-      words = record {
-        there = subst (All (Within e)) (sym is) (All-push (Within e) ids id (all_within_stays d e ids x words.there) made.there);
-        widths = ap (map (width e)) is ∙ map_push (width e) ids id ∙ (λ k. p k ++ q k ∷ []) ∙ sym r;
-      };
-      zero = λ v.
-          let m = map_stays v d e ids x words.there ∙ zeros.zero v in
-          let n = made.value_is v in
-          ap (map (value v e)) is ∙ map_push (value v e) ids id ∙ (λ k. m k ++ n k ∷ []) ∙ sym r';
-    }
 
 pub words_length : (d : List Node) (ts : List IntegerType) (ids : List Id) → AreWords d ts ids → length ids ≡ length ts
 words_length d ts ids words = sym (length-map ids (width d)) ∙ ap length words.widths ∙ length-map ts type_width
@@ -155,136 +130,44 @@ joined_stays d e f g test first second ids x y there one two j =
           map_stays v f g ids y j.there ∙ j.values v ∙ (λ k. if holds (t k) then m k else n k);
     }
 
--- ---- what is needed
-
-module _ {X : Type 0} where
-  pub needed_more : (us : List ℕ) (xs ys : List X) (p i u : ℕ) (z : X) → i < length us → length xs ≡ length us → length ys ≡ length us
-      → needed (take (suc i) us) p (take (suc i) xs) (take (suc i) ys) ≡ needed (take i us) p (take i xs) (take i ys) ++ (if nat_lt p (get_or us i u) then get_or ys i z else get_or xs i z) ∷ []
-  needed_more [] xs ys p i u z lt l l' = absurd (omega (arith, lt))
-  needed_more (w ∷ us) [] ys p i u z lt l l' = absurd (omega (arith, l))
-  needed_more (w ∷ us) (x ∷ xs) [] p i u z lt l l' = absurd (omega (arith, l'))
-  needed_more (w ∷ us) (x ∷ xs) (y ∷ ys) p zero u z lt l l' = refl
-  needed_more (w ∷ us) (x ∷ xs) (y ∷ ys) p (suc i) u z lt l l' =
-      ap (λ zs. (if nat_lt p w then y else x) ∷ zs) (needed_more us xs ys p i u z (omega (arith, lt)) (omega (arith, l)) (omega (arith, l')))
-
-  pub needed_length : (us : List ℕ) (xs ys : List X) (p : ℕ) → length xs ≡ length us → length ys ≡ length us → length (needed us p xs ys) ≡ length us
-  needed_length [] xs ys p l l' = refl
-  needed_length (w ∷ us) [] ys p l l' = absurd (omega (arith, l))
-  needed_length (w ∷ us) (z ∷ xs) [] p l l' = absurd (omega (arith, l'))
-  needed_length (w ∷ us) (z ∷ xs) (z' ∷ ys) p l l' = ap suc (needed_length us xs ys p (omega (arith, l)) (omega (arith, l')))
-
-  one_of : (P : X → Type 0) (b : Bool) (x y : X) → P x → P y → P (if b then y else x)
-  one_of P true x y h k = k
-  one_of P false x y h k = h
-
-  pub needed_all : (P : X → Type 0) (us : List ℕ) (xs ys : List X) (p : ℕ) → All P xs → All P ys → All P (needed us p xs ys)
-  needed_all P [] xs ys p h k = All-nil P
-  needed_all P (u ∷ us) [] ys p h k = All-nil P
-  needed_all P (u ∷ us) (x ∷ xs) [] p h k = All-nil P
-  needed_all P (u ∷ us) (x ∷ xs) (y ∷ ys) p h k =
-      All-cons P (if nat_lt p u then y else x) (needed us p xs ys) (one_of P (nat_lt p u) x y (All-head P x xs h) (All-head P y ys k)) (needed_all P us xs ys p (All-tail P x xs h) (All-tail P y ys k))
-
-either_number : (b : Bool) (x : ℕ) → (if b then x else x) ≡ x
-either_number true x = refl
-either_number false x = refl
-
-pub needed_same : (us ws : List ℕ) (p : ℕ) → length ws ≡ length us → needed us p ws ws ≡ ws
-needed_same [] [] p l = refl
-needed_same [] (w ∷ ws) p l = absurd (omega (arith, l))
-needed_same (u ∷ us) [] p l = absurd (omega (arith, l))
-needed_same (u ∷ us) (w ∷ ws) p l =
-    let a = either_number (nat_lt p u) w in let b = needed_same us ws p (omega (arith, l)) in λ k. a k ∷ b k
-
-map_either : (f : Id → ℕ) (b : Bool) (x y : Id) → f (if b then y else x) ≡ (if b then f y else f x)
-map_either f true x y = refl
-map_either f false x y = refl
-
-pub needed_map : (f : Id → ℕ) (us : List ℕ) (xs ys : List Id) (p : ℕ) → map f (needed us p xs ys) ≡ needed us p (map f xs) (map f ys)
-needed_map f [] xs ys p = refl
-needed_map f (u ∷ us) [] ys p = refl
-needed_map f (u ∷ us) (x ∷ xs) [] p = refl
-needed_map f (u ∷ us) (x ∷ xs) (y ∷ ys) p =
-    let a = map_either f (nat_lt p u) x y in let b = needed_map f us xs ys p in λ k. a k ∷ b k
-
-is_less : (m n : ℕ) → m < n → nat_lt m n ≡ true
-is_less m n h = grind (arith, nat_tests)
-
-needed_at : (us xs ys : List ℕ) (p r : ℕ) → length xs ≡ length us → length ys ≡ length us → IsRead us p (Some r) → slice_index (needed us p xs ys) r ≡ slice_index ys r
-needed_at [] xs [] p r l l' h = refl
-needed_at [] xs (y ∷ ys) p r l l' h = absurd (omega (arith, l'))
-needed_at (u ∷ us) [] ys p r l l' h = absurd (omega (arith, l))
-needed_at (u ∷ us) (x ∷ xs) [] p r l l' h = absurd (omega (arith, l'))
-needed_at (u ∷ us) (x ∷ xs) (y ∷ ys) p zero l l' h = if_true (nat_lt p u) y x (is_less p u (h (omega arith)))
-needed_at (u ∷ us) (x ∷ xs) (y ∷ ys) p (suc r) l l' h = needed_at us xs ys p r (omega (arith, l)) (omega (arith, l')) (λ lt. h (omega (arith, lt)))
-
-less_or : (m n : ℕ) → n ≤ m → nat_lt m n ≡ false
-less_or m n h = grind (arith, nat_tests)
-
-pub needed_next : (us : List ℕ) (xs ys ids new : List Id) (p i : ℕ) (z id : Id) → i < length us → length xs ≡ length us → length ys ≡ length us → id ≡ (if nat_lt p (get_or us i 0) then get_or ys i z else get_or xs i z)
-    → ids ≡ needed (take i us) p (take i xs) (take i ys) → new ≡ ids ++ id ∷ [] → new ≡ needed (take (i + 1) us) p (take (i + 1) xs) (take (i + 1) ys)
-needed_next us xs ys ids new p i z id lt l l' is so e =
-    e ∙ (λ k. so k ++ is k ∷ []) ∙ sym (ap (λ n. needed (take n us) p (take n xs) (take n ys)) (add-one i) ∙ needed_more us xs ys p i 0 z lt l l')
-
-pub needed_then : (p u : ℕ) (id x y : Id) → p < u → id ≡ y → id ≡ (if nat_lt p u then y else x)
-needed_then p u id x y lt is = is ∙ sym (if_true (nat_lt p u) y x (is_less p u lt))
-
-pub needed_else : (p u : ℕ) (id x y : Id) → u ≤ p → id ≡ x → id ≡ (if nat_lt p u then y else x)
-needed_else p u id x y le is = is ∙ sym (if_false (nat_lt p u) y x (less_or p u le))
-
--- the words that are needed, in a graph that may have grown
-pub needed_there : (d : List Node) (us : List ℕ) (xs ys : List Id) (p : ℕ) (ns : List Id) → ns ≡ needed us p xs ys → All (Within d) xs → All (Within d) ys → All (Within d) ns
-needed_there d us xs ys p ns e one two = subst (All (Within d)) (sym e) (needed_all (Within d) us xs ys p one two)
-
-pub needed_widths : (d : List Node) (ts : List IntegerType) (us : List ℕ) (xs ys : List Id) (p : ℕ) (ns : List Id) → ns ≡ needed us p xs ys → length us ≡ length ts → AreWords d ts xs → AreWords d ts ys → map (width d) ns ≡ map (width d) xs
-needed_widths d ts us xs ys p ns e size one two =
-    let l : length (map (width d) xs) ≡ length us = length-map xs (width d) ∙ words_length d ts xs one ∙ sym size in
-    ap (map (width d)) e ∙ needed_map (width d) us xs ys p ∙ ap (needed us p (map (width d) xs)) (two.widths ∙ sym one.widths) ∙ needed_same us (map (width d) xs) p l
-
 -- ---- slots that meet
 
-module _ (until : List ℕ) (place : ℕ) (ts : List IntegerType) (x1 x2 b1 b2 : List ℕ) (l1 : length x1 ≡ length until) (l2 : length x2 ≡ length until) where
-  abbrev memory : List ℕ → List ℕ → Memory
-  memory rs bs = record { registers = rs; blocks = stored ts bs }
+module _ (x1 x2 : List ℕ) (b1 b2 : Variables) where
+  abbrev memory : List ℕ → Variables → Memory
+  memory rs bs = record { registers = rs; blocks = bs }
 
-  meets : (h1 h2 : Bool) (rs bs : List ℕ) → rs ≡ (if h1 then x1 else needed until place x1 x2) → bs ≡ (if h1 then b1 else b2)
-      → Alike until place (if h1 || h2 then Some (memory rs bs) else None) (either (if h1 then Some (memory x1 b1) else None) (if h2 then Some (memory x2 b2) else None))
-  meets true h2 rs bs p q = record { size = ap length p; needed = λ r h. ap (λ (xs : List ℕ). slice_index xs r) p; blocks = ap (stored ts) q }
-  meets false true rs bs p q = record {
-    size = ap length p ∙ needed_length until x1 x2 place l1 l2 ∙ sym l2;
-    needed = λ r h. ap (λ (xs : List ℕ). slice_index xs r) p ∙ needed_at until x1 x2 place r l1 l2 h;
-    blocks = ap (stored ts) q;
-  }
-  meets false false rs bs p q = tt
+  meets : (h1 h2 : Bool) (rs : List ℕ) (bs : Variables) → rs ≡ (if h1 then x1 else x2) → bs ≡ (if h1 then b1 else b2)
+      → (if h1 || h2 then Some (memory rs bs) else None) ≡ either (if h1 then Some (memory x1 b1) else None) (if h2 then Some (memory x2 b2) else None)
+  meets true h2 rs bs p q = λ i. Some (memory (p i) (q i))
+  meets false true rs bs p q = λ i. Some (memory (p i) (q i))
+  meets false false rs bs p q = refl
 
-module _ (d e : List Node) (code : Listing) (until : List ℕ) (place : ℕ) (first second s : Slot)
-    (size : length until ≡ length code.registers) (one : SlotIn d code first) (two : SlotIn d code second)
-    (guard : IsTest e s.guard (λ v. holds (value v d first.guard) || holds (value v d second.guard)))
-    (registers : Joined d e first.guard first.registers.items (needed until place first.registers.items second.registers.items) s.registers.items)
+stored_chosen : (ts : List IntegerType) (h : Bool) (b1 b2 : List ℕ) → stored ts (if h then b1 else b2) ≡ (if h then stored ts b1 else stored ts b2)
+stored_chosen ts true b1 b2 = refl
+stored_chosen ts false b1 b2 = refl
+
+module _ (d e : List Node) (code : Listing) (first second s : Slot) (one : SlotIn d code first) (two : SlotIn d code second)
+    (guard : IsTest e s.guard (λ v. holds (value v d first.guard) || holds (value v d second.guard))) (zeros : ZerosIn e s.zeros)
+    (registers : Merged d e code.registers first.guard first.registers.items second.registers.items s.registers.items)
     (blocks : Joined d e first.guard first.blocks.items second.blocks.items s.blocks.items) where
-  pub merged_in : SlotIn e code s
+  merged_in : SlotIn e code s
   merged_in = record {
     guard = record { there = guard.there; width_is = guard.width_is };
-    registers = record { there = registers.there; widths = registers.widths ∙ one.registers.widths };
+    zeros = zeros;
+    registers = registers.live;
     blocks = record { there = blocks.there; widths = blocks.widths ∙ one.blocks.widths };
   }
 
-  mapped : (v : ℕ → ℕ) (ids : List Id) → AreWords d code.registers ids → length (map (value v d) ids) ≡ length until
-  mapped v ids words = length-map ids (value v d) ∙ words_length d code.registers ids words ∙ sym size
-
-  pub merged_alike : (v : ℕ → ℕ) → Alike until place (gone v e code s) (either (gone v d code first) (gone v d code second))
-  merged_alike v =
+  merged_gone : (v : ℕ → ℕ) → gone v e code s ≡ either (gone v d code first) (gone v d code second)
+  merged_gone v =
       let h1 = holds (value v d first.guard) in
       let h2 = holds (value v d second.guard) in
-      let x1 = map (value v d) first.registers.items in
-      let x2 = map (value v d) second.registers.items in
       let b1 = map (value v d) first.blocks.items in
       let b2 = map (value v d) second.blocks.items in
       let g : holds (value v e s.guard) ≡ (h1 || h2) = ap holds (guard.value_is v) ∙ holds_bit (h1 || h2) in
-      let rs = map (value v e) s.registers.items in
-      let bs = map (value v e) s.blocks.items in
-      let p : rs ≡ (if h1 then x1 else needed until place x1 x2) = registers.values v ∙ ap (λ (xs : List ℕ). if h1 then x1 else xs) (needed_map (value v d) until first.registers.items second.registers.items place) in
-      let m = meets until place code.blocks x1 x2 b1 b2 (mapped v first.registers.items one.registers) (mapped v second.registers.items two.registers) h1 h2 rs bs p (blocks.values v) in
-      subst (λ b. Alike until place (if b then Some (held v e code s) else None) (either (gone v d code first) (gone v d code second))) (sym g) m
+      ap (λ b. if b then Some (held v e code s) else None) g
+      ∙ meets (held v d code first).registers (held v d code second).registers (stored code.blocks b1) (stored code.blocks b2) h1 h2 (held v e code s).registers (held v e code s).blocks
+      (words_joined (value v d) (value v e) h1 first.registers.items second.registers.items s.registers.items 0 code.registers (registers.words v)) (ap (stored code.blocks) (blocks.values v) ∙ stored_chosen code.blocks h1 b1 b2)
 
 -- ---- one slot
 
@@ -299,12 +182,15 @@ under true false m = refl
 under false true m = refl
 under false false m = refl
 
-pub narrowed_in : (d e : List Node) (code : Listing) (s t : Slot) (f : (ℕ → ℕ) → Bool) → Extends d e → SlotIn d code s → IsTest e t.guard f → t.registers.items ≡ s.registers.items → t.blocks.items ≡ s.blocks.items → SlotIn e code t
-narrowed_in d e code s t f x h made p q = record {
-  guard = record { there = made.there; width_is = made.width_is };
-  registers = subst (AreWords e code.registers) (sym p) (words_stay d e x code.registers s.registers.items h.registers);
-  blocks = subst (AreWords e code.blocks) (sym q) (words_stay d e x code.blocks s.blocks.items h.blocks);
-}
+pub narrowed_in : (d e : List Node) (code : Listing) (s t : Slot) (f : (ℕ → ℕ) → Bool) → Extends d e → SlotIn d code s → IsTest e t.guard f → t.zeros ≡ s.zeros → t.registers.items ≡ s.registers.items → t.blocks.items ≡ s.blocks.items → SlotIn e code t
+narrowed_in d e code s t f x h made z p q =
+    let k = slot_stays d e x code s h in
+    record {
+      guard = record { there = made.there; width_is = made.width_is };
+      zeros = subst (ZerosIn e) (sym z) k.zeros;
+      registers = subst (AreLive e code.registers) (sym p) k.registers;
+      blocks = subst (AreWords e code.blocks) (sym q) k.blocks;
+    }
 
 pub narrowed_gone : (d e : List Node) (code : Listing) (s t : Slot) (test : Id) → Extends d e → SlotIn d code s → IsTest e t.guard (λ v. holds (value v d s.guard) && holds (value v d test))
     → t.registers.items ≡ s.registers.items → t.blocks.items ≡ s.blocks.items → (v : ℕ → ℕ) → gone v e code t ≡ (if holds (value v d test) then gone v d code s else None)
@@ -312,21 +198,22 @@ narrowed_gone d e code s t test x h made p q v =
     let g = holds (value v d s.guard) in
     let k = holds (value v d test) in
     let a : holds (value v e t.guard) ≡ (g && k) = ap holds (made.value_is v) ∙ holds_bit (g && k) in
-    let b = ap (map (value v e)) p ∙ map_stays v d e s.registers.items x h.registers.there in
+    let b = ap (λ ls. words_from (value v e) ls 0 code.registers) p ∙ words_of_stay d e x v code.registers s.registers.items h.registers.words in
     let c = ap (map (value v e)) q ∙ map_stays v d e s.blocks.items x h.blocks.there in
     let same : gone v e code t ≡ (if (g && k) then Some (held v d code s) else None) = (λ i. if a i then Some (record { registers = b i; blocks = stored code.blocks (c i) }) else None) in
     same ∙ under g k (held v d code s)
 
 -- the same memory elsewhere
-pub copied_in : (d : List Node) (code : Listing) (s t : Slot) → t.guard ≡ s.guard → t.registers.items ≡ s.registers.items → t.blocks.items ≡ s.blocks.items → SlotIn d code s → SlotIn d code t
-copied_in d code s t g p q h = record {
+pub copied_in : (d : List Node) (code : Listing) (s t : Slot) → t.guard ≡ s.guard → t.zeros ≡ s.zeros → t.registers.items ≡ s.registers.items → t.blocks.items ≡ s.blocks.items → SlotIn d code s → SlotIn d code t
+copied_in d code s t g z p q h = record {
   guard = subst (λ i. IsWord d i 1) (sym g) h.guard;
-  registers = subst (AreWords d code.registers) (sym p) h.registers;
+  zeros = subst (ZerosIn d) (sym z) h.zeros;
+  registers = subst (AreLive d code.registers) (sym p) h.registers;
   blocks = subst (AreWords d code.blocks) (sym q) h.blocks;
 }
 
 pub copied_gone : (v : ℕ → ℕ) (d : List Node) (code : Listing) (s t : Slot) → t.guard ≡ s.guard → t.registers.items ≡ s.registers.items → t.blocks.items ≡ s.blocks.items → gone v d code t ≡ gone v d code s
-copied_gone v d code s t g p q = λ i. if holds (value v d (g i)) then Some (record { registers = map (value v d) (p i); blocks = stored code.blocks (map (value v d) (q i)) }) else None
+copied_gone v d code s t g p q = λ i. if holds (value v d (g i)) then Some (record { registers = words_from (value v d) (p i) 0 code.registers; blocks = stored code.blocks (map (value v d) (q i)) }) else None
 
 -- the memory where a test of it holds too
 pub kept_gone : (v : ℕ → ℕ) (d : List Node) (code : Listing) (s : Slot) (test : Memory → Bool) (b : Bool) → b ≡ test (held v d code s) → (if b then gone v d code s else None) ≡ kept test (gone v d code s)
@@ -338,18 +225,42 @@ stored_zeros : (ts : List IntegerType) → stored ts (map (λ t. 0) ts) ≡ firs
 stored_zeros [] = refl
 stored_zeros (t ∷ ts) = ap (λ bs. to_le_bytes (storage t) 0 ∷ bs) (stored_zeros ts)
 
-pub start_in : (d e : List Node) (code : Listing) (s : Slot) (f : (ℕ → ℕ) → ℕ) → IsValue e s.guard 1 f → AreZeros e code.registers s.registers.items → AreZeros e code.blocks s.blocks.items → SlotIn e code s
-start_in d e code s f guard registers blocks = record { guard = record { there = guard.there; width_is = guard.width_is }; registers = registers.words; blocks = blocks.words }
+zero_blocks : (d : List Node) (z : Zeros) (ts : List IntegerType) → ZerosIn d z → AreWords d ts (map (zero_of z) ts)
+zero_blocks d z [] h = record { there = All-nil (Within d); widths = refl }
+zero_blocks d z (t ∷ ts) h =
+    let first = zero_is d z t h in
+    let rest = zero_blocks d z ts h in
+    let a = first.width_is in
+    let b = rest.widths in
+    record { there = All-cons (Within d) (zero_of z t) (map (zero_of z) ts) first.there rest.there; widths = λ i. a i ∷ b i }
 
-pub start_gone : (e : List Node) (code : Listing) (s : Slot) → ((v : ℕ → ℕ) → value v e s.guard ≡ 1) → AreZeros e code.registers s.registers.items → AreZeros e code.blocks s.blocks.items → (v : ℕ → ℕ) → gone v e code s ≡ Some (first_memory code)
-start_gone e code s guard registers blocks v =
-    let a = guard v in
-    let b = registers.zero v in
-    let c = ap (stored code.blocks) (blocks.zero v) ∙ stored_zeros code.blocks in
-    λ i. if holds (a i) then Some (record { registers = b i; blocks = c i }) else None
+zero_values : (v : ℕ → ℕ) (d : List Node) (z : Zeros) (ts : List IntegerType) → ZerosIn d z → map (value v d) (map (zero_of z) ts) ≡ map (λ t. 0) ts
+zero_values v d z [] h = refl
+zero_values v d z (t ∷ ts) h = let a = (zero_is d z t h).value_is v in let b = zero_values v d z ts h in λ i. a i ∷ b i
 
-pub zeros_stay : (d e : List Node) (ts : List IntegerType) (ids : List Id) → Extends d e → AreZeros d ts ids → AreZeros e ts ids
-zeros_stay d e ts ids x h = record { words = words_stay d e x ts ids h.words; zero = λ v. map_stays v d e ids x h.words.there ∙ h.zero v }
+no_words : (f : Id → ℕ) (k : ℕ) (ts : List IntegerType) → words_from f [] k ts ≡ map (λ t. 0) ts
+no_words f k [] = refl
+no_words f k (t ∷ ts) = ap (λ ws. 0 ∷ ws) (no_words f (suc k) ts)
+
+module _ (d e f : List Node) (code : Listing) (s : Slot) (bs : List IntegerType) (y : Extends e f) (made : Makes d e (Constant 1 1) s.guard) (zeros : ZerosIn f s.zeros)
+    (registers : s.registers.items ≡ []) (bs_is : bs ≡ code.blocks) (blocks : s.blocks.items ≡ map (zero_of s.zeros) bs) where
+  blocks_are : s.blocks.items ≡ map (zero_of s.zeros) code.blocks
+  blocks_are = blocks ∙ ap (map (zero_of s.zeros)) bs_is
+
+  pub started_in : SlotIn f code s
+  started_in = record {
+    guard = record { there = within_stays e f s.guard y made.there; width_is = y.width_stays s.guard made.there ∙ made.width_is };
+    zeros = zeros;
+    registers = subst (AreLive f code.registers) (sym registers) (record { rise = omega arith; words = All-nil (IsLive f code.registers) });
+    blocks = subst (AreWords f code.blocks) (sym blocks_are) (zero_blocks f s.zeros code.blocks zeros);
+  }
+
+  pub started_gone : (v : ℕ → ℕ) → gone v f code s ≡ Some (first_memory code)
+  started_gone v =
+      let a = y.value_stays v s.guard made.there ∙ made.value_is v in
+      let b = ap (λ ls. words_from (value v f) ls 0 code.registers) registers ∙ no_words (value v f) 0 code.registers in
+      let c = ap (λ ids. stored code.blocks (map (value v f) ids)) blocks_are ∙ ap (stored code.blocks) (zero_values v f s.zeros code.blocks zeros) ∙ stored_zeros code.blocks in
+      λ i. if holds (a i) then Some (record { registers = b i; blocks = c i }) else None
 
 -- where a test of a register holds
 pub zero_holds : (v : ℕ → ℕ) (d e f : List Node) (code : Listing) (s : Slot) (operand : ℕ) (node test : Id) → Extends e f → IsTest e test (λ v. value v d node == 0) → value v d node ≡ register (held v d code s) operand
@@ -369,24 +280,33 @@ side_gone v d e f g code s copy t test keeps x y h k p q r is so =
 
 -- ---- slots that meet, as the graph grows for the guard, the registers and the blocks
 
-module _ (d0 d1 d2 d3 : List Node) (code : Listing) (until : List ℕ) (place : ℕ) (first second s : Slot) (r1 r2 b1 b2 : List Id)
-    (x : Extends d0 d1) (y : Extends d1 d2) (z : Extends d2 d3)
-    (size : length until ≡ length code.registers) (one : SlotIn d0 code first) (two : SlotIn d0 code second)
-    (guard : IsTest d1 s.guard (λ v. holds (value v d0 first.guard) || holds (value v d0 second.guard)))
-    (r1_is : r1 ≡ first.registers.items) (r2_is : r2 ≡ second.registers.items) (b1_is : b1 ≡ first.blocks.items) (b2_is : b2 ≡ second.blocks.items)
-    (registers : Joined d1 d2 first.guard r1 (needed until place r1 r2) s.registers.items)
-    (blocks : Joined d2 d3 first.guard b1 b2 s.blocks.items) where
+module _ (d0 d1 d2 d3 : List Node) (code : Listing) (first second s : Slot) (ts : List IntegerType) (r1 r2 : List Live) (b1 b2 : List Id)
+    (x : Extends d0 d1) (y : Extends d1 d2) (z : Extends d2 d3) (one : SlotIn d0 code first) (two : SlotIn d0 code second)
+    (guard : IsTest d1 s.guard (λ v. holds (value v d0 first.guard) || holds (value v d0 second.guard))) (zeros : s.zeros ≡ first.zeros)
+    (ts_is : ts ≡ code.registers) (r1_is : r1 ≡ first.registers.items) (r2_is : r2 ≡ second.registers.items) (b1_is : b1 ≡ first.blocks.items) (b2_is : b2 ≡ second.blocks.items)
+    (registers : Merged d1 d2 ts first.guard r1 r2 s.registers.items) (blocks : Joined d2 d3 first.guard b1 b2 s.blocks.items) where
   grown_guard : IsTest d3 s.guard (λ v. holds (value v d0 first.guard) || holds (value v d0 second.guard))
   grown_guard =
       let g = extends_more d1 d2 d3 y z in
       record { there = within_stays d1 d3 s.guard g guard.there; width_is = g.width_stays s.guard guard.there ∙ guard.width_is; value_is = λ v. g.value_stays v s.guard guard.there ∙ guard.value_is v }
 
-  grown_registers : Joined d0 d3 first.guard first.registers.items (needed until place first.registers.items second.registers.items) s.registers.items
-  grown_registers =
-      joined_stays d0 d1 d2 d3 first.guard first.registers.items (needed until place first.registers.items second.registers.items) s.registers.items x z one.guard.there one.registers.there
-      (needed_all (Within d0) until first.registers.items second.registers.items place one.registers.there two.registers.there)
-      (subst (λ r. Joined d1 d2 first.guard first.registers.items (needed until place first.registers.items r) s.registers.items) r2_is
-      (subst (λ r. Joined d1 d2 first.guard r (needed until place r r2) s.registers.items) r1_is registers))
+  grown_zeros : ZerosIn d3 s.zeros
+  grown_zeros = subst (ZerosIn d3) (sym zeros) (slot_stays d0 d3 (extends_more d0 d1 d3 x (extends_more d1 d2 d3 y z)) code first one).zeros
+
+  own_registers : Merged d1 d2 code.registers first.guard first.registers.items second.registers.items s.registers.items
+  own_registers =
+      subst (λ r. Merged d1 d2 code.registers first.guard first.registers.items r s.registers.items) r2_is
+      (subst (λ r. Merged d1 d2 code.registers first.guard r r2 s.registers.items) r1_is (subst (λ us. Merged d1 d2 us first.guard r1 r2 s.registers.items) ts_is registers))
+
+  grown_registers : Merged d0 d3 code.registers first.guard first.registers.items second.registers.items s.registers.items
+  grown_registers = record {
+    live = live_stay d2 d3 z code.registers s.registers.items own_registers.live;
+    words = λ v r.
+        let t = x.value_stays v first.guard one.guard.there in
+        let p = found_stays d0 d1 x v code.registers r first.registers.items one.registers.words in
+        let q = found_stays d0 d1 x v code.registers r second.registers.items two.registers.words in
+        found_stays d2 d3 z v code.registers r s.registers.items own_registers.live.words ∙ own_registers.words v r ∙ (λ k. if holds (t k) then p k else q k);
+  }
 
   grown_blocks : Joined d0 d3 first.guard first.blocks.items second.blocks.items s.blocks.items
   grown_blocks =
@@ -394,44 +314,92 @@ module _ (d0 d1 d2 d3 : List Node) (code : Listing) (until : List ℕ) (place : 
       (subst (λ b. Joined d2 d3 first.guard first.blocks.items b s.blocks.items) b2_is (subst (λ b. Joined d2 d3 first.guard b b2 s.blocks.items) b1_is blocks))
 
   pub merged_from_in : SlotIn d3 code s
-  merged_from_in = merged_in d0 d3 code until place first second s size one two grown_guard grown_registers grown_blocks
+  merged_from_in = merged_in d0 d3 code first second s one two grown_guard grown_zeros grown_registers grown_blocks
 
-  pub merged_from_alike : (v : ℕ → ℕ) → Alike until place (gone v d3 code s) (either (gone v d0 code first) (gone v d0 code second))
-  merged_from_alike = merged_alike d0 d3 code until place first second s size one two grown_guard grown_registers grown_blocks
+  pub merged_from_gone : (v : ℕ → ℕ) → gone v d3 code s ≡ either (gone v d0 code first) (gone v d0 code second)
+  merged_from_gone = merged_gone d0 d3 code first second s one two grown_guard grown_zeros grown_registers grown_blocks
 
-pub register_within : (d : List Node) (code : Listing) (s : Slot) (r : ℕ) → SlotIn d code s → is_there code.registers r ≡ true → r < length s.registers.items
-register_within d code s r h is =
-    let lt : r < length code.registers = grind (arith, nat_tests) in
-    omega (arith, lt, words_length d code.registers s.registers.items h.registers)
+-- ---- the registers that are needed
 
--- ---- the slot at the start
+keeps_read : (until : List ℕ) (place r : ℕ) → place < slice_index until r → nat_lt place (slice_index until r) ≡ true
+keeps_read until place r lt = grind (arith, nat_tests)
 
-module _ (d0 d1 d2 d3 : List Node) (code : Listing) (s : Slot) (rs bs : List IntegerType) (y : Extends d1 d2) (z : Extends d2 d3) (made : Makes d0 d1 (Constant 1 1) s.guard)
-    (rs_is : rs ≡ code.registers) (bs_is : bs ≡ code.blocks) (registers : AreZeros d2 rs s.registers.items) (blocks : AreZeros d3 bs s.blocks.items) where
-  first_registers : AreZeros d3 code.registers s.registers.items
-  first_registers = subst (λ ts. AreZeros d3 ts s.registers.items) rs_is (zeros_stay d2 d3 rs s.registers.items z registers)
+module _ (d : List Node) (code : Listing) (until : List ℕ) (place : ℕ) (s t : Slot) (own : List ℕ) (live : List Live) (size : length until ≡ length code.registers) (h : SlotIn d code s) (guard : t.guard ≡ s.guard) (zeros : t.zeros ≡ s.zeros)
+    (own_is : own ≡ until) (live_is : live ≡ s.registers.items) (registers : t.registers.items ≡ filter (λ l. nat_lt place (slice_index own l.register)) live) (blocks : t.blocks.items ≡ s.blocks.items) where
+  abbrev keeps : ℕ → Bool
+  keeps r = nat_lt place (slice_index until r)
 
-  first_blocks : AreZeros d3 code.blocks s.blocks.items
-  first_blocks = subst (λ ts. AreZeros d3 ts s.blocks.items) bs_is blocks
+  registers_are : t.registers.items ≡ filter (λ l. keeps l.register) s.registers.items
+  registers_are = registers ∙ (λ i. filter (λ l. nat_lt place (slice_index (own_is i) l.register)) (live_is i))
 
-  guarded : IsValue d3 s.guard 1 (λ v. 1)
-  guarded =
-      let g = extends_more d1 d2 d3 y z in
-      record { there = within_stays d1 d3 s.guard g made.there; width_is = g.width_stays s.guard made.there ∙ made.width_is; value_is = λ v. g.value_stays v s.guard made.there ∙ made.value_is v }
+  pub needed_in : SlotIn d code t
+  needed_in = record {
+    guard = subst (λ i. IsWord d i 1) (sym guard) h.guard;
+    zeros = subst (ZerosIn d) (sym zeros) h.zeros;
+    registers = subst (AreLive d code.registers) (sym registers_are) (record {
+      rise = kept_rise keeps 0 (length code.registers) s.registers.items h.registers.rise;
+      words = All-filter (λ l. keeps l.register) (IsLive d code.registers) s.registers.items h.registers.words;
+    });
+    blocks = subst (AreWords d code.blocks) (sym blocks) h.blocks;
+  }
 
-  pub started_in : SlotIn d3 code s
-  started_in = start_in d3 d3 code s (λ v. 1) guarded first_registers first_blocks
+  needed_agree : (v : ℕ → ℕ) → Agree until place (held v d code t) (held v d code s)
+  needed_agree v = record {
+    size = all_words (value v d) t.registers.items 0 code.registers ∙ sym (all_words (value v d) s.registers.items 0 code.registers);
+    needed = λ r read.
+        elim (cases_lt r (length code.registers)) [
+          | inl lt ↦ words_first (value v d) t.registers.items r code.registers lt ∙ ap (word_or_0 (value v d)) (ap (λ ls. find ls r) registers_are ∙ kept_found keeps r s.registers.items (keeps_read until place r (read (omega (arith, lt, size)))))
+              ∙ sym (words_first (value v d) s.registers.items r code.registers lt)
+          | inr le ↦ words_behind (value v d) t.registers.items 0 r code.registers le ∙ sym (words_behind (value v d) s.registers.items 0 r code.registers le)
+        ];
+    blocks = ap (λ ids. stored code.blocks (map (value v d) ids)) blocks;
+  }
 
-  pub started_gone : (v : ℕ → ℕ) → gone v d3 code s ≡ Some (first_memory code)
-  started_gone = start_gone d3 code s guarded.value_is first_registers first_blocks
+  both_alike : (v : ℕ → ℕ) (b : Bool) → Alike until place (if b then Some (held v d code t) else None) (if b then Some (held v d code s) else None)
+  both_alike v true = needed_agree v
+  both_alike v false = tt
+
+  pub needed_alike : (v : ℕ → ℕ) → Alike until place (gone v d code t) (gone v d code s)
+  needed_alike v = subst (λ g. Alike until place (if holds (value v d g) then Some (held v d code t) else None) (gone v d code s)) (sym guard) (both_alike v (holds (value v d s.guard)))
 
 -- ---- the nodes of registers and blocks
 
-pub register_word : (d : List Node) (code : Listing) (s : Slot) (r : ℕ) (id : Id) → SlotIn d code s → is_there code.registers r ≡ true → id ≡ get_or s.registers.items r id → IsWord d id (type_width (slice_index_or code.registers r types.Int))
-register_word d code s r id h there is = word_at d code.registers s.registers.items r id h.registers (grind (arith, nat_tests)) is
+id_or : Id → Option Id → Id
+id_or i None = i
+id_or i (Some j) = j
 
-pub register_value : (v : ℕ → ℕ) (d : List Node) (code : Listing) (s : Slot) (r : ℕ) (id : Id) → SlotIn d code s → is_there code.registers r ≡ true → id ≡ get_or s.registers.items r id → value v d id ≡ register (held v d code s) r
-register_value v d code s r id h there is = ap (value v d) is ∙ sym (get_or-map (value v d) s.registers.items r id 0 (register_within d code s r h there))
+same_some : (i j : Id) → Some i ≡ Some j → i ≡ j
+unfolding id_or
+same_some i j e = ap (id_or i) e
+
+found_word : (d : List Node) (ts : List IntegerType) (r : ℕ) (id : Id) (ls : List Live) → All (IsLive d ts) ls → find ls r ≡ Some id → IsWord d id (type_width (slice_index_or ts r types.Int))
+found_word d ts r id [] h is = absurd (cc)
+found_word d ts r id (l ∷ ls) h is =
+    elim (cases_Bool (l.register == r)) [
+      | inl on ↦ subst (λ k. IsWord d id (type_width (slice_index_or ts k types.Int))) (are_same l.register r on) (subst (λ i. IsWord d i (type_width (slice_index_or ts l.register types.Int))) (same_some l.id id (sym (found l ls r on) ∙ is)) (All-head (IsLive d ts) l ls h))
+      | inr off ↦ found_word d ts r id ls (All-tail (IsLive d ts) l ls h) (sym (past l ls r off) ∙ is)
+    ]
+
+-- a register that is set, and one that isn't
+module _ (d : List Node) (code : Listing) (s : Slot) (r : ℕ) (h : SlotIn d code s) (there : is_there code.registers r ≡ true) where
+  abbrev TheWord : Id → Type 0
+  TheWord id = IsValue d id (type_width (slice_index_or code.registers r types.Int)) (λ v. register (held v d code s) r)
+
+  held_word : (v : ℕ → ℕ) → register (held v d code s) r ≡ word_or_0 (value v d) (find s.registers.items r)
+  held_word v = words_first (value v d) s.registers.items r code.registers (test_below r (length code.registers) there)
+
+  pub register_set : (id : Id) → find s.registers.items r ≡ Some id → TheWord id
+  register_set id is =
+      let word = found_word d code.registers r id s.registers.items h.registers.words is in
+      record { there = word.there; width_is = word.width_is; value_is = λ v. sym (held_word v ∙ ap (word_or_0 (value v d)) is) }
+
+  pub register_unset : (ts : List IntegerType) (id : Id) → ts ≡ code.registers → id ≡ zero_of s.zeros (get_or ts r types.Bool) → find s.registers.items r ≡ None → TheWord id
+  register_unset ts id same at is =
+      let lt = test_below r (length code.registers) there in
+      let t_is : get_or ts r types.Bool ≡ slice_index_or code.registers r types.Int = ap (λ us. get_or us r types.Bool) same ∙ get_or_default code.registers r types.Bool types.Int lt in
+      let t = slice_index_or code.registers r types.Int in
+      let word = zero_is d s.zeros t h.zeros in
+      subst TheWord (sym (at ∙ ap (zero_of s.zeros) t_is)) (record { there = word.there; width_is = word.width_is; value_is = λ v. word.value_is v ∙ sym (held_word v ∙ ap (word_or_0 (value v d)) is) })
 
 stored_at : (ts : List IntegerType) (ws : List ℕ) (b : ℕ) → b < length ts → b < length ws → slice_index_or (stored ts ws) b [] ≡ to_le_bytes (storage (slice_index_or ts b types.Int)) (slice_index ws b)
 stored_at [] ws b l k = absurd (omega (arith, l))

@@ -61,7 +61,7 @@ module _ (until : List ℕ) where
 
   -- ---- ways that arrive
 
-  either_alike : (place : ℕ) (w x y z : Option Memory) → Alike until place w x → Alike until place y z → Alike until place (either w y) (either x z)
+  pub either_alike : (place : ℕ) (w x y z : Option Memory) → Alike until place w x → Alike until place y z → Alike until place (either w y) (either x z)
   either_alike place None None y z h k = k
   either_alike place None (Some n) y z h k = absurd h
   either_alike place (Some m) None y z h k = absurd h

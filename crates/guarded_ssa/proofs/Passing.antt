@@ -1,5 +1,5 @@
 -- What operations reached with a slot tell, and where they lead.
-use Rattle.std.proofs.Common.{◌≡◌, ℕ, zero, suc, ◌<◌, ◌^◌, nat_lt, Bool, true, false, List, [], ◌∷◌, ◌++◌, length, map, Option, Some, None, is_some, refl, sym, ap, subst, ◌∙◌, arith, append_assoc}
+use Rattle.std.proofs.Common.{◌≡◌, ℕ, zero, suc, ◌+◌, ◌<◌, ◌^◌, nat_lt, Bool, true, false, List, [], ◌∷◌, ◌++◌, length, map, Option, Some, None, is_some, refl, sym, ap, subst, ◌∙◌, arith, append_assoc}
 use Rattle.std.specs.Prelude.{not, ◌&&◌, ◌==◌, if◌then◌else◌, slice_set, slice_index_or}
 use Rattle.std.specs.List.{All}
 use Rattle.std.proofs.lemmas.List.{map-set}
@@ -40,13 +40,15 @@ use Rattle.guarded_ssa.specs.Ways.{Seen, asked, stopped, Ways, arrived, updated,
 use Rattle.guarded_ssa.specs.Forms.{IsBit, EventIn, FormIn, kind_seen, event_seen, seen}
 use Rattle.guarded_ssa.specs.Reads.{AllAlike}
 use Rattle.guarded_ssa.specs.Held.{AreWords, SlotIn, PendingIn, PassIn, Arrives, Tells, Passes, held, stored, gone, ways}
+use Rattle.guarded_ssa.specs.Registers.{ZerosIn, AreLive, Written, find, word_or_0, words_from}
+use Rattle.guarded_ssa.proofs.Sorted.{registers_set, if_true, if_false}
 use Rattle.guarded_ssa.specs.Results.{sets_register, into_of, result_of, class_of}
 use Rattle.guarded_ssa.proofs.Needs.{all_alike_itself, all_alike_more, arrived_alike, alike_itself}
 use Rattle.guarded_ssa.proofs.Stays.{slot_stays, gone_stays, seen_stays, ways_stay}
 use Rattle.std.proofs.lemmas.Bool.{false≢true}
-use Rattle.goto_prog.proofs.Registers.{both, test_below, same_widths}
+use Rattle.goto_prog.proofs.Registers.{both, same_widths}
 use Rattle.word_dag.specs.declared.nodes.Node.TheVariants.{Variable, ZeroExtend}
-use Rattle.guarded_ssa.proofs.Merging.{stored_set, same_storage, is_typed, holds_bit, if_true, if_false}
+use Rattle.guarded_ssa.proofs.Merging.{stored_set, same_storage, is_typed, holds_bit}
 
 -- ---- a slot with a register or a block set
 
@@ -65,29 +67,37 @@ updated_by : (b : Bool) (m n : Memory) (f : Memory → Memory) → n ≡ f m →
 updated_by true m n f e = ap Some e
 updated_by false m n f e = refl
 
-pub put_in : (d : List Node) (code : Listing) (s t : Slot) (r : ℕ) (id : Id) → SlotIn d code s → is_there code.registers r ≡ true → IsWord d id (type_width (slice_index_or code.registers r types.Int))
-    → t.guard ≡ s.guard → t.registers.items ≡ slice_set s.registers.items r id → t.blocks.items ≡ s.blocks.items → SlotIn d code t
-put_in d code s t r id h there word g p q = record {
+set_word : (f : Id → ℕ) (b : Bool) (id : Id) (x : Option Id) → word_or_0 f (if b then Some id else x) ≡ (if b then f id else word_or_0 f x)
+set_word f true id x = refl
+set_word f false id x = refl
+
+pub put_in : (d : List Node) (code : Listing) (s t : Slot) (ts : List IntegerType) (r : ℕ) (id : Id) → ts ≡ code.registers → SlotIn d code s → Written d ts s.registers.items r id t.registers.items → t.guard ≡ s.guard → t.zeros ≡ s.zeros → t.blocks.items ≡ s.blocks.items → SlotIn d code t
+put_in d code s t ts r id same h written g z q = record {
   guard = subst (λ i. IsWord d i 1) (sym g) h.guard;
-  registers = subst (AreWords d code.registers) (sym p) (words_set d code.registers s.registers.items r id h.registers word.there word.width_is (test_below r (length code.registers) there));
+  zeros = subst (ZerosIn d) (sym z) h.zeros;
+  registers = subst (λ us. AreLive d us t.registers.items) same written.live;
   blocks = subst (AreWords d code.blocks) (sym q) h.blocks;
 }
 
-pub put_gone : (v : ℕ → ℕ) (d : List Node) (code : Listing) (s t : Slot) (r : ℕ) (id : Id) → t.guard ≡ s.guard → t.registers.items ≡ slice_set s.registers.items r id → t.blocks.items ≡ s.blocks.items
+pub put_gone : (v : ℕ → ℕ) (d : List Node) (code : Listing) (s t : Slot) (r : ℕ) (id : Id) → t.guard ≡ s.guard → ((k : ℕ) → find t.registers.items k ≡ (if r == k then Some id else find s.registers.items k)) → t.blocks.items ≡ s.blocks.items
     → gone v d code t ≡ updated (λ m. with_register m r (value v d id)) (gone v d code s)
 put_gone v d code s t r id g p q =
-    let a = ap (map (value v d)) p ∙ map-set (value v d) s.registers.items r id in
+    let f = value v d in
+    let at : 0 + r ≡ r = omega arith in
+    let a = registers_set f s.registers.items t.registers.items 0 r (value v d id) code.registers
+    (λ k. ap (word_or_0 f) (p k) ∙ set_word f (r == k) id (find s.registers.items k) ∙ ap (λ (n : ℕ). if n == k then f id else word_or_0 f (find s.registers.items k)) (sym at)) in
     let same : gone v d code t ≡ (if holds (value v d s.guard) then Some (with_register (held v d code s) r (value v d id)) else None) =
     (λ i. if holds (value v d (g i)) then Some (record { registers = a i; blocks = stored code.blocks (map (value v d) (q i)) }) else None) in
     same ∙ updated_by (holds (value v d s.guard)) (held v d code s) (with_register (held v d code s) r (value v d id)) (λ m. with_register m r (value v d id)) refl
 
 pub store_in : (d : List Node) (code : Listing) (s t : Slot) (b : ℕ) (type : IntegerType) (id : Id) → SlotIn d code s → is_register code.blocks b type ≡ true → IsWord d id (type_width type)
-    → t.guard ≡ s.guard → t.registers.items ≡ s.registers.items → t.blocks.items ≡ slice_set s.blocks.items b id → SlotIn d code t
-store_in d code s t b type id h there word g p q =
+    → t.guard ≡ s.guard → t.zeros ≡ s.zeros → t.registers.items ≡ s.registers.items → t.blocks.items ≡ slice_set s.blocks.items b id → SlotIn d code t
+store_in d code s t b type id h there word g z p q =
     let parts = is_typed code.blocks b type there in
     record {
       guard = subst (λ i. IsWord d i 1) (sym g) h.guard;
-      registers = subst (AreWords d code.registers) (sym p) h.registers;
+      zeros = subst (ZerosIn d) (sym z) h.zeros;
+      registers = subst (AreLive d code.registers) (sym p) h.registers;
       blocks = subst (AreWords d code.blocks) (sym q) (words_set d code.blocks s.blocks.items b id h.blocks word.there (word.width_is ∙ sym (same_widths (slice_index_or code.blocks b types.Int) type parts.1)) parts.0);
     }
 
@@ -101,7 +111,7 @@ store_gone v d code s t b operand type id there is g p q =
     let c = ap (stored code.blocks) a ∙ stored_set code.blocks ws b x type (λ l. same_storage (slice_index_or code.blocks b types.Int) type parts.1) in
     let n : Memory = calculated (operations.Store type b operand) (held v d code s) in
     let same : gone v d code t ≡ (if holds (value v d s.guard) then Some n else None) =
-    (λ i. if holds (value v d (g i)) then Some (record { registers = map (value v d) (p i); blocks = c i }) else None) in
+    (λ i. if holds (value v d (g i)) then Some (record { registers = words_from (value v d) (p i) 0 code.registers; blocks = c i }) else None) in
     same ∙ updated_by (holds (value v d s.guard)) (held v d code s) n (calculated (operations.Store type b operand)) refl
 
 result_is : (o : Operation) (m : Memory) → sets_register o ≡ true → calculated o m ≡ with_register m (into_of o) (result_of o m)

@@ -1,27 +1,34 @@
 -- What a valuation sees stays in a graph that has grown.
-use Rattle.std.proofs.Common.{◌≡◌, ℕ, List, [], ◌∷◌, ◌++◌, Option, Some, None, refl, ap, ◌∙◌}
-use Rattle.std.specs.Prelude.{if◌then◌else◌}
+use Rattle.std.proofs.Common.{◌≡◌, ℕ, List, [], ◌∷◌, ◌++◌, Option, Some, None, inl, inr, refl, sym, ap, ◌∙◌}
+use Rattle.std.specs.Prelude.{◌==◌, slice_index_or, if◌then◌else◌}
 use Rattle.std.specs.List.{All}
 use Rattle.std.proofs.lemmas.List.Elements.{All-head, All-tail, All-weaker}
+use Rattle.std.proofs.lemmas.Bool.{cases_Bool}
 use Rattle.words.specs.BitVector.{word}
 use Rattle.actions.specs.declared.action.Action.TheVariants as actions
 use Rattle.actions.specs.declared.action.Answer.TheVariants as answers
 use Rattle.actions.specs.declared.action.Next.TheVariants.{Blocked, Broken}
 use Rattle.c_types.specs.declared.integers.IntegerType.{IntegerType}
+use Rattle.c_types.specs.declared.integers.IntegerType.TheVariants as types
+use Rattle.c_types.specs.Integers.{width as type_width}
 use Rattle.word_dag.specs.declared.nodes.Id.{Id}
 use Rattle.word_dag.specs.declared.nodes.Node.{Node}
-use Rattle.word_dag.specs.Meaning.{holds}
+use Rattle.word_dag.specs.Meaning.{value, holds}
 use Rattle.word_dag.specs.Growth.{Extends}
 use Rattle.word_dag.proofs.Grown.{within_stays, all_within_stays, map_stays, map_widths_stay}
-use Rattle.value_nodes.specs.Values.{IsWord}
+use Rattle.value_nodes.specs.Values.{IsWord, IsValue}
 use Rattle.goto_prog.specs.CodeThread.{Listing}
 use Rattle.guarded_ssa.specs.declared.forms.Event.{Event}
 use Rattle.guarded_ssa.specs.declared.forms.EventKind.{EventKind}
 use Rattle.guarded_ssa.specs.declared.forms.EventKind.TheVariants.{Draw, Exit, Check, Assume}
+use Rattle.guarded_ssa.specs.declared.registers.Live.{Live}
+use Rattle.guarded_ssa.specs.declared.registers.Zeros.{Zeros}
 use Rattle.guarded_ssa.specs.declared.slots.Slot.{Slot}
 use Rattle.guarded_ssa.specs.declared.pass.Pass.{Pass}
 use Rattle.guarded_ssa.specs.Ways.{asked, stopped}
 use Rattle.guarded_ssa.specs.Forms.{IsBit, KindIn, EventIn, FormIn, kind_seen, event_seen, seen}
+use Rattle.guarded_ssa.specs.Registers.{ZerosIn, IsLive, AreLive, find, word_or_0, words_from}
+use Rattle.guarded_ssa.proofs.Sorted.{found, past, words_same}
 use Rattle.guarded_ssa.specs.Held.{AreWords, SlotIn, PendingIn, PassIn, stored, gone, way, ways}
 
 module _ (d e : List Node) (x : Extends d e) where
@@ -31,17 +38,43 @@ module _ (d e : List Node) (x : Extends d e) where
   pub words_stay : (types : List IntegerType) (ids : List Id) → AreWords d types ids → AreWords e types ids
   words_stay types ids h = record { there = all_within_stays d e ids x h.there; widths = map_widths_stay d e ids x h.there ∙ h.widths }
 
+  zeros_stay : (z : Zeros) → ZerosIn d z → ZerosIn e z
+  zeros_stay z h = record { byte = zero_stays z.byte 8 h.byte; short = zero_stays z.short 16 h.short; int = zero_stays z.int 32 h.int; long = zero_stays z.long 64 h.long }
+    where
+      zero_stays : (i : Id) (w : ℕ) → IsValue d i w (λ v. 0) → IsValue e i w (λ v. 0)
+      zero_stays i w h = record { there = within_stays d e i x h.there; width_is = x.width_stays i h.there ∙ h.width_is; value_is = λ v. x.value_stays v i h.there ∙ h.value_is v }
+
+  pub all_live_stay : (ts : List IntegerType) (ls : List Live) → All (IsLive d ts) ls → All (IsLive e ts) ls
+  all_live_stay ts ls h = All-weaker (IsLive d ts) (IsLive e ts) (λ l k. word_stays l.id (type_width (slice_index_or ts l.register types.Int)) k) ls h
+
+  pub live_stay : (ts : List IntegerType) (ls : List Live) → AreLive d ts ls → AreLive e ts ls
+  live_stay ts ls h = record { rise = h.rise; words = all_live_stay ts ls h.words }
+
+  pub found_stays : (v : ℕ → ℕ) (ts : List IntegerType) (r : ℕ) (ls : List Live) → All (IsLive d ts) ls → word_or_0 (value v e) (find ls r) ≡ word_or_0 (value v d) (find ls r)
+  found_stays v ts r [] h = refl
+  found_stays v ts r (l ∷ ls) h =
+      let here = x.value_stays v l.id (All-head (IsLive d ts) l ls h).there in
+      let rest = found_stays v ts r ls (All-tail (IsLive d ts) l ls h) in
+      elim (cases_Bool (l.register == r)) [
+        | inl on ↦ ap (word_or_0 (value v e)) (found l ls r on) ∙ here ∙ sym (ap (word_or_0 (value v d)) (found l ls r on))
+        | inr off ↦ ap (word_or_0 (value v e)) (past l ls r off) ∙ rest ∙ sym (ap (word_or_0 (value v d)) (past l ls r off))
+      ]
+
+  pub words_of_stay : (v : ℕ → ℕ) (ts : List IntegerType) (ls : List Live) → All (IsLive d ts) ls → words_from (value v e) ls 0 ts ≡ words_from (value v d) ls 0 ts
+  words_of_stay v ts ls h = words_same (value v e) (value v d) ls ls 0 ts (λ n. found_stays v ts n ls h)
+
   pub slot_stays : (code : Listing) (s : Slot) → SlotIn d code s → SlotIn e code s
   slot_stays code s h = record {
     guard = word_stays s.guard 1 h.guard;
-    registers = words_stay code.registers s.registers.items h.registers;
+    zeros = zeros_stay s.zeros h.zeros;
+    registers = live_stay code.registers s.registers.items h.registers;
     blocks = words_stay code.blocks s.blocks.items h.blocks;
   }
 
   pub gone_stays : (v : ℕ → ℕ) (code : Listing) (s : Slot) → SlotIn d code s → gone v e code s ≡ gone v d code s
   gone_stays v code s h =
       let p = x.value_stays v s.guard h.guard.there in
-      let q = map_stays v d e s.registers.items x h.registers.there in
+      let q = words_of_stay v code.registers s.registers.items h.registers.words in
       let r = map_stays v d e s.blocks.items x h.blocks.there in
       λ i. if holds (p i) then Some (record { registers = q i; blocks = stored code.blocks (r i) }) else None
 

@@ -1,5 +1,5 @@
 -- What the nodes of a slot hold under a valuation.
-use Rattle.std.specs.Prelude.{◌≡◌, length, ℕ, suc, List, [], ◌∷◌, ◌++◌, Option, Some, None, map, All, nat_lt, if◌then◌else◌}
+use Rattle.std.specs.Prelude.{◌≡◌, length, ℕ, suc, List, [], ◌∷◌, ◌++◌, Option, Some, None, map, All, if◌then◌else◌}
 use Rattle.std.specs.Int.{to_le_bytes}
 use Rattle.c_types.specs.declared.integers.IntegerType.{IntegerType}
 use Rattle.c_types.specs.Integers.{width as type_width}
@@ -18,17 +18,13 @@ use Rattle.goto_prog.specs.declared.code.Operation.{Operation}
 use Rattle.goto_prog.specs.declared.code.Instruction.{Instruction}
 use Rattle.guarded_ssa.specs.Ways.{arrived, on, tells, leaves, told}
 use Rattle.guarded_ssa.specs.Reads.{AllAlike, Covers}
+use Rattle.guarded_ssa.specs.Registers.{ZerosIn, AreLive, words_from}
 use Rattle.guarded_ssa.specs.Forms.{FormIn, event_seen, seen}
 
 -- a node for each of these types, of its width
 pub record AreWords (d : List Node) (types : List IntegerType) (ids : List Id) : Type 0 where
   pub there : All (Within d) ids
   pub widths : map (width d) ids ≡ map type_width types
-
--- and each is 0
-pub record AreZeros (d : List Node) (types : List IntegerType) (ids : List Id) : Type 0 where
-  pub words : AreWords d types ids
-  pub zero : (v : ℕ → ℕ) → map (value v d) ids ≡ map (λ t. 0) types
 
 -- the blocks of these types with these words
 abbrev pub stored : List IntegerType → List ℕ → Variables
@@ -38,7 +34,7 @@ stored (t ∷ types) (w ∷ words) = to_le_bytes (storage t) w ∷ stored types 
 
 module _ (v : ℕ → ℕ) (d : List Node) (code : Listing) where
   abbrev pub held : Slot → Memory
-  held s = record { registers = map (value v d) s.registers.items; blocks = stored code.blocks (map (value v d) s.blocks.items) }
+  held s = record { registers = words_from (value v d) s.registers.items 0 code.registers; blocks = stored code.blocks (map (value v d) s.blocks.items) }
 
   -- the memory with which the slot is reached, if it is
   abbrev pub gone : Slot → Option Memory
@@ -53,7 +49,8 @@ module _ (v : ℕ → ℕ) (d : List Node) (code : Listing) where
 
 pub record SlotIn (d : List Node) (code : Listing) (s : Slot) : Type 0 where
   pub guard : IsWord d s.guard 1
-  pub registers : AreWords d code.registers s.registers.items
+  pub zeros : ZerosIn d s.zeros
+  pub registers : AreLive d code.registers s.registers.items
   pub blocks : AreWords d code.blocks s.blocks.items
 
 abbrev pub PendingIn : List Node → Listing → Option Slot → Type 0
@@ -61,13 +58,6 @@ PendingIn d code None = Unit {0}
 PendingIn d code (Some s) = SlotIn d code s
 
 -- ---- where ways meet
-
--- the second, but the first where the register isn't needed at the place
-abbrev pub needed : {X : Type 0} → List ℕ → ℕ → List X → List X → List X
-needed [] place xs ys = []
-needed (u ∷ until) place [] ys = []
-needed (u ∷ until) place (x ∷ xs) [] = []
-needed (u ∷ until) place (x ∷ xs) (y ∷ ys) = (if nat_lt place u then y else x) ∷ needed until place xs ys
 
 -- the first words where the test is true, else the second
 pub record Joined (d e : List Node) (test : Id) (first second ids : List Id) : Type 0 where

@@ -2,5 +2,6 @@ pub mod Runs
 pub mod Ways
 pub mod Forms
 pub mod Reads
+pub mod Registers
 pub mod Held
 pub mod Results

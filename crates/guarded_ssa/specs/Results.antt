@@ -1,8 +1,6 @@
 -- The register that an operation sets, and to what.
 use Rattle.std.specs.Prelude.{ℕ, Bool, true, false, ◌==◌}
 use Rattle.core_tree.specs.Operations.{truth_bits, converted, arithmetic_value, sign_value, compared}
-use Rattle.core_tree.specs.declared.operators.ArithmeticOperator.{ArithmeticOperator}
-use Rattle.core_tree.specs.declared.operators.ArithmeticOperator.TheVariants as arithmetics
 use Rattle.words.specs.declared.check.Class.{Class}
 use Rattle.words.specs.declared.check.Class.TheVariants as classes
 use Rattle.c_values.specs.Variables.{read_variable}

@@ -6,6 +6,7 @@ mod forming;
 mod forms;
 mod liveness;
 mod pass;
+mod registers;
 mod slots;
 mod values;
 

@@ -98,7 +98,8 @@ impl Pass {
     {
         if n < self.pending.len() {
             let there = self.pending[n].take();
-            let slot = slot.met(dag, plan, place + 1 + n, there)?;
+            let needed = slot.needed(dag, plan, place + 1 + n)?;
+            let slot = needed.met(dag, plan, there)?;
             self.pending[n] = Some(slot);
         }
         Ok(())
@@ -330,7 +331,7 @@ impl Pass {
             function: i.function,
             kind: EventKind::Draw { bits, answer },
         };
-        let next = slot.put(dag, plan, into, word);
+        let next = slot.put(dag, plan, into, word)?;
         self.tell_and_go(dag, plan, place, next, event)?;
         Ok(())
     }

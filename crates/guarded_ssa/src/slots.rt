@@ -26,33 +26,35 @@ ghost use Rattle.goto_prog.specs.Meaning.{register, with_register, calculated};
 ghost use Rattle.goto_prog.specs.CodeThread.{first_memory};
 ghost use Rattle.guarded_ssa.specs.Ways.{either as either_way, kept, updated};
 ghost use Rattle.guarded_ssa.specs.Reads.{Alike};
-ghost use Rattle.guarded_ssa.specs.Held.{AreWords, AreZeros, SlotIn, PendingIn, Joined, gone, way, needed};
+ghost use Rattle.guarded_ssa.specs.Registers.{zero_of};
+ghost use Rattle.guarded_ssa.specs.Held.{SlotIn, PendingIn, Joined, gone, way};
 
 use crate::liveness::Plan;
+use crate::registers;
+use crate::registers::{Live, Zeros};
 use c_types::IntegerType;
 use goto_prog::{Code, Operation};
 use std::alloc::{AllocError, Global};
-use value_nodes::{both, chosen, constant, either, inverse, zero_test};
+use value_nodes::{both, chosen, either, inverse, zero_test};
 use word_dag::{Dag, Id, Node};
 
-// The memory with which a place is reached, where the guard is true: a node for each register and each
-// block, of the width of its type.
+// The memory with which a place is reached, where the guard is true: the registers that are set, in rising
+// order, while the others are 0, and a node for each block, of the width of its type.
 #[derive(Drop)]
 pub struct Slot {
     pub guard: Id,
-    pub registers: Vec<Id>,
+    pub zeros: Zeros,
+    pub registers: Vec<Live>,
     pub blocks: Vec<Id>,
 }
 
-// A node that is 0 for each type.
-fn zeros(alloc: Global, dag: &mut Dag, types: &[IntegerType]) -> Result<Vec<Id>, AllocError>
-    ensures extends { Extends dag.old dag.new }
-    ensures zeros { IfOk result (λ r. AreZeros dag.new types.now r.items) }
+// The nodes of blocks that are 0.
+fn blocks(alloc: Global, zeros: Zeros, types: &[IntegerType]) -> Result<Vec<Id>, AllocError>
+    ensures { IfOk result (λ r. r.items ≡ map (zero_of zeros) types.now) }
 {
     let mut ids = Vec::with_capacity(alloc, types.len())?;
     for type_ in types {
-        let id = constant(dag, 0, *type_)?;
-        ids.push(id)?;
+        ids.push(zeros.of(*type_))?;
     }
     Ok(ids)
 }
@@ -80,52 +82,6 @@ fn joined(
     Ok(ids)
 }
 
-// The second registers, but the first where no instruction from the place on reads the register.
-fn needed(
-    alloc: Global,
-    until: &[usize],
-    place: usize,
-    first: &[Id],
-    second: &[Id],
-) -> Result<Vec<Id>, AllocError>
-    requires first { length first.now ≡ length until.now }
-    requires second { length second.now ≡ length until.now }
-    ensures { IfOk result (λ r. r.items ≡ needed until.now place first.now second.now) }
-{
-    let mut ids = Vec::with_capacity(alloc, until.len())?;
-    for r in 0..until.len() {
-        let id = if place < until[r] {
-            second[r]
-        } else {
-            first[r]
-        };
-        ids.push(id)?;
-    }
-    Ok(ids)
-}
-
-impl<'a> Plan<'a> {
-    // The registers where two ways meet at a place.
-    fn joined(
-        &self,
-        dag: &mut Dag,
-        place: usize,
-        test: Id,
-        first: &[Id],
-        second: &[Id],
-    ) -> Result<Vec<Id>, AllocError>
-        requires until { length self.now.until.items ≡ length self.now.code.now.registers }
-        requires test { IsWord dag.old test 1 }
-        requires first { AreWords dag.old self.now.code.now.registers first.now }
-        requires second { AreWords dag.old self.now.code.now.registers second.now }
-        ensures extends { Extends dag.old dag.new }
-        ensures joined { IfOk result (λ r. Joined dag.old dag.new test first.now (needed self.now.until.items place first.now second.now) r.items) }
-    {
-        let needed = needed(self.alloc, &self.until, place, first, second)?;
-        joined(self.alloc, dag, test, first, &needed)
-    }
-}
-
 impl Slot {
     // The memory at the start of code, with which it is reached always.
     pub fn start(alloc: Global, dag: &mut Dag, code: &Code) -> Result<Slot, AllocError>
@@ -134,70 +90,84 @@ impl Slot {
         ensures gone { IfOk result (λ s. (v : ℕ → ℕ) → gone v dag.new code.now s ≡ Some (first_memory code.now)) }
     {
         let guard = dag.make(Node::Constant(1, 1))?;
-        let registers = zeros(alloc, dag, code.registers())?;
-        let blocks = zeros(alloc, dag, code.blocks())?;
+        let zeros = Zeros::new(dag)?;
+        let blocks = blocks(alloc, zeros, code.blocks())?;
         Ok(Slot {
             guard,
-            registers,
+            zeros,
+            registers: Vec::new(alloc),
             blocks,
         })
     }
 
-    // The memory at a place that two ways reach. What no instruction from the place on reads may be
-    // either's.
-    pub fn merged(
-        dag: &mut Dag,
-        plan: &Plan,
-        place: usize,
-        first: &Slot,
-        second: &Slot,
-    ) -> Result<Slot, AllocError>
-        requires until { length plan.now.until.items ≡ length plan.now.code.now.registers }
+    // The memory where two ways meet.
+    fn merged(dag: &mut Dag, plan: &Plan, first: &Slot, second: &Slot) -> Result<Slot, AllocError>
         requires first { SlotIn dag.old plan.now.code.now first.now }
         requires second { SlotIn dag.old plan.now.code.now second.now }
         ensures extends { Extends dag.old dag.new }
         ensures within { IfOk result (SlotIn dag.new plan.now.code.now) }
-        ensures alike { IfOk result (λ s. (v : ℕ → ℕ) → Alike plan.now.until.items place (gone v dag.new plan.now.code.now s) (either_way (gone v dag.old plan.now.code.now first.now) (gone v dag.old plan.now.code.now second.now))) }
+        ensures gone { IfOk result (λ s. (v : ℕ → ℕ) → gone v dag.new plan.now.code.now s ≡ either_way (gone v dag.old plan.now.code.now first.now) (gone v dag.old plan.now.code.now second.now)) }
     {
         let guard = either(dag, first.guard, second.guard)?;
-        let registers = plan.joined(dag, place, first.guard, &first.registers, &second.registers)?;
+        let types = plan.code.registers();
+        let registers = registers::merged(
+            plan.alloc,
+            dag,
+            first.zeros,
+            types,
+            first.guard,
+            &first.registers,
+            &second.registers,
+        )?;
         let blocks = joined(plan.alloc, dag, first.guard, &first.blocks, &second.blocks)?;
         Ok(Slot {
             guard,
+            zeros: first.zeros,
             registers,
             blocks,
         })
     }
 
-    // The memory where it arrives at a place that another way may have reached.
-    pub fn met(
-        self,
-        dag: &mut Dag,
-        plan: &Plan,
-        place: usize,
-        there: Option<Slot>,
-    ) -> Result<Slot, AllocError>
-        requires until { length plan.now.until.items ≡ length plan.now.code.now.registers }
+    // The memory where it meets another way, if there is one.
+    pub fn met(self, dag: &mut Dag, plan: &Plan, there: Option<Slot>) -> Result<Slot, AllocError>
         requires within { SlotIn dag.old plan.now.code.now self }
         requires there { PendingIn dag.old plan.now.code.now there }
         ensures extends { Extends dag.old dag.new }
         ensures within { IfOk result (SlotIn dag.new plan.now.code.now) }
-        ensures alike { IfOk result (λ s. (v : ℕ → ℕ) → Alike plan.now.until.items place (gone v dag.new plan.now.code.now s) (either_way (gone v dag.old plan.now.code.now self) (way v dag.old plan.now.code.now there))) }
+        ensures gone { IfOk result (λ s. (v : ℕ → ℕ) → gone v dag.new plan.now.code.now s ≡ either_way (gone v dag.old plan.now.code.now self) (way v dag.old plan.now.code.now there)) }
     {
         match there {
-            Some(other) => Slot::merged(dag, plan, place, &self, &other),
+            Some(other) => Slot::merged(dag, plan, &self, &other),
             None => Ok(self),
         }
+    }
+
+    // The memory without the registers that no instruction from the place on reads.
+    pub fn needed(self, dag: &Dag, plan: &Plan, place: usize) -> Result<Slot, AllocError>
+        requires until { length plan.now.until.items ≡ length plan.now.code.now.registers }
+        requires within { SlotIn dag.now plan.now.code.now self }
+        ensures within { IfOk result (SlotIn dag.now plan.now.code.now) }
+        ensures alike { IfOk result (λ s. (v : ℕ → ℕ) → Alike plan.now.until.items place (gone v dag.now plan.now.code.now s) (gone v dag.now plan.now.code.now self)) }
+    {
+        let registers = registers::needed(plan.alloc, &plan.until, place, &self.registers)?;
+        Ok(Slot {
+            guard: self.guard,
+            zeros: self.zeros,
+            registers,
+            blocks: self.blocks,
+        })
     }
 
     // The same memory.
     fn copied(&self, alloc: Global) -> Result<Slot, AllocError>
         ensures guard { IfOk result (λ s. s.guard ≡ self.now.guard) }
+        ensures zeros { IfOk result (λ s. s.zeros ≡ self.now.zeros) }
         ensures registers { IfOk result (λ s. s.registers.items ≡ self.now.registers.items) }
         ensures blocks { IfOk result (λ s. s.blocks.items ≡ self.now.blocks.items) }
     {
         Ok(Slot {
             guard: self.guard,
+            zeros: self.zeros,
             registers: self.registers.to_vec(alloc)?,
             blocks: self.blocks.to_vec(alloc)?,
         })
@@ -214,6 +184,7 @@ impl Slot {
         let guard = both(dag, self.guard, test)?;
         Ok(Slot {
             guard,
+            zeros: self.zeros,
             registers: self.registers,
             blocks: self.blocks,
         })
@@ -244,15 +215,21 @@ impl Slot {
     }
 
     // The memory with a register set.
-    pub fn put(mut self, dag: &Dag, plan: &Plan, into: usize, id: Id) -> Slot
+    pub fn put(self, dag: &Dag, plan: &Plan, into: usize, id: Id) -> Result<Slot, AllocError>
         requires within { SlotIn dag.now plan.now.code.now self }
         requires into { is_there plan.now.code.now.registers into ≡ true }
         requires id { IsWord dag.now id (type_width (slice_index_or plan.now.code.now.registers into IntegerType.Int)) }
-        ensures within { SlotIn dag.now plan.now.code.now result }
-        ensures gone { (v : ℕ → ℕ) → gone v dag.now plan.now.code.now result ≡ updated (λ m. with_register m into (value v dag.now id)) (gone v dag.now plan.now.code.now self) }
+        ensures within { IfOk result (SlotIn dag.now plan.now.code.now) }
+        ensures gone { IfOk result (λ s. (v : ℕ → ℕ) → gone v dag.now plan.now.code.now s ≡ updated (λ m. with_register m into (value v dag.now id)) (gone v dag.now plan.now.code.now self)) }
     {
-        self.registers[into] = id;
-        self
+        let types = plan.code.registers();
+        let registers = registers::written(self.registers, types, dag, into, id)?;
+        Ok(Slot {
+            guard: self.guard,
+            zeros: self.zeros,
+            registers,
+            blocks: self.blocks,
+        })
     }
 
     // The memory with a register's word written into a block.
@@ -286,7 +263,8 @@ impl Slot {
     {
         let id = self.result(dag, plan, operation)?;
         let into = into_of(operation);
-        Ok(self.put(dag, plan, into, id))
+        let next = self.put(dag, plan, into, id)?;
+        Ok(next)
     }
 
     // The memory behind an operation that sets a register or a block.

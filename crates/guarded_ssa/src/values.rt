@@ -12,6 +12,7 @@ ghost use Rattle.guarded_ssa.specs.Held.{SlotIn, held};
 ghost use Rattle.guarded_ssa.specs.Results.{sets_register, into_of, result_of, class_of};
 
 use crate::liveness::Plan;
+use crate::registers::find;
 use crate::slots::Slot;
 use c_types::IntegerType;
 use core_tree::{ArithmeticOperator, SignOperator};
@@ -32,7 +33,11 @@ impl Slot {
         ensures word { IsWord dag.now result (type_width (slice_index_or plan.now.code.now.registers r IntegerType.Int)) }
         ensures value { (v : ℕ → ℕ) → value v dag.now result ≡ register (held v dag.now plan.now.code.now self.now) r }
     {
-        self.registers[r]
+        let _ = dag.nodes();
+        match find(&self.registers, r) {
+            Some(id) => id,
+            None => self.zeros.of(plan.code.registers()[r]),
+        }
     }
 
     // The node of a register of a type.
@@ -166,7 +171,8 @@ impl Slot {
         match operation {
             Operation::Constant { into, bits } => {
                 let type_ = plan.code.registers()[into];
-                constant(dag, bits, type_)
+                let id = constant(dag, bits, type_)?;
+                Ok(id)
             }
             Operation::Copy { into: _, operand } => Ok(self.register(dag, plan, operand)),
             Operation::Load {

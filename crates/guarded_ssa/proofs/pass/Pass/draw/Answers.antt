@@ -3,8 +3,8 @@ use Rattle.guarded_ssa.proofs.Stays.{pass_stays, slot_stays}
 use Rattle.guarded_ssa.proofs.Passing.{passes_draw, draw_in}
 use Rattle.guarded_ssa.proofs.pass.Pass.draw.Goals as goal
 
-pub put-next-requires-clause-within : goal.put-next-requires-clause-within
-put-next-requires-clause-within c = slot_stays _ _ (extends_more _ _ _ c.make.ensures.extends c.make-2.ensures.extends) _ _ c.requires.slot
+pub put-requires-clause-within : goal.put-requires-clause-within
+put-requires-clause-within c = slot_stays _ _ (extends_more _ _ _ c.make.ensures.extends c.make-2.ensures.extends) _ _ c.requires.slot
 
 pub tell_and_go-requires-clause-within : goal.tell_and_go-requires-clause-within
 tell_and_go-requires-clause-within c = pass_stays _ _ (extends_more _ _ _ c.make.ensures.extends c.make-2.ensures.extends) _ _ c.requires.within
@@ -14,5 +14,11 @@ tell_and_go-requires-clause-event c = draw_in _ _ _ c.args.plan.now.code.now c.a
 
 pub returns-clause-passes : goal.returns-clause-passes
 returns-clause-passes c =
-    passes_draw _ _ _ _ _ c.args.into c.args.bits _ c.args.dag.now c.make.new.self c.make-2.new.self c.tell_and_go.new.dag c.args.slot c.put-next.result c.in_ok-answer.answer c.in_ok-word.word c.args.self.now _ c.make.ensures.extends c.make-2.ensures.extends c.requires.within c.requires.slot
-    c.in_ok-answer.ensures.made c.in_ok-word.ensures.made c.put-next.ensures.gone c.in_ok-tell_and_go.ensures.tells
+    passes_draw _ _ _ _ _ c.args.into c.args.bits _ c.args.dag.now c.make.new.self c.make-2.new.self c.tell_and_go.new.dag c.args.slot c.in_ok-next.next c.in_ok-answer.answer c.in_ok-word.word c.args.self.now _ c.make.ensures.extends c.make-2.ensures.extends c.requires.within c.requires.slot
+    c.in_ok-answer.ensures.made c.in_ok-word.ensures.made c.in_ok-next.ensures.gone c.in_ok-tell_and_go.ensures.tells
+
+pub returns-in_err-tell_and_go-clause-extends : goal.returns-in_err-tell_and_go-clause-extends
+returns-in_err-tell_and_go-clause-extends c = extends_more _ _ _ (extends_more _ _ _ c.make.ensures.extends c.make-2.ensures.extends) c.tell_and_go.ensures.extends
+
+pub returns-clause-extends : goal.returns-clause-extends
+returns-clause-extends c = extends_more _ _ _ (extends_more _ _ _ c.make.ensures.extends c.make-2.ensures.extends) c.tell_and_go.ensures.extends

@@ -5,3 +5,6 @@ pub returns-clause-tells : goal.returns-clause-tells
 returns-clause-tells c =
     tells_one _ _ _ _ c.args.slot _ _ c.args.self.now c.tell.new.self _ c.arrive.ensures.extends (told_in _ _ c.args.self.now c.tell.new.self _ c.requires.within c.requires.event c.in_ok-tell.ensures.events c.tell.ensures.pending)
     c.in_ok-tell.ensures.events c.tell.ensures.pending c.in_ok-arrive.ensures.arrives
+
+pub arrive-requires-clause-within : goal.arrive-requires-clause-within
+arrive-requires-clause-within c = told_in _ _ c.args.self.now c.tell.new.self _ c.requires.within c.requires.event c.in_ok-tell.ensures.events c.tell.ensures.pending

@@ -1,8 +1,24 @@
-use Rattle.guarded_ssa.proofs.Merging.{register_word, register_value}
+use Rattle.std.proofs.Common.{ap, sym, ◌∙◌}
+use Rattle.guarded_ssa.specs.Registers.{find}
+use Rattle.guarded_ssa.proofs.Merging.{register_set, register_unset}
 use Rattle.guarded_ssa.proofs.slots.Slot.register.Goals as goal
 
-pub returns-clause-word : goal.returns-clause-word
-returns-clause-word c = register_word _ _ c.args.self.now _ _ c.requires.within c.requires.there c.index.ensures
+pub returns-in-Some-clause-word : goal.returns-in-Some-clause-word
+returns-in-Some-clause-word c =
+    let word = register_set c.args.dag.now c.args.plan.now.code.now c.args.self.now c.args.r c.requires.within c.requires.there c.in-Some.id (sym (c.find.ensures ∙ ap (λ ls. find ls c.args.r) c.deref.ensures.value) ∙ c.in-Some.is) in
+    record { there = word.there; width_is = word.width_is }
 
-pub returns-clause-value : goal.returns-clause-value
-returns-clause-value c = λ v. register_value v _ c.args.plan.now.code.now c.args.self.now _ _ c.requires.within c.requires.there c.index.ensures
+pub returns-in-Some-clause-value : goal.returns-in-Some-clause-value
+returns-in-Some-clause-value c =
+    let word = register_set c.args.dag.now c.args.plan.now.code.now c.args.self.now c.args.r c.requires.within c.requires.there c.in-Some.id (sym (c.find.ensures ∙ ap (λ ls. find ls c.args.r) c.deref.ensures.value) ∙ c.in-Some.is) in
+    word.value_is
+
+pub returns-in-None-clause-word : goal.returns-in-None-clause-word
+returns-in-None-clause-word c =
+    let word = register_unset c.args.dag.now c.args.plan.now.code.now c.args.self.now c.args.r c.requires.within c.requires.there _ c.of.result c.registers.ensures c.of.ensures (sym (c.find.ensures ∙ ap (λ ls. find ls c.args.r) c.deref.ensures.value) ∙ c.in-None.is) in
+    record { there = word.there; width_is = word.width_is }
+
+pub returns-in-None-clause-value : goal.returns-in-None-clause-value
+returns-in-None-clause-value c =
+    let word = register_unset c.args.dag.now c.args.plan.now.code.now c.args.self.now c.args.r c.requires.within c.requires.there _ c.of.result c.registers.ensures c.of.ensures (sym (c.find.ensures ∙ ap (λ ls. find ls c.args.r) c.deref.ensures.value) ∙ c.in-None.is) in
+    word.value_is

@@ -8,7 +8,7 @@ use Rattle.guarded_ssa.proofs.slots.Slot.split.Goals as goal
 
 pub narrowed-requires-clause-within : goal.narrowed-requires-clause-within
 narrowed-requires-clause-within c =
-    copied_in _ _ c.args.self _ c.in_ok-copy.ensures.guard c.in_ok-copy.ensures.registers c.in_ok-copy.ensures.blocks (slot_stays _ _ (extends_more _ _ _ c.zero_test.ensures.extends c.inverse.ensures.extends) _ _ c.requires.within)
+    copied_in _ _ c.args.self _ c.in_ok-copy.ensures.guard c.in_ok-copy.ensures.zeros c.in_ok-copy.ensures.registers c.in_ok-copy.ensures.blocks (slot_stays _ _ (extends_more _ _ _ c.zero_test.ensures.extends c.inverse.ensures.extends) _ _ c.requires.within)
 
 pub narrowed-requires-2-clause-within : goal.narrowed-requires-2-clause-within
 narrowed-requires-2-clause-within c = slot_stays _ _ (extends_more _ _ _ (extends_more _ _ _ c.zero_test.ensures.extends c.inverse.ensures.extends) c.narrowed.ensures.extends) _ _ c.requires.within
@@ -31,3 +31,6 @@ returns-clause-second c = λ v.
     side_gone v c.args.dag.now c.narrowed.new.dag c.narrowed-2.new.dag c.narrowed-2.new.dag c.args.plan.now.code.now c.args.self c.args.self c.in_ok-second.second c.in_ok-other.other (λ m. not (register m c.args.operand == 0))
     (extends_more _ _ _ (extends_more _ _ _ c.zero_test.ensures.extends c.inverse.ensures.extends) c.narrowed.ensures.extends) (extends_itself c.narrowed-2.new.dag) c.requires.within c.in_ok-second.ensures.within refl refl refl
     (other_holds v c.zero_test.new.dag c.inverse.new.dag c.narrowed.new.dag c.in_ok-zero.zero c.in_ok-other.other _ c.narrowed.ensures.extends zero_is c.in_ok-other.ensures.made) (c.in_ok-second.ensures.gone v)
+
+pub returns-in_err-second-clause-extends : goal.returns-in_err-second-clause-extends
+returns-in_err-second-clause-extends c = extends_more _ _ _ (extends_more _ _ _ (extends_more _ _ _ c.zero_test.ensures.extends c.inverse.ensures.extends) c.narrowed.ensures.extends) c.narrowed-2.ensures.extends
