@@ -7,8 +7,8 @@ use Rattle.c_tree.specs.Tree.{Tree}
 use Rattle.c_tree.specs.Statements.{Declarators, none_declared, declarator, Statement, block, if_then, if_else, evaluate, return_nothing, return_value, Items, done, declares, does, Definitions, no_more, defines}
 use Rattle.c_types.specs.declared.integers.IntegerType.{IntegerType}
 use Rattle.c_types.specs.declared.integers.IntegerType.TheVariants as types
-use Rattle.c_types.specs.declared.types.Ty.{Ty}
-use Rattle.c_types.specs.declared.types.Ty.TheVariants.{Integer}
+use Rattle.c_types.specs.declared.types.ValueType.{ValueType}
+use Rattle.c_types.specs.declared.types.ValueType.TheVariants.{Integer}
 use Rattle.c_types.specs.Integers.{same_integer, same_type}
 use Rattle.core_tree.specs.Trees.{Expression, Procedure}
 use Rattle.core_tree.specs.Trees as cores
@@ -117,7 +117,7 @@ item_good s line name (Some x) vs rest g h good =
     let parts = both (nat_lt (length s.variables) (length vs)) (same_integer (slice_index_or vs (length s.variables) types.Int) types.Int) there in
     let int : slice_index_or vs (length s.variables) types.Int ≡ types.Int = one_integer_type (slice_index_or vs (length s.variables) types.Int) types.Int parts.1 in
     let same : same_type (type_of x) (Integer (slice_index_or vs (length s.variables) types.Int)) ≡ true =
-    ap (λ (a : Ty). same_type a (Integer (slice_index_or vs (length s.variables) types.Int))) h.int
+    ap (λ (a : ValueType). same_type a (Integer (slice_index_or vs (length s.variables) types.Int))) h.int
     ∙ ap (λ (t : IntegerType). same_type (Integer types.Int) (Integer t)) int ∙ same_type_refl (Integer types.Int) in
     and _ _ (and _ _ (and _ _ parts.0 same) (h.good vs g)) good
 
@@ -186,7 +186,7 @@ mutual
       given (StatementDone s) (cores.returns line (as_type types.Int x), s) (record {
         names = refl;
         grows = grows_refl s.variables;
-        good = λ vs g. and _ _ (ap (λ (a : Ty). same_type a (Integer types.Int)) (type_as types.Int x) ∙ same_type_refl (Integer types.Int)) (typed_as vs types.Int t x is (good vs g));
+        good = λ vs g. and _ _ (ap (λ (a : ValueType). same_type a (Integer types.Int)) (type_as types.Int x) ∙ same_type_refl (Integer types.Int)) (typed_as vs types.Int t x is (good vs g));
       })))
 
   pub items_done : (outer : ℕ) (s : Scoped) (x : Items) → There s → Holds (ItemsDone s) (typed_items outer s x)

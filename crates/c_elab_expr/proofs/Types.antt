@@ -4,8 +4,8 @@ use Rattle.std.specs.Prelude.{◌&&◌, ◌||◌, nat_lt, nat_le, if◌then◌el
 use borrow.Author.Tests.{eqb-true}
 use Rattle.c_types.specs.declared.integers.IntegerType.{IntegerType}
 use Rattle.c_types.specs.declared.integers.IntegerType.TheVariants as types
-use Rattle.c_types.specs.declared.types.Ty.{Ty}
-use Rattle.c_types.specs.declared.types.Ty.TheVariants.{Void, Integer}
+use Rattle.c_types.specs.declared.types.ValueType.{ValueType}
+use Rattle.c_types.specs.declared.types.ValueType.TheVariants.{Void, Integer}
 use Rattle.c_types.specs.Integers.{rank, width, is_signed, number_of, promoted, unsigned_of, mixed_type, common_by, common_type, same_integer, same_type}
 use Rattle.core_tree.specs.declared.operators.ArithmeticOperator.{ArithmeticOperator}
 use Rattle.core_tree.specs.Trees.{Expression, convert}
@@ -36,7 +36,7 @@ type_at_number types.UnsignedLongLong = refl
 pub one_integer_type : (t u : IntegerType) → same_integer t u ≡ true → t ≡ u
 one_integer_type t u e = sym (type_at_number t) ∙ ap type_at (eqb-true (number_of t) (number_of u) e) ∙ type_at_number u
 
-pub one_type : (a : Ty) (t : IntegerType) → same_type a (Integer t) ≡ true → a ≡ Integer t
+pub one_type : (a : ValueType) (t : IntegerType) → same_type a (Integer t) ≡ true → a ≡ Integer t
 one_type Void t e = let none : ⊥ = cc in absurd none
 one_type (Integer u) t e = ap Integer (one_integer_type u t e)
 
@@ -54,7 +54,7 @@ same_integer_refl types.UnsignedLong = refl
 same_integer_refl types.LongLong = refl
 same_integer_refl types.UnsignedLongLong = refl
 
-pub same_type_refl : (a : Ty) → same_type a a ≡ true
+pub same_type_refl : (a : ValueType) → same_type a a ≡ true
 same_type_refl Void = refl
 same_type_refl (Integer t) = same_integer_refl t
 

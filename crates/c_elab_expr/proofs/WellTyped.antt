@@ -15,8 +15,8 @@ use Rattle.c_tree.specs.declared.expr.StepOp.{StepOp}
 use Rattle.c_tree.specs.declared.expr.StepOp.TheVariants as postfixes
 use Rattle.c_tree.specs.Tree.{Tree, Trees, constant, name, parens, unary, step, binary, choice, assign, comma, call, none, more, first_line}
 use Rattle.c_types.specs.declared.integers.IntegerType.{IntegerType}
-use Rattle.c_types.specs.declared.types.Ty.{Ty}
-use Rattle.c_types.specs.declared.types.Ty.TheVariants.{Void, Integer}
+use Rattle.c_types.specs.declared.types.ValueType.{ValueType}
+use Rattle.c_types.specs.declared.types.ValueType.TheVariants.{Void, Integer}
 use Rattle.c_types.specs.Integers.{width, promoted, common_type, same_type}
 use Rattle.core_tree.specs.declared.operators.ArithmeticOperator.{ArithmeticOperator}
 use Rattle.core_tree.specs.declared.operators.Comparison.{Comparison}
@@ -55,7 +55,7 @@ on_same_line P line (Err rule) h = λ y e. let none : ⊥ = cc in absurd none
 
 -- ---- what rules ask for
 
-integer_is_by : (rule : ℕ) (a : Ty) → Holds (λ t. a ≡ Integer t) (required rule (integer_of a))
+integer_is_by : (rule : ℕ) (a : ValueType) → Holds (λ t. a ≡ Integer t) (required rule (integer_of a))
 integer_is_by rule Void = refused (λ t. Void ≡ Integer t) rule
 integer_is_by rule (Integer t) = given (λ u. Integer t ≡ Integer u) t refl
 
@@ -158,7 +158,7 @@ module _ (variables : List IntegerType) where
   arithmetic_good : (line : ℕ) (op : ArithmeticOperator) (a b : Expression) → Good a → Good b → Holds Good (arithmetic_node line op a b)
   arithmetic_good line op a b h g = pair Good 7 a b _ (λ t u is is_b.
       given Good _ (and _ _ (and _ _
-      (ap (λ (x : Ty). are_operands op x (type_of (as_type (right_type op t u) b))) (type_as (left_type op t u) a)
+      (ap (λ (x : ValueType). are_operands op x (type_of (as_type (right_type op t u) b))) (type_as (left_type op t u) a)
       ∙ ap (are_operands op (Integer (left_type op t u))) (type_as (right_type op t u) b) ∙ operands_fit op t u)
       (typed_as variables (left_type op t u) t a is h)) (typed_as variables (right_type op t u) u b is_b g)))
 
@@ -167,7 +167,7 @@ module _ (variables : List IntegerType) where
       let c = common_type t u in
       given Good _ (and _ _ (and _ _ (and _ _
       (ap is_promoted (type_as c a) ∙ common_promoted t u)
-      (ap (λ (x : Ty). same_type x (type_of (as_type c b))) (type_as c a) ∙ ap (same_type (Integer c)) (type_as c b) ∙ same_type_refl (Integer c)))
+      (ap (λ (x : ValueType). same_type x (type_of (as_type c b))) (type_as c a) ∙ ap (same_type (Integer c)) (type_as c b) ∙ same_type_refl (Integer c)))
       (typed_as variables c t a is h)) (typed_as variables c u b is_b g)))
 
   logical_good : (line : ℕ) (op : LogicalOperator) (a b : Expression) → Good a → Good b → Holds Good (logical_node line op a b)
@@ -193,15 +193,15 @@ module _ (variables : List IntegerType) where
   binary_good line binaries.Divide a b h g = arithmetic_good line _ a b h g
   binary_good line binaries.Remainder a b h g = arithmetic_good line _ a b h g
 
-  chosen_good : (line : ℕ) (test : Expression) (x y : Ty) (a b : Expression) → is_integer (type_of test) ≡ true → type_of a ≡ x → type_of b ≡ y → Good test → Good a → Good b → Holds Good (chosen line test x y a b)
+  chosen_good : (line : ℕ) (test : Expression) (x y : ValueType) (a b : Expression) → is_integer (type_of test) ≡ true → type_of a ≡ x → type_of b ≡ y → Good test → Good a → Good b → Holds Good (chosen line test x y a b)
   chosen_good line test Void Void a b i p q h g k =
-      given Good _ (and _ _ (and _ _ (and _ _ (and _ _ i (ap (λ (x : Ty). same_type x (type_of b)) p ∙ ap (same_type Void) q)) h) g) k)
+      given Good _ (and _ _ (and _ _ (and _ _ (and _ _ i (ap (λ (x : ValueType). same_type x (type_of b)) p ∙ ap (same_type Void) q)) h) g) k)
   chosen_good line test Void (Integer u) a b i p q h g k = refused Good 7
   chosen_good line test (Integer t) Void a b i p q h g k = refused Good 7
   chosen_good line test (Integer t) (Integer u) a b i p q h g k =
       let c = common_type t u in
       given Good _ (and _ _ (and _ _ (and _ _ (and _ _ i
-      (ap (λ (x : Ty). same_type x (type_of (as_type c b))) (type_as c a) ∙ ap (same_type (Integer c)) (type_as c b) ∙ same_type_refl (Integer c)))
+      (ap (λ (x : ValueType). same_type x (type_of (as_type c b))) (type_as c a) ∙ ap (same_type (Integer c)) (type_as c b) ∙ same_type_refl (Integer c)))
       h) (typed_as variables c t a p g)) (typed_as variables c u b q k))
 
   choice_good : (line : ℕ) (test a b : Expression) → Good test → Good a → Good b → Holds Good (choice_node line test a b)
@@ -212,7 +212,7 @@ module _ (variables : List IntegerType) where
   assign_good line place value h g = pair Good 8 place value _ (λ t u is is_b.
       bind (Is place) Good (required 9 (place_of place)) _ (place_is place) (λ p read.
       given Good _ (and _ _ (and _ _ (ap (is_typed variables) (sym read) ∙ h)
-      (ap (λ (x : Ty). same_type x (Integer (place_type p))) (type_as (place_type p) value) ∙ same_type_refl (Integer (place_type p))))
+      (ap (λ (x : ValueType). same_type x (Integer (place_type p))) (type_as (place_type p) value) ∙ same_type_refl (Integer (place_type p))))
       (typed_as variables (place_type p) u value is_b g))))
 
   update_good : (line : ℕ) (op : BinaryOp) (place value : Expression) → Good place → Good value → Holds Good (update_node line op place value)

@@ -11,8 +11,8 @@ use Rattle.c_tree.specs.declared.expr.StepOp.{StepOp}
 use Rattle.c_tree.specs.declared.expr.StepOp.TheVariants as postfixes
 use Rattle.c_types.specs.declared.integers.IntegerType.{IntegerType}
 use Rattle.c_types.specs.declared.integers.IntegerType.TheVariants as types
-use Rattle.c_types.specs.declared.types.Ty.{Ty}
-use Rattle.c_types.specs.declared.types.Ty.TheVariants.{Void, Integer}
+use Rattle.c_types.specs.declared.types.ValueType.{ValueType}
+use Rattle.c_types.specs.declared.types.ValueType.TheVariants.{Void, Integer}
 use Rattle.c_types.specs.Integers.{width, promoted, common_type, same_type}
 use Rattle.core_tree.specs.declared.operators.ArithmeticOperator.{ArithmeticOperator}
 use Rattle.core_tree.specs.declared.operators.ArithmeticOperator.TheVariants as arithmetics
@@ -47,7 +47,7 @@ required rule None = Err rule
 
 -- ---- types
 
-abbrev pub integer_of : Ty → Option IntegerType
+abbrev pub integer_of : ValueType → Option IntegerType
 integer_of Void = None
 integer_of (Integer t) = Some t
 
@@ -179,7 +179,7 @@ binary_node line binaries.Remainder a b = arithmetic_node line arithmetics.Remai
 
 -- ---- `?:` (C11 6.5.15): two integers, or neither has a value
 
-abbrev pub chosen : ℕ → Expression → Ty → Ty → Expression → Expression → Node
+abbrev pub chosen : ℕ → Expression → ValueType → ValueType → Expression → Expression → Node
 chosen line test (Integer t) (Integer u) a b = Ok (choice line test (as_type (common_type t u) a) (as_type (common_type t u) b))
 chosen line test Void Void a b = Ok (choice line test a b)
 chosen line test (Integer t) Void a b = Err 7

@@ -10,7 +10,7 @@ use crate::fault::Broken;
 use crate::meaning::Meaning;
 use c_lexer::{Constant, ConstantType};
 use c_tree::{BinaryOp, StepOp, UnaryOp};
-use c_types::{IntegerType, Ty, common, promote};
+use c_types::{IntegerType, ValueType, common, promote};
 use core_tree::{
     ArithmeticOperator, Comparison, CoreExpr, LogicalOperator, Place, SignOperator, StepOperator,
     type_of,
@@ -22,8 +22,8 @@ pub fn integer(expr: &CoreExpr, rule: u32) -> Result<IntegerType, Broken>
     ensures { GivesNode (λ t. t) result (integer rule (view expr.now)) }
 {
     match type_of(expr) {
-        Ty::Integer(type_) => Ok(type_),
-        Ty::Void => Err(Broken::Rule { rule }),
+        ValueType::Integer(type_) => Ok(type_),
+        ValueType::Void => Err(Broken::Rule { rule }),
     }
 }
 
@@ -40,7 +40,7 @@ fn place(expr: &CoreExpr) -> Result<Place, Broken>
 pub fn as_type(alloc: Global, type_: IntegerType, expr: CoreExpr) -> Result<CoreExpr, AllocError>
     ensures { IfOk result (λ e. view e ≡ as_type type_ (view expr)) }
 {
-    if type_of(&expr) == Ty::Integer(type_) {
+    if type_of(&expr) == ValueType::Integer(type_) {
         Ok(expr)
     } else {
         Ok(CoreExpr::Convert {
@@ -342,13 +342,13 @@ fn chosen(
     ensures { GivesNode view result (chosen line (view test) (type_of (view yes)) (type_of (view no)) (view yes) (view no)) }
 {
     let (yes, no) = match type_of(&yes) {
-        Ty::Void => match type_of(&no) {
-            Ty::Void => (yes, no),
-            Ty::Integer(_) => return Err(Broken::Rule { rule: 7 }),
+        ValueType::Void => match type_of(&no) {
+            ValueType::Void => (yes, no),
+            ValueType::Integer(_) => return Err(Broken::Rule { rule: 7 }),
         },
-        Ty::Integer(t) => match type_of(&no) {
-            Ty::Void => return Err(Broken::Rule { rule: 7 }),
-            Ty::Integer(u) => (
+        ValueType::Integer(t) => match type_of(&no) {
+            ValueType::Void => return Err(Broken::Rule { rule: 7 }),
+            ValueType::Integer(u) => (
                 as_type(alloc, common(t, u), yes)?,
                 as_type(alloc, common(t, u), no)?,
             ),

@@ -4,8 +4,8 @@ use Rattle.std.proofs.lemmas.Bool.{false≢true}
 use Rattle.std.proofs.lemmas.Bool.Decides.{nat_tests}
 use Rattle.c_types.specs.declared.integers.IntegerType.{IntegerType}
 use Rattle.c_types.specs.declared.integers.IntegerType.TheVariants as types
-use Rattle.c_types.specs.declared.types.Ty.{Ty}
-use Rattle.c_types.specs.declared.types.Ty.TheVariants.{Void, Integer}
+use Rattle.c_types.specs.declared.types.ValueType.{ValueType}
+use Rattle.c_types.specs.declared.types.ValueType.TheVariants.{Void, Integer}
 use Rattle.c_types.specs.Integers.{width, number_of, same_integer, same_type}
 use Rattle.core_tree.specs.declared.operators.ArithmeticOperator.{ArithmeticOperator}
 use Rattle.core_tree.specs.Typed.{is_shift, is_promoted, are_operands}
@@ -33,13 +33,13 @@ width_itself t = to_same (width t) (width t) refl
 integer_widths : (t u : IntegerType) → same_integer t u ≡ true → width t ≡ width u
 integer_widths t u h = width_at t ∙ ap (λ n. slice_index widths n) (from_same (number_of t) (number_of u) h) ∙ sym (width_at u)
 
-pub type_widths : (t u : Ty) → same_type t u ≡ true → same_width (integer_of t) (integer_of u) ≡ true
+pub type_widths : (t u : ValueType) → same_type t u ≡ true → same_width (integer_of t) (integer_of u) ≡ true
 type_widths Void Void h = refl
 type_widths Void (Integer u) h = absurd (false≢true h)
 type_widths (Integer t) Void h = absurd (false≢true h)
 type_widths (Integer t) (Integer u) h = to_same (width t) (width u) (integer_widths t u h)
 
-pub type_widths_back : (t u : Ty) → same_type t u ≡ true → same_width (integer_of u) (integer_of t) ≡ true
+pub type_widths_back : (t u : ValueType) → same_type t u ≡ true → same_width (integer_of u) (integer_of t) ≡ true
 type_widths_back Void Void h = refl
 type_widths_back Void (Integer u) h = absurd (false≢true h)
 type_widths_back (Integer t) Void h = absurd (false≢true h)
@@ -49,7 +49,7 @@ either_way : (s a b : Bool) → (a ≡ true → b ≡ true) → (s || a) ≡ tru
 either_way true a b f h = refl
 either_way false a b f h = f h
 
-pub operand_widths : (op : ArithmeticOperator) (t u : Ty) → are_operands op t u ≡ true → are_operands_of op (integer_of t) (integer_of u) ≡ true
+pub operand_widths : (op : ArithmeticOperator) (t u : ValueType) → are_operands op t u ≡ true → are_operands_of op (integer_of t) (integer_of u) ≡ true
 operand_widths op t u h =
     either_way (is_shift op) (same_type t u) (same_width (integer_of t) (integer_of u)) (type_widths t u)
     (right_of (is_promoted t && is_promoted u) (is_shift op || same_type t u) h)

@@ -4,8 +4,8 @@ use Rattle.words.specs.declared.check.Class.{Class}
 use Rattle.words.specs.declared.check.Class.TheVariants.{Assertion}
 use Rattle.c_types.specs.declared.integers.IntegerType.{IntegerType}
 use Rattle.c_types.specs.declared.integers.IntegerType.TheVariants.{Int}
-use Rattle.c_types.specs.declared.types.Ty.{Ty}
-use Rattle.c_types.specs.declared.types.Ty.TheVariants.{Void, Integer}
+use Rattle.c_types.specs.declared.types.ValueType.{ValueType}
+use Rattle.c_types.specs.declared.types.ValueType.TheVariants.{Void, Integer}
 use Rattle.c_types.specs.Integers.{width, promoted}
 use Rattle.core_tree.specs.declared.operators.ArithmeticOperator.{ArithmeticOperator}
 use Rattle.core_tree.specs.declared.operators.LogicalOperator.{LogicalOperator}
@@ -30,7 +30,7 @@ pub record Running : Type 0 where
   pub first : Bool
 
 -- the integer type of an expression; one of type void has no number, which is written 0
-abbrev pub integer_of : Ty → IntegerType
+abbrev pub integer_of : ValueType → IntegerType
 integer_of Void = Int
 integer_of (Integer t) = t
 

@@ -1,0 +1,4 @@
+pub mod Kept
+pub mod MemberLoops
+pub mod Records
+pub mod CellLists

@@ -3,8 +3,8 @@ use Rattle.std.specs.Prelude.{ℕ, ◌==◌, Bool, true, false, nat_lt, nat_le, 
 use Rattle.c_types.specs.declared.integers.IntegerType.{IntegerType}
 use Rattle.c_types.specs.declared.integers.IntegerType.TheVariants.{Char, SignedChar, UnsignedChar, Short, UnsignedShort, Int, UnsignedInt, Long, UnsignedLong, LongLong, UnsignedLongLong}
 use Rattle.c_types.specs.declared.integers.IntegerType.TheVariants as types
-use Rattle.c_types.specs.declared.types.Ty.{Ty}
-use Rattle.c_types.specs.declared.types.Ty.TheVariants.{Void, Integer}
+use Rattle.c_types.specs.declared.types.ValueType.{ValueType}
+use Rattle.c_types.specs.declared.types.ValueType.TheVariants.{Void, Integer}
 
 -- the bits of an object of the type (System V ABI for AMD64, figure 3.1)
 abbrev pub width : IntegerType → ℕ
@@ -103,8 +103,25 @@ number_of UnsignedLongLong = 11
 abbrev pub same_integer : IntegerType → IntegerType → Bool
 same_integer t u = number_of t == number_of u
 
-abbrev pub same_type : Ty → Ty → Bool
+abbrev pub same_type : ValueType → ValueType → Bool
 same_type Void Void = true
 same_type Void (Integer t) = false
 same_type (Integer t) Void = false
 same_type (Integer t) (Integer u) = same_integer t u
+
+-- ---- sizes
+
+-- the bytes of an object of the type, and its alignment (System V ABI for AMD64, figure 3.1)
+abbrev pub bytes : IntegerType → ℕ
+bytes types.Bool = 1
+bytes Char = 1
+bytes SignedChar = 1
+bytes UnsignedChar = 1
+bytes Short = 2
+bytes UnsignedShort = 2
+bytes Int = 4
+bytes UnsignedInt = 4
+bytes Long = 8
+bytes UnsignedLong = 8
+bytes LongLong = 8
+bytes UnsignedLongLong = 8

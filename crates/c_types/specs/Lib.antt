@@ -1,1 +1,4 @@
 pub mod Integers
+pub mod Types
+pub mod Layouts
+pub mod Fields

@@ -1,5 +1,5 @@
 ghost use Rattle.std.specs.Prelude.{◌≡◌, ◌≤◌, true};
-ghost use Rattle.c_types.specs.Integers.{width, is_signed, rank, unsigned_of, promoted, mixed_type, common_type};
+ghost use Rattle.c_types.specs.Integers.{width, is_signed, rank, unsigned_of, bytes, promoted, mixed_type, common_type};
 
 /// An integer type (C11 6.2.5p4 to p6, p15). An enumerated type is `Int`.
 #[derive(Clone, Copy, Debug, PartialEq, Eq)]
@@ -37,6 +37,26 @@ impl IntegerType {
             | IntegerType::UnsignedLong
             | IntegerType::LongLong
             | IntegerType::UnsignedLongLong => 64,
+        }
+    }
+
+    /// How many bytes an object of the type has; its alignment too.
+    pub fn size(self) -> u32
+        ensures is { result ≡ bytes self }
+        ensures positive { 1 ≤ result }
+        ensures at_most_8 { result ≤ 8 }
+    {
+        match self {
+            IntegerType::Bool
+            | IntegerType::Char
+            | IntegerType::SignedChar
+            | IntegerType::UnsignedChar => 1,
+            IntegerType::Short | IntegerType::UnsignedShort => 2,
+            IntegerType::Int | IntegerType::UnsignedInt => 4,
+            IntegerType::Long
+            | IntegerType::UnsignedLong
+            | IntegerType::LongLong
+            | IntegerType::UnsignedLongLong => 8,
         }
     }
 

@@ -3,8 +3,8 @@ use Rattle.std.specs.Prelude.{ℕ, ◌^◌, ◌==◌, Bool, true, false, ◌&&�
 use Rattle.std.specs.List.{list_all}
 use Rattle.c_types.specs.declared.integers.IntegerType.{IntegerType}
 use Rattle.c_types.specs.declared.integers.IntegerType.TheVariants as types
-use Rattle.c_types.specs.declared.types.Ty.{Ty}
-use Rattle.c_types.specs.declared.types.Ty.TheVariants.{Void, Integer}
+use Rattle.c_types.specs.declared.types.ValueType.{ValueType}
+use Rattle.c_types.specs.declared.types.ValueType.TheVariants.{Void, Integer}
 use Rattle.c_types.specs.Integers.{width, promoted, same_integer, same_type}
 use Rattle.core_tree.specs.declared.operators.ArithmeticOperator.{ArithmeticOperator}
 use Rattle.core_tree.specs.declared.operators.ArithmeticOperator.TheVariants as arithmetics
@@ -17,7 +17,7 @@ use Rattle.core_tree.specs.Trees.{Expression, constant, read, convert, sign, is_
 abbrev pub place_type : Place → IntegerType
 place_type (places.Variable line t v) = t
 
-abbrev pub type_of : Expression → Ty
+abbrev pub type_of : Expression → ValueType
 type_of (constant line t bits) = Integer t
 type_of (read p) = Integer (place_type p)
 type_of (convert to e) = Integer to
@@ -37,12 +37,12 @@ type_of (draw line t) = Integer t
 
 -- ---- tests of types
 
-abbrev pub is_integer : Ty → Bool
+abbrev pub is_integer : ValueType → Bool
 is_integer Void = false
 is_integer (Integer t) = true
 
 -- an integer type that the promotions leave as it is
-abbrev pub is_promoted : Ty → Bool
+abbrev pub is_promoted : ValueType → Bool
 is_promoted Void = false
 is_promoted (Integer t) = same_integer (promoted t) t
 
@@ -59,7 +59,7 @@ is_shift arithmetics.Xor = false
 is_shift arithmetics.Or = false
 
 -- operands of promoted types, which are one but for shifts
-abbrev pub are_operands : ArithmeticOperator → Ty → Ty → Bool
+abbrev pub are_operands : ArithmeticOperator → ValueType → ValueType → Bool
 are_operands op a b = is_promoted a && is_promoted b && (is_shift op || same_type a b)
 
 -- ---- trees, over the types of the function's variables

@@ -5,7 +5,7 @@ ghost use Rattle.core_tree.specs.Trees.{view};
 ghost use Rattle.core_tree.specs.Typed.{type_of, place_type, place_names, names_variable};
 
 use crate::expression::{CoreExpr, Place};
-use c_types::{IntegerType, Ty};
+use c_types::{IntegerType, ValueType};
 
 fn place_type(place: &Place) -> IntegerType
     ensures { result ≡ place_type place.now }
@@ -20,7 +20,7 @@ fn place_type(place: &Place) -> IntegerType
 }
 
 /// The type of an expression. It goes down one path of the tree.
-pub fn type_of(expr: &CoreExpr) -> Ty
+pub fn type_of(expr: &CoreExpr) -> ValueType
     ensures { result ≡ type_of (view expr.now) }
 {
     match expr {
@@ -28,9 +28,9 @@ pub fn type_of(expr: &CoreExpr) -> Ty
             line: _,
             type_,
             bits: _,
-        } => Ty::Integer(*type_),
-        CoreExpr::Read { place } => Ty::Integer(place_type(place)),
-        CoreExpr::Convert { to, operand: _ } => Ty::Integer(*to),
+        } => ValueType::Integer(*type_),
+        CoreExpr::Read { place } => ValueType::Integer(place_type(place)),
+        CoreExpr::Convert { to, operand: _ } => ValueType::Integer(*to),
         CoreExpr::Sign {
             line: _,
             operator: _,
@@ -39,7 +39,7 @@ pub fn type_of(expr: &CoreExpr) -> Ty
         CoreExpr::IsZero {
             line: _,
             operand: _,
-        } => Ty::Integer(IntegerType::Int),
+        } => ValueType::Integer(IntegerType::Int),
         CoreExpr::Arithmetic {
             line: _,
             operator: _,
@@ -51,13 +51,13 @@ pub fn type_of(expr: &CoreExpr) -> Ty
             operator: _,
             left: _,
             right: _,
-        } => Ty::Integer(IntegerType::Int),
+        } => ValueType::Integer(IntegerType::Int),
         CoreExpr::Logical {
             line: _,
             operator: _,
             left: _,
             right: _,
-        } => Ty::Integer(IntegerType::Int),
+        } => ValueType::Integer(IntegerType::Int),
         CoreExpr::Choice {
             line: _,
             test: _,
@@ -68,20 +68,20 @@ pub fn type_of(expr: &CoreExpr) -> Ty
             line: _,
             place,
             value: _,
-        } => Ty::Integer(place_type(place)),
+        } => ValueType::Integer(place_type(place)),
         CoreExpr::Update {
             line: _,
             place,
             operator: _,
             type_: _,
             value: _,
-        } => Ty::Integer(place_type(place)),
+        } => ValueType::Integer(place_type(place)),
         CoreExpr::Step {
             line: _,
             place,
             operator: _,
             before: _,
-        } => Ty::Integer(place_type(place)),
+        } => ValueType::Integer(place_type(place)),
         CoreExpr::Comma {
             line: _,
             left: _,
@@ -90,12 +90,12 @@ pub fn type_of(expr: &CoreExpr) -> Ty
         CoreExpr::Assertion {
             line: _,
             condition: _,
-        } => Ty::Void,
+        } => ValueType::Void,
         CoreExpr::Assumption {
             line: _,
             condition: _,
-        } => Ty::Void,
-        CoreExpr::Draw { line: _, type_ } => Ty::Integer(*type_),
+        } => ValueType::Void,
+        CoreExpr::Draw { line: _, type_ } => ValueType::Integer(*type_),
     }
 }
 

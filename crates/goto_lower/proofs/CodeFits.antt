@@ -3,7 +3,7 @@ use Rattle.std.proofs.Common.{◌≡◌, ℕ, ◌+◌, Bool, true, false, nat_lt
 use Rattle.std.specs.Prelude.{if◌then◌else◌}
 use Rattle.c_types.specs.declared.integers.IntegerType.{IntegerType}
 use Rattle.c_types.specs.declared.integers.IntegerType.TheVariants.{Int}
-use Rattle.c_types.specs.declared.types.Ty.TheVariants.{Integer}
+use Rattle.c_types.specs.declared.types.ValueType.TheVariants.{Integer}
 use Rattle.c_types.specs.Integers.{width, promoted}
 use Rattle.core_tree.specs.declared.operators.ArithmeticOperator.{ArithmeticOperator}
 use Rattle.core_tree.specs.declared.operators.LogicalOperator.{LogicalOperator}

@@ -6,8 +6,8 @@ use Rattle.std.proofs.lemmas.Bool.{false≢true}
 use Rattle.std.proofs.lemmas.Bool.Decides.{nat_tests}
 use Rattle.c_types.specs.declared.integers.IntegerType.{IntegerType}
 use Rattle.c_types.specs.declared.integers.IntegerType.TheVariants as types
-use Rattle.c_types.specs.declared.types.Ty.{Ty}
-use Rattle.c_types.specs.declared.types.Ty.TheVariants.{Void, Integer}
+use Rattle.c_types.specs.declared.types.ValueType.{ValueType}
+use Rattle.c_types.specs.declared.types.ValueType.TheVariants.{Void, Integer}
 use Rattle.c_types.specs.Integers.{width, number_of, same_integer, same_type}
 use Rattle.core_tree.specs.declared.operators.ArithmeticOperator.{ArithmeticOperator}
 use Rattle.core_tree.specs.declared.operators.Comparison.{Comparison}
@@ -50,7 +50,7 @@ to_same a b h = grind (arith, nat_tests)
 pub same_integers : (t u : IntegerType) → same_integer t u ≡ true → t ≡ u
 same_integers t u h = sym (at_number t) ∙ ap (λ n. slice_index_or all_types n types.Int) (from_same (number_of t) (number_of u) h) ∙ at_number u
 
-pub same_types : (t u : Ty) → same_type t u ≡ true → integer_of t ≡ integer_of u
+pub same_types : (t u : ValueType) → same_type t u ≡ true → integer_of t ≡ integer_of u
 same_types Void Void h = refl
 same_types Void (Integer u) h = absurd (false≢true h)
 same_types (Integer t) Void h = absurd (false≢true h)
