@@ -1,3 +1,8 @@
 pub mod Satisfaction
 pub mod Numbers
 pub mod Codes
+pub mod Propagation
+pub mod Databases
+pub mod Refutation
+pub mod Budget
+pub mod Indexes

@@ -1,15 +1,19 @@
-//! Forms in conjunctive normal form, assignments, and whether one satisfies the other.
+//! Forms in conjunctive normal form, assignments, whether one satisfies the other, and logs of a search.
 #![tactic(auto)]
 
 mod assignments;
 mod clauses;
 mod forms;
+mod laws;
 mod lits;
+mod logs;
 
 pub use assignments::{Assignment, is_model};
 pub use clauses::{Clause, is_within};
 pub use forms::Cnf;
+pub use laws::{no_model, units_differ};
 pub use lits::Lit;
+pub use logs::{Entry, Hints, Log};
 
 #[cfg(test)]
 mod tests {
@@ -76,6 +80,59 @@ mod tests {
         assert!(rt;
             is_model(&form, &none) && none.satisfies_all(cnf.clauses()) == is_model(&cnf, &none)
         );
+        Ok(())
+    }
+
+    // Where the clause of a number is deleted first.
+    const DELETIONS: [(usize, Option<usize>); 6] = [
+        (0, Some(1)),
+        (1, None),
+        (2, Some(3)),
+        (3, None),
+        (4, None),
+        (70, Some(5)),
+    ];
+
+    #[test]
+    fn entries_of_a_log(rt: HostRuntime) -> Result<(), Fail> {
+        let alloc = rt.alloc();
+        let mut log = Log::new(alloc);
+        assert!(rt; log.entries().is_empty() && log.added(0).is_none() && log.is_within(0));
+        log.add(
+            clause_of(alloc, [(0, false), (1, true)])?,
+            Hints::from_numbers(vec![in alloc; 0, 2]?),
+        )?;
+        log.delete(0)?;
+        log.add(
+            clause_of(alloc, [(3, false), (3, false)])?,
+            Hints::from_numbers(Vec::new(alloc)),
+        )?;
+        log.delete(2)?;
+        log.delete(0)?;
+        log.delete(70)?;
+        for (number, expected) in DELETIONS {
+            assert_eq!(rt; log.deletion_of(number), expected, "{number}");
+        }
+        assert!(rt; !log.is_within(3) && log.is_within(4));
+        let second = log.added(1).map(|clause| clause.literals().len());
+        assert!(rt; second == Some(2) && log.added(2).is_none());
+        match log.entries() {
+            [
+                Entry::Added(clause, hints),
+                Entry::Deleted(0),
+                Entry::Added(_, none),
+                Entry::Deleted(2),
+                ..
+            ] => {
+                assert_eq!(rt; hints.numbers(), [0, 2].as_slice());
+                assert!(rt; clause.literals().len() == 2 && none.numbers().is_empty());
+            }
+            _ => assert!(rt; false, "the entries are others"),
+        }
+        let numbers = Hints::from_numbers(vec![in alloc; 7]?).into_numbers();
+        assert_eq!(rt; numbers.as_slice(), [7].as_slice());
+        no_model();
+        units_differ();
         Ok(())
     }
 }

@@ -1,0 +1,6 @@
+pub mod Marks
+pub mod Growing
+pub mod Lookups
+pub mod Visiting
+pub mod Following
+pub mod Steps
