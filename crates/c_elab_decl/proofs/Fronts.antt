@@ -1,14 +1,15 @@
--- One declarator, item or definition more: what is made goes before what is behind.
-use Rattle.std.proofs.Common.{◌≡◌, ◌<◌, ◌+◌, ◌-◌, ℕ, Bool, true, false, List, [], ◌∷◌, ◌++◌, length, get_or, drop, Option, Result, Ok, Err, codes, refl, ap, sym, subst, ◌∙◌, arith}
-use Rattle.std.specs.Prelude.{if◌then◌else◌, Vec, OnOk}
+-- One variable, item or definition more: what is made goes before what is behind.
+use Rattle.std.proofs.Common.{◌≡◌, ◌<◌, ◌+◌, ◌-◌, ℕ, Bool, true, false, List, [], ◌∷◌, ◌++◌, length, get_or, drop, Option, Some, None, Result, Ok, Err, codes, refl, ap, sym, subst, ◌∙◌, arith}
+use Rattle.std.specs.Prelude.{◌==◌, if◌then◌else◌, Vec}
 use Rattle.std.specs.Global.{Global}
 use Rattle.std.proofs.lemmas.List.{append_assoc, drop_more, drop_at, length-append, map-append}
-use Rattle.c_tree.specs.Tree.{Tree}
-use Rattle.c_tree.specs.declared.statement.InitDeclarator.{InitDeclarator}
 use Rattle.c_tree.specs.declared.statement.Item.{Item}
-use Rattle.c_tree.specs.declared.statement.Definition.{Definition}
-use Rattle.c_tree.specs.Statements.{Declarators, declarator, view_declarator, declarators_of, Statement, block, view_item, Definitions, defines, view_definition, definitions_of}
+use Rattle.c_tree.specs.declared.statement.External.{External}
+use Rattle.c_tree.specs.Tree.{Declared}
+use Rattle.c_tree.specs.Declarations.{Initial, Parts, Declarators, name_of}
+use Rattle.c_tree.specs.Statements.{Statement, block, view_item, Externals, declared, defines, view_external, externals_of}
 use Rattle.c_tree.specs.Statements.{Items, does, items_of as trees}
+use Rattle.c_types.specs.declared.integers.IntegerType.{IntegerType}
 use Rattle.core_tree.specs.declared.statement.CoreItem.{CoreItem}
 use Rattle.core_tree.specs.declared.statement.CoreItem as codes
 use Rattle.core_tree.specs.declared.statement.CoreStatement.{CoreStatement, Block}
@@ -18,17 +19,21 @@ use Rattle.core_tree.specs.Trees as cores
 use Rattle.core_tree.proofs.Views.{view_block}
 use Rattle.c_elab_expr.specs.declared.fault.TypingError.{TypingError}
 use Rattle.c_elab_expr.specs.declared.fault.TypingError.TheVariants as errors
-use Rattle.c_elab_expr.specs.Scopes.{Environment, Scoped, are_there}
+use Rattle.c_elab_expr.specs.Scopes.{Environment, Named, Scoped}
 use Rattle.c_elab_expr.specs.Nodes.{◌>>=◌}
+use Rattle.c_elab_expr.specs.Types.{declared_line}
 use Rattle.c_elab_expr.specs.Typing.{Fault, fault, on_line, Fails}
-use Rattle.c_elab_decl.specs.Elaborated.{Typed, is_declared, with_variable, initializer_of, declared_item, in_front, typed_declarators, typed_statement, typed_items, with_function, main, typed_definitions}
+use Rattle.c_elab_decl.specs.declared.regions.Region.{Region}
+use Rattle.c_elab_decl.specs.Regions.{earlier}
+use Rattle.c_elab_decl.specs.Initializers.{initializer_of}
+use Rattle.c_elab_decl.specs.Declarators.{Typed, variable_type, with_variable, declared_item, in_front, typed_variable}
+use Rattle.c_elab_decl.specs.Specifiers.{parts_line}
+use Rattle.c_elab_decl.specs.Statements.{typed_statement, typed_items}
+use Rattle.c_elab_decl.specs.Files.{in_file, on_external, told_on, typed_outside, function_node, with_function, main, outside, typed_externals}
 use Rattle.c_elab_decl.specs.Steps.{prepend, items_first, functions_first, Step, FunctionStep}
-use Rattle.c_elab_decl.proofs.WellTyped.{Inner, items_done}
-
--- a fault of a part is one of the whole
-pub fails_on : {Y Z : Type 0} (e : TypingError) (r : Result Y Fault) (s : Result Z Fault) → ((f : Fault) → r ≡ Err f → s ≡ Err f) → Fails e r → Fails e s
-fails_on errors.Memory r s h g = tt
-fails_on (errors.Typing line rule) r s h g = h (fault line rule) g
+use Rattle.c_elab_decl.proofs.Steps.{fails_on}
+use Rattle.c_elab_decl.proofs.Growing.{Inner, There}
+use Rattle.c_elab_decl.proofs.WellTyped.{items_done}
 
 -- ---- items
 
@@ -59,49 +64,40 @@ pub behind_fails : (before now : List CoreItem) (whole behind : Typed) (e : Typi
 behind_fails before now whole behind e same bad =
     fails_on e behind whole (λ f is. first_fails before whole f (sym same ∙ ap (items_first now) is)) bad
 
--- ---- declarators
+-- ---- variables
 
-pub declared_twice : (outer : ℕ) (s : Scoped) (line : ℕ) (name : List ℕ) (o : Option Tree) (rest : Declarators) (behind : Scoped → Typed)
-    → true ≡ is_declared outer s name → typed_declarators outer s (declarator line name o rest) behind ≡ Err (fault line 2)
-declared_twice outer s line name o rest behind e =
-    sym (ap (λ (b : Bool). on_line line (if b then Err 2 else Ok s) >>= λ fresh. initializer_of line (with_variable s name) o >>= λ x.
-    in_front (declared_item line (length s.variables) x) (typed_declarators outer (with_variable s name) rest behind)) e)
+-- what stands behind the type of a variable, and behind its value
+abbrev behind_value : Scoped → Scoped → ℕ → (Scoped → Typed) → Result (Option Expression) Fault → Typed
+behind_value s u line behind r = r >>= λ x. in_front (declared_item line (length s.variables) x) (behind u)
 
-declared_once : (outer : ℕ) (s : Scoped) (line : ℕ) (name : List ℕ) (o : Option Tree) (rest : Declarators) (behind : Scoped → Typed)
-    → false ≡ is_declared outer s name
-    → typed_declarators outer s (declarator line name o rest) behind ≡ (initializer_of line (with_variable s name) o >>= λ x.
-    in_front (declared_item line (length s.variables) x) (typed_declarators outer (with_variable s name) rest behind))
-declared_once outer s line name o rest behind e =
-    sym (ap (λ (b : Bool). on_line line (if b then Err 2 else Ok s) >>= λ fresh. initializer_of line (with_variable s name) o >>= λ x.
-    in_front (declared_item line (length s.variables) x) (typed_declarators outer (with_variable s name) rest behind)) e)
+abbrev behind_type : Scoped → Named → Declared → Option Initial → (Scoped → Typed) → Result IntegerType Fault → Typed
+behind_type s base d i behind r = r >>= λ t.
+    behind_value s (with_variable s (name_of d) t base.constant) (declared_line d) behind (initializer_of (declared_line d) (with_variable s (name_of d) t base.constant) t i)
 
-pub initializer_fails : (outer : ℕ) (s t : Scoped) (line : ℕ) (name : List ℕ) (o : Option Tree) (rest : Declarators) (behind : Scoped → Typed) (f : Fault)
-    → false ≡ is_declared outer s name → t ≡ with_variable s name → initializer_of line t o ≡ Err f → typed_declarators outer s (declarator line name o rest) behind ≡ Err f
-initializer_fails outer s t line name o rest behind f e now bad =
-    declared_once outer s line name o rest behind e
-    ∙ ap (λ (r : Result (Option Expression) Fault). r >>= λ x. in_front (declared_item line (length s.variables) x) (typed_declarators outer (with_variable s name) rest behind))
-    (ap (λ (u : Scoped). initializer_of line u o) (sym now) ∙ bad)
+pub type_fails : (r : Region) (s : Scoped) (base : Named) (d : Declared) (i : Option Initial) (behind : Scoped → Typed) (f : Fault)
+    → variable_type r s base.type d i ≡ Err f → typed_variable r s base d i behind ≡ Err f
+type_fails r s base d i behind f bad = ap (behind_type s base d i behind) bad
 
-pub declarator_typed : (outer : ℕ) (s t : Scoped) (line : ℕ) (name : List ℕ) (o : Option Tree) (rest : Declarators) (behind : Scoped → Typed)
-    (x : Option Expression) (variable : ℕ) (before now : List CoreItem) (i : CoreItem)
-    → false ≡ is_declared outer s name → t ≡ with_variable s name → initializer_of line t o ≡ Ok x → variable ≡ length s.variables
-    → ((items : cores.Items) → with_item i items ≡ declared_item line variable x items) → now ≡ before ++ i ∷ []
-    → items_first before (typed_declarators outer s (declarator line name o rest) behind) ≡ items_first now (typed_declarators outer t rest behind)
-declarator_typed outer s t line name o rest behind x variable before now i e scope good number item items =
-    ap (items_first before) (declared_once outer s line name o rest behind e
-    ∙ ap (λ (r : Result (Option Expression) Fault). r >>= λ y. in_front (declared_item line (length s.variables) y) (typed_declarators outer (with_variable s name) rest behind))
-    (ap (λ (u : Scoped). initializer_of line u o) (sym scope) ∙ good))
-    ∙ one_first before i (declared_item line (length s.variables) x) (typed_declarators outer (with_variable s name) rest behind)
-    (λ is. item is ∙ ap (λ (v : ℕ). declared_item line v x is) number)
-    ∙ ap (λ (is : List CoreItem). items_first is (typed_declarators outer (with_variable s name) rest behind)) (sym items)
-    ∙ ap (λ (u : Scoped). items_first now (typed_declarators outer u rest behind)) (sym scope)
+pub value_fails : (r : Region) (s u : Scoped) (base : Named) (d : Declared) (i : Option Initial) (behind : Scoped → Typed) (t : IntegerType) (line : ℕ) (f : Fault)
+    → variable_type r s base.type d i ≡ Ok t → u ≡ with_variable s (name_of d) t base.constant → line ≡ declared_line d → initializer_of line u t i ≡ Err f → typed_variable r s base d i behind ≡ Err f
+value_fails r s u base d i behind t line f good scope at bad =
+    ap (behind_type s base d i behind) good
+    ∙ ap (behind_value s (with_variable s (name_of d) t base.constant) (declared_line d) behind)
+    (ap (λ (l : ℕ). initializer_of l (with_variable s (name_of d) t base.constant) t i) (sym at) ∙ ap (λ (x : Scoped). initializer_of line x t i) (sym scope) ∙ bad)
 
--- the declarators from a place on
-pub declarators_at : (outer : ℕ) (s : Scoped) (ds : List InitDeclarator) (i : ℕ) (d : InitDeclarator) (behind : Scoped → Typed) → i < length ds → d ≡ get_or ds i d
-    → typed_declarators outer s (declarators_of (drop i ds)) behind ≡ typed_declarators outer s (view_declarator d (declarators_of (drop (i + 1) ds))) behind
-declarators_at outer s ds i d behind h is =
-    ap (λ (xs : List InitDeclarator). typed_declarators outer s (declarators_of xs) behind) (drop_more ds i d h)
-    ∙ ap (λ (x : InitDeclarator). typed_declarators outer s (view_declarator x (declarators_of (drop (i + 1) ds))) behind) (sym is)
+pub variable_typed : (r : Region) (s u : Scoped) (base : Named) (d : Declared) (i : Option Initial) (behind : Scoped → Typed) (t : IntegerType) (line : ℕ)
+    (x : Option Expression) (variable : ℕ) (before now : List CoreItem) (item : CoreItem)
+    → variable_type r s base.type d i ≡ Ok t → u ≡ with_variable s (name_of d) t base.constant → line ≡ declared_line d → initializer_of line u t i ≡ Ok x
+    → variable ≡ length s.variables → ((rest : cores.Items) → with_item item rest ≡ declared_item line variable x rest) → now ≡ before ++ item ∷ []
+    → items_first before (typed_variable r s base d i behind) ≡ items_first now (behind u)
+variable_typed r s u base d i behind t line x variable before now item good scope at value number is items =
+    ap (items_first before) (ap (behind_type s base d i behind) good
+    ∙ ap (behind_value s (with_variable s (name_of d) t base.constant) (declared_line d) behind)
+    (ap (λ (l : ℕ). initializer_of l (with_variable s (name_of d) t base.constant) t i) (sym at) ∙ ap (λ (y : Scoped). initializer_of line y t i) (sym scope) ∙ value))
+    ∙ one_first before item (declared_item (declared_line d) (length s.variables) x) (behind (with_variable s (name_of d) t base.constant))
+    (λ rest. is rest ∙ ap (λ (v : ℕ). declared_item line v x rest) number ∙ ap (λ (l : ℕ). declared_item l (length s.variables) x rest) at)
+    ∙ ap (λ (xs : List CoreItem). items_first xs (behind (with_variable s (name_of d) t base.constant))) (sym items)
+    ∙ ap (λ (y : Scoped). items_first now (behind y)) (sym scope)
 
 -- ---- statements and items
 
@@ -130,58 +126,69 @@ kept outer inner g =
     let count : length (g.0 ++ outer) - length outer ≡ length g.0 = omega arith in
     ap (λ (env : Environment). drop (length env - length outer) env) g.1 ∙ ap (λ (k : ℕ). drop k (g.0 ++ outer)) count ∙ drop_at g.0 outer (length g.0) refl
 
-pub block_left : (s t : Scoped) (items : Items) (v : Vec CoreItem Global) → are_there s.variables s.bindings ≡ true
+pub block_left : (s t : Scoped) (items : Items) (v : Vec CoreItem Global) → There s
     → typed_items (length s.bindings) s items ≡ Ok (items_of v.items, t) → drop (length t.bindings - length s.bindings) t.bindings ≡ s.bindings
-block_left s t items v there e = kept s.bindings t.bindings (items_done (length s.bindings) s items there (items_of v.items, t) e).names
+block_left s t items v there e = kept s.bindings t.bindings (items_done (length s.bindings) s items there (items_of v.items, t) e).follows.names
 
-pub block_typed : (s t : Scoped) (line : ℕ) (items : Items) (v : Vec CoreItem Global) → are_there s.variables s.bindings ≡ true
+pub block_typed : (s t : Scoped) (line : ℕ) (items : Items) (v : Vec CoreItem Global) → There s
     → typed_items (length s.bindings) s items ≡ Ok (items_of v.items, t)
     → typed_statement s (block line items) ≡ Ok (view_statement (Block v), record t { bindings = drop (length t.bindings - length s.bindings) t.bindings })
 block_typed s t line items v there e =
-    ap (λ (r : Typed). r >>= λ x. Ok (cores.block x.0, record s { variables = x.1.variables })) e
-    ∙ ap (λ (x : cores.Statement). Ok (x, record s { variables = t.variables })) (sym (view_block v))
+    ap (λ (r : Typed). r >>= λ x. Ok (cores.block x.0, record x.1 { bindings = s.bindings })) e
+    ∙ ap (λ (x : cores.Statement). Ok (x, record t { bindings = s.bindings })) (sym (view_block v))
     ∙ ap (λ (env : Environment). Ok (view_statement (Block v), record t { bindings = env })) (sym (block_left s t items v there e))
 
 pub block_fails : (s : Scoped) (line : ℕ) (items : Items) (f : Fault) → typed_items (length s.bindings) s items ≡ Err f → typed_statement s (block line items) ≡ Err f
-block_fails s line items f e = ap (λ (r : Typed). r >>= λ x. Ok (cores.block x.0, record s { variables = x.1.variables })) e
+block_fails s line items f e = ap (λ (r : Typed). r >>= λ x. Ok (cores.block x.0, record x.1 { bindings = s.bindings })) e
 
--- ---- definitions
+-- ---- what stands in a file
 
-pub main_twice : (s : Scoped) (line name_line : ℕ) (body : Statement) (rest : Definitions) → true ≡ is_declared 0 s (codes "main")
-    → typed_definitions s (defines line name_line body rest) ≡ Err (fault name_line 2)
-main_twice s line name_line body rest e =
-    sym (ap (λ (b : Bool). on_line name_line (if b then Err 2 else Ok s) >>= λ fresh. typed_statement (with_function s (codes "main")) body >>= λ x.
-    typed_definitions (record x.1 { variables = [] }) rest >>= λ fs. Ok (main name_line x.1.variables x.0 ∷ fs)) e)
+-- code tells a fault on the line of its external declaration
+pub told : {A : Type 0} (e : TypingError) (line : ℕ) (r : Result A Fault) → Fails e r → Fails (told_on e line) (on_external line r)
+told errors.Memory line r h = tt
+told (errors.Typing at rule) line r h = along (rule == 0) refl where
+  along : (b : Bool) → (rule == 0) ≡ b → Fails (if b then errors.Typing line 0 else errors.Typing at rule) (on_external line r)
+  along true e = ap (on_external line) h ∙ ap (λ (b : Bool). Err (if b then fault line 0 else fault at rule)) e
+  along false e = ap (on_external line) h ∙ ap (λ (b : Bool). Err (if b then fault line 0 else fault at rule)) e
 
-abbrev definition_body : Scoped → ℕ → Definitions → Result (cores.Statement × Scoped) Fault → Result (List Procedure) Fault
-definition_body s name_line rest r = r >>= λ x. typed_definitions (record x.1 { variables = [] }) rest >>= λ fs. Ok (main name_line x.1.variables x.0 ∷ fs)
+abbrev definition_body : Scoped → ℕ → Externals → Result (cores.Statement × Scoped) Fault → Result (List Procedure) Fault
+definition_body s name_line rest r = r >>= λ x. typed_externals (outside x.1) rest >>= λ fs. Ok (main name_line x.1.variables x.0 ∷ fs)
 
-main_once : (s : Scoped) (line name_line : ℕ) (body : Statement) (rest : Definitions) → false ≡ is_declared 0 s (codes "main")
-    → typed_definitions s (defines line name_line body rest) ≡ definition_body s name_line rest (typed_statement (with_function s (codes "main")) body)
-main_once s line name_line body rest e =
-    sym (ap (λ (b : Bool). on_line name_line (if b then Err 2 else Ok s) >>= λ fresh. typed_statement (with_function s (codes "main")) body >>= λ x.
-    typed_definitions (record x.1 { variables = [] }) rest >>= λ fs. Ok (main name_line x.1.variables x.0 ∷ fs)) e)
+abbrev named_main : Scoped → ℕ → ℕ → Statement → Externals → Result (Unit {0}) Fault → Result (List Procedure) Fault
+named_main s line name_line body rest r = r >>= λ new. definition_body s name_line rest (on_external line (typed_statement (with_function s (codes "main")) body))
 
-pub body_fails : (s t : Scoped) (line name_line : ℕ) (body : Statement) (rest : Definitions) (f : Fault) → false ≡ is_declared 0 s (codes "main")
-    → t ≡ with_function s (codes "main") → typed_statement t body ≡ Err f → typed_definitions s (defines line name_line body rest) ≡ Err f
-body_fails s t line name_line body rest f e now bad =
-    main_once s line name_line body rest e ∙ ap (definition_body s name_line rest) (ap (λ (u : Scoped). typed_statement u body) (sym now) ∙ bad)
+pub main_fails : (s : Scoped) (line name_line : ℕ) (body : Statement) (rest : Externals) (f : Fault) → on_line name_line (function_node (earlier in_file s (codes "main"))) ≡ Err f
+    → typed_externals s (defines line name_line body rest) ≡ Err f
+main_fails s line name_line body rest f e = ap (named_main s line name_line body rest) e
+
+pub body_fails : (s t : Scoped) (line name_line : ℕ) (body : Statement) (rest : Externals) (f : Fault) (u : Unit {0}) → on_line name_line (function_node (earlier in_file s (codes "main"))) ≡ Ok u
+    → t ≡ with_function s (codes "main") → on_external line (typed_statement t body) ≡ Err f → typed_externals s (defines line name_line body rest) ≡ Err f
+body_fails s t line name_line body rest f u e now bad =
+    ap (named_main s line name_line body rest) e ∙ ap (definition_body s name_line rest) (ap (λ (x : Scoped). on_external line (typed_statement x body)) (sym now) ∙ bad)
+
+pub outside_fails : (s : Scoped) (parts : Parts) (ds : Declarators) (rest : Externals) (f : Fault) → on_external (parts_line parts) (typed_outside s parts ds) ≡ Err f
+    → typed_externals s (declared parts ds rest) ≡ Err f
+outside_fails s parts ds rest f e = ap (λ (r : Result Scoped Fault). r >>= λ t. typed_externals t rest) e
+
+pub outside_more : (s t : Scoped) (parts : Parts) (ds : Declarators) (rest : Externals) → on_external (parts_line parts) (typed_outside s parts ds) ≡ Ok t
+    → typed_externals s (declared parts ds rest) ≡ typed_externals t rest
+outside_more s t parts ds rest e = ap (λ (r : Result Scoped Fault). r >>= λ x. typed_externals x rest) e
 
 front_function : (before : List Procedure) (p : Procedure) (r : Result (List Procedure) Fault) → functions_first before (r >>= λ fs. Ok (p ∷ fs)) ≡ functions_first (before ++ p ∷ []) r
 front_function before p (Ok fs) = ap Ok (sym (append_assoc before (p ∷ []) fs))
 front_function before p (Err f) = refl
 
-pub definition_typed : (s t u v : Scoped) (line name_line : ℕ) (body : Statement) (rest : Definitions) (c : cores.Statement) (before now : List Function) (f : Function)
-    → false ≡ is_declared 0 s (codes "main") → t ≡ with_function s (codes "main") → typed_statement t body ≡ Ok (c, u) → v ≡ record u { variables = [] }
-    → view_function f ≡ main name_line u.variables c → now ≡ before ++ f ∷ []
-    → functions_first (view_core before) (typed_definitions s (defines line name_line body rest)) ≡ functions_first (view_core now) (typed_definitions v rest)
-definition_typed s t u v line name_line body rest c before now f e scope good behind function items =
-    ap (functions_first (view_core before)) (main_once s line name_line body rest e
-    ∙ ap (definition_body s name_line rest) (ap (λ (w : Scoped). typed_statement w body) (sym scope) ∙ good))
-    ∙ front_function (view_core before) (main name_line u.variables c) (typed_definitions (record u { variables = [] }) rest)
-    ∙ ap (λ (p : Procedure). functions_first (view_core before ++ p ∷ []) (typed_definitions (record u { variables = [] }) rest)) (sym function)
-    ∙ ap (λ (fs : List Procedure). functions_first fs (typed_definitions (record u { variables = [] }) rest)) (sym (ap view_core items ∙ map-append view_function before (f ∷ [])))
-    ∙ ap (λ (w : Scoped). functions_first (view_core now) (typed_definitions w rest)) (sym behind)
+pub definition_typed : (s t x v : Scoped) (line name_line : ℕ) (body : Statement) (rest : Externals) (u : Unit {0}) (c : cores.Statement) (before now : List Function) (f : Function)
+    → on_line name_line (function_node (earlier in_file s (codes "main"))) ≡ Ok u → t ≡ with_function s (codes "main") → on_external line (typed_statement t body) ≡ Ok (c, x) → v ≡ outside x
+    → view_function f ≡ main name_line x.variables c → now ≡ before ++ f ∷ []
+    → functions_first (view_core before) (typed_externals s (defines line name_line body rest)) ≡ functions_first (view_core now) (typed_externals v rest)
+definition_typed s t x v line name_line body rest u c before now f e scope good behind function items =
+    ap (functions_first (view_core before)) (ap (named_main s line name_line body rest) e
+    ∙ ap (definition_body s name_line rest) (ap (λ (w : Scoped). on_external line (typed_statement w body)) (sym scope) ∙ good))
+    ∙ front_function (view_core before) (main name_line x.variables c) (typed_externals (outside x) rest)
+    ∙ ap (λ (p : Procedure). functions_first (view_core before ++ p ∷ []) (typed_externals (outside x) rest)) (sym function)
+    ∙ ap (λ (fs : List Procedure). functions_first fs (typed_externals (outside x) rest)) (sym (ap view_core items ∙ map-append view_function before (f ∷ [])))
+    ∙ ap (λ (w : Scoped). functions_first (view_core now) (typed_externals w rest)) (sym behind)
 
 pub functions_fail : (before : List Procedure) (whole : Result (List Procedure) Fault) (f : Fault) → functions_first before whole ≡ Err f → whole ≡ Err f
 functions_fail before (Ok fs) f e = let none : ⊥ = cc in absurd none
@@ -191,11 +198,11 @@ pub no_functions_first : (whole : Result (List Procedure) Fault) → functions_f
 no_functions_first (Ok fs) = refl
 no_functions_first (Err f) = refl
 
-pub definitions_at : (s : Scoped) (ds : List Definition) (i : ℕ) (d : Definition) → i < length ds → d ≡ get_or ds i d
-    → typed_definitions s (definitions_of (drop i ds)) ≡ typed_definitions s (view_definition d (definitions_of (drop (i + 1) ds)))
-definitions_at s ds i d h e =
-    ap (λ (xs : List Definition). typed_definitions s (definitions_of xs)) (drop_more ds i d h)
-    ∙ ap (λ (x : Definition). typed_definitions s (view_definition x (definitions_of (drop (i + 1) ds)))) (sym e)
+pub externals_at : (s : Scoped) (ds : List External) (i : ℕ) (d : External) → i < length ds → d ≡ get_or ds i d
+    → typed_externals s (externals_of (drop i ds)) ≡ typed_externals s (view_external d (externals_of (drop (i + 1) ds)))
+externals_at s ds i d h e =
+    ap (λ (xs : List External). typed_externals s (externals_of xs)) (drop_more ds i d h)
+    ∙ ap (λ (x : External). typed_externals s (view_external x (externals_of (drop (i + 1) ds)))) (sym e)
 
 -- ---- what a fault says of a step
 
@@ -209,6 +216,3 @@ memory_step r e before now whole behind p q = fault_step r e errors.Memory befor
 pub fault_function : (r : Result (Unit {0}) TypingError) (e f : TypingError) (before now : List Function) (whole behind : Result (List Procedure) Fault)
     → r ≡ Err e → e ≡ f → Fails f whole → FunctionStep r before now whole behind
 fault_function r e f before now whole behind p q h = subst (λ (x : Result (Unit {0}) TypingError). FunctionStep x before now whole behind) (sym (p ∙ ap Err q)) h
-
-pub no_promise : {A : Type 0} (r : Result A TypingError) (e : TypingError) (P : Type 0) → r ≡ Err e → OnOk r P
-no_promise {A} r e P p = subst (λ (x : Result A TypingError). OnOk x P) (sym p) tt

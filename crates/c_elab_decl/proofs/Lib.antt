@@ -1,2 +1,9 @@
+pub mod Steps
+pub mod Lists
+pub mod Alone
+pub mod Comparing
+pub mod Growing
+pub mod Values
+pub mod Settling
 pub mod WellTyped
 pub mod Fronts

@@ -1,10 +1,9 @@
--- What elaborating gives is well typed, and which names and variables a scope has behind it.
-use Rattle.std.proofs.Common.{◌≡◌, ℕ, true, List, [], ◌∷◌, ◌++◌, length, Option, Some, None, Result, codes, refl, ap, sym, ◌∙◌, arith}
-use Rattle.std.specs.Prelude.{nat_lt, slice_index_or}
-use Rattle.std.proofs.lemmas.List.{append_assoc, append-nil, get_or_push, length-append}
-use borrow.Author.Tests.{lt-ltb}
-use Rattle.c_tree.specs.Tree.{Tree}
-use Rattle.c_tree.specs.Statements.{Declarators, none_declared, declarator, Statement, block, if_then, if_else, evaluate, return_nothing, return_value, Items, done, declares, does, Definitions, no_more, defines}
+-- What elaborating gives is well typed.
+use Rattle.std.proofs.Common.{◌≡◌, ℕ, Bool, true, List, [], ◌∷◌, length, Option, Some, None, Result, Ok, Err, codes, refl, ap, sym, subst, ◌∙◌, arith}
+use Rattle.std.specs.Prelude.{◌&&◌, nat_lt, slice_index_or, OnOk}
+use Rattle.c_tree.specs.Tree.{Tree, Declared}
+use Rattle.c_tree.specs.Declarations.{Initial, initial, braces, Initials, no_initial, initials, Parts, Declarators, none_declared, declarator, name_of}
+use Rattle.c_tree.specs.Statements.{Statement, block, if_then, if_else, evaluate, return_nothing, return_value, Items, done, declares, does, Externals, no_more, declared, defines}
 use Rattle.c_types.specs.declared.integers.IntegerType.{IntegerType}
 use Rattle.c_types.specs.declared.integers.IntegerType.TheVariants as types
 use Rattle.c_types.specs.declared.types.ValueType.{ValueType}
@@ -13,200 +12,279 @@ use Rattle.c_types.specs.Integers.{same_integer, same_type}
 use Rattle.core_tree.specs.Trees.{Expression, Procedure}
 use Rattle.core_tree.specs.Trees as cores
 use Rattle.core_tree.specs.Typed.{type_of, is_integer, is_variable, is_typed, is_typed_statement, are_typed_items, are_typed}
-use Rattle.c_elab_expr.specs.declared.meaning.Meaning.TheVariants.{Variable}
-use Rattle.c_elab_expr.specs.Scopes.{Environment, binding, Scoped, are_there}
-use Rattle.c_elab_expr.specs.Nodes.{integer, as_type}
-use Rattle.c_elab_expr.specs.Typing.{on_line, typed}
-use Rattle.c_elab_expr.proofs.Variables.{both, and, variable_more, are_there_more}
-use Rattle.c_elab_expr.proofs.Types.{one_integer_type, same_type_refl, type_as, typed_as}
+use Rattle.c_elab_expr.specs.declared.meaning.Meaning.TheVariants.{Function}
+use Rattle.c_elab_expr.specs.declared.fault.TypingError.{TypingError}
+use Rattle.c_elab_expr.specs.Scopes.{Environment, Named, Scoped, are_there, first_scope}
+use Rattle.c_elab_expr.specs.Nodes.{◌>>=◌, integer, as_type}
+use Rattle.c_elab_expr.specs.Types.{declared_line}
+use Rattle.c_elab_expr.specs.Typing.{Fault, Gives, on_line, typed}
+use Rattle.c_elab_expr.proofs.Variables.{both, and, are_there_wider}
+use Rattle.c_elab_expr.proofs.Types.{one_integer_type, same_integer_refl, same_type_refl, type_as, typed_as}
 use Rattle.c_elab_expr.proofs.WellTyped.{Holds, bind, given, refused, on_same_line, integer_is, well_typed}
-use Rattle.c_elab_decl.specs.Elaborated.{Typed, undeclared, with_variable, typed_initializer, initializer_of, declared_item, in_front, typed_declarators, typed_statement, typed_items, with_function, main, typed_definitions}
-
--- ---- more variables, more names
-
-abbrev pub Grows : List IntegerType → List IntegerType → Type 0
-Grows xs ys = (more : List IntegerType) × (ys ≡ xs ++ more)
-
-grows_refl : (xs : List IntegerType) → Grows xs xs
-grows_refl xs = ([], sym (append-nil xs))
-
-grows_trans : (xs ys zs : List IntegerType) → Grows xs ys → Grows ys zs → Grows xs zs
-grows_trans xs ys zs g h = (g.0 ++ h.0, h.1 ∙ ap (λ (l : List IntegerType). l ++ h.0) g.1 ∙ append_assoc xs g.0 h.0)
-
-there_grows : (xs ys : List IntegerType) (env : Environment) → Grows xs ys → are_there xs env ≡ true → are_there ys env ≡ true
-there_grows xs ys env g h = ap (λ (l : List IntegerType). are_there l env) g.1 ∙ are_there_more xs g.0 env h
-
-variable_grows : (xs ys : List IntegerType) (v : ℕ) (t : IntegerType) → Grows xs ys → is_variable xs v t ≡ true → is_variable ys v t ≡ true
-variable_grows xs ys v t g h = ap (λ (l : List IntegerType). is_variable l v t) g.1 ∙ variable_more xs g.0 v t h
-
-abbrev pub Inner : Environment → Environment → Type 0
-Inner outer inner = (more : Environment) × (inner ≡ more ++ outer)
-
-inner_trans : (a b c : Environment) → Inner a b → Inner b c → Inner a c
-inner_trans a b c g h = (h.0 ++ g.0, h.1 ∙ ap (λ (l : Environment). h.0 ++ l) g.1 ∙ sym (append_assoc h.0 g.0 a))
+use Rattle.c_elab_decl.specs.declared.regions.Region.{Region}
+use Rattle.c_elab_decl.specs.declared.regions.Role.{Role}
+use Rattle.c_elab_decl.specs.declared.regions.Role.TheVariants as roles
+use Rattle.c_elab_decl.specs.Regions.{earlier}
+use Rattle.c_elab_decl.specs.Initializers.{only, typed_initial, typed_initials, scalar_value, initializer_of}
+use Rattle.c_elab_decl.specs.Declarators.{Typed, in_front, declared_item, variable_type, with_variable, typed_variable, typed_variables}
+use Rattle.c_elab_decl.specs.Specifiers.{Specification, parts_line, typed_specifiers}
+use Rattle.c_elab_decl.specs.Statements.{typed_others, typed_by, typed_declaration, in_block, typed_statement, typed_items}
+use Rattle.c_elab_decl.specs.Files.{in_file, on_external, typed_outside, function_node, with_function, main, outside, typed_externals}
+use Rattle.c_elab_decl.proofs.Growing.{Grows, grows_refl, grows_trans, variable_grows, inner_refl, typed_grows, There, Follows, follows_refl, follows_trans, Settles, settles_trans, there_behind, binding_settles, new_variable, variable_follows}
+use Rattle.c_elab_decl.proofs.Settling.{trivially, weaken, specifiers_settle, others_settle}
 
 -- ---- what is done behind statements and items
 
 pub record StatementDone (s : Scoped) (y : cores.Statement × Scoped) : Type 0 where
   pub names : y.1.bindings ≡ s.bindings
-  pub grows : Grows s.variables y.1.variables
+  pub follows : Follows s y.1
   pub good : (vs : List IntegerType) → Grows y.1.variables vs → is_typed_statement vs y.0 ≡ true
 
 pub record ItemsDone (s : Scoped) (y : cores.Items × Scoped) : Type 0 where
-  pub names : Inner s.bindings y.1.bindings
-  pub grows : Grows s.variables y.1.variables
+  pub follows : Follows s y.1
   pub good : (vs : List IntegerType) → Grows y.1.variables vs → are_typed_items vs y.0 ≡ true
-
-abbrev There : Scoped → Type 0
-There s = are_there s.variables s.bindings ≡ true
 
 -- an expression, in the scope or with more variables
 abbrev Fine : Scoped → Expression → Type 0
 Fine s x = (vs : List IntegerType) → Grows s.variables vs → is_typed vs x ≡ true
 
-fine : (s : Scoped) (e : Tree) → There s → Holds (Fine s) (typed s.bindings e)
-fine s e there x is vs g = well_typed vs s.bindings e (there_grows s.variables vs s.bindings g there) x is
+fine : (s : Scoped) (e : Tree) → There s → Holds (Fine s) (typed s e)
+fine s e there x is vs g = typed_grows s.variables vs x g (well_typed s there.known there.built e x is)
 
-trivially : {A E : Type 0} (r : Result A E) → Holds (λ (x : A). Unit {0}) r
-trivially r x e = tt
+-- ---- initializers
 
--- ---- declarations
+abbrev FineMaybe : Scoped → Option Expression → Type 0
+FineMaybe s None = Unit {0}
+FineMaybe s (Some x) = Fine s x
 
-new_variable : (s : Scoped) (name : List ℕ) → is_variable (with_variable s name).variables (length s.variables) types.Int ≡ true
-new_variable s name =
-    let vs = s.variables in
-    let long = length-append vs (types.Int ∷ []) in
-    and (nat_lt (length vs) (length (vs ++ types.Int ∷ []))) (same_integer (slice_index_or (vs ++ types.Int ∷ []) (length vs) types.Int) types.Int)
-    (lt-ltb (length vs) (length (vs ++ types.Int ∷ [])) (omega arith))
-    (ap (λ (u : IntegerType). same_integer u types.Int) (get_or_push vs types.Int types.Int (length vs) refl))
+abbrev AllFine : Scoped → List (Option Expression) → Type 0
+AllFine s [] = Unit {0}
+AllFine s (x ∷ xs) = FineMaybe s x × AllFine s xs
 
-there_with : (s : Scoped) (name : List ℕ) → There s → There (with_variable s name)
-there_with s name there =
-    and (is_variable (s.variables ++ types.Int ∷ []) (length s.variables) types.Int) (are_there (s.variables ++ types.Int ∷ []) s.bindings)
-    (new_variable s name) (are_there_more s.variables (types.Int ∷ []) s.bindings there)
+only_fine : (s : Scoped) (xs : List (Option Expression)) → AllFine s xs → FineMaybe s (only xs)
+only_fine s [] h = tt
+only_fine s (x ∷ []) h = h.0
+only_fine s (x ∷ y ∷ rest) h = tt
 
-record FineInt (s : Scoped) (x : Expression) : Type 0 where
-  int : type_of x ≡ Integer types.Int
+mutual
+  initial_fine : (s : Scoped) (i : Initial) → There s → Holds (FineMaybe s) (typed_initial s i)
+  initial_fine s (initial e) there = bind (Fine s) (FineMaybe s) (typed s e) _ (fine s e there) (λ x good. given (FineMaybe s) (Some x) good)
+  initial_fine s (braces line items) there =
+      bind (AllFine s) (FineMaybe s) (typed_initials s items) _ (initials_fine s items there) (λ xs good. given (FineMaybe s) (only xs) (only_fine s xs good))
+
+  initials_fine : (s : Scoped) (is : Initials) → There s → Holds (AllFine s) (typed_initials s is)
+  initials_fine s no_initial there = given (AllFine s) [] tt
+  initials_fine s (initials first rest) there =
+      bind (FineMaybe s) (AllFine s) (typed_initial s first) _ (initial_fine s first there) (λ x good.
+      bind (AllFine s) (AllFine s) (typed_initials s rest) _ (initials_fine s rest there) (λ xs fines. given (AllFine s) (x ∷ xs) (good, fines)))
+
+record FineAs (t : IntegerType) (s : Scoped) (x : Expression) : Type 0 where
+  type : type_of x ≡ Integer t
   good : Fine s x
 
-initializer_fine : (line : ℕ) (s : Scoped) (e : Tree) → There s → Holds (FineInt s) (typed_initializer line s e)
-initializer_fine line s e there =
-    bind (Fine s) (FineInt s) (typed s.bindings e) _ (fine s e there) (λ x good.
-    bind (λ t. type_of x ≡ Integer t) (FineInt s) (on_line line (integer 8 x)) _ (on_same_line (λ t. type_of x ≡ Integer t) line (integer 8 x) (integer_is 8 x)) (λ t is.
-    given (FineInt s) (as_type types.Int x) (record { int = type_as types.Int x; good = λ vs g. typed_as vs types.Int t x is (good vs g) })))
+scalar_fine : (line : ℕ) (s : Scoped) (t : IntegerType) (o : Option Expression) → FineMaybe s o → Holds (FineAs t s) (scalar_value line t o)
+scalar_fine line s t None good = refused (FineAs t s) _
+scalar_fine line s t (Some x) good =
+    bind (λ u. type_of x ≡ Integer u) (FineAs t s) (on_line line (integer 8 x)) _ (on_same_line (λ u. type_of x ≡ Integer u) line (integer 8 x) (integer_is 8 x)) (λ u is.
+    given (FineAs t s) (as_type t x) (record { type = type_as t x; good = λ vs g. typed_as vs t u x is (good vs g) }))
 
-abbrev FineOption : Scoped → Option Expression → Type 0
-FineOption s None = Unit {0}
-FineOption s (Some x) = FineInt s x
+abbrev FineOption : IntegerType → Scoped → Option Expression → Type 0
+FineOption t s None = Unit {0}
+FineOption t s (Some x) = FineAs t s x
 
-option_fine : (line : ℕ) (s : Scoped) (o : Option Tree) → There s → Holds (FineOption s) (initializer_of line s o)
-option_fine line s None there = given (FineOption s) None tt
-option_fine line s (Some e) there =
-    bind (FineInt s) (FineOption s) (typed_initializer line s e) _ (initializer_fine line s e there) (λ x good. given (FineOption s) (Some x) good)
+option_fine : (line : ℕ) (s : Scoped) (t : IntegerType) (o : Option Initial) → There s → Holds (FineOption t s) (initializer_of line s t o)
+option_fine line s t None there = given (FineOption t s) None tt
+option_fine line s t (Some i) there =
+    bind (FineMaybe s) (FineOption t s) (typed_initial s i) _ (initial_fine s i there) (λ x good.
+    bind (FineAs t s) (FineOption t s) (scalar_value line t x) _ (scalar_fine line s t x good) (λ y fine. given (FineOption t s) (Some y) fine))
+
+-- ---- variables
 
 -- an item in front of good ones
-item_good : (s : Scoped) (line : ℕ) (name : List ℕ) (o : Option Expression) (vs : List IntegerType) (rest : cores.Items)
-    → Grows (with_variable s name).variables vs → FineOption (with_variable s name) o → are_typed_items vs rest ≡ true
+item_good : (s : Scoped) (name : List ℕ) (t : IntegerType) (k : Bool) (line : ℕ) (o : Option Expression) (vs : List IntegerType) (rest : cores.Items)
+    → Grows (with_variable s name t k).variables vs → FineOption t (with_variable s name t k) o → are_typed_items vs rest ≡ true
     → are_typed_items vs (declared_item line (length s.variables) o rest) ≡ true
-item_good s line name None vs rest g h good =
-    let there = variable_grows (with_variable s name).variables vs (length s.variables) types.Int g (new_variable s name) in
-    let parts = both (nat_lt (length s.variables) (length vs)) (same_integer (slice_index_or vs (length s.variables) types.Int) types.Int) there in
+item_good s name t k line None vs rest g h good =
+    let there = variable_grows (with_variable s name t k).variables vs (length s.variables) t g (new_variable s.variables t (same_integer_refl t)) in
+    let parts = both (nat_lt (length s.variables) (length vs)) (same_integer (slice_index_or vs (length s.variables) types.Int) t) there in
     and _ _ parts.0 good
-item_good s line name (Some x) vs rest g h good =
-    let there = variable_grows (with_variable s name).variables vs (length s.variables) types.Int g (new_variable s name) in
-    let parts = both (nat_lt (length s.variables) (length vs)) (same_integer (slice_index_or vs (length s.variables) types.Int) types.Int) there in
-    let int : slice_index_or vs (length s.variables) types.Int ≡ types.Int = one_integer_type (slice_index_or vs (length s.variables) types.Int) types.Int parts.1 in
+item_good s name t k line (Some x) vs rest g h good =
+    let there = variable_grows (with_variable s name t k).variables vs (length s.variables) t g (new_variable s.variables t (same_integer_refl t)) in
+    let parts = both (nat_lt (length s.variables) (length vs)) (same_integer (slice_index_or vs (length s.variables) types.Int) t) there in
+    let is : slice_index_or vs (length s.variables) types.Int ≡ t = one_integer_type (slice_index_or vs (length s.variables) types.Int) t parts.1 in
     let same : same_type (type_of x) (Integer (slice_index_or vs (length s.variables) types.Int)) ≡ true =
-    ap (λ (a : ValueType). same_type a (Integer (slice_index_or vs (length s.variables) types.Int))) h.int
-    ∙ ap (λ (t : IntegerType). same_type (Integer types.Int) (Integer t)) int ∙ same_type_refl (Integer types.Int) in
+    ap (λ (a : ValueType). same_type a (Integer (slice_index_or vs (length s.variables) types.Int))) h.type
+    ∙ ap (λ (u : IntegerType). same_type (Integer t) (Integer u)) is ∙ same_type_refl (Integer t) in
     and _ _ (and _ _ (and _ _ parts.0 same) (h.good vs g)) good
 
 -- items with one in front of them
-front_done : (s t : Scoped) (f : cores.Items → cores.Items) (r : Typed) → Inner s.bindings t.bindings → Grows s.variables t.variables
+front_done : (s t : Scoped) (f : cores.Items → cores.Items) (r : Typed) → Follows s t
     → ((vs : List IntegerType) (rest : cores.Items) → Grows t.variables vs → are_typed_items vs rest ≡ true → are_typed_items vs (f rest) ≡ true)
     → Holds (ItemsDone t) r → Holds (ItemsDone s) (in_front f r)
-front_done s t f r names grows good h =
+front_done s t f r follows good h =
     bind (ItemsDone t) (ItemsDone s) r _ h (λ y d. given (ItemsDone s) (f y.0, y.1) (record {
-      names = inner_trans s.bindings t.bindings y.1.bindings names d.names;
-      grows = grows_trans s.variables t.variables y.1.variables grows d.grows;
-      good = λ vs g. good vs y.0 (grows_trans t.variables y.1.variables vs d.grows g) (d.good vs g);
+      follows = follows_trans s t y.1 follows d.follows;
+      good = λ vs g. good vs y.0 (grows_trans t.variables y.1.variables vs d.follows.variables g) (d.good vs g);
     }))
 
-declarators_done : (outer : ℕ) (s : Scoped) (ds : Declarators) (behind : Scoped → Typed) → There s → ((t : Scoped) → There t → Holds (ItemsDone t) (behind t))
-    → Holds (ItemsDone s) (typed_declarators outer s ds behind)
-declarators_done outer s none_declared behind there h = h s there
-declarators_done outer s (declarator line name initializer rest) behind there h =
-    let t = with_variable s name in
-    bind (λ (u : Scoped). Unit {0}) (ItemsDone s) (on_line line (undeclared outer s name)) _ (trivially _) (λ u _.
-    bind (FineOption t) (ItemsDone s) (initializer_of line t initializer) _ (option_fine line t initializer (there_with s name there)) (λ x good.
-    front_done s t (declared_item line (length s.variables) x) (typed_declarators outer t rest behind)
-    (binding name (Variable (length s.variables) types.Int) ∷ [], refl) (types.Int ∷ [], refl)
-    (λ vs items g typed. item_good s line name x vs items g good typed)
-    (declarators_done outer t rest behind (there_with s name there) h)))
+-- items behind a scope that goes on from another
+behind_done : (s t : Scoped) (r : Typed) → Follows s t → Holds (ItemsDone t) r → Holds (ItemsDone s) r
+behind_done s t r follows h = λ y e. let d = h y e in record { follows = follows_trans s t y.1 follows d.follows; good = d.good }
+
+variable_done : (r : Region) (s : Scoped) (base : Named) (d : Declared) (i : Option Initial) (behind : Scoped → Typed) → There s → ((t : Scoped) → There t → Holds (ItemsDone t) (behind t))
+    → Holds (ItemsDone s) (typed_variable r s base d i behind)
+variable_done r s base d i behind there h =
+    bind (λ (t : IntegerType). Unit {0}) (ItemsDone s) (variable_type r s base.type d i) _ (trivially _) (λ t _.
+    let u = with_variable s (name_of d) t base.constant in
+    let f = variable_follows s (name_of d) t base.constant (same_integer_refl t) in
+    bind (FineOption t u) (ItemsDone s) (initializer_of (declared_line d) u t i) _ (option_fine (declared_line d) u t i (f.there there)) (λ x good.
+    front_done s u (declared_item (declared_line d) (length s.variables) x) (behind u) f
+    (λ vs rest g typed. item_good s (name_of d) t base.constant (declared_line d) x vs rest g good typed) (h u (f.there there))))
+
+variables_done : (r : Region) (s : Scoped) (base : Named) (ds : Declarators) (behind : Scoped → Typed) → There s → ((t : Scoped) → There t → Holds (ItemsDone t) (behind t))
+    → Holds (ItemsDone s) (typed_variables r s base ds behind)
+variables_done r s base none_declared behind there h = h s there
+variables_done r s base (declarator d i rest) behind there h =
+    variable_done r s base d i (λ t. typed_variables r t base rest behind) there (λ t here. variables_done r t base rest behind here h)
+
+-- ---- declarations
+
+others_done : (r : Region) (x : Specification) (role : Role) (ds : Declarators) (behind : Scoped → Typed) → There x.scope → ((t : Scoped) → There t → Holds (ItemsDone t) (behind t))
+    → Holds (ItemsDone x.scope) (typed_others r x role ds >>= behind)
+others_done r x role ds behind there h =
+    bind (Settles x.scope) (ItemsDone x.scope) (typed_others r x role ds) behind (others_settle r x role ds) (λ t f.
+    behind_done x.scope t (behind t) f.follows (h t (f.follows.there there)))
+
+by_done : (r : Region) (x : Specification) (role : Role) (ds : Declarators) (behind : Scoped → Typed) → There x.scope → ((t : Scoped) → There t → Holds (ItemsDone t) (behind t))
+    → Holds (ItemsDone x.scope) (typed_by r x role ds behind)
+by_done r x roles.Typedef ds behind there h = others_done r x roles.Typedef ds behind there h
+by_done r x roles.Lasting ds behind there h = others_done r x roles.Lasting ds behind there h
+by_done r x roles.Automatic ds behind there h = variables_done r x.scope x.type ds behind there h
+
+declaration_done : (r : Region) (s : Scoped) (parts : Parts) (ds : Declarators) (behind : Scoped → Typed) → There s → ((t : Scoped) → There t → Holds (ItemsDone t) (behind t))
+    → Holds (ItemsDone s) (typed_declaration r s parts ds behind)
+declaration_done r s parts ds behind there h =
+    bind (λ x. Settles s x.scope) (ItemsDone s) (typed_specifiers r s parts ds) _ (specifiers_settle r s parts ds) (λ x f.
+    behind_done s x.scope (typed_by r x x.role ds behind) f.follows (by_done r x x.role ds behind (f.follows.there there) h))
 
 -- ---- statements
 
-there_behind : (s : Scoped) (y : cores.Statement × Scoped) → There s → StatementDone s y → There y.1
-there_behind s y there d =
-    ap (λ (env : Environment). are_there y.1.variables env) d.names ∙ there_grows s.variables y.1.variables s.bindings d.grows there
+-- behind a block its names are left
+left_done : (s : Scoped) (y : cores.Items × Scoped) → There s → ItemsDone s y → StatementDone s (cores.block y.0, record y.1 { bindings = s.bindings })
+left_done s y there d = record {
+  names = refl;
+  follows = record {
+    names = inner_refl s.bindings;
+    variables = d.follows.variables;
+    types = d.follows.types;
+    records = d.follows.records;
+    there = λ h. there_behind s y.1 d.follows h;
+  };
+  good = d.good;
+}
 
 mutual
   pub statement_done : (s : Scoped) (x : Statement) → There s → Holds (StatementDone s) (typed_statement s x)
   statement_done s (block line items) there =
       bind (ItemsDone s) (StatementDone s) (typed_items (length s.bindings) s items) _ (items_done (length s.bindings) s items there) (λ y d.
-      given (StatementDone s) (cores.block y.0, record s { variables = y.1.variables }) (record { names = refl; grows = d.grows; good = d.good }))
+      given (StatementDone s) (cores.block y.0, record y.1 { bindings = s.bindings }) (left_done s y there d))
   statement_done s (if_then line test one) there =
-      bind (Fine s) (StatementDone s) (typed s.bindings test) _ (fine s test there) (λ x good.
+      bind (Fine s) (StatementDone s) (typed s test) _ (fine s test there) (λ x good.
       bind (StatementDone s) (StatementDone s) (typed_statement s one) _ (statement_done s one there) (λ y d.
       bind (λ t. type_of x ≡ Integer t) (StatementDone s) (on_line line (integer 17 x)) _ (on_same_line (λ t. type_of x ≡ Integer t) line (integer 17 x) (integer_is 17 x)) (λ t is.
       given (StatementDone s) (cores.if_then line x y.0, y.1) (record {
         names = d.names;
-        grows = d.grows;
-        good = λ vs g. and _ _ (and _ _ (ap is_integer is) (good vs (grows_trans s.variables y.1.variables vs d.grows g))) (d.good vs g);
+        follows = d.follows;
+        good = λ vs g. and _ _ (and _ _ (ap is_integer is) (good vs (grows_trans s.variables y.1.variables vs d.follows.variables g))) (d.good vs g);
       }))))
   statement_done s (if_else line test one other) there =
-      bind (Fine s) (StatementDone s) (typed s.bindings test) _ (fine s test there) (λ x good.
+      bind (Fine s) (StatementDone s) (typed s test) _ (fine s test there) (λ x good.
       bind (StatementDone s) (StatementDone s) (typed_statement s one) _ (statement_done s one there) (λ y d.
-      bind (StatementDone y.1) (StatementDone s) (typed_statement y.1 other) _ (statement_done y.1 other (there_behind s y there d)) (λ z e.
+      bind (StatementDone y.1) (StatementDone s) (typed_statement y.1 other) _ (statement_done y.1 other (d.follows.there there)) (λ z e.
       bind (λ t. type_of x ≡ Integer t) (StatementDone s) (on_line line (integer 17 x)) _ (on_same_line (λ t. type_of x ≡ Integer t) line (integer 17 x) (integer_is 17 x)) (λ t is.
-      let grown = grows_trans s.variables y.1.variables z.1.variables d.grows e.grows in
+      let follows = follows_trans s y.1 z.1 d.follows e.follows in
       given (StatementDone s) (cores.if_else line x y.0 z.0, z.1) (record {
         names = e.names ∙ d.names;
-        grows = grown;
-        good = λ vs g. and _ _ (and _ _ (and _ _ (ap is_integer is) (good vs (grows_trans s.variables z.1.variables vs grown g)))
-            (d.good vs (grows_trans y.1.variables z.1.variables vs e.grows g))) (e.good vs g);
+        follows = follows;
+        good = λ vs g. and _ _ (and _ _ (and _ _ (ap is_integer is) (good vs (grows_trans s.variables z.1.variables vs follows.variables g)))
+            (d.good vs (grows_trans y.1.variables z.1.variables vs e.follows.variables g))) (e.good vs g);
       })))))
   statement_done s (evaluate e) there =
-      bind (Fine s) (StatementDone s) (typed s.bindings e) _ (fine s e there) (λ x good.
-      given (StatementDone s) (cores.evaluate x, s) (record { names = refl; grows = grows_refl s.variables; good = good }))
+      bind (Fine s) (StatementDone s) (typed s e) _ (fine s e there) (λ x good.
+      given (StatementDone s) (cores.evaluate x, s) (record { names = refl; follows = follows_refl s; good = good }))
   statement_done s (return_nothing line) there = refused (StatementDone s) _
   statement_done s (return_value line e) there =
-      bind (Fine s) (StatementDone s) (typed s.bindings e) _ (fine s e there) (λ x good.
+      bind (Fine s) (StatementDone s) (typed s e) _ (fine s e there) (λ x good.
       bind (λ t. type_of x ≡ Integer t) (StatementDone s) (on_line line (integer 8 x)) _ (on_same_line (λ t. type_of x ≡ Integer t) line (integer 8 x) (integer_is 8 x)) (λ t is.
       given (StatementDone s) (cores.returns line (as_type types.Int x), s) (record {
         names = refl;
-        grows = grows_refl s.variables;
+        follows = follows_refl s;
         good = λ vs g. and _ _ (ap (λ (a : ValueType). same_type a (Integer types.Int)) (type_as types.Int x) ∙ same_type_refl (Integer types.Int)) (typed_as vs types.Int t x is (good vs g));
       })))
 
   pub items_done : (outer : ℕ) (s : Scoped) (x : Items) → There s → Holds (ItemsDone s) (typed_items outer s x)
-  items_done outer s done there = given (ItemsDone s) (cores.done, s) (record { names = ([], refl); grows = grows_refl s.variables; good = λ vs g. refl })
-  items_done outer s (declares line ds rest) there = declarators_done outer s ds (λ t. typed_items outer t rest) there (λ t here. items_done outer t rest here)
+  items_done outer s done there = given (ItemsDone s) (cores.done, s) (record { follows = follows_refl s; good = λ vs g. refl })
+  items_done outer s (declares parts ds rest) there =
+      declaration_done (in_block outer) s parts ds (λ t. typed_items outer t rest) there (λ t here. items_done outer t rest here)
   items_done outer s (does first rest) there =
       bind (StatementDone s) (ItemsDone s) (typed_statement s first) _ (statement_done s first there) (λ x d.
-      front_done s x.1 (cores.does x.0) (typed_items outer x.1 rest) ([], d.names) d.grows
+      front_done s x.1 (cores.does x.0) (typed_items outer x.1 rest) d.follows
       (λ vs items g typed. and _ _ (d.good vs g) typed)
-      (items_done outer x.1 rest (there_behind s x there d)))
+      (items_done outer x.1 rest (d.follows.there there)))
 
--- ---- definitions
+-- ---- what stands in a file
 
-pub definitions_done : (s : Scoped) (ds : Definitions) → s.variables ≡ [] → are_there [] s.bindings ≡ true → Holds (λ fs. are_typed fs ≡ true) (typed_definitions s ds)
-definitions_done s no_more empty there = given (λ fs. are_typed fs ≡ true) [] refl
-definitions_done s (defines line name_line body rest) empty there =
+same_external : {A : Type 0} (P : A → Type 0) (line : ℕ) (r : Result A Fault) → Holds P r → Holds P (on_external line r)
+same_external P line (Ok x) h = h
+same_external P line (Err f) h = refused P _
+
+pub outside_settles : (s : Scoped) (parts : Parts) (ds : Declarators) → Holds (Settles s) (typed_outside s parts ds)
+outside_settles s parts ds =
+    bind (λ x. Settles s x.scope) (Settles s) (typed_specifiers in_file s parts ds) _ (specifiers_settle in_file s parts ds) (λ x f.
+    weaken (Settles x.scope) (Settles s) (typed_others in_file x x.role ds) (others_settle in_file x x.role ds) (λ t g. settles_trans s x.scope t f g))
+
+pub declared_settles : (line : ℕ) (s : Scoped) (parts : Parts) (ds : Declarators) → Holds (Settles s) (on_external line (typed_outside s parts ds))
+declared_settles line s parts ds = same_external (Settles s) line (typed_outside s parts ds) (outside_settles s parts ds)
+
+-- a scope behind a function
+pub there_outside : (s t : Scoped) → s.variables ≡ [] → Follows s t → t.bindings ≡ s.bindings → There s → There (outside t)
+there_outside s t empty f names there = record {
+  known =
+      ap (λ (env : Environment). are_there [] (length t.types) (length t.records.declared) env) names
+      ∙ are_there_wider [] (length s.types) (length t.types) (length s.records.declared) (length t.records.declared) s.bindings f.types f.records
+      (ap (λ (vs : List IntegerType). are_there vs (length s.types) (length s.records.declared) s.bindings) (sym empty) ∙ there.known);
+  built = omega (arith, f.types, there.built);
+}
+
+pub externals_done : (s : Scoped) (ds : Externals) → s.variables ≡ [] → There s → Holds (λ fs. are_typed fs ≡ true) (typed_externals s ds)
+externals_done s no_more empty there = given (λ fs. are_typed fs ≡ true) [] refl
+externals_done s (declared parts ds rest) empty there =
+    bind (Settles s) (λ fs. are_typed fs ≡ true) (on_external (parts_line parts) (typed_outside s parts ds)) _ (declared_settles (parts_line parts) s parts ds) (λ t f.
+    externals_done t rest (f.same ∙ empty) (f.follows.there there))
+externals_done s (defines line name_line body rest) empty there =
     let t = with_function s (codes "main") in
-    let there_t : are_there t.variables t.bindings ≡ true = ap (λ (vs : List IntegerType). are_there vs s.bindings) empty ∙ there in
-    bind (λ (u : Scoped). Unit {0}) (λ fs. are_typed fs ≡ true) (on_line name_line (undeclared 0 s (codes "main"))) _ (trivially _) (λ u _.
-    bind (StatementDone t) (λ fs. are_typed fs ≡ true) (typed_statement t body) _ (statement_done t body there_t) (λ x d.
-    bind (λ fs. are_typed fs ≡ true) (λ fs. are_typed fs ≡ true) (typed_definitions (record x.1 { variables = [] }) rest) _
-    (definitions_done (record x.1 { variables = [] }) rest refl (ap (λ (env : Environment). are_there [] env) d.names ∙ there)) (λ fs good.
+    let there_t : There t = (binding_settles s (codes "main") Function refl).follows.there there in
+    bind (λ (u : Unit {0}). Unit {0}) (λ fs. are_typed fs ≡ true) (on_line name_line (function_node (earlier in_file s (codes "main")))) _ (trivially _) (λ u _.
+    bind (StatementDone t) (λ fs. are_typed fs ≡ true) (on_external line (typed_statement t body)) _ (same_external (StatementDone t) line (typed_statement t body) (statement_done t body there_t)) (λ x d.
+    bind (λ fs. are_typed fs ≡ true) (λ fs. are_typed fs ≡ true) (typed_externals (outside x.1) rest) _
+    (externals_done (outside x.1) rest refl (there_outside t x.1 empty d.follows d.names there_t)) (λ fs good.
     given (λ gs. are_typed gs ≡ true) (main name_line x.1.variables x.0 ∷ fs) (and _ _ (d.good x.1.variables (grows_refl x.1.variables)) good))))
+
+-- what code knows of these
+
+pub body_there : (s t u : Scoped) (line : ℕ) (body : Statement) (c : cores.Statement) → s.variables ≡ [] → There s → t ≡ with_function s (codes "main")
+    → on_external line (typed_statement t body) ≡ Ok (c, u) → There (outside u)
+body_there s t u line body c empty there scope e =
+    let inner = with_function s (codes "main") in
+    let there_inner : There inner = (binding_settles s (codes "main") Function refl).follows.there there in
+    let d = same_external (StatementDone inner) line (typed_statement inner body) (statement_done inner body there_inner) (c, u)
+    (ap (λ (x : Scoped). on_external line (typed_statement x body)) (sym scope) ∙ e) in
+    there_outside inner u empty d.follows d.names there_inner
+
+pub nothing_outside : (r : Result (Unit {0}) TypingError) (s t : Scoped) (line : ℕ) (parts : Parts) (ds : Declarators) → s.variables ≡ []
+    → Gives (λ u. t) r (on_external line (typed_outside s parts ds)) → OnOk r (t.variables ≡ [])
+nothing_outside (Ok u) s t line parts ds empty g = (declared_settles line s parts ds t g).same ∙ empty
+nothing_outside (Err e) s t line parts ds empty g = tt
+
+pub there_first : There first_scope
+there_first = record { known = refl; built = omega arith }

@@ -1,2 +1,10 @@
-pub mod Elaborated
+pub mod Names
+pub mod Regions
+pub mod Initializers
+pub mod Enumerations
+pub mod Declarators
+pub mod Tags
+pub mod Specifiers
+pub mod Statements
+pub mod Files
 pub mod Steps

@@ -7,7 +7,7 @@ use Rattle.core_tree.specs.Trees as cores
 use Rattle.c_elab_expr.specs.declared.fault.TypingError.{TypingError}
 use Rattle.c_elab_expr.specs.Nodes.{◌>>=◌}
 use Rattle.c_elab_expr.specs.Typing.{Fault, Fails}
-use Rattle.c_elab_decl.specs.Elaborated.{Typed}
+use Rattle.c_elab_decl.specs.Declarators.{Typed}
 
 -- items in front of others
 abbrev pub prepend : List CoreItem → cores.Items → cores.Items

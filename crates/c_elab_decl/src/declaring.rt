@@ -1,112 +1,99 @@
-//! Declarations.
+//! Declarations in blocks and outside of functions.
 
-ghost use Rattle.std.specs.Prelude.{◌≡◌, ◌≤◌, length, OnOk, option_map};
-ghost use Rattle.c_tree.specs.Tree.{view as tree};
-ghost use Rattle.c_tree.specs.Statements.{Declarators, view_declarator, declarators_of};
-ghost use Rattle.core_tree.specs.Trees.{Items, view, with_item};
+ghost use Rattle.std.specs.Prelude.{◌≡◌, ◌≤◌, length, OnOk};
+ghost use Rattle.c_tree.specs.Declarations.{parts_of, declarators_of};
 ghost use Rattle.c_elab_expr.specs.Scopes.{Scoped};
 ghost use Rattle.c_elab_expr.specs.Typing.{Gives};
-ghost use Rattle.c_elab_decl.specs.Elaborated.{Typed, declared_item, typed_initializer, initializer_of, typed_declarators};
+ghost use Rattle.c_elab_decl.specs.Declarators.{Typed};
+ghost use Rattle.c_elab_decl.specs.Specifiers.{view_specification};
+ghost use Rattle.c_elab_decl.specs.Statements.{typed_others, typed_by, typed_declaration};
+ghost use Rattle.c_elab_decl.specs.Files.{in_file, typed_outside};
 ghost use Rattle.c_elab_decl.specs.Steps.{Step};
 
-use crate::places::integer_on;
-use c_elab_expr::{Scope, TypingError, as_type, typed};
-use c_tree::{Expr, InitDeclarator};
-use c_types::IntegerType;
-use core_tree::{CoreExpr, CoreItem, names_variable};
+use crate::naming::{typed_objects, typed_typedefs};
+use crate::regions::{Region, Role};
+use crate::specifying::{Base, typed_specifiers};
+use crate::variables::typed_variables;
+use c_elab_expr::{Scope, TypingError};
+use c_tree::{Declaration, InitDeclarator};
+use core_tree::CoreItem;
 use std::alloc::Global;
 
-// More variables than this have no memory.
-const VARIABLES: usize = 0x7fff_ffff;
-
-fn typed_initializer(
+// Declarators that make no variables of a function.
+fn typed_others(
     alloc: Global,
-    line: u32,
-    scope: &Scope,
-    expr: &Expr,
-) -> Result<CoreExpr, TypingError>
-    ensures { Gives view result (typed_initializer line scope.now (tree expr.now)) }
-{
-    let core = typed(alloc, expr, scope)?;
-    let _type = integer_on(&core, line, 8)?;
-    Ok(as_type(alloc, IntegerType::Int, core)?)
-}
-
-fn initializer(
-    alloc: Global,
-    line: u32,
-    scope: &Scope,
-    expr: &Option<Expr>,
-) -> Result<Option<CoreExpr>, TypingError>
-    ensures { Gives (λ o. option_map view o) result (initializer_of line scope.now (option_map tree expr.now)) }
-{
-    match expr {
-        None => Ok(None),
-        Some(expr) => Ok(Some(typed_initializer(alloc, line, scope, expr)?)),
-    }
-}
-
-fn declared_item(line: u32, variable: u32, value: Option<CoreExpr>) -> CoreItem
-    ensures { (rest : Items) → with_item result rest ≡ declared_item line variable (option_map view value) rest }
-{
-    match value {
-        None => CoreItem::Declare { line, variable },
-        Some(value) => CoreItem::Initialize {
-            line,
-            variable,
-            drawn: names_variable(variable, &value),
-            value,
-        },
-    }
-}
-
-/// A declarator in the block that began with `outer` names in scope.
-pub fn declare_one(
-    alloc: Global,
-    declarator: &InitDeclarator,
-    scope: &mut Scope,
-    outer: usize,
-    items: &mut Vec<CoreItem>,
-) -> Result<(), TypingError>
-    requires { outer ≤ length scope.old.bindings }
-    ensures step { (rest : Declarators) (behind : Scoped → Typed) →
-        Step result items.old.items items.new.items
-        (typed_declarators outer scope.old (view_declarator declarator.now rest) behind)
-        (typed_declarators outer scope.new rest behind) }
-    ensures within { OnOk result (outer ≤ length scope.new.bindings) }
-{
-    if scope.is_declared(&declarator.name.bytes, outer) {
-        return Err(TypingError::Typing {
-            line: declarator.line,
-            rule: 2,
-        });
-    }
-    if scope.variable_count() > VARIABLES {
-        return Err(TypingError::Memory);
-    }
-    let variable = scope.declare_variable(alloc, &declarator.name.bytes, IntegerType::Int)?;
-    let value = initializer(alloc, declarator.line, scope, &declarator.initializer)?;
-    items.push(declared_item(declarator.line, variable, value))?;
-    Ok(())
-}
-
-/// Declarators from left to right.
-pub fn declare_all(
-    alloc: Global,
+    base: &Base,
     declarators: &[InitDeclarator],
+    region: Region,
     scope: &mut Scope,
-    outer: usize,
+) -> Result<(), TypingError>
+    requires { region.outer ≤ length scope.old.bindings }
+    ensures gives { Gives (λ u. scope.new) result (typed_others region (view_specification base.now scope.old) base.now.role (declarators_of declarators.now)) }
+    ensures within { OnOk result (region.outer ≤ length scope.new.bindings) }
+{
+    match base.role {
+        Role::Typedef => typed_typedefs(alloc, &base.named, declarators, region, scope),
+        Role::Lasting => typed_objects(alloc, declarators, scope),
+        Role::Automatic => typed_objects(alloc, declarators, scope),
+    }
+}
+
+// Declarators by their role, in front of what stands behind them.
+fn typed_by(
+    alloc: Global,
+    base: &Base,
+    declarators: &[InitDeclarator],
+    region: Region,
+    scope: &mut Scope,
     items: &mut Vec<CoreItem>,
 ) -> Result<(), TypingError>
-    requires { outer ≤ length scope.old.bindings }
+    requires { region.outer ≤ length scope.old.bindings }
     ensures step { (behind : Scoped → Typed) →
         Step result items.old.items items.new.items
-        (typed_declarators outer scope.old (declarators_of declarators.now) behind)
+        (typed_by region (view_specification base.now scope.old) base.now.role (declarators_of declarators.now) behind)
         (behind scope.new) }
-    ensures within { OnOk result (outer ≤ length scope.new.bindings) }
+    ensures within { OnOk result (region.outer ≤ length scope.new.bindings) }
 {
-    for declarator in declarators {
-        declare_one(alloc, declarator, scope, outer, items)?;
+    match base.role {
+        Role::Typedef => typed_others(alloc, base, declarators, region, scope),
+        Role::Lasting => typed_others(alloc, base, declarators, region, scope),
+        Role::Automatic => typed_variables(alloc, &base.named, declarators, region, scope, items),
     }
-    Ok(())
+}
+
+/// A declaration in a block, in front of what stands behind it.
+pub fn declare(
+    alloc: Global,
+    declaration: &Declaration,
+    scope: &mut Scope,
+    region: Region,
+    items: &mut Vec<CoreItem>,
+) -> Result<(), TypingError>
+    requires { region.outer ≤ length scope.old.bindings }
+    ensures step { (behind : Scoped → Typed) →
+        Step result items.old.items items.new.items
+        (typed_declaration region scope.old (parts_of declaration.now.specifiers.items) (declarators_of declaration.now.declarators.items) behind)
+        (behind scope.new) }
+    ensures within { OnOk result (region.outer ≤ length scope.new.bindings) }
+{
+    let declarators = &declaration.declarators;
+    let base = typed_specifiers(alloc, &declaration.specifiers, declarators, region, scope)?;
+    typed_by(alloc, &base, declarators, region, scope, items)
+}
+
+/// A declaration outside of functions.
+pub fn declare_outside(
+    alloc: Global,
+    declaration: &Declaration,
+    scope: &mut Scope,
+) -> Result<(), TypingError>
+    ensures { Gives (λ u. scope.new) result (typed_outside scope.old (parts_of declaration.now.specifiers.items) (declarators_of declaration.now.declarators.items)) }
+{
+    let region = Region {
+        outer: 0,
+        is_file: true,
+    };
+    let declarators = &declaration.declarators;
+    let base = typed_specifiers(alloc, &declaration.specifiers, declarators, region, scope)?;
+    typed_others(alloc, &base, declarators, region, scope)
 }

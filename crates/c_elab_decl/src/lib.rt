@@ -3,9 +3,17 @@
 
 mod declaring;
 mod defining;
+mod enumerating;
+mod initializing;
+mod names;
+mod naming;
 mod places;
+mod regions;
+mod specifying;
 mod stating;
+mod tagging;
 #[cfg(test)]
 mod tests;
+mod variables;
 
 pub use defining::elaborate;

@@ -5,11 +5,12 @@ ghost use Rattle.c_tree.specs.Statements.{view_statement as tree};
 ghost use Rattle.c_tree.specs.Statements.{Items, view_item, items_of as trees};
 ghost use Rattle.core_tree.specs.Trees.{view_statement, items_of};
 ghost use Rattle.c_elab_expr.specs.Typing.{Gives};
-ghost use Rattle.c_elab_decl.specs.Elaborated.{typed_statement, typed_items};
+ghost use Rattle.c_elab_decl.specs.Statements.{typed_statement, typed_items};
 ghost use Rattle.c_elab_decl.specs.Steps.{Step};
 
-use crate::declaring::declare_all;
+use crate::declaring::declare;
 use crate::places::integer_on;
+use crate::regions::Region;
 use c_elab_expr::{Scope, TypingError, as_type, typed};
 use c_tree::{Item, Stmt};
 use c_types::IntegerType;
@@ -115,7 +116,11 @@ fn typed_item(
 {
     match item {
         Item::Declares(declaration) => {
-            declare_all(alloc, &declaration.declarators, scope, outer, items)
+            let region = Region {
+                outer,
+                is_file: false,
+            };
+            declare(alloc, declaration, scope, region, items)
         }
         Item::Does(statement) => {
             let statement = typed_statement(alloc, statement, scope)?;

@@ -89,15 +89,18 @@ fn show(alloc: Global, statement: &CoreStatement) -> Result<String, AllocError> 
     }
 }
 
-/// The number of the first function's variables and its body, or the broken rule.
+/// The types of the first function's variables and its body, or the broken rule.
 fn outcome(alloc: Global, text: &[u8]) -> Result<String, Fail> {
     let tokens = lexed(alloc, text)?;
     let file = parse(alloc, &tokens)?;
     match elaborate(alloc, &file) {
         Ok(core) => match core.functions().first() {
             Some(function) => {
-                let variables = function.variables.len();
-                Ok(format!(in alloc; "{variables}: {}", show(alloc, &function.body)?)?)
+                let mut types = String::new(alloc);
+                for type_ in &function.variables {
+                    types.push_str(format!(in alloc; "{type_:?} ")?.as_str())?;
+                }
+                Ok(format!(in alloc; "{types}{}", show(alloc, &function.body)?)?)
             }
             None => Err(Fail::from("no function")),
         },
@@ -109,33 +112,385 @@ fn outcome(alloc: Global, text: &[u8]) -> Result<String, Fail> {
 }
 
 #[test]
-fn files_have_their_typing(rt: HostRuntime) -> Result<(), Fail> {
+fn variables_of_each_integer_type(rt: HostRuntime) -> Result<(), Fail> {
+    let rows: [(&[u8], &str); 24] = [
+        (
+            b"int main(void){unsigned char (c)=200;c=c+100;assert(c==44);return 0;}",
+            "UnsignedChar {v0=UnsignedChar(200);#;#;return 0;}",
+        ),
+        (
+            b"int main(void){unsigned n=nondet_uint();assert((1u<<n)>>n==1u);return 0;}",
+            "UnsignedInt {v0=draw;#;return 0;}",
+        ),
+        (
+            b"int main(void){unsigned char x=nondet_uchar();assert(!(x*x==49&&100/x==14));return 0;}",
+            "UnsignedChar {v0=draw;#;return 0;}",
+        ),
+        (
+            b"int main(void){long unsigned int long a;short b;signed c;char d;_Bool e;}",
+            "UnsignedLongLong Short Int Char Bool {v0;v1;v2;v3;v4;}",
+        ),
+        (
+            b"int main(void){size_t a;int8_t b;uint16_t c;ptrdiff_t d;pthread_t e;}",
+            "UnsignedLong SignedChar UnsignedShort Long UnsignedLong {v0;v1;v2;v3;v4;}",
+        ),
+        (
+            b"int main(void){volatile register int a;auto long b;}",
+            "Int Long {v0;v1;}",
+        ),
+        (
+            b"int main(void){short a=1,b=a;}",
+            "Short Short {v0=Short(1);v1=v0;}",
+        ),
+        (
+            b"int main(void){_Bool b=2;char c=b;}",
+            "Bool Char {v0=Bool(2);v1=Char(v0);}",
+        ),
+        (
+            b"int main(void){int x={1},y={{x}},z={z,};}",
+            "Int Int Int {v0=1;v1=v0;v2~=v2;}",
+        ),
+        (b"int main(void){int;const int;}", "{}"),
+        (b"int main(void){int x={1,2};}", "line 1 rule 12"),
+        (b"int main(void){int\nx={{1,2}};}", "line 2 rule 12"),
+        (b"int main(void){int x={y,2};}", "line 1 rule 1"),
+        (b"int main(void){int\nx={assert(1)};}", "line 2 rule 8"),
+        (b"int main(void){int x={assert(1),2};}", "line 1 rule 12"),
+        (b"int main(void){const int x=1;x=2;}", "line 1 rule 9"),
+        (b"int main(void){int char x;}", "line 1 rule 5"),
+        (b"int main(void){\nshort long x;}", "line 2 rule 5"),
+        (b"int main(void){unsigned _Bool x;}", "line 1 rule 5"),
+        (b"int main(void){long long long x;}", "line 1 rule 5"),
+        (b"int main(void){static extern int x;}", "line 1 rule 5"),
+        (b"int main(void){const x;}", "line 1 rule 5"),
+        (b"int main(void){void x;}", "line 1 rule 3"),
+        (b"int main(void){int (x);int\n(x);}", "line 2 rule 2"),
+    ];
+    for (text, typing) in rows {
+        assert_eq!(rt; outcome(rt.alloc(), text)?.as_str(), typing);
+    }
+    Ok(())
+}
+
+#[test]
+fn typedefs_name_types(rt: HostRuntime) -> Result<(), Fail> {
+    let rows: [(&[u8], &str); 28] = [
+        (
+            b"typedef unsigned char T;int main(void){T x=1;}",
+            "UnsignedChar {v0=UnsignedChar(1);}",
+        ),
+        (
+            b"int main(void){typedef int T;{typedef T U;U x=1;}T y;}",
+            "Int Int {{v0=1;}v1;}",
+        ),
+        (
+            b"typedef int T;typedef int T;int main(void){T x;}",
+            "Int {v0;}",
+        ),
+        (
+            b"typedef int T;\ntypedef const int\nT;int main(void){}",
+            "line 3 rule 2",
+        ),
+        (
+            b"typedef const int T;int main(void){T x;x=1;}",
+            "line 1 rule 9",
+        ),
+        (
+            b"typedef int T;int main(void){const T x=1;{T x;x=2;}}",
+            "Int Int {v0=1;{v1;#;}}",
+        ),
+        (
+            b"typedef int T[3];typedef int T[3];int main(void){return sizeof(T);}",
+            "{return Int(12);}",
+        ),
+        (
+            b"typedef int T[3];typedef int T[4];int main(void){}",
+            "line 1 rule 2",
+        ),
+        (b"typedef int T=1;int main(void){}", "line 1 rule 12"),
+        (b"typedef int T=y;int main(void){}", "line 1 rule 1"),
+        (
+            b"int main(void){typedef int T=sizeof(T);}",
+            "line 1 rule 12",
+        ),
+        (b"typedef unsigned long size_t;int main(void){}", "{}"),
+        (b"typedef unsigned size_t;int main(void){}", "line 1 rule 2"),
+        (
+            b"int main(void){typedef char size_t;size_t x;}",
+            "Char {v0;}",
+        ),
+        (
+            b"typedef struct{unsigned m;} pthread_mutex_t;int main(void){}",
+            "line 1 rule 2",
+        ),
+        (
+            b"typedef pthread_mutex_t pthread_mutex_t;int main(void){return sizeof(pthread_mutex_t);}",
+            "{return Int(4);}",
+        ),
+        (b"typedef int assert;int main(void){}", "line 1 rule 2"),
+        (b"int main(void){typedef int assert;assert x;}", "Int {v0;}"),
+        (b"typedef int main;\nint main(void){}", "line 2 rule 2"),
+        (b"typedef int T;int main(void){int T;T=1;}", "Int {v0;#;}"),
+        (b"int main(void){typedef int T;int\nT;}", "line 2 rule 2"),
+        (b"int main(void){int T;typedef int T;}", "line 1 rule 2"),
+        (
+            b"typedef struct S T;struct S{int a;};int main(void){return sizeof(T);}",
+            "{return Int(4);}",
+        ),
+        (b"typedef void V;int main(void){V x;}", "line 1 rule 3"),
+        (b"typedef int A[0];int main(void){}", "line 1 rule 4"),
+        (b"typedef int A[];int main(void){}", "line 1 rule 4"),
+        (b"typedef struct S A[2];int main(void){}", "line 1 rule 3"),
+        (b"typedef typedef int T;int main(void){}", "line 1 rule 5"),
+    ];
+    for (text, typing) in rows {
+        assert_eq!(rt; outcome(rt.alloc(), text)?.as_str(), typing);
+    }
+    Ok(())
+}
+
+#[test]
+fn enumerators_are_ints(rt: HostRuntime) -> Result<(), Fail> {
+    let rows: [(&[u8], &str); 27] = [
+        (
+            b"int main(void){enum{A,B=5,C};int x=A,y=B,z=C;}",
+            "Int Int Int {v0=0;v1=5;v2=6;}",
+        ),
+        (
+            b"enum{A=-1,B};int main(void){int x=A,y=B;}",
+            "Int Int {v0=4294967295;v1=0;}",
+        ),
+        (
+            b"enum{A=2147483647,B=1};int main(void){int x=A;}",
+            "Int {v0=2147483647;}",
+        ),
+        (
+            b"enum{A=-2147483648};int main(void){int x=A;}",
+            "Int {v0=2147483648;}",
+        ),
+        (
+            b"enum{A=(signed char)-1,B=sizeof(int),C='a',D=(unsigned char)300};int main(void){int w=A,x=B,y=C,z=D;}",
+            "Int Int Int Int {v0=4294967295;v1=4;v2=97;v3=44;}",
+        ),
+        (
+            b"enum{A=1?2:1/0,B=0&&1/0};int main(void){int x=A,y=B;}",
+            "Int Int {v0=2;v1=0;}",
+        ),
+        (b"enum{A=2147483647,\nB};int main(void){}", "line 2 rule 13"),
+        (b"enum{A=\n2147483648};int main(void){}", "line 1 rule 13"),
+        (b"enum{A=-2147483649};int main(void){}", "line 1 rule 13"),
+        (b"enum{A=4294967295u};int main(void){}", "line 1 rule 13"),
+        (b"enum{A=\n1/0};int main(void){}", "line 2 rule 13"),
+        (b"int main(void){int x;enum{A=x};}", "line 1 rule 13"),
+        (b"enum{A,\nA};int main(void){}", "line 2 rule 2"),
+        (b"enum{A=B,B};int main(void){}", "line 1 rule 1"),
+        (b"enum{A};int main(void){A=1;}", "line 1 rule 9"),
+        (
+            b"enum E{A};int main(void){enum E x=A;x=5;}",
+            "Int {v0=0;#;}",
+        ),
+        (b"enum E;int main(void){}", "line 1 rule 3"),
+        (b"int main(void){enum E x;}", "line 1 rule 3"),
+        (b"int main(void){return sizeof(enum E);}", "line 1 rule 1"),
+        (b"enum E{A};\nenum E{B};int main(void){}", "line 2 rule 18"),
+        (
+            b"int main(void){enum E{A};{enum E{B=7};int x=A,y=B;}}",
+            "Int Int {{v0=0;v1=7;}}",
+        ),
+        (b"struct E;enum E{A};int main(void){}", "line 1 rule 18"),
+        (b"enum E{A};int main(void){struct E x;}", "line 1 rule 18"),
+        (
+            b"enum E{A};int main(void){struct E;struct E{int a;};return sizeof(struct E);}",
+            "{return Int(4);}",
+        ),
+        (b"enum{assert};int main(void){}", "line 1 rule 2"),
+        (
+            b"int main(void){enum{assert};return assert;}",
+            "{return 0;}",
+        ),
+        (
+            b"int main(void){enum E{A=sizeof(enum E)};}",
+            "line 1 rule 1",
+        ),
+    ];
+    for (text, typing) in rows {
+        assert_eq!(rt; outcome(rt.alloc(), text)?.as_str(), typing);
+    }
+    Ok(())
+}
+
+#[test]
+fn structs_and_unions_have_layouts(rt: HostRuntime) -> Result<(), Fail> {
+    let rows: [(&[u8], &str); 33] = [
+        (
+            b"struct S{char a;long b;short c;};int main(void){assert(sizeof(struct S)==24);return 0;}",
+            "{#;return 0;}",
+        ),
+        (
+            b"struct S{char a;long b;short c;};int main(void){return sizeof(struct S);}",
+            "{return Int(24);}",
+        ),
+        (
+            b"struct S{int a[2][3];union{char c[9];int i;};};int main(void){return sizeof(struct S);}",
+            "{return Int(36);}",
+        ),
+        (
+            b"union U{struct{char a,b,c;}s;short t;};int main(void){return sizeof(union U);}",
+            "{return Int(4);}",
+        ),
+        (
+            b"struct S{enum{A=3}e;int a[A];};int main(void){int x=A;return sizeof(struct S);}",
+            "Int {v0=3;return Int(16);}",
+        ),
+        (
+            b"typedef struct{char a;}T;struct S{T a[5],b;int c;};int main(void){return sizeof(struct S);}",
+            "{return Int(12);}",
+        ),
+        (
+            b"struct S{struct{int a;}s;int a;};int main(void){return sizeof(struct S);}",
+            "{return Int(8);}",
+        ),
+        (
+            b"struct S{int;int a;};int main(void){return sizeof(struct S);}",
+            "{return Int(4);}",
+        ),
+        (
+            b"struct S;struct S{int a;};int main(void){return sizeof(struct S);}",
+            "{return Int(4);}",
+        ),
+        (
+            b"struct S{int a;};int main(void){struct S{char c;};return sizeof(struct S);}",
+            "{return Int(1);}",
+        ),
+        (
+            b"int main(void){struct S{int a;};{const struct S;return sizeof(struct S);}}",
+            "{{return Int(4);}}",
+        ),
+        (
+            b"int main(void){struct S{int a;};{struct S;return\nsizeof(struct S);}}",
+            "line 2 rule 3",
+        ),
+        (
+            b"int main(void){struct S;{struct S{int a;};}return sizeof(struct S);}",
+            "line 1 rule 3",
+        ),
+        (b"int main(void){struct S s;return 0;}", "line 1 rule 3"),
+        (b"int main(void){return sizeof(struct S);}", "line 1 rule 1"),
+        (b"struct{int a;int\na;};int main(void){}", "line 2 rule 2"),
+        (
+            b"struct{int a;struct{int b;int\na;};};int main(void){}",
+            "line 2 rule 2",
+        ),
+        (
+            b"struct{struct{int a;};union{int a;};};int main(void){}",
+            "line 1 rule 2",
+        ),
+        (b"struct\nS{int;};int main(void){}", "line 1 rule 3"),
+        (b"struct S{struct S x;};int main(void){}", "line 1 rule 3"),
+        (b"struct S{void v;};int main(void){}", "line 1 rule 3"),
+        (b"struct S{int a[];};int main(void){}", "line 1 rule 4"),
+        (b"struct S{int a[0];};int main(void){}", "line 1 rule 4"),
+        (
+            b"struct S{char a[2147483647];\nchar b;};int main(void){}",
+            "line 1 rule 4",
+        ),
+        (
+            b"struct S{int a;};\nstruct S{int a;};int main(void){}",
+            "line 2 rule 18",
+        ),
+        (
+            b"union S;struct S{int a;};int main(void){}",
+            "line 1 rule 18",
+        ),
+        (
+            b"struct S{struct S{int a;}x;};int main(void){}",
+            "line 1 rule 18",
+        ),
+        (
+            b"struct S{int a;};struct S{int;};int main(void){}",
+            "line 1 rule 3",
+        ),
+        (
+            b"struct S{int a;};int main(void){union S x;}",
+            "line 1 rule 18",
+        ),
+        (
+            b"struct S{int a;};int main(void){union S;return sizeof(union S);}",
+            "line 1 rule 3",
+        ),
+        (b"int struct S{int a;};int main(void){}", "line 1 rule 5"),
+        (
+            b"struct S{int a;}struct T{int b;};int main(void){}",
+            "line 1 rule 5",
+        ),
+        (
+            b"struct S{int a;};int main(void){\nstruct S s;}",
+            "line 1 rule 0",
+        ),
+    ];
+    for (text, typing) in rows {
+        assert_eq!(rt; outcome(rt.alloc(), text)?.as_str(), typing);
+    }
+    Ok(())
+}
+
+#[test]
+fn declarators_of_arrays_and_other_objects(rt: HostRuntime) -> Result<(), Fail> {
+    let rows: [(&[u8], &str); 19] = [
+        (b"int main(void){int a[0];}", "line 1 rule 4"),
+        (b"int main(void){int a[-1];}", "line 1 rule 4"),
+        (b"int main(void){char a[2147483648];}", "line 1 rule 4"),
+        (b"int main(void){char a[2147483647];}", "line 1 rule 0"),
+        (b"int main(void){int a[2147483647];}", "line 1 rule 4"),
+        (b"int main(void){int a[];}", "line 1 rule 4"),
+        (b"int main(void){int a[]={1};}", "line 1 rule 0"),
+        (b"int main(void){int a[2][0];}", "line 1 rule 4"),
+        (b"int main(void){int (a[2])[0];}", "line 1 rule 4"),
+        (b"int main(void){int x;int a[x];}", "line 1 rule 13"),
+        (b"int main(void){int a[\n1/0];}", "line 2 rule 13"),
+        (b"int main(void){int x;int\nx[0];}", "line 2 rule 2"),
+        (b"int main(void){void x[0];}", "line 1 rule 3"),
+        (b"int main(void){static int x;}", "line 1 rule 0"),
+        (b"int main(void){\nextern int x;}", "line 1 rule 0"),
+        (b"\nint x;int main(void){}", "line 2 rule 0"),
+        (b"int x[y];int main(void){}", "line 1 rule 1"),
+        (b"int;int main(void){}", "{}"),
+        (b"int main(void){\ny;}int x;", "line 2 rule 1"),
+    ];
+    for (text, typing) in rows {
+        assert_eq!(rt; outcome(rt.alloc(), text)?.as_str(), typing);
+    }
+    Ok(())
+}
+
+#[test]
+fn statements_are_typed_in_order(rt: HostRuntime) -> Result<(), Fail> {
     let rows: [(&[u8], &str); 18] = [
         (
             b"int main(void){int x=nondet_int();assert(x!=7);return 0;}",
-            "1: {v0=draw;#;return 0;}",
+            "Int {v0=draw;#;return 0;}",
         ),
         (
             b"int main(void){int x,y=x,z=z;return y;}",
-            "3: {v0;v1=v0;v2~=v2;return v1;}",
+            "Int Int Int {v0;v1=v0;v2~=v2;return v1;}",
         ),
         (
             b"int main(void){int x=1;{int x=x;}{int x=2;}return x;}",
-            "3: {v0=1;{v1~=v1;}{v2=2;}return v0;}",
+            "Int Int Int {v0=1;{v1~=v1;}{v2=2;}return v0;}",
         ),
         (
             b"int main(void){int x=1u;return 1l;}",
-            "1: {v0=Int(1);return Int(1);}",
+            "Int {v0=Int(1);return Int(1);}",
         ),
         (
             b"int main(void){int main;return main;}",
-            "1: {v0;return v0;}",
+            "Int {v0;return v0;}",
         ),
         (
             b"int main(void){if(1)return 0;else{}}",
-            "0: {if(1)return 0; else {}}",
+            "{if(1)return 0; else {}}",
         ),
-        (b"int main(void){if(1)assert(0);}", "0: {if(1)#;}"),
+        (b"int main(void){if(1)assert(0);}", "{if(1)#;}"),
         (b"int main(void){int x;\nint x;}", "line 2 rule 2"),
         (b"int main(void){int x;{int x;}int y,\nx;}", "line 2 rule 2"),
         (b"int main(void){int x=\nassert(1);}", "line 1 rule 8"),

@@ -8,7 +8,7 @@ use Rattle.core_tree.specs.Trees.{Expression}
 use Rattle.c_elab_expr.specs.declared.meaning.Meaning.{Meaning}
 use Rattle.c_elab_expr.specs.declared.fault.TypingError.{TypingError}
 use Rattle.c_elab_expr.specs.declared.fault.TypingError.TheVariants as errors
-use Rattle.c_elab_expr.specs.Scopes.{Environment}
+use Rattle.c_elab_expr.specs.Scopes.{Scoped}
 use Rattle.c_elab_expr.specs.Nodes.{◌>>=◌}
 use Rattle.c_tree.specs.Tree.{first_line}
 use Rattle.c_elab_expr.specs.Typing.{Fault, fault, on_line, callee, called, typed, typed_arguments, Fails}
@@ -26,33 +26,33 @@ front_one : (xs : List Expression) (x : Expression) (r : Result (List Expression
 front_one xs x (Ok ys) = ap Ok (sym (append_assoc xs (x ∷ []) ys))
 front_one xs x (Err f) = refl
 
-next_argument : (env : Environment) (es : List Expr) (i : ℕ) (e : Expr) (xs : List Expression) (all : Result (List Expression) Fault) → i < length es → e ≡ get_or es i e
-    → front xs (typed_arguments env (trees (drop i es))) ≡ all → front xs (typed env (tree e) >>= λ x. typed_arguments env (trees (drop (i + 1) es)) >>= λ ys. Ok (x ∷ ys)) ≡ all
-next_argument env es i e xs all h is so_far =
+next_argument : (scope : Scoped) (es : List Expr) (i : ℕ) (e : Expr) (xs : List Expression) (all : Result (List Expression) Fault) → i < length es → e ≡ get_or es i e
+    → front xs (typed_arguments scope (trees (drop i es))) ≡ all → front xs (typed scope (tree e) >>= λ x. typed_arguments scope (trees (drop (i + 1) es)) >>= λ ys. Ok (x ∷ ys)) ≡ all
+next_argument scope es i e xs all h is so_far =
     let step = drop_more es i e h in
-    let here = ap (λ (x : Expr). front xs (typed env (tree x) >>= λ y. typed_arguments env (trees (drop (i + 1) es)) >>= λ ys. Ok (y ∷ ys))) is in
-    here ∙ sym (ap (λ (ys : List Expr). front xs (typed_arguments env (trees ys))) step) ∙ so_far
+    let here = ap (λ (x : Expr). front xs (typed scope (tree x) >>= λ y. typed_arguments scope (trees (drop (i + 1) es)) >>= λ ys. Ok (y ∷ ys))) is in
+    here ∙ sym (ap (λ (ys : List Expr). front xs (typed_arguments scope (trees ys))) step) ∙ so_far
 
-pub argument_fails : (env : Environment) (es : List Expr) (i : ℕ) (e : Expr) (xs : List Expression) (all : Result (List Expression) Fault) (f : Fault) → i < length es → e ≡ get_or es i e
-    → front xs (typed_arguments env (trees (drop i es))) ≡ all → typed env (tree e) ≡ Err f → all ≡ Err f
-argument_fails env es i e xs all f h is so_far bad =
-    sym (next_argument env es i e xs all h is so_far)
-    ∙ ap (λ (r : Result Expression Fault). front xs (r >>= λ x. typed_arguments env (trees (drop (i + 1) es)) >>= λ ys. Ok (x ∷ ys))) bad
+pub argument_fails : (scope : Scoped) (es : List Expr) (i : ℕ) (e : Expr) (xs : List Expression) (all : Result (List Expression) Fault) (f : Fault) → i < length es → e ≡ get_or es i e
+    → front xs (typed_arguments scope (trees (drop i es))) ≡ all → typed scope (tree e) ≡ Err f → all ≡ Err f
+argument_fails scope es i e xs all f h is so_far bad =
+    sym (next_argument scope es i e xs all h is so_far)
+    ∙ ap (λ (r : Result Expression Fault). front xs (r >>= λ x. typed_arguments scope (trees (drop (i + 1) es)) >>= λ ys. Ok (x ∷ ys))) bad
 
-pub argument_typed : (env : Environment) (es : List Expr) (i : ℕ) (e : Expr) (xs : List Expression) (all : Result (List Expression) Fault) (x : Expression) → i < length es → e ≡ get_or es i e
-    → front xs (typed_arguments env (trees (drop i es))) ≡ all → typed env (tree e) ≡ Ok x → front (xs ++ x ∷ []) (typed_arguments env (trees (drop (i + 1) es))) ≡ all
-argument_typed env es i e xs all x h is so_far good =
-    sym (front_one xs x (typed_arguments env (trees (drop (i + 1) es))))
-    ∙ sym (ap (λ (r : Result Expression Fault). front xs (r >>= λ x. typed_arguments env (trees (drop (i + 1) es)) >>= λ ys. Ok (x ∷ ys))) good)
-    ∙ next_argument env es i e xs all h is so_far
+pub argument_typed : (scope : Scoped) (es : List Expr) (i : ℕ) (e : Expr) (xs : List Expression) (all : Result (List Expression) Fault) (x : Expression) → i < length es → e ≡ get_or es i e
+    → front xs (typed_arguments scope (trees (drop i es))) ≡ all → typed scope (tree e) ≡ Ok x → front (xs ++ x ∷ []) (typed_arguments scope (trees (drop (i + 1) es))) ≡ all
+argument_typed scope es i e xs all x h is so_far good =
+    sym (front_one xs x (typed_arguments scope (trees (drop (i + 1) es))))
+    ∙ sym (ap (λ (r : Result Expression Fault). front xs (r >>= λ x. typed_arguments scope (trees (drop (i + 1) es)) >>= λ ys. Ok (x ∷ ys))) good)
+    ∙ next_argument scope es i e xs all h is so_far
 
 -- a call whose callee is typed
-pub call_fails : (env : Environment) (f : Tree) (args : Trees) (m : Option (ℕ × Meaning)) (bad : Fault) → callee env f (typed env f) ≡ Ok m → typed_arguments env args ≡ Err bad → typed env (call f args) ≡ Err bad
-call_fails env f args m bad e g =
-    ap (λ (r : Result (Option (ℕ × Meaning)) Fault). r >>= λ n. typed_arguments env args >>= λ xs. on_line (first_line f) (called n xs)) e
+pub call_fails : (scope : Scoped) (f : Tree) (args : Trees) (m : Option (ℕ × Meaning)) (bad : Fault) → callee scope f (typed scope f) ≡ Ok m → typed_arguments scope args ≡ Err bad → typed scope (call f args) ≡ Err bad
+call_fails scope f args m bad e g =
+    ap (λ (r : Result (Option (ℕ × Meaning)) Fault). r >>= λ n. typed_arguments scope args >>= λ xs. on_line (first_line f) (called n xs)) e
     ∙ ap (λ (r : Result (List Expression) Fault). r >>= λ xs. on_line (first_line f) (called m xs)) g
 
-pub call_typed : (env : Environment) (f : Tree) (args : Trees) (m : Option (ℕ × Meaning)) (xs : List Expression) → callee env f (typed env f) ≡ Ok m → typed_arguments env args ≡ Ok xs → typed env (call f args) ≡ on_line (first_line f) (called m xs)
-call_typed env f args m xs e g =
-    ap (λ (r : Result (Option (ℕ × Meaning)) Fault). r >>= λ n. typed_arguments env args >>= λ xs. on_line (first_line f) (called n xs)) e
+pub call_typed : (scope : Scoped) (f : Tree) (args : Trees) (m : Option (ℕ × Meaning)) (xs : List Expression) → callee scope f (typed scope f) ≡ Ok m → typed_arguments scope args ≡ Ok xs → typed scope (call f args) ≡ on_line (first_line f) (called m xs)
+call_typed scope f args m xs e g =
+    ap (λ (r : Result (Option (ℕ × Meaning)) Fault). r >>= λ n. typed_arguments scope args >>= λ xs. on_line (first_line f) (called n xs)) e
     ∙ ap (λ (r : Result (List Expression) Fault). r >>= λ xs. on_line (first_line f) (called m xs)) g

@@ -9,13 +9,10 @@ use Rattle.std.specs.Global.{Global}
 use Rattle.std.proofs.lemmas.Slice.Eq.{bytes_eq-Decides}
 use Rattle.std.proofs.lemmas.Bool.{false_from_ne_true, false≢true}
 use Rattle.indexmap.specs.IndexMap.{insert_entry}
-use Rattle.c_elab_expr.specs.Places.{place_at}
+use Rattle.c_elab_expr.specs.Places.{Entries, place_at}
 
 abbrev joined : Option (Option ℕ) → Option ℕ
 joined o = option_and_then (λ p. p) o
-
-abbrev pub Entries : Type 0
-Entries = List (Vec ℕ Global × Option ℕ)
 
 alone : (x : Bool) (v : Option ℕ) → joined (if x then Some v else None) ≡ (if x then v else None)
 alone true v = refl

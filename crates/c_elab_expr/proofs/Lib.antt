@@ -1,4 +1,9 @@
 pub mod Entries
+pub mod Words
+pub mod Elements
+pub mod Parts
+pub mod Casts
+pub mod Sizes
 pub mod Bindings
 pub mod Variables
 pub mod Arguments

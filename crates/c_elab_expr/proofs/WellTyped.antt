@@ -1,8 +1,8 @@
 -- What typing gives is well typed.
-use Rattle.std.proofs.Common.{◌≡◌, ◌^◌, ◌%◌, ℕ, Bool, true, false, List, [], ◌∷◌, Option, Some, None, Result, Ok, Err, refl, ap, sym, subst, ◌∙◌, arith}
-use Rattle.std.specs.Prelude.{◌&&◌, if◌then◌else◌}
+use Rattle.std.proofs.Common.{◌≡◌, ◌≤◌, ◌<◌, ◌+◌, ◌^◌, ◌%◌, ℕ, Bool, true, false, List, [], ◌∷◌, length, Option, Some, None, Result, Ok, Err, refl, ap, sym, subst, ◌∙◌, arith}
+use Rattle.std.specs.Prelude.{◌&&◌, if◌then◌else◌, nat_lt, slice_index_or}
+use Rattle.std.specs.Option.{option_and_then}
 use Rattle.std.specs.List.{list_all}
-use Rattle.std.specs.Str.{bytes_eq}
 use borrow.Author.Tests.{lt-ltb}
 use Rattle.c_lexer.specs.declared.token.Constant.{Constant}
 use Rattle.c_lexer.specs.declared.token.ConstantType.{ConstantType}
@@ -13,7 +13,7 @@ use Rattle.c_tree.specs.declared.expr.UnaryOp.{UnaryOp}
 use Rattle.c_tree.specs.declared.expr.UnaryOp.TheVariants as unaries
 use Rattle.c_tree.specs.declared.expr.StepOp.{StepOp}
 use Rattle.c_tree.specs.declared.expr.StepOp.TheVariants as postfixes
-use Rattle.c_tree.specs.Tree.{Tree, Trees, constant, name, parens, unary, step, binary, choice, assign, comma, call, none, more, first_line}
+use Rattle.c_tree.specs.Tree.{Tree, Trees, constant, character, strings, name, parens, unary, cast, sizeof_expr, sizeof_type, step, member, binary, choice, assign, comma, call, none, more, first_line}
 use Rattle.c_types.specs.declared.integers.IntegerType.{IntegerType}
 use Rattle.c_types.specs.declared.types.ValueType.{ValueType}
 use Rattle.c_types.specs.declared.types.ValueType.TheVariants.{Void, Integer}
@@ -24,14 +24,19 @@ use Rattle.core_tree.specs.declared.operators.LogicalOperator.{LogicalOperator}
 use Rattle.core_tree.specs.declared.operators.SignOperator.{SignOperator}
 use Rattle.core_tree.specs.declared.operators.StepOperator.{StepOperator}
 use Rattle.core_tree.specs.declared.expression.Place.{Place}
+use Rattle.core_tree.specs.declared.expression.Place.TheVariants as places
+use Rattle.c_types.specs.Types.{CType}
+use Rattle.c_types.specs.Types as ctypes
 use Rattle.core_tree.specs.Trees.{Expression}
 use Rattle.core_tree.specs.Trees as cores
 use Rattle.core_tree.specs.Typed.{type_of, place_type, is_integer, is_promoted, are_operands, is_typed}
 use Rattle.c_elab_expr.specs.declared.meaning.Meaning.{Meaning}
-use Rattle.c_elab_expr.specs.declared.meaning.Meaning.TheVariants.{Variable, Assert, Assume, Draw, Function}
-use Rattle.c_elab_expr.specs.Scopes.{Environment, built_in, built_ins, meaning_in, meaning_of, is_there, are_there}
-use Rattle.c_elab_expr.specs.Nodes.{Node, ◌>>=◌, required, integer_of, integer, as_type, place_of, constant_type, constant_node, name_node, sign_node, not_node, step_node, unary_node, postfix_node, left_type, right_type, arithmetic_node, compare_node, logical_node, binary_node, chosen, choice_node, assign_node, operator_of, update_node, assignment_node, one_integer, no_arguments, call_node}
-use Rattle.c_elab_expr.specs.Typing.{on_line, callee, called, typed, typed_arguments}
+use Rattle.c_elab_expr.specs.declared.meaning.Meaning.TheVariants.{Variable, Assert, Assume, Draw, Function, Typedef, Enumerator, Record, Enumeration}
+use Rattle.c_elab_expr.specs.Scopes.{Environment, Scoped, built_in, built_ins, is_called, meaning_in, meaning_of, are_there, is_known, are_known}
+use Rattle.c_elab_expr.specs.Nodes.{Node, ◌>>=◌, required, integer_of, integer, as_type, place_of, writable, target_of, constant_type, constant_node, character_node, size_node, value_size, discarded, cast_node, name_node, sign_node, not_node, step_node, unary_node, postfix_node, left_type, right_type, arithmetic_node, compare_node, logical_node, binary_node, chosen, choice_node, assign_node, operator_of, update_node, assignment_node, one_integer, no_arguments, call_node}
+use Rattle.c_elab_expr.specs.Types.{type_size}
+use Rattle.c_elab_expr.specs.Strings.{strings_of, strings_length}
+use Rattle.c_elab_expr.specs.Typing.{Fault, on_line, callee, called, type_name, operand_size, typed, typed_arguments, lengths}
 use Rattle.c_elab_expr.proofs.Variables.{both, and}
 use Rattle.c_elab_expr.proofs.Types.{same_type_refl, promoted_is, common_promoted, operands_fit, type_as, typed_as}
 
@@ -83,9 +88,33 @@ place_is (cores.assertion line e) = refused (Is _) 9
 place_is (cores.assumption line e) = refused (Is _) 9
 place_is (cores.draw line t) = refused (Is _) 9
 
-module _ (variables : List IntegerType) where
+writable_is : (constants : List Bool) (e : Expression) (q : Place) → e ≡ cores.read q → Holds (Is e) (required 9 (writable constants q))
+writable_is constants e (places.Variable line t v) is = by_const (slice_index_or constants v false) where
+  by_const : (k : Bool) → Holds (Is e) (required 9 (if k then None else Some (places.Variable line t v)))
+  by_const true = refused (Is e) 9
+  by_const false = given (Is e) (places.Variable line t v) is
+
+-- a place that may be changed is a place
+target_is_by : (constants : List Bool) (e : Expression) (o : Option Place) → ((q : Place) → o ≡ Some q → e ≡ cores.read q) → Holds (Is e) (required 9 (option_and_then (writable constants) o))
+target_is_by constants e None h = refused (Is e) 9
+target_is_by constants e (Some q) h = writable_is constants e q (h q refl)
+
+target_is : (constants : List Bool) (e : Expression) → Holds (Is e) (required 9 (target_of constants e))
+target_is constants e = target_is_by constants e (place_of e) (λ q same. place_is e q (ap (required 9) same))
+
+-- the types of the built-in names
+built_in_there : (variables : List IntegerType) (types records : ℕ) → 9 ≤ types → are_there variables types records built_ins ≡ true
+built_in_there variables types records h = both_lists (λ n l. lt-ltb n types (omega (arith, l))) where
+  both_lists : ((n : ℕ) → n < 9 → nat_lt n types ≡ true) → are_there variables types records built_ins ≡ true
+  both_lists g =
+      let at0 = g 0 (omega arith) in
+      let at1 = g 1 (omega arith) in
+      and _ _ at0 (and _ _ at0 (and _ _ at0 (and _ _ at1 (and _ _ at1 (and _ _ (g 2 (omega arith)) (and _ _ (g 3 (omega arith)) (and _ _ (g 4 (omega arith))
+      (and _ _ at1 (and _ _ (g 5 (omega arith)) (and _ _ (g 6 (omega arith)) (and _ _ (g 7 (omega arith)) (and _ _ at0 (and _ _ (g 8 (omega arith)) refl)))))))))))))
+
+module _ (scope : Scoped) where
   abbrev Good : Expression → Type 0
-  Good e = is_typed variables e ≡ true
+  Good e = is_typed scope.variables e ≡ true
 
   -- ---- constants and names
 
@@ -100,54 +129,76 @@ module _ (variables : List IntegerType) where
     by_type constants.UnsignedLongLong = lt-ltb _ _ (omega arith)
 
   abbrev Meant : Option Meaning → Type 0
-  Meant o = (m : Meaning) → o ≡ Some m → is_there variables m ≡ true
+  Meant o = (m : Meaning) → o ≡ Some m → is_known scope m ≡ true
 
-  bound : (x : Bool) (m : Meaning) (others : Option Meaning) → is_there variables m ≡ true → Meant others → Meant (if x then Some m else others)
-  bound true m others h g = λ n e. let same : m ≡ n = cc in subst (λ (k : Meaning). is_there variables k ≡ true) same h
+  bound : (x : Bool) (m : Meaning) (others : Option Meaning) → is_known scope m ≡ true → Meant others → Meant (if x then Some m else others)
+  bound true m others h g = λ n e. let same : m ≡ n = cc in subst (λ (k : Meaning). is_known scope k ≡ true) same h
   bound false m others h g = g
 
-  meant_in : (env : Environment) (other : Option Meaning) (n : List ℕ) → are_there variables env ≡ true → Meant other → Meant (meaning_in other env n)
-  meant_in [] other n h g = g
-  meant_in (b ∷ bs) other n h g =
-      let parts = both (is_there variables b.meaning) (are_there variables bs) h in
-      bound (bytes_eq n b.name) b.meaning (meaning_in other bs n) parts.0 (meant_in bs other n parts.1 g)
+  meant_in : (tags : Bool) (env : Environment) (other : Option Meaning) (n : List ℕ) → are_there scope.variables (length scope.types) (length scope.records.declared) env ≡ true → Meant other → Meant (meaning_in tags other env n)
+  meant_in tags [] other n h g = g
+  meant_in tags (b ∷ bs) other n h g =
+      let parts = both (is_known scope b.meaning) (are_there scope.variables (length scope.types) (length scope.records.declared) bs) h in
+      bound (is_called tags n b) b.meaning (meaning_in tags other bs n) parts.0 (meant_in tags bs other n parts.1 g)
 
-  built_in_meant : (n : List ℕ) → Meant (built_in n)
+  built_in_meant : (n : List ℕ) → 9 ≤ length scope.types → Meant (built_in n)
   unfolding built_in
-  built_in_meant n = meant_in built_ins None n refl (λ m e. let none : ⊥ = cc in absurd none)
+  built_in_meant n h = meant_in false built_ins None n (built_in_there scope.variables (length scope.types) (length scope.records.declared) h) (λ m e. let none : ⊥ = cc in absurd none)
+
+  character_good : (line bits : ℕ) → Good (character_node line bits)
+  character_good line bits = lt-ltb (bits % 2 ^ 32) (2 ^ 32) (omega arith)
 
   name_good : (line : ℕ) (o : Option Meaning) → Meant o → Holds Good (name_node line o)
   name_good line None h = refused Good 1
-  name_good line (Some (Variable v t)) h = given Good _ (h (Variable v t) refl)
+  name_good line (Some (Variable v t k)) h = given Good _ (h (Variable v t k) refl)
   name_good line (Some Assert) h = refused Good 7
   name_good line (Some Assume) h = refused Good 7
   name_good line (Some (Draw t)) h = refused Good 7
   name_good line (Some Function) h = refused Good 7
+  name_good line (Some (Typedef n)) h = refused Good 7
+  name_good line (Some (Enumerator bits)) h = given Good _ (character_good line bits)
+  name_good line (Some (Record p)) h = refused Good 7
+  name_good line (Some Enumeration) h = refused Good 7
+
+  -- ---- sizes and casts
+
+  size_good : (line n : ℕ) → Good (size_node line n)
+  size_good line n = lt-ltb (n % 2 ^ 64) (2 ^ 64) (omega arith)
+
+  discarded_good : (t : ValueType) (e : Expression) → Good e → Holds Good (discarded t e)
+  discarded_good Void e h = given Good e h
+  discarded_good (Integer t) e h = refused Good 0
+
+  cast_good : (t : CType) (e : Expression) → Good e → Holds Good (cast_node t e)
+  cast_good ctypes.void e h = discarded_good (type_of e) e h
+  cast_good (ctypes.integer t) e h = bind (λ u. type_of e ≡ Integer u) Good (integer 7 e) _ (integer_is 7 e) (λ u is. given Good _ (and _ _ (ap is_integer is) h))
+  cast_good (ctypes.aggregate p) e h = refused Good 7
+  cast_good (ctypes.array element n) e h = refused Good 7
 
   -- ---- operators
 
   sign_good : (line : ℕ) (op : SignOperator) (e : Expression) → Good e → Holds Good (sign_node line op e)
   sign_good line op e h = bind (λ t. type_of e ≡ Integer t) Good (integer 7 e) _ (integer_is 7 e) (λ t is.
-      given Good _ (and _ _ (ap is_promoted (type_as (promoted t) e) ∙ promoted_is t) (typed_as variables (promoted t) t e is h)))
+      given Good _ (and _ _ (ap is_promoted (type_as (promoted t) e) ∙ promoted_is t) (typed_as scope.variables (promoted t) t e is h)))
 
   not_good : (line : ℕ) (e : Expression) → Good e → Holds Good (not_node line e)
   not_good line e h = bind (λ t. type_of e ≡ Integer t) Good (integer 7 e) _ (integer_is 7 e) (λ t is. given Good _ (and _ _ (ap is_integer is) h))
 
-  step_good : (line : ℕ) (op : StepOperator) (before : Bool) (e : Expression) → Good e → Holds Good (step_node line op before e)
-  step_good line op before e h = bind (λ t. type_of e ≡ Integer t) Good (integer 7 e) _ (integer_is 7 e) (λ t is.
-      bind (Is e) Good (required 9 (place_of e)) _ (place_is e) (λ p place. given Good _ (ap (is_typed variables) (sym place) ∙ h)))
+  step_good : (constants : List Bool) (line : ℕ) (op : StepOperator) (before : Bool) (e : Expression) → Good e → Holds Good (step_node constants line op before e)
+  step_good constants line op before e h = bind (λ t. type_of e ≡ Integer t) Good (integer 7 e) _ (integer_is 7 e) (λ t is.
+      bind (Is e) Good (required 9 (target_of constants e)) _ (target_is constants e) (λ p place. given Good _ (ap (is_typed scope.variables) (sym place) ∙ h)))
 
-  unary_good : (line : ℕ) (op : UnaryOp) (e : Expression) → Good e → Holds Good (unary_node line op e)
-  unary_good line unaries.Increment e h = step_good line _ true e h
-  unary_good line unaries.Decrement e h = step_good line _ true e h
-  unary_good line unaries.Plus e h = sign_good line _ e h
-  unary_good line unaries.Minus e h = sign_good line _ e h
-  unary_good line unaries.Complement e h = sign_good line _ e h
-  unary_good line unaries.Not e h = not_good line e h
+  unary_good : (constants : List Bool) (line : ℕ) (op : UnaryOp) (e : Expression) → Good e → Holds Good (unary_node constants line op e)
+  unary_good constants line unaries.Increment e h = step_good constants line _ true e h
+  unary_good constants line unaries.Decrement e h = step_good constants line _ true e h
+  unary_good constants line unaries.Plus e h = sign_good line _ e h
+  unary_good constants line unaries.Minus e h = sign_good line _ e h
+  unary_good constants line unaries.Complement e h = sign_good line _ e h
+  unary_good constants line unaries.Not e h = not_good line e h
 
-  postfix_good : (line : ℕ) (op : StepOp) (e : Expression) → Good e → Holds Good (postfix_node line op e)
-  postfix_good line postfixes.Increment e h = step_good line _ false e h
-  postfix_good line postfixes.Decrement e h = step_good line _ false e h
+  postfix_good : (constants : List Bool) (line : ℕ) (op : StepOp) (e : Expression) → Good e → Holds Good (postfix_node constants line op e)
+  postfix_good constants line postfixes.Increment e h = step_good constants line _ false e h
+  postfix_good constants line postfixes.Decrement e h = step_good constants line _ false e h
 
   -- two operands of integer types
   pair : (Q : Expression → Type 0) (rule : ℕ) (a b : Expression) (f : IntegerType → IntegerType → Node)
@@ -160,7 +211,7 @@ module _ (variables : List IntegerType) where
       given Good _ (and _ _ (and _ _
       (ap (λ (x : ValueType). are_operands op x (type_of (as_type (right_type op t u) b))) (type_as (left_type op t u) a)
       ∙ ap (are_operands op (Integer (left_type op t u))) (type_as (right_type op t u) b) ∙ operands_fit op t u)
-      (typed_as variables (left_type op t u) t a is h)) (typed_as variables (right_type op t u) u b is_b g)))
+      (typed_as scope.variables (left_type op t u) t a is h)) (typed_as scope.variables (right_type op t u) u b is_b g)))
 
   compare_good : (line : ℕ) (op : Comparison) (a b : Expression) → Good a → Good b → Holds Good (compare_node line op a b)
   compare_good line op a b h g = pair Good 7 a b _ (λ t u is is_b.
@@ -168,7 +219,7 @@ module _ (variables : List IntegerType) where
       given Good _ (and _ _ (and _ _ (and _ _
       (ap is_promoted (type_as c a) ∙ common_promoted t u)
       (ap (λ (x : ValueType). same_type x (type_of (as_type c b))) (type_as c a) ∙ ap (same_type (Integer c)) (type_as c b) ∙ same_type_refl (Integer c)))
-      (typed_as variables c t a is h)) (typed_as variables c u b is_b g)))
+      (typed_as scope.variables c t a is h)) (typed_as scope.variables c u b is_b g)))
 
   logical_good : (line : ℕ) (op : LogicalOperator) (a b : Expression) → Good a → Good b → Holds Good (logical_node line op a b)
   logical_good line op a b h g = pair Good 7 a b _ (λ t u is is_b. given Good _ (and _ _ (and _ _ (and _ _ (ap is_integer is) (ap is_integer is_b)) h) g))
@@ -202,44 +253,44 @@ module _ (variables : List IntegerType) where
       let c = common_type t u in
       given Good _ (and _ _ (and _ _ (and _ _ (and _ _ i
       (ap (λ (x : ValueType). same_type x (type_of (as_type c b))) (type_as c a) ∙ ap (same_type (Integer c)) (type_as c b) ∙ same_type_refl (Integer c)))
-      h) (typed_as variables c t a p g)) (typed_as variables c u b q k))
+      h) (typed_as scope.variables c t a p g)) (typed_as scope.variables c u b q k))
 
   choice_good : (line : ℕ) (test a b : Expression) → Good test → Good a → Good b → Holds Good (choice_node line test a b)
   choice_good line test a b h g k = bind (λ t. type_of test ≡ Integer t) Good (integer 7 test) _ (integer_is 7 test) (λ t is.
       chosen_good line test (type_of a) (type_of b) a b (ap is_integer is) refl refl h g k)
 
-  assign_good : (line : ℕ) (place value : Expression) → Good place → Good value → Holds Good (assign_node line place value)
-  assign_good line place value h g = pair Good 8 place value _ (λ t u is is_b.
-      bind (Is place) Good (required 9 (place_of place)) _ (place_is place) (λ p read.
-      given Good _ (and _ _ (and _ _ (ap (is_typed variables) (sym read) ∙ h)
+  assign_good : (constants : List Bool) (line : ℕ) (place value : Expression) → Good place → Good value → Holds Good (assign_node constants line place value)
+  assign_good constants line place value h g = pair Good 8 place value _ (λ t u is is_b.
+      bind (Is place) Good (required 9 (target_of constants place)) _ (target_is constants place) (λ p read.
+      given Good _ (and _ _ (and _ _ (ap (is_typed scope.variables) (sym read) ∙ h)
       (ap (λ (x : ValueType). same_type x (Integer (place_type p))) (type_as (place_type p) value) ∙ same_type_refl (Integer (place_type p))))
-      (typed_as variables (place_type p) u value is_b g))))
+      (typed_as scope.variables (place_type p) u value is_b g))))
 
-  update_good : (line : ℕ) (op : BinaryOp) (place value : Expression) → Good place → Good value → Holds Good (update_node line op place value)
-  update_good line op place value h g =
+  update_good : (constants : List Bool) (line : ℕ) (op : BinaryOp) (place value : Expression) → Good place → Good value → Holds Good (update_node constants line op place value)
+  update_good constants line op place value h g =
       bind (λ (o : ArithmeticOperator). Unit {0}) Good (required 7 (operator_of op)) _ (λ o e. tt) (λ o _.
       pair Good 7 place value _ (λ t u is is_b.
-      bind (Is place) Good (required 9 (place_of place)) _ (place_is place) (λ p read.
-      given Good _ (and _ _ (and _ _ (ap (is_typed variables) (sym read) ∙ h)
+      bind (Is place) Good (required 9 (target_of constants place)) _ (target_is constants place) (λ p read.
+      given Good _ (and _ _ (and _ _ (ap (is_typed scope.variables) (sym read) ∙ h)
       (ap (are_operands o (Integer (left_type o t u))) (type_as (right_type o t u) value) ∙ operands_fit o t u))
-      (typed_as variables (right_type o t u) u value is_b g)))))
+      (typed_as scope.variables (right_type o t u) u value is_b g)))))
 
-  assignment_good : (line : ℕ) (op : Option BinaryOp) (place value : Expression) → Good place → Good value → Holds Good (assignment_node line op place value)
-  assignment_good line None place value h g = assign_good line place value h g
-  assignment_good line (Some op) place value h g = update_good line op place value h g
+  assignment_good : (constants : List Bool) (line : ℕ) (op : Option BinaryOp) (place value : Expression) → Good place → Good value → Holds Good (assignment_node constants line op place value)
+  assignment_good constants line None place value h g = assign_good constants line place value h g
+  assignment_good constants line (Some op) place value h g = update_good constants line op place value h g
 
   -- ---- calls
 
   abbrev AllGood : List Expression → Type 0
-  AllGood es = list_all (is_typed variables) es ≡ true
+  AllGood es = list_all (is_typed scope.variables) es ≡ true
 
   abbrev GoodInteger : Expression → Type 0
-  GoodInteger e = (is_integer (type_of e) && is_typed variables e) ≡ true
+  GoodInteger e = (is_integer (type_of e) && is_typed scope.variables e) ≡ true
 
   argument_good : (es : List Expression) → AllGood es → Holds GoodInteger (one_integer es)
   argument_good [] h = refused GoodInteger 10
   argument_good (a ∷ []) h = bind (λ t. type_of a ≡ Integer t) GoodInteger (integer 8 a) _ (integer_is 8 a) (λ t is.
-      given GoodInteger a (and _ _ (ap is_integer is) (both (is_typed variables a) true h).0))
+      given GoodInteger a (and _ _ (ap is_integer is) (both (is_typed scope.variables a) true h).0))
   argument_good (a ∷ b ∷ rest) h = bind (λ t. type_of a ≡ Integer t) GoodInteger (integer 8 a) _ (integer_is 8 a) (λ t is. refused GoodInteger 10)
 
   draw_good : (es : List Expression) (e : Expression) → Good e → Holds Good (no_arguments es e)
@@ -247,11 +298,15 @@ module _ (variables : List IntegerType) where
   draw_good (a ∷ rest) e h = refused Good 10
 
   call_good : (line : ℕ) (m : Meaning) (es : List Expression) → AllGood es → Holds Good (call_node line m es)
-  call_good line (Variable v t) es h = refused Good 10
+  call_good line (Variable v t k) es h = refused Good 10
   call_good line Assert es h = bind GoodInteger Good (one_integer es) _ (argument_good es h) (λ a good. given Good _ good)
   call_good line Assume es h = bind GoodInteger Good (one_integer es) _ (argument_good es h) (λ a good. given Good _ good)
   call_good line (Draw t) es h = draw_good es _ refl
   call_good line Function es h = refused Good 10
+  call_good line (Typedef n) es h = refused Good 10
+  call_good line (Enumerator bits) es h = refused Good 10
+  call_good line (Record p) es h = refused Good 10
+  call_good line Enumeration es h = refused Good 10
 
   called_good : (m : Option (ℕ × Meaning)) (es : List Expression) → AllGood es → Holds Good (called m es)
   called_good None es h = refused Good 10
@@ -259,31 +314,50 @@ module _ (variables : List IntegerType) where
 
   -- ---- trees
 
-  mutual
-    pub well_typed : (env : Environment) (t : Tree) → are_there variables env ≡ true → Holds Good (typed env t)
-    well_typed env (constant line c) h = given Good _ (constant_good line c)
-    well_typed env (name line n) h = on_same_line Good line _ (name_good line (meaning_of env n) (meant_in env (built_in n) n h (built_in_meant n)))
-    well_typed env (parens line e) h = well_typed env e h
-    well_typed env (unary line op e) h = bind Good Good (typed env e) _ (well_typed env e h) (λ x good. on_same_line Good line _ (unary_good line op x good))
-    well_typed env (step line op e) h = bind Good Good (typed env e) _ (well_typed env e h) (λ x good. on_same_line Good (first_line e) _ (postfix_good line op x good))
-    well_typed env (binary line op a b) h =
-        bind Good Good (typed env a) _ (well_typed env a h) (λ x good. bind Good Good (typed env b) _ (well_typed env b h) (λ y fine.
-        on_same_line Good (first_line a) _ (binary_good line op x y good fine)))
-    well_typed env (choice line test a b) h =
-        bind Good Good (typed env test) _ (well_typed env test h) (λ x good. bind Good Good (typed env a) _ (well_typed env a h) (λ y fine.
-        bind Good Good (typed env b) _ (well_typed env b h) (λ z last. on_same_line Good (first_line test) _ (choice_good line x y z good fine last))))
-    well_typed env (assign line op a b) h =
-        bind Good Good (typed env a) _ (well_typed env a h) (λ x good. bind Good Good (typed env b) _ (well_typed env b h) (λ y fine.
-        on_same_line Good (first_line a) _ (assignment_good line op x y good fine)))
-    well_typed env (comma line a b) h =
-        bind Good Good (typed env a) _ (well_typed env a h) (λ x good. bind Good Good (typed env b) _ (well_typed env b h) (λ y fine.
-        given Good _ (and _ _ good fine)))
-    well_typed env (call f args) h =
-        bind (λ (m : Option (ℕ × Meaning)). Unit {0}) Good (callee env f (typed env f)) _ (λ m e. tt) (λ m _.
-        bind AllGood Good (typed_arguments env args) _ (well_typed_arguments env args h) (λ xs good. on_same_line Good (first_line f) _ (called_good m xs good)))
+  size_is_good : (line : ℕ) (r : Result ℕ Fault) → Holds Good (r >>= λ n. Ok (size_node line n))
+  size_is_good line (Ok n) = given Good _ (size_good line n)
+  size_is_good line (Err f) = refused Good f
 
-    pub well_typed_arguments : (env : Environment) (ts : Trees) → are_there variables env ≡ true → Holds AllGood (typed_arguments env ts)
-    well_typed_arguments env none h = given AllGood [] refl
-    well_typed_arguments env (more first rest) h =
-        bind Good AllGood (typed env first) _ (well_typed env first h) (λ x good. bind AllGood AllGood (typed_arguments env rest) _ (well_typed_arguments env rest h) (λ xs fine.
-        given AllGood _ (and _ _ good fine)))
+  operand_good : (line : ℕ) (o : Option (List (List ℕ))) (r : Result Expression Fault) → Holds Good (operand_size line o r)
+  operand_good line None (Ok x) = size_is_good line (on_line line (value_size (type_of x)))
+  operand_good line None (Err f) = refused Good f
+  operand_good line (Some parts) r = given Good _ (size_good line (strings_length parts + 1))
+
+  module _ (there : are_known scope ≡ true) (built : 9 ≤ length scope.types) where
+    mutual
+      pub well_typed : (t : Tree) → Holds Good (typed scope t)
+      well_typed (constant line c) = given Good _ (constant_good line c)
+      well_typed (character line bits) = given Good _ (character_good line bits)
+      well_typed (strings line parts) = refused Good _
+      well_typed (name line n) = on_same_line Good line _ (name_good line (meaning_of scope.bindings n) (meant_in false scope.bindings (built_in n) n there (built_in_meant n built)))
+      well_typed (parens line e) = well_typed e
+      well_typed (unary line op e) = bind Good Good (typed scope e) _ (well_typed e) (λ x good. on_same_line Good line _ (unary_good scope.constants line op x good))
+      well_typed (cast line parts d e) =
+          bind (λ (t : CType). Unit {0}) Good (type_name scope parts d (lengths scope d)) _ (λ t _. tt) (λ t _.
+          bind Good Good (typed scope e) _ (well_typed e) (λ x good. on_same_line Good line _ (cast_good t x good)))
+      well_typed (sizeof_expr line e) = operand_good line (strings_of e) (typed scope e)
+      well_typed (sizeof_type line parts d) =
+          bind (λ (t : CType). Unit {0}) Good (type_name scope parts d (lengths scope d)) _ (λ t _. tt) (λ t _. size_is_good line (on_line line (type_size scope.records.done t)))
+      well_typed (step line op e) = bind Good Good (typed scope e) _ (well_typed e) (λ x good. on_same_line Good (first_line e) _ (postfix_good scope.constants line op x good))
+      well_typed (member line e n) = bind Good Good (typed scope e) _ (well_typed e) (λ x good. refused Good _)
+      well_typed (binary line op a b) =
+          bind Good Good (typed scope a) _ (well_typed a) (λ x good. bind Good Good (typed scope b) _ (well_typed b) (λ y fine.
+          on_same_line Good (first_line a) _ (binary_good line op x y good fine)))
+      well_typed (choice line test a b) =
+          bind Good Good (typed scope test) _ (well_typed test) (λ x good. bind Good Good (typed scope a) _ (well_typed a) (λ y fine.
+          bind Good Good (typed scope b) _ (well_typed b) (λ z last. on_same_line Good (first_line test) _ (choice_good line x y z good fine last))))
+      well_typed (assign line op a b) =
+          bind Good Good (typed scope a) _ (well_typed a) (λ x good. bind Good Good (typed scope b) _ (well_typed b) (λ y fine.
+          on_same_line Good (first_line a) _ (assignment_good scope.constants line op x y good fine)))
+      well_typed (comma line a b) =
+          bind Good Good (typed scope a) _ (well_typed a) (λ x good. bind Good Good (typed scope b) _ (well_typed b) (λ y fine.
+          given Good _ (and _ _ good fine)))
+      well_typed (call f args) =
+          bind (λ (m : Option (ℕ × Meaning)). Unit {0}) Good (callee scope f (typed scope f)) _ (λ m e. tt) (λ m _.
+          bind AllGood Good (typed_arguments scope args) _ (well_typed_arguments args) (λ xs good. on_same_line Good (first_line f) _ (called_good m xs good)))
+
+      pub well_typed_arguments : (ts : Trees) → Holds AllGood (typed_arguments scope ts)
+      well_typed_arguments none = given AllGood [] refl
+      well_typed_arguments (more first rest) =
+          bind Good AllGood (typed scope first) _ (well_typed first) (λ x good. bind AllGood AllGood (typed_arguments scope rest) _ (well_typed_arguments rest) (λ xs fine.
+          given AllGood _ (and _ _ good fine)))

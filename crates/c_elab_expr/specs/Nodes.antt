@@ -1,5 +1,6 @@
 -- What an operator makes of its typed operands, or the lowest rule that they break (C11 6.3.1, 6.5).
-use Rattle.std.specs.Prelude.{ℕ, ◌%◌, ◌^◌, Bool, true, false, List, [], ◌∷◌, Option, Some, None, Result, Ok, Err, if◌then◌else◌}
+use Rattle.std.specs.Prelude.{ℕ, ◌%◌, ◌^◌, Bool, true, false, List, [], ◌∷◌, Option, Some, None, slice_index_or, Result, Ok, Err, if◌then◌else◌}
+use Rattle.std.specs.Option.{option_and_then}
 use Rattle.c_lexer.specs.declared.token.Constant.{Constant}
 use Rattle.c_lexer.specs.declared.token.ConstantType.{ConstantType}
 use Rattle.c_lexer.specs.declared.token.ConstantType.TheVariants as constants
@@ -13,7 +14,9 @@ use Rattle.c_types.specs.declared.integers.IntegerType.{IntegerType}
 use Rattle.c_types.specs.declared.integers.IntegerType.TheVariants as types
 use Rattle.c_types.specs.declared.types.ValueType.{ValueType}
 use Rattle.c_types.specs.declared.types.ValueType.TheVariants.{Void, Integer}
-use Rattle.c_types.specs.Integers.{width, promoted, common_type, same_type}
+use Rattle.c_types.specs.Types.{CType}
+use Rattle.c_types.specs.Types as ctypes
+use Rattle.c_types.specs.Integers.{width, bytes, promoted, common_type, same_type}
 use Rattle.core_tree.specs.declared.operators.ArithmeticOperator.{ArithmeticOperator}
 use Rattle.core_tree.specs.declared.operators.ArithmeticOperator.TheVariants as arithmetics
 use Rattle.core_tree.specs.declared.operators.Comparison.{Comparison}
@@ -29,7 +32,7 @@ use Rattle.core_tree.specs.declared.expression.Place.TheVariants as places
 use Rattle.core_tree.specs.Trees.{Expression, constant, read, convert, sign, is_zero, arithmetic, compare, logical, choice, assign, update, step, comma, assertion, assumption, draw}
 use Rattle.core_tree.specs.Typed.{type_of, place_type, is_shift}
 use Rattle.c_elab_expr.specs.declared.meaning.Meaning.{Meaning}
-use Rattle.c_elab_expr.specs.declared.meaning.Meaning.TheVariants.{Variable, Assert, Assume, Draw, Function}
+use Rattle.c_elab_expr.specs.declared.meaning.Meaning.TheVariants.{Variable, Assert, Assume, Draw, Function, Typedef, Enumerator, Record, Enumeration}
 
 -- a typed node, or the rule that is broken
 abbrev pub Node : Type 0
@@ -76,6 +79,14 @@ place_of (assertion line e) = None
 place_of (assumption line e) = None
 place_of (draw line t) = None
 
+-- a place is of a variable that isn't const, of which `constants` tells by number
+abbrev pub writable : List Bool → Place → Option Place
+writable constants (places.Variable line t v) = if slice_index_or constants v false then None else Some (places.Variable line t v)
+
+-- the place that may be changed
+abbrev pub target_of : List Bool → Expression → Option Place
+target_of constants e = option_and_then (writable constants) (place_of e)
+
 -- ---- constants and names
 
 abbrev pub constant_type : ConstantType → IntegerType
@@ -90,14 +101,50 @@ constant_type constants.UnsignedLongLong = types.UnsignedLongLong
 abbrev pub constant_node : ℕ → Constant → Expression
 constant_node line c = let t = constant_type c.type_ in constant line t (c.value % 2 ^ width t)
 
--- a function stands only where it is called
+-- a character constant is of type int (C11 6.4.4.4p10)
+abbrev pub character_node : ℕ → ℕ → Expression
+character_node line bits = constant line types.Int (bits % 2 ^ 32)
+
+-- A function stands only where it is called, and a type's name where a type is named. An enumerator is a constant of type int
+-- (C11 6.7.2.2p3).
 abbrev pub name_node : ℕ → Option Meaning → Node
 name_node line None = Err 1
-name_node line (Some (Variable v t)) = Ok (read (places.Variable line t v))
+name_node line (Some (Variable v t k)) = Ok (read (places.Variable line t v))
 name_node line (Some Assert) = Err 7
 name_node line (Some Assume) = Err 7
 name_node line (Some (Draw t)) = Err 7
 name_node line (Some Function) = Err 7
+name_node line (Some (Typedef n)) = Err 7
+name_node line (Some (Enumerator bits)) = Ok (character_node line bits)
+name_node line (Some (Record p)) = Err 7
+name_node line (Some Enumeration) = Err 7
+
+-- ---- sizeof (C11 6.5.3.4)
+
+-- a constant of type unsigned long
+abbrev pub size_node : ℕ → ℕ → Expression
+size_node line n = constant line types.UnsignedLong (n % 2 ^ 64)
+
+-- the bytes of an expression's type
+abbrev pub value_size : ValueType → Result ℕ ℕ
+value_size Void = Err 3
+value_size (Integer t) = Ok (bytes t)
+
+-- ---- casts (C11 6.5.4)
+
+-- an integer value that is cast to void has no typing yet: no rule has the number 0
+abbrev pub discarded : ValueType → Expression → Node
+discarded Void e = Ok e
+discarded (Integer t) e = Err 0
+
+-- a cast is no place, also where it keeps the type
+abbrev pub cast_node : CType → Expression → Node
+cast_node ctypes.void e = discarded (type_of e) e
+cast_node (ctypes.integer t) e = do
+  u ← integer 7 e
+  Ok (convert t e)
+cast_node (ctypes.aggregate p) e = Err 7
+cast_node (ctypes.array element n) e = Err 7
 
 -- ---- unary operators (C11 6.5.3.3)
 
@@ -112,23 +159,23 @@ not_node line e = do
   Ok (is_zero line e)
 
 -- `++` and `--` (C11 6.5.2.4, 6.5.3.1)
-abbrev pub step_node : ℕ → StepOperator → Bool → Expression → Node
-step_node line op before e = do
+abbrev pub step_node : List Bool → ℕ → StepOperator → Bool → Expression → Node
+step_node constants line op before e = do
   t ← integer 7 e
-  p ← required 9 (place_of e)
+  p ← required 9 (target_of constants e)
   Ok (step line p op before)
 
-abbrev pub unary_node : ℕ → UnaryOp → Expression → Node
-unary_node line unaries.Increment e = step_node line steps.Increment true e
-unary_node line unaries.Decrement e = step_node line steps.Decrement true e
-unary_node line unaries.Plus e = sign_node line signs.Plus e
-unary_node line unaries.Minus e = sign_node line signs.Minus e
-unary_node line unaries.Complement e = sign_node line signs.Complement e
-unary_node line unaries.Not e = not_node line e
+abbrev pub unary_node : List Bool → ℕ → UnaryOp → Expression → Node
+unary_node constants line unaries.Increment e = step_node constants line steps.Increment true e
+unary_node constants line unaries.Decrement e = step_node constants line steps.Decrement true e
+unary_node constants line unaries.Plus e = sign_node line signs.Plus e
+unary_node constants line unaries.Minus e = sign_node line signs.Minus e
+unary_node constants line unaries.Complement e = sign_node line signs.Complement e
+unary_node constants line unaries.Not e = not_node line e
 
-abbrev pub postfix_node : ℕ → StepOp → Expression → Node
-postfix_node line postfixes.Increment e = step_node line steps.Increment false e
-postfix_node line postfixes.Decrement e = step_node line steps.Decrement false e
+abbrev pub postfix_node : List Bool → ℕ → StepOp → Expression → Node
+postfix_node constants line postfixes.Increment e = step_node constants line steps.Increment false e
+postfix_node constants line postfixes.Decrement e = step_node constants line steps.Decrement false e
 
 -- ---- binary operators (C11 6.5.5 to 6.5.14)
 
@@ -192,11 +239,11 @@ choice_node line test a b = do
 
 -- ---- assignments (C11 6.5.16)
 
-abbrev pub assign_node : ℕ → Expression → Expression → Node
-assign_node line place value = do
+abbrev pub assign_node : List Bool → ℕ → Expression → Expression → Node
+assign_node constants line place value = do
   t ← integer 8 place
   u ← integer 8 value
-  p ← required 9 (place_of place)
+  p ← required 9 (target_of constants place)
   Ok (assign line p (as_type (place_type p) value))
 
 -- the operators that can stand before `=`
@@ -220,17 +267,17 @@ operator_of binaries.Multiply = Some arithmetics.Multiply
 operator_of binaries.Divide = Some arithmetics.Divide
 operator_of binaries.Remainder = Some arithmetics.Remainder
 
-abbrev pub update_node : ℕ → BinaryOp → Expression → Expression → Node
-update_node line op place value = do
+abbrev pub update_node : List Bool → ℕ → BinaryOp → Expression → Expression → Node
+update_node constants line op place value = do
   operator ← required 7 (operator_of op)
   t ← integer 7 place
   u ← integer 7 value
-  p ← required 9 (place_of place)
+  p ← required 9 (target_of constants place)
   Ok (update line p operator (left_type operator t u) (as_type (right_type operator t u) value))
 
-abbrev pub assignment_node : ℕ → Option BinaryOp → Expression → Expression → Node
-assignment_node line None place value = assign_node line place value
-assignment_node line (Some op) place value = update_node line op place value
+abbrev pub assignment_node : List Bool → ℕ → Option BinaryOp → Expression → Expression → Node
+assignment_node constants line None place value = assign_node constants line place value
+assignment_node constants line (Some op) place value = update_node constants line op place value
 
 -- ---- calls (C11 6.5.2.2)
 
@@ -250,7 +297,7 @@ no_arguments (a ∷ rest) e = Err 10
 
 -- what a call of what a name on this line means is; no tree calls a function that the file defines
 abbrev pub call_node : ℕ → Meaning → List Expression → Node
-call_node line (Variable v t) arguments = Err 10
+call_node line (Variable v t k) arguments = Err 10
 call_node line Assert arguments = do
   a ← one_integer arguments
   Ok (assertion line a)
@@ -259,3 +306,7 @@ call_node line Assume arguments = do
   Ok (assumption line a)
 call_node line (Draw t) arguments = no_arguments arguments (draw line t)
 call_node line Function arguments = Err 10
+call_node line (Typedef n) arguments = Err 10
+call_node line (Enumerator bits) arguments = Err 10
+call_node line (Record p) arguments = Err 10
+call_node line Enumeration arguments = Err 10

@@ -1,12 +1,17 @@
--- What names mean at a place of a file (C11 6.2.1).
-use Rattle.std.specs.Prelude.{ℕ, Bool, true, List, [], ◌∷◌, Option, Some, None, codes, if◌then◌else◌}
+-- What names mean at a place of a file (C11 6.2.1, 6.2.3).
+use Rattle.std.specs.Prelude.{ℕ, Bool, true, false, not, ◌&&◌, List, [], ◌∷◌, length, nat_lt, Option, Some, None, codes, if◌then◌else◌, refl}
 use Rattle.std.specs.List.{list_all, list_any}
 use Rattle.std.specs.Str.{bytes_eq}
+use Rattle.std.specs.Coded.{Coded, code_by, coded_bool, coded×}
 use Rattle.c_types.specs.declared.integers.IntegerType.{IntegerType}
 use Rattle.c_types.specs.declared.integers.IntegerType.TheVariants as types
+use Rattle.c_types.specs.declared.types.RecordKind.TheVariants.{Struct}
+use Rattle.c_types.specs.Types.{CType, Records, view, coded_type, coded_records}
+use Rattle.c_types.specs.Types as ctypes
 use Rattle.core_tree.specs.Typed.{is_variable}
 use Rattle.c_elab_expr.specs.declared.meaning.Meaning.{Meaning}
-use Rattle.c_elab_expr.specs.declared.meaning.Meaning.TheVariants.{Variable, Assert, Assume, Draw, Function}
+use Rattle.c_elab_expr.specs.declared.meaning.Meaning.TheVariants.{Variable, Assert, Assume, Draw, Function, Typedef, Enumerator, Record, Enumeration}
+use Rattle.c_elab_expr.specs.declared.scope.QualifiedType.{QualifiedType}
 
 -- a declared name
 pub record Binding : Type 0 where
@@ -19,6 +24,37 @@ binding n m = record { name = n; meaning = m }
 -- the declared names, the innermost first
 abbrev pub Environment : Type 0
 Environment = List Binding
+
+-- a type, and whether it is const
+pub record Named : Type 0 where
+  pub type : CType
+  pub constant : Bool
+
+abbrev pub plain : CType → Named
+plain t = record { type = t; constant = false }
+
+abbrev pub view_named : QualifiedType → Named
+view_named t = record { type = view t.type_; constant = t.constant }
+
+-- ---- what each file has around it
+
+-- the types of the built-in names by number; pthread_mutex_t is the first struct
+abbrev pub built_in_types : List Named
+built_in_types =
+    plain (ctypes.integer types.UnsignedLong)
+    ∷ plain (ctypes.integer types.Long)
+    ∷ plain (ctypes.integer types.SignedChar)
+    ∷ plain (ctypes.integer types.Short)
+    ∷ plain (ctypes.integer types.Int)
+    ∷ plain (ctypes.integer types.UnsignedChar)
+    ∷ plain (ctypes.integer types.UnsignedShort)
+    ∷ plain (ctypes.integer types.UnsignedInt)
+    ∷ plain (ctypes.aggregate 0)
+    ∷ []
+
+-- a struct with a member of type unsigned
+abbrev pub built_in_records : Records
+built_in_records = record { declared = Struct ∷ []; done = record { place = 0; kind = Struct; members = ctypes.integer types.UnsignedInt ∷ [] } ∷ [] }
 
 -- the names that each file may use without a declaration
 abbrev pub built_ins : Environment
@@ -35,36 +71,101 @@ built_ins =
     ∷ binding (codes "nondet_long") (Draw types.Long)
     ∷ binding (codes "nondet_ulong") (Draw types.UnsignedLong)
     ∷ binding (codes "nondet_size_t") (Draw types.UnsignedLong)
+    ∷ binding (codes "size_t") (Typedef 0)
+    ∷ binding (codes "uintptr_t") (Typedef 0)
+    ∷ binding (codes "pthread_t") (Typedef 0)
+    ∷ binding (codes "ptrdiff_t") (Typedef 1)
+    ∷ binding (codes "intptr_t") (Typedef 1)
+    ∷ binding (codes "int8_t") (Typedef 2)
+    ∷ binding (codes "int16_t") (Typedef 3)
+    ∷ binding (codes "int32_t") (Typedef 4)
+    ∷ binding (codes "int64_t") (Typedef 1)
+    ∷ binding (codes "uint8_t") (Typedef 5)
+    ∷ binding (codes "uint16_t") (Typedef 6)
+    ∷ binding (codes "uint32_t") (Typedef 7)
+    ∷ binding (codes "uint64_t") (Typedef 0)
+    ∷ binding (codes "pthread_mutex_t") (Typedef 8)
     ∷ []
 
+-- ---- names and tags
+
+-- a tag, which has a name space of its own
+abbrev pub is_tag : Meaning → Bool
+is_tag (Variable v t k) = false
+is_tag Assert = false
+is_tag Assume = false
+is_tag (Draw t) = false
+is_tag Function = false
+is_tag (Typedef n) = false
+is_tag (Enumerator bits) = false
+is_tag (Record p) = true
+is_tag Enumeration = true
+
+-- the name space of tags is that of a tag, and the other one that of what else has a name
+abbrev pub in_space : Bool → Bool → Bool
+in_space tags tag = if tags then tag else not tag
+
+-- a binding of the name in a name space
+abbrev pub is_called : Bool → List ℕ → Binding → Bool
+is_called tags name b = in_space tags (is_tag b.meaning) && bytes_eq name b.name
+
 -- what the innermost binding of a name says, or what it means where none has it
-abbrev pub meaning_in : Option Meaning → Environment → List ℕ → Option Meaning
-meaning_in other [] name = other
-meaning_in other (b ∷ bs) name = if bytes_eq name b.name then Some b.meaning else meaning_in other bs name
+abbrev pub meaning_in : Bool → Option Meaning → Environment → List ℕ → Option Meaning
+meaning_in tags other [] name = other
+meaning_in tags other (b ∷ bs) name = if is_called tags name b then Some b.meaning else meaning_in tags other bs name
 
 unfoldable pub built_in : List ℕ → Option Meaning
-built_in name = meaning_in None built_ins name
+built_in name = meaning_in false None built_ins name
 
 -- what a name means, unless it has no declaration in scope
 abbrev pub meaning_of : Environment → List ℕ → Option Meaning
-meaning_of bindings name = meaning_in (built_in name) bindings name
+meaning_of bindings name = meaning_in false (built_in name) bindings name
 
--- a name is among these
-abbrev pub declares : Environment → List ℕ → Bool
-declares bindings name = list_any (λ b. bytes_eq name b.name) bindings
+-- what a tag means, unless it has no declaration in scope
+abbrev pub tag_of : Environment → List ℕ → Option Meaning
+tag_of bindings name = meaning_in true None bindings name
 
--- a variable that a name means is among those of the function, with its type
-abbrev pub is_there : List IntegerType → Meaning → Bool
-is_there variables (Variable v t) = is_variable variables v t
-is_there variables Assert = true
-is_there variables Assume = true
-is_there variables (Draw t) = true
-is_there variables Function = true
+-- a name, or a tag, is among these
+abbrev pub declares : Bool → Environment → List ℕ → Bool
+declares tags bindings name = list_any (λ b. is_called tags name b) bindings
 
-abbrev pub are_there : List IntegerType → Environment → Bool
-are_there variables bindings = list_all (λ b. is_there variables b.meaning) bindings
+-- ---- scopes
 
--- a scope: the declared names, and the types of the function's variables by number
+-- A scope: the declared names, what typedefs name by number, the structs and unions by place, the types of the function's
+-- variables by number, and of each whether it is const.
 pub record Scoped : Type 0 where
   pub bindings : Environment
+  pub types : List Named
+  pub records : Records
   pub variables : List IntegerType
+  pub constants : List Bool
+
+-- nothing is declared
+abbrev pub first_scope : Scoped
+first_scope = record { bindings = []; types = built_in_types; records = built_in_records; variables = []; constants = [] }
+
+-- what a name means is there: a variable of the function with its type, a typedef's type, or a struct or union
+abbrev pub is_there : List IntegerType → ℕ → ℕ → Meaning → Bool
+is_there variables types records (Variable v t k) = is_variable variables v t
+is_there variables types records Assert = true
+is_there variables types records Assume = true
+is_there variables types records (Draw t) = true
+is_there variables types records Function = true
+is_there variables types records (Typedef n) = nat_lt n types
+is_there variables types records (Enumerator bits) = true
+is_there variables types records (Record p) = nat_lt p records
+is_there variables types records Enumeration = true
+
+abbrev pub are_there : List IntegerType → ℕ → ℕ → Environment → Bool
+are_there variables types records bindings = list_all (λ b. is_there variables types records b.meaning) bindings
+
+abbrev pub is_known : Scoped → Meaning → Bool
+is_known s m = is_there s.variables (length s.types) (length s.records.declared) m
+
+abbrev pub are_known : Scoped → Bool
+are_known s = are_there s.variables (length s.types) (length s.records.declared) s.bindings
+
+-- ---- codes, by which proofs tell scopes apart
+
+abbrev pub coded_named : Coded Named
+coded_named = code_by (CType × Bool) (coded× coded_type coded_bool) (λ n. (n.type, n.constant)) (λ p. record { type = p.0; constant = p.1 }) (λ _. refl)

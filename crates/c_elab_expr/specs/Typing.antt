@@ -1,7 +1,7 @@
 -- The typed tree of an expression, or the first broken rule: parts come before the node, from left to right, so it is the node
 -- whose last token comes first among those that break a rule and whose parts are all typed (C11 6.5).
-use Rattle.std.specs.Prelude.{◌≡◌, ℕ, List, [], ◌∷◌, Option, Some, None, Result, Ok, Err}
-use Rattle.c_tree.specs.Tree.{Tree, Trees, constant, name, parens, unary, step, binary, choice, assign, comma, call, none, more, first_line}
+use Rattle.std.specs.Prelude.{◌≡◌, ℕ, ◌+◌, ◌++◌, List, [], ◌∷◌, Option, Some, None, Result, Ok, Err}
+use Rattle.c_tree.specs.Tree.{TypePart, Tree, Trees, Declared, Suffixes, unnamed, named, inside, no_suffix, bounded, unbounded, constant, character, strings, name, parens, unary, cast, sizeof_expr, sizeof_type, step, member, binary, choice, assign, comma, call, none, more, first_line}
 use Rattle.core_tree.specs.Trees.{Expression}
 use Rattle.core_tree.specs.Trees as cores
 use Rattle.c_elab_expr.specs.declared.meaning.Meaning.{Meaning}
@@ -9,8 +9,13 @@ use Rattle.c_elab_expr.specs.declared.fault.TypingError.{TypingError}
 use Rattle.c_elab_expr.specs.declared.fault.TypingError.TheVariants as errors
 use Rattle.c_elab_expr.specs.declared.fault.Broken.{Broken}
 use Rattle.c_elab_expr.specs.declared.fault.Broken.TheVariants as broken
-use Rattle.c_elab_expr.specs.Scopes.{Environment, meaning_of}
-use Rattle.c_elab_expr.specs.Nodes.{Node, ◌>>=◌, required, constant_node, name_node, unary_node, postfix_node, binary_node, choice_node, assignment_node, call_node}
+use Rattle.core_tree.specs.Typed.{type_of}
+use Rattle.c_types.specs.Types.{CType}
+use Rattle.c_elab_expr.specs.Scopes.{Scoped, meaning_of}
+use Rattle.c_elab_expr.specs.Types.{nothing_said, with_parts, specified_type, parts_line, declared_line, array_of, type_size}
+use Rattle.c_elab_expr.specs.Constants.{constant_of, length_said}
+use Rattle.c_elab_expr.specs.Strings.{strings_of, strings_length}
+use Rattle.c_elab_expr.specs.Nodes.{Node, ◌>>=◌, required, constant_node, character_node, name_node, unary_node, postfix_node, binary_node, choice_node, assignment_node, call_node, cast_node, size_node, value_size}
 
 -- a broken rule, and the line of the first token of the node that breaks it
 pub record Fault : Type 0 where
@@ -20,59 +25,119 @@ pub record Fault : Type 0 where
 abbrev pub fault : ℕ → ℕ → Fault
 fault l r = record { line = l; rule = r }
 
+-- a form that has no typing yet: no rule has the number 0, and no line
+abbrev pub untyped : Fault
+untyped = fault 0 0
+
 -- a rule is broken on a line
 abbrev pub on_line : {A : Type 0} → ℕ → Result A ℕ → Result A Fault
 on_line line (Ok x) = Ok x
 on_line line (Err rule) = Err (fault line rule)
 
 -- What a callee means, with the line of its name: any other tree is typed, and is no function.
-abbrev pub callee : Environment → Tree → Result Expression Fault → Result (Option (ℕ × Meaning)) Fault
-callee env (name line n) typed_callee = on_line line (required 1 (meaning_of env n)) >>= λ m. Ok (Some (line, m))
-callee env _ typed_callee = typed_callee >>= λ e. Ok None
+abbrev pub callee : Scoped → Tree → Result Expression Fault → Result (Option (ℕ × Meaning)) Fault
+callee s (name line n) typed_callee = on_line line (required 1 (meaning_of s.bindings n)) >>= λ m. Ok (Some (line, m))
+callee s _ typed_callee = typed_callee >>= λ e. Ok None
 
 abbrev pub called : Option (ℕ × Meaning) → List Expression → Node
 called None arguments = Err 10
 called (Some m) arguments = call_node m.0 m.1 arguments
 
+-- The type of a type name, whose specifiers are a node and whose declarator, with these typed bounds, is the next.
+abbrev pub type_name : Scoped → List TypePart → Declared → Result (List (Option ℕ)) Fault → Result CType Fault
+type_name s parts d bounds = do
+  t ← on_line (parts_line parts) (specified_type (with_parts s nothing_said parts))
+  ns ← bounds
+  on_line (declared_line d) (array_of s.records.done t.type ns)
+
+-- The size of a string counts the zero behind it. Another operand has a typing, and is not evaluated.
+abbrev pub operand_size : ℕ → Option (List (List ℕ)) → Result Expression Fault → Result Expression Fault
+operand_size line (Some parts) typed_operand = Ok (size_node line (strings_length parts + 1))
+operand_size line None typed_operand = do
+  x ← typed_operand
+  n ← on_line line (value_size (type_of x))
+  Ok (size_node line n)
+
+-- rule 13: a bound is an integer constant expression, and says how many elements
+abbrev pub bound : ℕ → Result Expression Fault → Result ℕ Fault
+bound line typed_bound = do
+  x ← typed_bound
+  n ← on_line line (required 13 (constant_of x))
+  Ok (length_said n)
+
 abbrev mutual
-  pub typed : Environment → Tree → Result Expression Fault
-  typed env (constant line c) = Ok (constant_node line c)
-  typed env (name line n) = on_line line (name_node line (meaning_of env n))
-  typed env (parens line e) = typed env e
-  typed env (unary line op e) = do
-    x ← typed env e
-    on_line line (unary_node line op x)
-  typed env (step line op e) = do
-    x ← typed env e
-    on_line (first_line e) (postfix_node line op x)
-  typed env (binary line op a b) = do
-    x ← typed env a
-    y ← typed env b
+  pub typed : Scoped → Tree → Result Expression Fault
+  typed s (constant line c) = Ok (constant_node line c)
+  typed s (character line bits) = Ok (character_node line bits)
+  typed s (strings line parts) = Err (fault line 7)
+  typed s (name line n) = on_line line (name_node line (meaning_of s.bindings n))
+  typed s (parens line e) = typed s e
+  typed s (unary line op e) = do
+    x ← typed s e
+    on_line line (unary_node s.constants line op x)
+  typed s (cast line parts d e) = do
+    t ← type_name s parts d (lengths s d)
+    x ← typed s e
+    on_line line (cast_node t x)
+  typed s (sizeof_expr line e) = operand_size line (strings_of e) (typed s e)
+  typed s (sizeof_type line parts d) = do
+    t ← type_name s parts d (lengths s d)
+    n ← on_line line (type_size s.records.done t)
+    Ok (size_node line n)
+  typed s (step line op e) = do
+    x ← typed s e
+    on_line (first_line e) (postfix_node s.constants line op x)
+  typed s (member line e n) = do
+    x ← typed s e
+    Err (fault (first_line e) 11)
+  typed s (binary line op a b) = do
+    x ← typed s a
+    y ← typed s b
     on_line (first_line a) (binary_node line op x y)
-  typed env (choice line test a b) = do
-    x ← typed env test
-    y ← typed env a
-    z ← typed env b
+  typed s (choice line test a b) = do
+    x ← typed s test
+    y ← typed s a
+    z ← typed s b
     on_line (first_line test) (choice_node line x y z)
-  typed env (assign line op a b) = do
-    x ← typed env a
-    y ← typed env b
-    on_line (first_line a) (assignment_node line op x y)
-  typed env (comma line a b) = do
-    x ← typed env a
-    y ← typed env b
+  typed s (assign line op a b) = do
+    x ← typed s a
+    y ← typed s b
+    on_line (first_line a) (assignment_node s.constants line op x y)
+  typed s (comma line a b) = do
+    x ← typed s a
+    y ← typed s b
     Ok (cores.comma line x y)
-  typed env (call f arguments) = do
-    m ← callee env f (typed env f)
-    xs ← typed_arguments env arguments
+  typed s (call f arguments) = do
+    m ← callee s f (typed s f)
+    xs ← typed_arguments s arguments
     on_line (first_line f) (called m xs)
 
-  pub typed_arguments : Environment → Trees → Result (List Expression) Fault
-  typed_arguments env none = Ok []
-  typed_arguments env (more first rest) = do
-    x ← typed env first
-    xs ← typed_arguments env rest
+  pub typed_arguments : Scoped → Trees → Result (List Expression) Fault
+  typed_arguments s none = Ok []
+  typed_arguments s (more first rest) = do
+    x ← typed s first
+    xs ← typed_arguments s rest
     Ok (x ∷ xs)
+
+  -- The lengths of a declarator's arrays, the outermost first, of which `[]` has none: a declarator in parentheses before the
+  -- suffixes behind it.
+  pub lengths : Scoped → Declared → Result (List (Option ℕ)) Fault
+  lengths s (unnamed suffixes) = suffix_lengths s suffixes
+  lengths s (named line n suffixes) = suffix_lengths s suffixes
+  lengths s (inside line d suffixes) = do
+    inner ← lengths s d
+    outer ← suffix_lengths s suffixes
+    Ok (inner ++ outer)
+
+  pub suffix_lengths : Scoped → Suffixes → Result (List (Option ℕ)) Fault
+  suffix_lengths s no_suffix = Ok []
+  suffix_lengths s (bounded line e rest) = do
+    n ← bound (first_line e) (typed s e)
+    ns ← suffix_lengths s rest
+    Ok (Some n ∷ ns)
+  suffix_lengths s (unbounded line rest) = do
+    ns ← suffix_lengths s rest
+    Ok (None ∷ ns)
 
 -- ---- what the code's answers say
 
@@ -92,3 +157,12 @@ Breaks (broken.Rule rule) node = node ≡ Err rule
 abbrev pub GivesNode : {X Y : Type 0} → (X → Y) → Result X Broken → Result Y ℕ → Type 0
 GivesNode view (Ok x) node = node ≡ Ok (view x)
 GivesNode view (Err e) node = Breaks e node
+
+-- lengths behind others
+abbrev pub behind : List (Option ℕ) → Result (List (Option ℕ)) Fault → Result (List (Option ℕ)) Fault
+behind before typing = typing >>= λ ns. Ok (before ++ ns)
+
+-- with the lengths found before and those found by now
+abbrev pub Adds : Result (Unit {0}) TypingError → List (Option ℕ) → List (Option ℕ) → Result (List (Option ℕ)) Fault → Type 0
+Adds (Ok u) before now typing = behind before typing ≡ Ok now
+Adds (Err e) before now typing = Fails e typing

@@ -61,6 +61,34 @@ pub fn built_in(name: &[u8]) -> Option<Meaning>
         Some(Meaning::Draw {
             type_: IntegerType::UnsignedLong,
         })
+    } else if spells(name, b"size_t") {
+        Some(Meaning::Typedef { number: 0 })
+    } else if spells(name, b"uintptr_t") {
+        Some(Meaning::Typedef { number: 0 })
+    } else if spells(name, b"pthread_t") {
+        Some(Meaning::Typedef { number: 0 })
+    } else if spells(name, b"ptrdiff_t") {
+        Some(Meaning::Typedef { number: 1 })
+    } else if spells(name, b"intptr_t") {
+        Some(Meaning::Typedef { number: 1 })
+    } else if spells(name, b"int8_t") {
+        Some(Meaning::Typedef { number: 2 })
+    } else if spells(name, b"int16_t") {
+        Some(Meaning::Typedef { number: 3 })
+    } else if spells(name, b"int32_t") {
+        Some(Meaning::Typedef { number: 4 })
+    } else if spells(name, b"int64_t") {
+        Some(Meaning::Typedef { number: 1 })
+    } else if spells(name, b"uint8_t") {
+        Some(Meaning::Typedef { number: 5 })
+    } else if spells(name, b"uint16_t") {
+        Some(Meaning::Typedef { number: 6 })
+    } else if spells(name, b"uint32_t") {
+        Some(Meaning::Typedef { number: 7 })
+    } else if spells(name, b"uint64_t") {
+        Some(Meaning::Typedef { number: 0 })
+    } else if spells(name, b"pthread_mutex_t") {
+        Some(Meaning::Typedef { number: 8 })
     } else {
         None
     }

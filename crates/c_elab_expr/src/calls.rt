@@ -49,6 +49,7 @@ fn call_node(
         Meaning::Variable {
             variable: _,
             type_: _,
+            constant: _,
         } => Err(Broken::Rule { rule: 10 }),
         Meaning::Assert => {
             let argument = one_integer(arguments)?;
@@ -65,7 +66,11 @@ fn call_node(
             })
         }
         Meaning::Draw { type_ } => no_arguments(&arguments, CoreExpr::Draw { line, type_ }),
-        Meaning::Function => Err(Broken::Rule { rule: 10 }),
+        Meaning::Function
+        | Meaning::Typedef { number: _ }
+        | Meaning::Enumerator { bits: _ }
+        | Meaning::Record { place: _ }
+        | Meaning::Enumeration => Err(Broken::Rule { rule: 10 }),
     }
 }
 

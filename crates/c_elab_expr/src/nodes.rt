@@ -1,16 +1,17 @@
 //! What an operator makes of its typed operands, or the lowest rule that they break.
 
-ghost use Rattle.std.specs.Prelude.{◌≡◌, ◌≤◌, ◌%◌, ◌^◌, IfOk};
+ghost use Rattle.std.specs.Prelude.{◌≡◌, ◌≤◌, ◌%◌, ◌^◌, IfOk, Some, None, if◌then◌else◌};
+ghost use Rattle.c_types.specs.Types.{view as type_view};
 ghost use Rattle.core_tree.specs.Trees.{view};
 ghost use Rattle.core_tree.specs.Typed.{type_of, place_type, is_shift};
-ghost use Rattle.c_elab_expr.specs.Nodes.{integer, as_type, place_of, required, constant_type, constant_node, name_node, sign_node, not_node, step_node, unary_node, postfix_node, left_type, right_type, arithmetic_node, compare_node, logical_node, binary_node, chosen, choice_node, assign_node, operator_of, update_node, assignment_node};
+ghost use Rattle.c_elab_expr.specs.Nodes.{integer, as_type, place_of, writable, target_of, required, constant_type, constant_node, character_node, name_node, size_node, value_size, discarded, cast_node, sign_node, not_node, step_node, unary_node, postfix_node, left_type, right_type, arithmetic_node, compare_node, logical_node, binary_node, chosen, choice_node, assign_node, operator_of, update_node, assignment_node};
 ghost use Rattle.c_elab_expr.specs.Typing.{GivesNode};
 
 use crate::fault::Broken;
 use crate::meaning::Meaning;
 use c_lexer::{Constant, ConstantType};
 use c_tree::{BinaryOp, StepOp, UnaryOp};
-use c_types::{IntegerType, ValueType, common, promote};
+use c_types::{IntegerType, Ty, ValueType, common, promote};
 use core_tree::{
     ArithmeticOperator, Comparison, CoreExpr, LogicalOperator, Place, SignOperator, StepOperator,
     type_of,
@@ -27,12 +28,44 @@ pub fn integer(expr: &CoreExpr, rule: u32) -> Result<IntegerType, Broken>
     }
 }
 
-fn place(expr: &CoreExpr) -> Result<Place, Broken>
-    ensures { GivesNode (λ p. p) result (required 9 (place_of (view expr.now))) }
+fn place_of(expr: &CoreExpr) -> Option<Place>
+    ensures { result ≡ place_of (view expr.now) }
 {
     match expr {
-        CoreExpr::Read { place } => Ok(*place),
-        _ => Err(Broken::Rule { rule: 9 }),
+        CoreExpr::Read { place } => Some(*place),
+        _ => None,
+    }
+}
+
+// Whether the variable is const.
+fn is_constant(constants: &[bool], place: &Place) -> bool
+    ensures { writable constants.now place.now ≡ (if result then None else Some place.now) }
+{
+    match place {
+        Place::Variable {
+            line: _,
+            type_: _,
+            variable,
+        } => match constants.get(*variable as usize) {
+            Some(constant) => *constant,
+            None => false,
+        },
+    }
+}
+
+// The place that may be changed.
+fn target(constants: &[bool], expr: &CoreExpr) -> Result<Place, Broken>
+    ensures { GivesNode (λ p. p) result (required 9 (target_of constants.now (view expr.now))) }
+{
+    match place_of(expr) {
+        Some(place) => {
+            if is_constant(constants, &place) {
+                Err(Broken::Rule { rule: 9 })
+            } else {
+                Ok(place)
+            }
+        }
+        None => Err(Broken::Rule { rule: 9 }),
     }
 }
 
@@ -64,7 +97,7 @@ fn constant_type(type_: ConstantType) -> IntegerType
 }
 
 // The last bits of a number.
-fn low_bits(value: u64, width: u32) -> u64
+pub fn low_bits(value: u64, width: u32) -> u64
     requires { width ≤ 64 }
     ensures { result ≡ value % 2 ^ width }
 {
@@ -83,12 +116,28 @@ pub fn constant_node(line: u32, constant: &Constant) -> CoreExpr
     CoreExpr::Constant { line, type_, bits }
 }
 
+pub fn character_node(line: u32, bits: u32) -> CoreExpr
+    ensures { view result ≡ character_node line bits }
+{
+    CoreExpr::Constant {
+        line,
+        type_: IntegerType::Int,
+        bits: low_bits(bits as u64, 32),
+    }
+}
+
 pub fn name_node(line: u32, meaning: Option<Meaning>) -> Result<CoreExpr, Broken>
     ensures { GivesNode view result (name_node line meaning) }
 {
     match meaning {
         None => Err(Broken::Rule { rule: 1 }),
-        Some(Meaning::Variable { variable, type_ }) => Ok(CoreExpr::Read {
+        Some(
+            Meaning::Variable {
+                variable,
+                type_,
+                constant: _,
+            },
+        ) => Ok(CoreExpr::Read {
             place: Place::Variable {
                 line,
                 type_,
@@ -99,6 +148,61 @@ pub fn name_node(line: u32, meaning: Option<Meaning>) -> Result<CoreExpr, Broken
         Some(Meaning::Assume) => Err(Broken::Rule { rule: 7 }),
         Some(Meaning::Draw { type_: _ }) => Err(Broken::Rule { rule: 7 }),
         Some(Meaning::Function) => Err(Broken::Rule { rule: 7 }),
+        Some(Meaning::Typedef { number: _ }) => Err(Broken::Rule { rule: 7 }),
+        Some(Meaning::Enumerator { bits }) => Ok(character_node(line, bits)),
+        Some(Meaning::Record { place: _ }) => Err(Broken::Rule { rule: 7 }),
+        Some(Meaning::Enumeration) => Err(Broken::Rule { rule: 7 }),
+    }
+}
+
+/// A constant of type unsigned long.
+pub fn size_node(line: u32, size: u64) -> CoreExpr
+    ensures { view result ≡ size_node line size }
+{
+    CoreExpr::Constant {
+        line,
+        type_: IntegerType::UnsignedLong,
+        bits: low_bits(size, 64),
+    }
+}
+
+/// The bytes of a value's type.
+pub fn value_size(type_: ValueType) -> Result<u64, Broken>
+    ensures { GivesNode (λ n. n) result (value_size type_) }
+{
+    match type_ {
+        ValueType::Void => Err(Broken::Rule { rule: 3 }),
+        ValueType::Integer(integer) => Ok(integer.size() as u64),
+    }
+}
+
+fn discarded(expr: CoreExpr) -> Result<CoreExpr, Broken>
+    ensures { GivesNode view result (discarded (type_of (view expr)) (view expr)) }
+{
+    match type_of(&expr) {
+        ValueType::Void => Ok(expr),
+        ValueType::Integer(_) => Err(Broken::Rule { rule: 0 }),
+    }
+}
+
+/// A value that is cast to a type.
+pub fn cast_node(alloc: Global, type_: &Ty, expr: CoreExpr) -> Result<CoreExpr, Broken>
+    ensures { GivesNode view result (cast_node (type_view type_.now) (view expr)) }
+{
+    match type_ {
+        Ty::Void => discarded(expr),
+        Ty::Integer(to) => {
+            let _type = integer(&expr, 7)?;
+            Ok(CoreExpr::Convert {
+                to: *to,
+                operand: Box::new(alloc, expr)?,
+            })
+        }
+        Ty::Record(_) => Err(Broken::Rule { rule: 7 }),
+        Ty::Array {
+            element: _,
+            length: _,
+        } => Err(Broken::Rule { rule: 7 }),
     }
 }
 
@@ -130,15 +234,16 @@ fn not_node(alloc: Global, line: u32, expr: CoreExpr) -> Result<CoreExpr, Broken
 }
 
 fn step_node(
+    constants: &[bool],
     line: u32,
     operator: StepOperator,
     before: bool,
     expr: &CoreExpr,
 ) -> Result<CoreExpr, Broken>
-    ensures { GivesNode view result (step_node line operator before (view expr.now)) }
+    ensures { GivesNode view result (step_node constants.now line operator before (view expr.now)) }
 {
     let _type = integer(expr, 7)?;
-    let place = place(expr)?;
+    let place = target(constants, expr)?;
     Ok(CoreExpr::Step {
         line,
         place,
@@ -149,15 +254,16 @@ fn step_node(
 
 pub fn unary_node(
     alloc: Global,
+    constants: &[bool],
     line: u32,
     operator: UnaryOp,
     expr: CoreExpr,
 ) -> Result<CoreExpr, Broken>
-    ensures { GivesNode view result (unary_node line operator (view expr)) }
+    ensures { GivesNode view result (unary_node constants.now line operator (view expr)) }
 {
     match operator {
-        UnaryOp::Increment => step_node(line, StepOperator::Increment, true, &expr),
-        UnaryOp::Decrement => step_node(line, StepOperator::Decrement, true, &expr),
+        UnaryOp::Increment => step_node(constants, line, StepOperator::Increment, true, &expr),
+        UnaryOp::Decrement => step_node(constants, line, StepOperator::Decrement, true, &expr),
         UnaryOp::Plus => sign_node(alloc, line, SignOperator::Plus, expr),
         UnaryOp::Minus => sign_node(alloc, line, SignOperator::Minus, expr),
         UnaryOp::Complement => sign_node(alloc, line, SignOperator::Complement, expr),
@@ -165,16 +271,21 @@ pub fn unary_node(
     }
 }
 
-pub fn postfix_node(line: u32, operator: StepOp, expr: &CoreExpr) -> Result<CoreExpr, Broken>
-    ensures { GivesNode view result (postfix_node line operator (view expr.now)) }
+pub fn postfix_node(
+    constants: &[bool],
+    line: u32,
+    operator: StepOp,
+    expr: &CoreExpr,
+) -> Result<CoreExpr, Broken>
+    ensures { GivesNode view result (postfix_node constants.now line operator (view expr.now)) }
 {
     match operator {
-        StepOp::Increment => step_node(line, StepOperator::Increment, false, expr),
-        StepOp::Decrement => step_node(line, StepOperator::Decrement, false, expr),
+        StepOp::Increment => step_node(constants, line, StepOperator::Increment, false, expr),
+        StepOp::Decrement => step_node(constants, line, StepOperator::Decrement, false, expr),
     }
 }
 
-fn is_shift(operator: ArithmeticOperator) -> bool
+pub fn is_shift(operator: ArithmeticOperator) -> bool
     ensures { result ≡ is_shift operator }
 {
     match operator {
@@ -389,15 +500,16 @@ fn place_type(place: &Place) -> IntegerType
 
 fn assign_node(
     alloc: Global,
+    constants: &[bool],
     line: u32,
-    target: &CoreExpr,
+    place: &CoreExpr,
     value: CoreExpr,
 ) -> Result<CoreExpr, Broken>
-    ensures { GivesNode view result (assign_node line (view target.now) (view value)) }
+    ensures { GivesNode view result (assign_node constants.now line (view place.now) (view value)) }
 {
-    let _t = integer(target, 8)?;
+    let _t = integer(place, 8)?;
     let _u = integer(&value, 8)?;
-    let place = place(target)?;
+    let place = target(constants, place)?;
     let value = as_type(alloc, place_type(&place), value)?;
     Ok(CoreExpr::Assign {
         line,
@@ -434,17 +546,18 @@ fn operator_of(operator: BinaryOp) -> Result<ArithmeticOperator, Broken>
 
 fn update_node(
     alloc: Global,
+    constants: &[bool],
     line: u32,
     operator: BinaryOp,
-    target: &CoreExpr,
+    place: &CoreExpr,
     value: CoreExpr,
 ) -> Result<CoreExpr, Broken>
-    ensures { GivesNode view result (update_node line operator (view target.now) (view value)) }
+    ensures { GivesNode view result (update_node constants.now line operator (view place.now) (view value)) }
 {
     let operator = operator_of(operator)?;
-    let t = integer(target, 7)?;
+    let t = integer(place, 7)?;
     let u = integer(&value, 7)?;
-    let place = place(target)?;
+    let place = target(constants, place)?;
     let value = as_type(alloc, right_type(operator, t, u), value)?;
     Ok(CoreExpr::Update {
         line,
@@ -457,15 +570,16 @@ fn update_node(
 
 pub fn assignment_node(
     alloc: Global,
+    constants: &[bool],
     line: u32,
     operator: Option<BinaryOp>,
-    target: &CoreExpr,
+    place: &CoreExpr,
     value: CoreExpr,
 ) -> Result<CoreExpr, Broken>
-    ensures { GivesNode view result (assignment_node line operator (view target.now) (view value)) }
+    ensures { GivesNode view result (assignment_node constants.now line operator (view place.now) (view value)) }
 {
     match operator {
-        None => assign_node(alloc, line, target, value),
-        Some(operator) => update_node(alloc, line, operator, target, value),
+        None => assign_node(alloc, constants, line, place, value),
+        Some(operator) => update_node(alloc, constants, line, operator, place, value),
     }
 }

@@ -1,18 +1,19 @@
 //! What names mean at a place of a file.
 
-ghost use Rattle.std.specs.Prelude.{◌≡◌, ◌-◌, ◌<◌, ◌≤◌, ◌^◌, true, [], ◌∷◌, ◌++◌, length, take, drop, IfOk, OnOk, OnErr, IfSome, vec_len, vec_capacity};
+ghost use Rattle.std.specs.Prelude.{◌≡◌, ◌-◌, ◌<◌, ◌≤◌, ◌^◌, true, false, [], ◌∷◌, ◌++◌, length, map, take, drop, slice_get, option_map, IfOk, IfErr, OnOk, OnErr, IfSome, vec_len, vec_capacity};
+ghost use Rattle.c_types.specs.Types.{integer, views};
+ghost use Rattle.c_types.specs.Layouts.{kind_at, is_completed, with_completed, are_complete, fits, Refuses};
 ghost use Rattle.c_elab_expr.specs.Places.{place_in};
-ghost use Rattle.c_elab_expr.specs.Scopes.{binding, meaning_of, declares, is_there, are_there};
+ghost use Rattle.c_elab_expr.specs.Scopes.{binding, view_named, meaning_of, tag_of, declares, is_there, are_there, is_known, are_known, plain, built_in_types, built_in_records, first_scope};
 
 use crate::built_ins::built_in;
 use crate::meaning::Meaning;
-use crate::places::{Innermost, place_of, replace};
-use c_types::IntegerType;
-use indexmap::IndexMap;
+use crate::places::Places;
+use c_types::{IntegerType, LayoutError, Layouts, RecordKind, Ty};
 use std::alloc::{AllocError, Global};
 use std::marker::Model;
 
-/// A declared name, and the place of the binding that it hides.
+/// A declared name or tag, and the place of the binding that it hides.
 #[derive(Drop)]
 pub struct Bound {
     pub name: Vec<u8>,
@@ -20,44 +21,108 @@ pub struct Bound {
     pub hidden: Option<usize>,
 }
 
-/// What names mean at a place of a file (C11 6.2.1): the declared names, the innermost first, and the types
-/// of the function's variables by number. Each variable that a name means is there with its type.
+/// A type, and whether it is const (C11 6.7.3).
+#[derive(Debug, Drop)]
+pub struct QualifiedType {
+    pub type_: Ty,
+    pub constant: bool,
+}
+
+/// What names and tags mean at a place of a file (C11 6.2.1, 6.2.3): those that are declared, the innermost first; the types
+/// that typedefs name, by number; the structs and unions; and the types of the function's variables by number, with whether each
+/// is const. What a name means is there.
 #[derive(Drop)]
 pub struct Scope {
     bounds: Vec<Bound>,
-    innermost: Innermost,
+    places: Places,
+    types: Vec<QualifiedType>,
+    layouts: Layouts,
     variables: Vec<IntegerType>,
+    constants: Vec<bool>,
 }
 
 impl Model for Scope {
-    ghost use Rattle.std.specs.Prelude.{◌≡◌, ℕ, List, true};
-    ghost use Rattle.c_elab_expr.specs.Scopes.{Scoped, are_there};
-    ghost use Rattle.c_elab_expr.specs.Places.{environment, place_in, hidden_in, hidden_of, place_at};
+    ghost use Rattle.std.specs.Prelude.{◌≡◌, ◌≤◌, ℕ, Bool, List, true, length, map};
+    ghost use Rattle.std.specs.Coded.{codes};
+    ghost use Rattle.c_types.specs.Types.{coded_records};
+    ghost use Rattle.c_elab_expr.specs.Scopes.{Scoped, view_named, are_there, coded_named};
+    ghost use Rattle.c_elab_expr.specs.Places.{environment, place_in, hidden_in, hidden_of, entries_of, place_at};
 
     ghost Value = { Scoped };
 
-    ghost view = { λ s. record { bindings = environment s.bounds.items; variables = s.variables.items } };
+    ghost coded = { Prim.hlevel (codes, coded_named, coded_records) };
 
-    ghost invariant = { λ s. (are_there s.variables.items (environment s.bounds.items) ≡ true)
-        × ((name : List ℕ) → place_at s.innermost.entries name ≡ place_in (environment s.bounds.items) name)
-        × (hidden_of s.bounds.items ≡ hidden_in (environment s.bounds.items)) };
+    ghost view = { λ s. record { bindings = environment s.bounds.items; types = map view_named s.types.items; records = s.layouts; variables = s.variables.items; constants = s.constants.items } };
+
+    ghost invariant = { λ s. (are_there s.variables.items (length (map view_named s.types.items)) (length s.layouts.declared) (environment s.bounds.items) ≡ true)
+        × ((tags : Bool) (name : List ℕ) → place_at (entries_of tags s.places) name ≡ place_in tags (environment s.bounds.items) name)
+        × (hidden_of s.bounds.items ≡ hidden_in (environment s.bounds.items))
+        × (length s.constants.items ≡ length s.variables.items)
+        × (9 ≤ length (map view_named s.types.items)) };
+}
+
+// The struct that pthread_mutex_t names.
+fn built_in_layouts(alloc: Global) -> Result<Layouts, AllocError>
+    ensures { IfOk result (λ l. l ≡ built_in_records) }
+{
+    let mut layouts = Layouts::new(alloc);
+    let place = layouts.declare(RecordKind::Struct)?;
+    let members = vec![in alloc; Ty::Integer(IntegerType::UnsignedInt)]?;
+    match layouts.complete(alloc, place, members) {
+        Ok(()) => Ok(layouts),
+        Err(_) => Err(AllocError),
+    }
+}
+
+fn plain(type_: IntegerType) -> QualifiedType
+    ensures { view_named result ≡ plain (integer type_) }
+{
+    QualifiedType {
+        type_: Ty::Integer(type_),
+        constant: false,
+    }
+}
+
+// The types of the built-in names.
+fn built_in_types(alloc: Global) -> Result<Vec<QualifiedType>, AllocError>
+    ensures { IfOk result (λ v. map view_named v.items ≡ built_in_types) }
+{
+    let types = vec![in alloc;
+        plain(IntegerType::UnsignedLong),
+        plain(IntegerType::Long),
+        plain(IntegerType::SignedChar),
+        plain(IntegerType::Short),
+        plain(IntegerType::Int),
+        plain(IntegerType::UnsignedChar),
+        plain(IntegerType::UnsignedShort),
+        plain(IntegerType::UnsignedInt),
+        QualifiedType {
+            type_: Ty::Record(0),
+            constant: false
+        },
+    ]?;
+    Ok(types)
 }
 
 impl Scope {
-    /// Nothing is declared. The scope keeps the allocator.
-    pub fn new(alloc: Global) -> Scope
-        ensures { result ≡ record { bindings = []; variables = [] } }
+    /// Nothing is declared but what each file has around it. The scope keeps the allocator.
+    pub fn new(alloc: Global) -> Result<Scope, AllocError>
+        ensures { IfOk result (λ s. s ≡ first_scope) }
     {
-        Scope {
+        Ok(Scope {
             bounds: Vec::new(alloc),
-            innermost: IndexMap::new(alloc),
+            places: Places::new(alloc),
+            types: built_in_types(alloc)?,
+            layouts: built_in_layouts(alloc)?,
             variables: Vec::new(alloc),
-        }
+            constants: Vec::new(alloc),
+        })
     }
 
-    /// The variables that names mean are there. Computes nothing.
+    /// What names mean is there. Computes nothing.
     pub fn prove_there(&self)
-        ensures { are_there self.now.variables self.now.bindings ≡ true }
+        ensures there { are_known self.now ≡ true }
+        ensures built_in { 9 ≤ length self.now.types }
     {
         let _ = &self.bounds;
     }
@@ -69,62 +134,118 @@ impl Scope {
         self.variables.len()
     }
 
-    /// How many declared names are in scope.
+    /// Of each variable of the function whether it is const, by number.
+    pub fn constants(&self) -> &[bool]
+        ensures { result.now ≡ self.now.constants }
+    {
+        &self.constants
+    }
+
+    /// How many types typedefs name.
+    pub fn type_count(&self) -> usize
+        ensures { result ≡ length self.now.types }
+    {
+        self.types.len()
+    }
+
+    /// What a typedef names, by its number.
+    pub fn named(&self, number: u32) -> Option<&QualifiedType>
+        ensures { option_map (λ t. view_named t.now) result ≡ slice_get self.now.types number }
+    {
+        self.types.get(number as usize)
+    }
+
+    /// The structs and unions.
+    pub fn layouts(&self) -> &Layouts
+        ensures { result.now ≡ self.now.records }
+    {
+        &self.layouts
+    }
+
+    /// How many declared names and tags are in scope.
     pub fn len(&self) -> usize
         ensures { result ≡ length self.now.bindings }
     {
         self.bounds.len()
     }
 
-    // The place of a name's innermost binding.
-    fn place(&self, name: &[u8]) -> Option<usize>
-        ensures is { result ≡ place_in self.now.bindings name.now }
+    // The place of a name's innermost binding in a name space.
+    fn place(&self, tags: bool, name: &[u8]) -> Option<usize>
+        ensures is { result ≡ place_in tags self.now.bindings name.now }
         ensures within { IfSome result (λ p. p < length self.now.bindings) }
     {
-        place_of(&self.innermost, name)
+        self.places.place_of(tags, name)
     }
 
     /// What a name means, unless it has no declaration in scope and is no built-in name.
     pub fn meaning(&self, name: &[u8]) -> Option<Meaning>
         ensures { result ≡ meaning_of self.now.bindings name.now }
     {
-        match self.place(name) {
+        match self.place(false, name) {
             Some(place) => Some(self.bounds[place].meaning),
             None => built_in(name),
         }
     }
 
-    /// Whether a name is declared in the block that began with `outer` declared names in scope.
-    pub fn is_declared(&self, name: &[u8], outer: usize) -> bool
-        requires { outer ≤ length self.now.bindings }
-        ensures { result ≡ declares (take (length self.now.bindings - outer) self.now.bindings) name.now }
+    /// What a tag means, unless it has no declaration in scope.
+    pub fn tag(&self, name: &[u8]) -> Option<Meaning>
+        ensures is { result ≡ tag_of self.now.bindings name.now }
+        ensures there { IfSome result (λ m. is_known self.now m ≡ true) }
     {
-        match self.place(name) {
+        match self.place(true, name) {
+            Some(place) => Some(self.bounds[place].meaning),
+            None => None,
+        }
+    }
+
+    fn is_declared_in(&self, tags: bool, name: &[u8], outer: usize) -> bool
+        requires { outer ≤ length self.now.bindings }
+        ensures { result ≡ declares tags (take (length self.now.bindings - outer) self.now.bindings) name.now }
+    {
+        match self.place(tags, name) {
             Some(place) => outer <= place,
             None => false,
         }
     }
 
+    /// Whether a name is declared in the block that began with `outer` declared names and tags in scope.
+    pub fn is_declared(&self, name: &[u8], outer: usize) -> bool
+        requires { outer ≤ length self.now.bindings }
+        ensures { result ≡ declares false (take (length self.now.bindings - outer) self.now.bindings) name.now }
+    {
+        self.is_declared_in(false, name, outer)
+    }
+
+    /// Whether a tag is declared in the block that began with `outer` declared names and tags in scope.
+    pub fn is_tag_declared(&self, name: &[u8], outer: usize) -> bool
+        requires { outer ≤ length self.now.bindings }
+        ensures { result ≡ declares true (take (length self.now.bindings - outer) self.now.bindings) name.now }
+    {
+        self.is_declared_in(true, name, outer)
+    }
+
     // One more variable of the function, and its number.
-    fn add_variable(&mut self, type_: IntegerType) -> Result<u32, AllocError>
+    fn add_variable(&mut self, type_: IntegerType, constant: bool) -> Result<u32, AllocError>
         requires { length self.old.variables < 2 ^ 32 }
         ensures number { IfOk result (λ v. v ≡ length self.old.variables) }
-        ensures added { OnOk result (self.new ≡ record self.old { variables = self.old.variables ++ type_ ∷ [] }) }
+        ensures added { OnOk result (self.new ≡ record self.old { variables = self.old.variables ++ type_ ∷ []; constants = self.old.constants ++ constant ∷ [] }) }
         ensures same { OnErr result (self.new ≡ self.old) }
     {
         let number = self.variables.len() as u32;
+        self.constants.reserve(1)?;
         self.variables.push(type_)?;
+        put_constant(&mut self.constants, constant);
         Ok(number)
     }
 
-    /// Declares a name in the innermost block.
+    /// Declares a name or a tag in the innermost block.
     pub fn declare(
         &mut self,
         alloc: Global,
         name: &[u8],
         meaning: Meaning,
     ) -> Result<(), AllocError>
-        requires { is_there self.old.variables meaning ≡ true }
+        requires { is_known self.old meaning ≡ true }
         ensures declared { OnOk result (self.new ≡ record self.old { bindings = binding name.now meaning ∷ self.old.bindings }) }
         ensures same { OnErr result (self.new ≡ self.old) }
     {
@@ -132,7 +253,7 @@ impl Scope {
         let own = name.to_vec(alloc)?;
         self.bounds.reserve(1)?;
         let place = self.bounds.len();
-        let hidden = replace(&mut self.innermost, key, Some(place))?;
+        let hidden = self.places.replace(meaning.is_tag(), key, Some(place))?;
         put(
             &mut self.bounds,
             Bound {
@@ -150,17 +271,87 @@ impl Scope {
         alloc: Global,
         name: &[u8],
         type_: IntegerType,
+        constant: bool,
     ) -> Result<u32, AllocError>
         requires { length self.old.variables < 2 ^ 32 }
         ensures number { IfOk result (λ v. v ≡ length self.old.variables) }
-        ensures declared { OnOk result (self.new ≡ record {
-          bindings = binding name.now (Meaning.Variable (length self.old.variables) type_) ∷ self.old.bindings;
+        ensures declared { OnOk result (self.new ≡ record self.old {
+          bindings = binding name.now (Meaning.Variable (length self.old.variables) type_ constant) ∷ self.old.bindings;
           variables = self.old.variables ++ type_ ∷ [];
+          constants = self.old.constants ++ constant ∷ [];
         }) }
     {
-        let variable = self.add_variable(type_)?;
-        self.declare(alloc, name, Meaning::Variable { variable, type_ })?;
+        let variable = self.add_variable(type_, constant)?;
+        self.declare(
+            alloc,
+            name,
+            Meaning::Variable {
+                variable,
+                type_,
+                constant,
+            },
+        )?;
         Ok(variable)
+    }
+
+    // One more type that a typedef names, and its number.
+    fn add_type(&mut self, type_: QualifiedType) -> Result<u32, AllocError>
+        requires { length self.old.types < 2 ^ 32 }
+        ensures number { IfOk result (λ n. n ≡ length self.old.types) }
+        ensures added { OnOk result (self.new ≡ record self.old { types = self.old.types ++ view_named type_ ∷ [] }) }
+    {
+        let number = self.types.len() as u32;
+        self.types.push(type_)?;
+        Ok(number)
+    }
+
+    /// Declares a typedef in the innermost block: its type's number is how many there were.
+    pub fn declare_type(
+        &mut self,
+        alloc: Global,
+        name: &[u8],
+        type_: QualifiedType,
+    ) -> Result<(), AllocError>
+        requires { length self.old.types < 2 ^ 32 }
+        ensures { OnOk result (self.new ≡ record self.old {
+          bindings = binding name.now (Meaning.Typedef (length self.old.types)) ∷ self.old.bindings;
+          types = self.old.types ++ view_named type_ ∷ [];
+        }) }
+    {
+        let number = self.add_type(type_)?;
+        self.declare(alloc, name, Meaning::Typedef { number })
+    }
+
+    /// One more struct or union, incomplete so far, and its place (C11 6.7.2.3p4).
+    pub fn declare_record(&mut self, kind: RecordKind) -> Result<u32, AllocError>
+        requires { length self.old.records.declared < 2 ^ 31 }
+        ensures place { IfOk result (λ p. p ≡ length self.old.records.declared) }
+        ensures declared { OnOk result (self.new ≡ record self.old {
+          records = record { declared = self.old.records.declared ++ kind ∷ []; done = self.old.records.done };
+        }) }
+        ensures same { OnErr result (self.new ≡ self.old) }
+    {
+        let place = self.layouts.declare(kind)?;
+        Ok(place)
+    }
+
+    /// Completes the struct or union at a place with these members (C11 6.7.2.1p8). It is refused where a member is incomplete,
+    /// or where the record, or an array within a member, has more than 2,147,483,647 bytes.
+    pub fn complete_record(
+        &mut self,
+        alloc: Global,
+        place: u32,
+        members: Vec<Ty>,
+    ) -> Result<(), LayoutError>
+        requires declared { place < length self.old.records.declared }
+        requires incomplete { is_completed self.old.records.done place ≡ false }
+        ensures complete { IfOk result (λ _. are_complete self.old.records.done (views members.items) ≡ true) }
+        ensures fits { IfOk result (λ _. fits self.old.records.done (kind_at self.old.records place) (views members.items) ≡ true) }
+        ensures completed { OnOk result (self.new ≡ record self.old { records = with_completed self.old.records place (kind_at self.old.records place) (views members.items) }) }
+        ensures refused { IfErr result (Refuses self.old.records.done (kind_at self.old.records place) (views members.items)) }
+        ensures unchanged { OnErr result (self.new ≡ self.old) }
+    {
+        self.layouts.complete(alloc, place, members)
     }
 
     // Takes back the innermost declaration.
@@ -169,15 +360,18 @@ impl Scope {
         ensures { self.new ≡ record self.old { bindings = drop 1 self.old.bindings } }
     {
         match self.bounds.pop() {
-            Some(bound) => match replace(&mut self.innermost, bound.name, bound.hidden) {
-                Ok(_) => {}
-                Err(_) => unreachable!(),
-            },
+            Some(bound) => {
+                let tag = bound.meaning.is_tag();
+                match self.places.replace(tag, bound.name, bound.hidden) {
+                    Ok(_) => {}
+                    Err(_) => unreachable!(),
+                }
+            }
             None => unreachable!(),
         }
     }
 
-    /// Leaves the blocks that began when `outer` declared names or more were in scope.
+    /// Leaves the blocks that began when `outer` declared names and tags or more were in scope.
     pub fn leave(&mut self, outer: usize)
         requires { outer ≤ length self.old.bindings }
         ensures { self.new ≡ record self.old { bindings = drop (length self.old.bindings - outer) self.old.bindings } }
@@ -189,12 +383,13 @@ impl Scope {
 
     /// Ends a function: the types of its variables. No name in scope is one of them.
     pub fn take_variables(&mut self, alloc: Global) -> Vec<IntegerType>
-        requires { are_there [] self.old.bindings ≡ true }
+        requires { are_there [] (length self.old.types) (length self.old.records.declared) self.old.bindings ≡ true }
         ensures types { result.items ≡ self.old.variables }
-        ensures ended { self.new ≡ record self.old { variables = [] } }
+        ensures ended { self.new ≡ record self.old { variables = []; constants = [] } }
     {
         let mut taken = Vec::new(alloc);
         std::mem::swap(&mut taken, &mut self.variables);
+        self.constants.clear();
         taken
     }
 }
@@ -204,6 +399,16 @@ fn put(bounds: &mut Vec<Bound>, bound: Bound)
     ensures { bounds.new.items ≡ bounds.old.items ++ bound ∷ [] }
 {
     match bounds.push(bound) {
+        Ok(()) => {}
+        Err(_) => unreachable!(),
+    }
+}
+
+fn put_constant(constants: &mut Vec<bool>, constant: bool)
+    requires { vec_len constants.old < vec_capacity constants.old }
+    ensures { constants.new.items ≡ constants.old.items ++ constant ∷ [] }
+{
+    match constants.push(constant) {
         Ok(()) => {}
         Err(_) => unreachable!(),
     }

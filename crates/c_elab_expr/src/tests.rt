@@ -1,8 +1,8 @@
 use super::*;
 use c_lexer::{LexError, Tokens, lex};
-use c_parse_expr::{Level, expression};
-use c_tree::Expr;
-use c_types::IntegerType;
+use c_parse_expr::{Level, TypeNames, expression};
+use c_tree::{Expr, StorageClass, TypeWord};
+use c_types::{IntegerType, RecordKind, Ty, ValueType, same};
 use core_tree::{CoreExpr, Place};
 use std::alloc::{AllocError, Global};
 use std::test::*;
@@ -126,19 +126,92 @@ fn show(alloc: Global, expr: &CoreExpr) -> Result<String, AllocError> {
 
 /// `x`, `u`, `l`, `c` are v0 to v3, of types int, unsigned, long and char; `b` is a _Bool, and `main` a function.
 fn test_scope(alloc: Global) -> Result<Scope, AllocError> {
-    let mut scope = Scope::new(alloc);
+    let mut scope = Scope::new(alloc)?;
     scope.declare(alloc, b"main", Meaning::Function)?;
-    scope.declare_variable(alloc, b"x", IntegerType::Int)?;
-    scope.declare_variable(alloc, b"u", IntegerType::UnsignedInt)?;
-    scope.declare_variable(alloc, b"l", IntegerType::Long)?;
-    scope.declare_variable(alloc, b"c", IntegerType::Char)?;
-    scope.declare_variable(alloc, b"b", IntegerType::Bool)?;
+    scope.declare_variable(alloc, b"x", IntegerType::Int, false)?;
+    scope.declare_variable(alloc, b"u", IntegerType::UnsignedInt, false)?;
+    scope.declare_variable(alloc, b"l", IntegerType::Long, false)?;
+    scope.declare_variable(alloc, b"c", IntegerType::Char, false)?;
+    scope.declare_variable(alloc, b"b", IntegerType::Bool, false)?;
     Ok(scope)
+}
+
+/// A struct or union of this tag.
+fn declared_record(
+    alloc: Global,
+    scope: &mut Scope,
+    kind: RecordKind,
+    tag: &[u8],
+) -> Result<u32, Fail> {
+    if scope.layouts().len() > 100 {
+        return Err(Fail::from("too much"));
+    }
+    let place = scope.declare_record(kind)?;
+    if (place as usize) < scope.layouts().len() {
+        scope.declare(alloc, tag, Meaning::Record { place })?;
+    }
+    Ok(place)
+}
+
+/// The same with `k`, a const int v5; the typedefs `T` (const int), `U` (unsigned char) and `A` (int [3]); the enumerators `E` (5)
+/// and `M` (-1); `struct S` of an int and a char, `union V`, which is incomplete, and `enum N`.
+fn typed_scope(alloc: Global) -> Result<Scope, Fail> {
+    let mut scope = test_scope(alloc)?;
+    if scope.variable_count() > 100 || scope.type_count() > 100 || scope.layouts().len() > 100 {
+        return Err(Fail::from("too much"));
+    }
+    scope.declare_variable(alloc, b"k", IntegerType::Int, true)?;
+    let constant = QualifiedType {
+        type_: Ty::Integer(IntegerType::Int),
+        constant: true,
+    };
+    scope.declare_type(alloc, b"T", constant)?;
+    let byte = QualifiedType {
+        type_: Ty::Integer(IntegerType::UnsignedChar),
+        constant: false,
+    };
+    scope.declare_type(alloc, b"U", byte)?;
+    let int = Ty::Integer(IntegerType::Int);
+    let three = QualifiedType {
+        type_: array_type(alloc, int, &[Some(3)], scope.layouts(), 1)?,
+        constant: false,
+    };
+    scope.declare_type(alloc, b"A", three)?;
+    scope.declare(alloc, b"E", Meaning::Enumerator { bits: 5 })?;
+    scope.declare(alloc, b"M", Meaning::Enumerator { bits: 0xffff_ffff })?;
+    let place = declared_record(alloc, &mut scope, RecordKind::Struct, b"S")?;
+    let members = vec![in alloc;
+        Ty::Integer(IntegerType::Int),
+        Ty::Integer(IntegerType::Char),
+    ]?;
+    if (place as usize) < scope.layouts().len() && !scope.layouts().is_completed(place) {
+        scope.complete_record(alloc, place, members)?;
+    }
+    let _place = declared_record(alloc, &mut scope, RecordKind::Union, b"V")?;
+    scope.declare(alloc, b"N", Meaning::Enumeration)?;
+    Ok(scope)
+}
+
+/// The names of types for the parser.
+fn type_names(alloc: Global) -> Result<TypeNames, AllocError> {
+    let mut names = TypeNames::new(alloc);
+    for name in [
+        b"T".as_slice(),
+        b"U",
+        b"A",
+        b"size_t",
+        b"int8_t",
+        b"pthread_mutex_t",
+        b"Q",
+    ] {
+        names.declare(alloc, name, true)?;
+    }
+    Ok(names)
 }
 
 fn outcome(alloc: Global, text: &[u8], scope: &Scope) -> Result<String, Fail> {
     let tokens = lexed(alloc, text)?;
-    let (tree, _) = expression(alloc, &tokens, 0, Level::Comma)?;
+    let (tree, _) = expression(alloc, &tokens, 0, Level::Comma, &type_names(alloc)?)?;
     match typed(alloc, &tree, scope) {
         Ok(core) => Ok(show(alloc, &core)?),
         Err(TypingError::Typing { line, rule }) => {
@@ -214,7 +287,7 @@ fn expressions_have_their_typing(rt: HostRuntime) -> Result<(), Fail> {
 #[test]
 fn inner_names_hide_outer_ones(rt: HostRuntime) -> Result<(), Fail> {
     let alloc = rt.alloc();
-    let mut scope = Scope::new(alloc);
+    let mut scope = Scope::new(alloc)?;
     scope.declare(alloc, b"x", Meaning::Function)?;
     scope.declare(alloc, b"assert", Meaning::Function)?;
     let outer = scope.len();
@@ -227,5 +300,171 @@ fn inner_names_hide_outer_ones(rt: HostRuntime) -> Result<(), Fail> {
     scope.leave(0);
     assert_eq!(rt; scope.meaning(b"x"), None);
     assert_eq!(rt; scope.meaning(b"assert"), Some(Meaning::Assert));
+    Ok(())
+}
+
+#[test]
+fn type_names_have_their_types(rt: HostRuntime) -> Result<(), Fail> {
+    let alloc = rt.alloc();
+    let scope = typed_scope(alloc)?;
+    let rows: [(&[u8], &str); 58] = [
+        (b"'a'", "Int 97"),
+        (b"'\\377'", "Int 4294967295"),
+        (b"E", "Int 5"),
+        (b"M+1u", "Add(UnsignedInt(Int 4294967295), UnsignedInt 1)"),
+        (b"sizeof x", "UnsignedLong 4"),
+        (b"sizeof(x+l)", "UnsignedLong 8"),
+        (b"sizeof(char)", "UnsignedLong 1"),
+        (b"sizeof(signed short)", "UnsignedLong 2"),
+        (b"sizeof(const unsigned volatile)", "UnsignedLong 4"),
+        (b"sizeof(long int long unsigned)", "UnsignedLong 8"),
+        (b"sizeof(short int signed)", "UnsignedLong 2"),
+        (b"sizeof(_Bool)", "UnsignedLong 1"),
+        (b"sizeof(T)", "UnsignedLong 4"),
+        (b"sizeof(A)", "UnsignedLong 12"),
+        (b"sizeof(A[2])", "UnsignedLong 24"),
+        (b"sizeof(char[3][5])", "UnsignedLong 15"),
+        (b"sizeof(char([3])[5])", "UnsignedLong 15"),
+        (b"sizeof(size_t)", "UnsignedLong 8"),
+        (b"sizeof(int8_t)", "UnsignedLong 1"),
+        (b"sizeof(pthread_mutex_t)", "UnsignedLong 4"),
+        (b"sizeof(struct S)", "UnsignedLong 8"),
+        (b"sizeof(struct S[E*2-7])", "UnsignedLong 24"),
+        (b"sizeof(enum N)", "UnsignedLong 4"),
+        (b"sizeof \"abc\"", "UnsignedLong 4"),
+        (b"sizeof(\"a\\x41\\1234\\n\" \"\")", "UnsignedLong 6"),
+        (b"sizeof(x=1/0)", "UnsignedLong 4"),
+        (b"sizeof(int[1?2:1/0])", "UnsignedLong 8"),
+        (b"sizeof(char[(U)300])", "UnsignedLong 44"),
+        (b"sizeof(char[sizeof(int[3])])", "UnsignedLong 12"),
+        (b"(U)x", "UnsignedChar(v0)"),
+        (b"(int)x", "Int(v0)"),
+        (b"(T)c+1", "Add(Int(v3), Int 1)"),
+        (b"(void)assert(x)", "Assertion(v0)"),
+        (b"(long)(char)x", "Long(Char(v0))"),
+        (b"k+1", "Add(v5, Int 1)"),
+        (b"(\nint int)x", "line 2 rule 5"),
+        (b"sizeof(U\nchar)", "line 1 rule 5"),
+        (b"sizeof(unsigned signed)", "line 1 rule 5"),
+        (b"sizeof(const)", "line 1 rule 5"),
+        (b"sizeof(long long long)", "line 1 rule 5"),
+        (b"1+\nsizeof(struct Z)", "line 2 rule 1"),
+        (b"sizeof(int struct Z)", "line 1 rule 1"),
+        (b"sizeof(union S)", "line 1 rule 18"),
+        (b"sizeof(int enum S)", "line 1 rule 5"),
+        (b"sizeof(Q)", "line 1 rule 1"),
+        (b"\nsizeof(union V)", "line 2 rule 3"),
+        (b"sizeof(void)", "line 1 rule 3"),
+        (b"sizeof(union V\n[3])", "line 2 rule 3"),
+        (b"sizeof assert(x)", "line 1 rule 3"),
+        (b"sizeof(int\n[0])", "line 2 rule 4"),
+        (b"sizeof(int[0-1])", "line 1 rule 4"),
+        (b"sizeof(int[])", "line 1 rule 4"),
+        (b"sizeof(char[2147483648u])", "line 1 rule 4"),
+        (b"sizeof(int[2]\n[\nx])", "line 3 rule 13"),
+        (b"sizeof(int[1/0])", "line 1 rule 13"),
+        (b"sizeof(int[1||x])", "line 1 rule 13"),
+        (b"\"a\"", "line 1 rule 7"),
+        (b"sizeof(A[536870912/3])", "UnsignedLong 2147483640"),
+    ];
+    for (text, typing) in rows {
+        assert_eq!(rt; outcome(alloc, text, &scope)?.as_str(), typing);
+    }
+    Ok(())
+}
+
+#[test]
+fn casts_and_constants_are_no_places(rt: HostRuntime) -> Result<(), Fail> {
+    let alloc = rt.alloc();
+    let scope = typed_scope(alloc)?;
+    let rows: [(&[u8], &str); 20] = [
+        (b"((int)x)=1", "line 1 rule 9"),
+        (b"((int)x)+=1", "line 1 rule 9"),
+        (b"++((int)x)", "line 1 rule 9"),
+        (b"k=1", "line 1 rule 9"),
+        (b"k+=1", "line 1 rule 9"),
+        (b"(k)++", "line 1 rule 9"),
+        (b"--k", "line 1 rule 9"),
+        (b"k=assert(x)", "line 1 rule 8"),
+        (b"k+=assert(x)", "line 1 rule 7"),
+        (b"E=1", "line 1 rule 9"),
+        (b"E(1)", "line 1 rule 10"),
+        (b"x=k", "Assign(v0, v5)"),
+        (b"(void)x", "line 1 rule 0"),
+        (b"1+\n(struct S)x", "line 2 rule 7"),
+        (b"(A)x", "line 1 rule 7"),
+        (b"(int)\nassert(x)", "line 1 rule 7"),
+        (b"(int[x])y", "line 1 rule 13"),
+        (b"(int)\ny", "line 2 rule 1"),
+        (b"x.y", "line 1 rule 11"),
+        (b"y\n.x", "line 1 rule 1"),
+    ];
+    for (text, typing) in rows {
+        assert_eq!(rt; outcome(alloc, text, &scope)?.as_str(), typing);
+    }
+    Ok(())
+}
+
+#[test]
+fn words_have_their_type_in_any_order(rt: HostRuntime) -> Result<(), Fail> {
+    use c_tree::TypeWord::{Char, Int, Long, Short, Signed, Unsigned, Void};
+    let rows: [(&[TypeWord], Option<ValueType>); 8] = [
+        (&[Void], Some(ValueType::Void)),
+        (
+            &[Char, Signed],
+            Some(ValueType::Integer(IntegerType::SignedChar)),
+        ),
+        (
+            &[Int, Short, Unsigned],
+            Some(ValueType::Integer(IntegerType::UnsignedShort)),
+        ),
+        (&[Signed], Some(ValueType::Integer(IntegerType::Int))),
+        (
+            &[Long, Unsigned, Int, Long],
+            Some(ValueType::Integer(IntegerType::UnsignedLongLong)),
+        ),
+        (&[Long, Char], None),
+        (&[Void, Int], None),
+        (&[], None),
+    ];
+    for (words, type_) in rows {
+        assert!(rt; words_type(words) == type_);
+    }
+    Ok(())
+}
+
+#[test]
+fn tags_have_their_own_names(rt: HostRuntime) -> Result<(), Fail> {
+    let alloc = rt.alloc();
+    let mut scope = Scope::new(alloc)?;
+    scope.declare(alloc, b"x", Meaning::Enumeration)?;
+    scope.declare(alloc, b"x", Meaning::Function)?;
+    assert_eq!(rt;
+        (scope.tag(b"x"), scope.meaning(b"x")),
+        (Some(Meaning::Enumeration), Some(Meaning::Function))
+    );
+    Ok(())
+}
+
+#[test]
+fn specifiers_say_one_type(rt: HostRuntime) -> Result<(), Fail> {
+    let alloc = rt.alloc();
+    let mut said = Specified::new(alloc);
+    said.add_const();
+    said.add_word(TypeWord::Int)?;
+    let named = said.type_on(alloc, 7)?;
+    assert!(rt; named.constant && same(&named.type_, &Ty::Integer(IntegerType::Int)));
+    Ok(())
+}
+
+#[test]
+fn two_storage_words_break_a_rule(rt: HostRuntime) -> Result<(), Fail> {
+    let alloc = rt.alloc();
+    let mut said = Specified::new(alloc);
+    said.add_storage(StorageClass::Typedef)?;
+    said.add_storage(StorageClass::Static)?;
+    said.add_word(TypeWord::Int)?;
+    let rule = TypingError::Typing { line: 7, rule: 5 };
+    assert_eq!(rt; said.type_on(alloc, 7).err(), Some(rule));
     Ok(())
 }

@@ -1,21 +1,29 @@
 //! The typed tree of an expression.
 
 ghost use Rattle.std.specs.Prelude.{◌≡◌, ℕ, true, map, Result, IfOk};
-ghost use Rattle.c_tree.specs.Tree.{first_line};
+ghost use Rattle.c_tree.specs.Tree.{first_line, view_type_part, view_declarator, view_suffix, no_suffix, suffixes_of};
 ghost use Rattle.c_tree.specs.Tree.{view as tree, views_of as trees};
+ghost use Rattle.c_types.specs.Types.{view as type_view};
 ghost use Rattle.core_tree.specs.Trees.{Expression, view};
 ghost use Rattle.core_tree.specs.Typed.{is_typed};
-ghost use Rattle.c_elab_expr.specs.Typing.{Gives, GivesNode, on_line, callee, typed, typed_arguments};
+ghost use Rattle.c_elab_expr.specs.Strings.{strings_of};
+ghost use Rattle.c_elab_expr.specs.Typing.{Gives, GivesNode, Adds, on_line, callee, bound, type_name, operand_size, typed, typed_arguments, lengths, suffix_lengths};
 
 use crate::calls::called;
+use crate::constants::{constant_of, length_said};
+use crate::declarators::{array_type, declared_line, type_size};
 use crate::fault::{Broken, TypingError};
 use crate::meaning::Meaning;
 use crate::nodes::{
-    assignment_node, binary_node, choice_node, constant_node, name_node, postfix_node, unary_node,
+    assignment_node, binary_node, cast_node, character_node, choice_node, constant_node, name_node,
+    postfix_node, size_node, unary_node, value_size,
 };
 use crate::scope::Scope;
-use c_tree::Expr;
-use core_tree::CoreExpr;
+use crate::specifying::parts_type;
+use crate::strings::{strings_length, strings_of};
+use c_tree::{ArraySuffix, Declarator, DeclaratorCore, Expr, TypeName};
+use c_types::Ty;
+use core_tree::{CoreExpr, type_of};
 use std::alloc::Global;
 
 /// The line of an expression's first token. It goes down one path of the tree.
@@ -24,6 +32,8 @@ pub fn first_line(expr: &Expr) -> u32
 {
     match expr {
         Expr::Constant { line, constant: _ } => *line,
+        Expr::Character { line, value: _ } => *line,
+        Expr::Strings { line, parts: _ } => *line,
         Expr::Name { line, name: _ } => *line,
         Expr::Parens { line, inner: _ } => *line,
         Expr::Unary {
@@ -31,11 +41,23 @@ pub fn first_line(expr: &Expr) -> u32
             operator: _,
             operand: _,
         } => *line,
+        Expr::Cast {
+            line,
+            type_name: _,
+            operand: _,
+        } => *line,
+        Expr::SizeofExpr { line, operand: _ } => *line,
+        Expr::SizeofType { line, type_name: _ } => *line,
         Expr::Step {
             line: _,
             operator: _,
             operand,
         } => first_line(operand),
+        Expr::Member {
+            line: _,
+            left,
+            name: _,
+        } => first_line(left),
         Expr::Binary {
             line: _,
             operator: _,
@@ -66,12 +88,30 @@ pub fn first_line(expr: &Expr) -> u32
     }
 }
 
+/// The answer to a form that has no typing yet: rule 0 on line 0.
+pub fn untyped() -> TypingError
+    ensures { result ≡ TypingError.Typing 0 0 }
+{
+    TypingError::Typing { line: 0, rule: 0 }
+}
+
 // A node, or its broken rule with a line.
 fn placed_at(node: Result<CoreExpr, Broken>, line: u32) -> Result<CoreExpr, TypingError>
     ensures { (r : Result Expression ℕ) → GivesNode view node r → Gives view result (on_line line r) }
 {
     match node {
         Ok(core) => Ok(core),
+        Err(Broken::Rule { rule }) => Err(TypingError::Typing { line, rule }),
+        Err(Broken::Memory) => Err(TypingError::Memory),
+    }
+}
+
+// A number, or its broken rule with a line.
+fn number_at(node: Result<u64, Broken>, line: u32) -> Result<u64, TypingError>
+    ensures { (r : Result ℕ ℕ) → GivesNode (λ n. n) node r → Gives (λ n. n) result (on_line line r) }
+{
+    match node {
+        Ok(number) => Ok(number),
         Err(Broken::Rule { rule }) => Err(TypingError::Typing { line, rule }),
         Err(Broken::Memory) => Err(TypingError::Memory),
     }
@@ -93,7 +133,7 @@ fn typed_arguments(
     exprs: &[Expr],
     scope: &Scope,
 ) -> Result<Vec<CoreExpr>, TypingError>
-    ensures { Gives (λ v. map view v.items) result (typed_arguments scope.now.bindings (trees exprs.now)) }
+    ensures { Gives (λ v. map view v.items) result (typed_arguments scope.now (trees exprs.now)) }
 {
     let mut arguments = Vec::new(alloc);
     for expr in exprs {
@@ -110,7 +150,7 @@ fn callee(
     function: &Expr,
     scope: &Scope,
 ) -> Result<Option<(u32, Meaning)>, TypingError>
-    ensures { Gives (λ o. o) result (callee scope.now.bindings (tree function.now) (typed scope.now.bindings (tree function.now))) }
+    ensures { Gives (λ o. o) result (callee scope.now (tree function.now) (typed scope.now (tree function.now))) }
 {
     match function {
         Expr::Name { line, name } => match scope.meaning(&name.bytes) {
@@ -127,12 +167,137 @@ fn callee(
     }
 }
 
+// How many elements a bound says.
+#[cycle(typing)]
+fn bound(alloc: Global, expr: &Expr, scope: &Scope) -> Result<u64, TypingError>
+    ensures { Gives (λ n. n) result (bound (first_line (tree expr.now)) (typed scope.now (tree expr.now))) }
+{
+    let core = typed_expr(alloc, expr, scope)?;
+    match constant_of(&core) {
+        Some(number) => Ok(length_said(number)),
+        None => Err(TypingError::Typing {
+            line: first_line(expr),
+            rule: 13,
+        }),
+    }
+}
+
+#[cycle(typing)]
+fn add_suffix(
+    alloc: Global,
+    suffix: &ArraySuffix,
+    scope: &Scope,
+    found: &mut Vec<Option<u64>>,
+) -> Result<(), TypingError>
+    ensures { Adds result found.old.items found.new.items (suffix_lengths scope.now (view_suffix suffix.now no_suffix)) }
+{
+    match suffix {
+        ArraySuffix::Bounded {
+            line: _,
+            bound: expr,
+        } => {
+            let length = bound(alloc, expr, scope)?;
+            found.push(Some(length))?;
+        }
+        ArraySuffix::Open { line: _ } => found.push(None)?,
+    }
+    Ok(())
+}
+
+#[cycle(typing)]
+fn add_suffixes(
+    alloc: Global,
+    suffixes: &[ArraySuffix],
+    scope: &Scope,
+    found: &mut Vec<Option<u64>>,
+) -> Result<(), TypingError>
+    ensures { Adds result found.old.items found.new.items (suffix_lengths scope.now (suffixes_of suffixes.now)) }
+{
+    for suffix in suffixes {
+        add_suffix(alloc, suffix, scope, found)?;
+    }
+    Ok(())
+}
+
+#[cycle(typing)]
+fn add_lengths(
+    alloc: Global,
+    declarator: &Declarator,
+    scope: &Scope,
+    found: &mut Vec<Option<u64>>,
+) -> Result<(), TypingError>
+    ensures { Adds result found.old.items found.new.items (lengths scope.now (view_declarator declarator.now)) }
+{
+    match &declarator.core {
+        DeclaratorCore::Absent => add_suffixes(alloc, &declarator.suffixes, scope, found),
+        DeclaratorCore::Named { line: _, name: _ } => {
+            add_suffixes(alloc, &declarator.suffixes, scope, found)
+        }
+        DeclaratorCore::Inside { line: _, inner } => {
+            add_lengths(alloc, inner, scope, found)?;
+            add_suffixes(alloc, &declarator.suffixes, scope, found)
+        }
+    }
+}
+
+/// The lengths of a declarator's arrays, the outermost first, of which `[]` has none. Each bound is an integer constant
+/// expression, else rule 13 is broken on its first line.
+#[cycle(typing)]
+pub fn lengths(
+    alloc: Global,
+    declarator: &Declarator,
+    scope: &Scope,
+) -> Result<Vec<Option<u64>>, TypingError>
+    ensures { Gives (λ v. v.items) result (lengths scope.now (view_declarator declarator.now)) }
+{
+    let mut found = Vec::new(alloc);
+    add_lengths(alloc, declarator, scope, &mut found)?;
+    Ok(found)
+}
+
+// The type of a type name.
+#[cycle(typing)]
+fn type_named(alloc: Global, name: &TypeName, scope: &Scope) -> Result<Ty, TypingError>
+    ensures { Gives type_view result (type_name scope.now (map view_type_part name.now.specifiers.items) (view_declarator name.now.declarator)
+        (lengths scope.now (view_declarator name.now.declarator))) }
+{
+    let named = parts_type(alloc, &name.specifiers, scope)?;
+    let lengths = lengths(alloc, &name.declarator, scope)?;
+    let line = declared_line(&name.declarator);
+    array_type(alloc, named.type_, &lengths, scope.layouts(), line)
+}
+
+// The size of an operand of `sizeof` on this line, which is not evaluated.
+#[cycle(typing)]
+fn operand_size(
+    alloc: Global,
+    line: u32,
+    operand: &Expr,
+    scope: &Scope,
+) -> Result<CoreExpr, TypingError>
+    ensures { Gives view result (operand_size line (strings_of (tree operand.now)) (typed scope.now (tree operand.now))) }
+{
+    match strings_of(operand) {
+        Some(parts) => Ok(size_node(line, strings_length(parts)? + 1)),
+        None => {
+            let core = typed_expr(alloc, operand, scope)?;
+            let size = number_at(value_size(type_of(&core)), line)?;
+            Ok(size_node(line, size))
+        }
+    }
+}
+
 #[cycle(typing)]
 fn typed_expr(alloc: Global, expr: &Expr, scope: &Scope) -> Result<CoreExpr, TypingError>
-    ensures { Gives view result (typed scope.now.bindings (tree expr.now)) }
+    ensures { Gives view result (typed scope.now (tree expr.now)) }
 {
     match expr {
         Expr::Constant { line, constant } => Ok(constant_node(*line, constant)),
+        Expr::Character { line, value } => Ok(character_node(*line, *value)),
+        Expr::Strings { line, parts: _ } => Err(TypingError::Typing {
+            line: *line,
+            rule: 7,
+        }),
         Expr::Name { line, name } => placed_at(name_node(*line, scope.meaning(&name.bytes)), *line),
         Expr::Parens { line: _, inner } => typed_expr(alloc, inner, scope),
         Expr::Unary {
@@ -141,7 +306,25 @@ fn typed_expr(alloc: Global, expr: &Expr, scope: &Scope) -> Result<CoreExpr, Typ
             operand,
         } => {
             let core = typed_expr(alloc, operand, scope)?;
-            placed_at(unary_node(alloc, *line, *operator, core), *line)
+            placed_at(
+                unary_node(alloc, scope.constants(), *line, *operator, core),
+                *line,
+            )
+        }
+        Expr::Cast {
+            line,
+            type_name,
+            operand,
+        } => {
+            let type_ = type_named(alloc, type_name, scope)?;
+            let core = typed_expr(alloc, operand, scope)?;
+            placed_at(cast_node(alloc, &type_, core), *line)
+        }
+        Expr::SizeofExpr { line, operand } => operand_size(alloc, *line, operand, scope),
+        Expr::SizeofType { line, type_name } => {
+            let type_ = type_named(alloc, type_name, scope)?;
+            let size = number_at(type_size(&type_, scope.layouts()), *line)?;
+            Ok(size_node(*line, size))
         }
         Expr::Step {
             line,
@@ -149,7 +332,21 @@ fn typed_expr(alloc: Global, expr: &Expr, scope: &Scope) -> Result<CoreExpr, Typ
             operand,
         } => {
             let core = typed_expr(alloc, operand, scope)?;
-            placed(postfix_node(*line, *operator, &core), operand)
+            placed(
+                postfix_node(scope.constants(), *line, *operator, &core),
+                operand,
+            )
+        }
+        Expr::Member {
+            line: _,
+            left,
+            name: _,
+        } => {
+            let _core = typed_expr(alloc, left, scope)?;
+            Err(TypingError::Typing {
+                line: first_line(left),
+                rule: 11,
+            })
         }
         Expr::Binary {
             line,
@@ -180,7 +377,10 @@ fn typed_expr(alloc: Global, expr: &Expr, scope: &Scope) -> Result<CoreExpr, Typ
         } => {
             let a = typed_expr(alloc, place, scope)?;
             let b = typed_expr(alloc, value, scope)?;
-            placed(assignment_node(alloc, *line, *operator, &a, b), place)
+            placed(
+                assignment_node(alloc, scope.constants(), *line, *operator, &a, b),
+                place,
+            )
         }
         Expr::Comma { line, left, right } => {
             let a = typed_expr(alloc, left, scope)?;
@@ -205,7 +405,7 @@ fn typed_expr(alloc: Global, expr: &Expr, scope: &Scope) -> Result<CoreExpr, Typ
 /// The typed tree of an expression in a scope (C11 6.5). Operands are typed from left to right and before their
 /// operator; the first node that breaks a rule decides, by its lowest rule and the line of its first token.
 pub fn typed(alloc: Global, expr: &Expr, scope: &Scope) -> Result<CoreExpr, TypingError>
-    ensures gives { Gives view result (typed scope.now.bindings (tree expr.now)) }
+    ensures gives { Gives view result (typed scope.now (tree expr.now)) }
     ensures typed { IfOk result (λ c. is_typed scope.now.variables (view c) ≡ true) }
 {
     scope.prove_there();

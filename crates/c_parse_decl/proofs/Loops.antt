@@ -1,83 +1,318 @@
 -- The turns of the loops.
-use Rattle.std.proofs.Common.{◌≡◌, ◌<◌, ◌+◌, ℕ, List, [], ◌∷◌, length, Some, None, refl, ap, sym, ◌∙◌}
-use Rattle.std.specs.Prelude.{Vec}
+use Rattle.std.proofs.Common.{◌≡◌, ◌<◌, ◌≤◌, ◌+◌, ◌-◌, ℕ, List, [], ◌∷◌, ◌++◌, length, length-append, drop, map, zero, suc, Bool, true, false, Option, Some, None, refl, ap, sym, ◌∙◌, arith}
+use Rattle.std.proofs.lemmas.Bool.{eqb-true}
+use Rattle.std.proofs.lemmas.List.{append_assoc}
+use Rattle.std.proofs.Math.Seq.{drop-append_seam}
+use Rattle.std.specs.Prelude.{not, ◌||◌, ◌==◌, option_map, Vec}
 use Rattle.std.specs.Global.{Global}
 use Rattle.c_lexer.specs.declared.token.Token.{Token}
+use Rattle.c_lexer.specs.declared.token.Mark.{Mark}
 use Rattle.c_lexer.specs.declared.token.Mark.TheVariants as marks
-use Rattle.c_tree.specs.declared.statement.InitDeclarator.{InitDeclarator}
+use Rattle.c_tree.specs.declared.expr.Declarator.{Declarator}
+use Rattle.c_tree.specs.declared.declaration.Enumerator.{Enumerator}
+use Rattle.c_tree.specs.declared.declaration.Specifier.{Specifier, Record}
+use Rattle.c_tree.specs.declared.declaration.RecordKind.{RecordKind}
+use Rattle.c_tree.specs.declared.expr.Name.{Name}
+use Rattle.c_tree.specs.declared.expr.Expr.{Expr}
+use Rattle.c_tree.specs.declared.declaration.Initializer.{Initializer, Value, List as Braces}
+use Rattle.c_tree.specs.declared.declaration.InitDeclarator.{InitDeclarator}
 use Rattle.c_tree.specs.declared.statement.Item.{Item}
 use Rattle.c_tree.specs.declared.statement.Item as item
 use Rattle.c_tree.specs.declared.statement.Stmt.{Block}
-use Rattle.c_tree.specs.Statements.{Declarators, none_declared, declarators_of, Statement, Items, done, block, view_statement, view_item, items_of}
+use Rattle.c_tree.specs.declared.declaration.MemberDeclaration.{MemberDeclaration}
+use Rattle.c_tree.specs.Tree.{Tree, Declared, view_name, view, view_declarator}
+use Rattle.c_tree.specs.Names.{Scope}
+use Rattle.c_tree.specs.Declarations.{Enumerated, Part, Parts, no_part, part, Members, no_member, members, type_part, storage, function, structure, enumeration, Initial, initial, braces, Initials, no_initial, initials, Declarators, none_declared, declarator, name_of, view_initializer, initials_of, view_init_declarator, declarators_of, with_declarators, with_declaration, specifies, view_enumerator, view_part, parts_of, members_of, with_enumerators, with_part, with_parts, with_members, have_typedef, is_typedef}
+use Rattle.c_tree.specs.Statements.{Statement, Items, done, block, view_statement, view_item, items_of}
+use Rattle.c_tree.proofs.DeclarationViews.{view_record, view_braces}
 use Rattle.c_tree.proofs.StatementViews.{view_block}
-use Rattle.c_parse_expr.specs.Reading.{◌>>=◌, is_mark}
-use Rattle.c_parse_decl.specs.Reading.{Read, Reader, token_at, run_at, placed_part, view_part, declarator_at, other_at, ended_at, declarators_at, placed, part_of, item_at, closed_at, items_at, block_at}
-use Rattle.c_parse_decl.proofs.Lists.{placed_all, in_front, front_push, front_none, Left, list_stops, list_fails, list_turns, closes}
+use Rattle.c_parse_expr.specs.Many.{◌>>=◌}
+use Rattle.c_parse_expr.specs.Reading.{is_mark, reader}
+use Rattle.c_parse_decl.specs.declared.table.Start.{Start}
+use Rattle.c_parse_decl.specs.Reading.{Read, State, Listing, Body, token_at, run_at, shut_at, ended_at, start_at, enumerators_list, enumerators_at, tag_at, record_by, record_from, record_at, part_from, parts_stop, parts_list, parts_at, are_some, declareds_list, declareds_at, members_list, have_some, members_at, initials_list, initials_at, initial_by, initial_at, declarators_list, declarators_at, Piece, declaration, statement, placed, with_piece, Reader, items_list, items_at, block_at}
+use Rattle.c_parse_decl.specs.Pieces.{piece_of}
+use Rattle.c_parse_decl.proofs.Lists.{bind_gives, bind_none, placed_all, in_front, front_none, Left, closes}
+use Rattle.c_parse_decl.proofs.TakenParts.{or_nothing, or_three}
 
--- the marks that close
-pub ended_gives : (ts : List Token) (x : Token × List Token) → Some x ≡ token_at (is_mark marks.Semicolon) ts → ended_at ts ≡ Some (none_declared, x.1)
+-- what ends a list
+pub ended_some : {T : Type 0} (mark : Mark) (t : T) (ts : List Token) (x : Token × List Token) → Some x ≡ token_at (is_mark mark) ts → ended_at mark t ts ≡ Some (t, x.1)
 unfolding ended_at
-ended_gives ts x e = ap (λ (o : Read Token). o >>= λ x. Some (none_declared, x.1)) (sym e)
+ended_some mark t ts x e = bind_gives (token_at (is_mark mark) ts) (λ x. Some (t, x.1)) x (Some (t, x.1)) (sym e) refl
 
-pub ended_fails : (ts : List Token) → None ≡ token_at (is_mark marks.Semicolon) ts → ended_at ts ≡ None
+pub not_ended : {T : Type 0} (mark : Mark) (t : T) (ts : List Token) → None ≡ token_at (is_mark mark) ts → ended_at mark t ts ≡ None
 unfolding ended_at
-ended_fails ts e = ap (λ (o : Read Token). o >>= λ x. Some (none_declared, x.1)) (sym e)
+not_ended mark t ts e = bind_none (token_at (is_mark mark) ts) (λ x. Some (t, x.1)) (sym e)
 
-pub closed_gives : (ts : List Token) (x : Token × List Token) → Some x ≡ token_at (is_mark marks.RightBrace) ts → closed_at ts ≡ Some (done, x.1)
-unfolding closed_at
-closed_gives ts x e = ap (λ (o : Read Token). o >>= λ x. Some (done, x.1)) (sym e)
+abbrev unlisted : {T : Type 0} → T → Option (List Token) → Read T
+unlisted t o = o >>= λ xs. Some (t, xs)
 
-pub closed_fails : (ts : List Token) → None ≡ token_at (is_mark marks.RightBrace) ts → closed_at ts ≡ None
-unfolding closed_at
-closed_fails ts e = ap (λ (o : Read Token). o >>= λ x. Some (done, x.1)) (sym e)
+pub shut_some : {T : Type 0} (t : T) (first : Bool) (ts rest : List Token) → Some rest ≡ shut_at first ts → unlisted t (shut_at first ts) ≡ Some (t, rest)
+shut_some t first ts rest e = bind_gives (shut_at first ts) (λ xs. Some (t, xs)) rest (Some (t, rest)) (sym e) refl
 
--- declarators
-all_declarators : (ds : List InitDeclarator) → placed_all placed_part view_part ds none_declared ≡ declarators_of ds
+pub not_shut : {T : Type 0} (t : T) (first : Bool) (ts : List Token) → None ≡ shut_at first ts → unlisted t (shut_at first ts) ≡ None
+not_shut t first ts e = bind_none (shut_at first ts) (λ xs. Some (t, xs)) (sym e)
+
+-- lists that are lists
+all_map : {C A : Type 0} (view : C → A) (cs : List C) → placed_all (λ (a : A) (as' : List A). a ∷ as') view cs [] ≡ map view cs
+all_map view [] = refl
+all_map {A = A} view (c ∷ cs) = ap (λ (xs : List A). view c ∷ xs) (all_map view cs)
+
+-- enumerators
+pub enumerators_begin : (bytes : List ℕ) (n : ℕ) (names : Scope) (es : List Enumerator) (ts : List Token) → es ≡ [] → Left (enumerators_list bytes n) view_enumerator (length ts + 1) (names, true) es ts (enumerators_at bytes names n ts)
+unfolding enumerators_at
+enumerators_begin bytes n names es ts e = front_none (enumerators_list bytes n).put view_enumerator es (run_at (enumerators_list bytes n) (length ts + 1) (names, true) ts) e
+
+pub enumerators_close : (bytes : List ℕ) (n m : ℕ) (names : Scope) (first : Bool) (es : List Enumerator) (ts rest : List Token) (all : Read (List Enumerated)) → length ts < m → Some rest ≡ shut_at first ts → Left (enumerators_list bytes n) view_enumerator m (names, first) es ts all → all ≡ Some (map view_enumerator es, rest)
+enumerators_close bytes n m names first es ts rest all h e f =
+    closes (enumerators_list bytes n) view_enumerator m (names, first) es ts ([], rest) all h (shut_some [] first ts rest e) f
+    ∙ ap (λ (xs : List Enumerated). Some (xs, rest)) (all_map view_enumerator es)
+
+enumerators_after : (names : Scope) (es : List Enumerator) (e : Enumerator) → with_enumerators names (map view_enumerator (es ++ e ∷ [])) ≡ ((view_enumerator e).name, false) ∷ with_enumerators names (map view_enumerator es)
+enumerators_after names [] e = refl
+enumerators_after names (x ∷ xs) e = enumerators_after (((view_enumerator x).name, false) ∷ names) xs e
+
+pub enumerators_push : (names now new : Scope) (es fs : List Enumerator) (e : Enumerator) → fs ≡ es ++ e ∷ [] → now ≡ with_enumerators names (map view_enumerator es) → new ≡ ((view_enumerator e).name, false) ∷ now → new ≡ with_enumerators names (map view_enumerator fs)
+enumerators_push names now new es fs e f same is =
+    is ∙ ap (λ (s : Scope). ((view_enumerator e).name, false) ∷ s) same ∙ sym (enumerators_after names es e) ∙ ap (λ (xs : List Enumerator). with_enumerators names (map view_enumerator xs)) (sym f)
+
+-- declarators of members
+pub declareds_begin : (bytes : List ℕ) (n : ℕ) (names : Scope) (ds : List Declarator) (ts : List Token) → ds ≡ [] → Left (declareds_list bytes n) view_declarator (length ts + 1) (names, true) ds ts (declareds_at bytes names n ts)
+unfolding declareds_at
+declareds_begin bytes n names ds ts e = front_none (declareds_list bytes n).put view_declarator ds (run_at (declareds_list bytes n) (length ts + 1) (names, true) ts) e
+
+pub declareds_close : (bytes : List ℕ) (n m : ℕ) (names : Scope) (first : Bool) (ds : List Declarator) (ts : List Token) (x : Token × List Token) (all : Read (List Declared)) → length ts < m → Some x ≡ token_at (is_mark marks.Semicolon) ts → Left (declareds_list bytes n) view_declarator m (names, first) ds ts all → all ≡ Some (map view_declarator ds, x.1)
+declareds_close bytes n m names first ds ts x all h e f =
+    closes (declareds_list bytes n) view_declarator m (names, first) ds ts ([], x.1) all h (ended_some marks.Semicolon [] ts x e) f
+    ∙ ap (λ (xs : List Declared). Some (xs, x.1)) (all_map view_declarator ds)
+
+abbrev pub pair : Scope → Bool → State
+pair names b = (names, b)
+
+-- specifiers
+pub some_by : (ss : List Specifier) (b : Bool) → b ≡ (length ss == 0) → not b ≡ are_some (parts_of ss)
+some_by [] b e = ap (λ (x : Bool). not x) e
+some_by (s ∷ ss) true e = absurd (let g = eqb-true (length (s ∷ ss)) 0 (sym e) in omega (arith, g))
+some_by (s ∷ ss) false e = refl
+
+pub have_by : (ms : List MemberDeclaration) (b : Bool) → b ≡ (length ms == 0) → not b ≡ have_some (members_of ms)
+have_by [] b e = ap (λ (x : Bool). not x) e
+have_by (m ∷ ms) true e = absurd (let g = eqb-true (length (m ∷ ms)) 0 (sym e) in omega (arith, g))
+have_by (m ∷ ms) false e = refl
+
+all_parts : (ss : List Specifier) → placed_all part view_part ss no_part ≡ parts_of ss
+all_parts [] = refl
+all_parts (s ∷ ss) = ap (part (view_part s)) (all_parts ss)
+
+pub parts_begin : (inner : Bool) (bytes : List ℕ) (n : ℕ) (body : Body) (names : Scope) (ss : List Specifier) (ts : List Token) → ss ≡ [] → Left (parts_list inner bytes n body) view_part (length ts + 1) (names, false) ss ts (parts_at inner bytes n body names ts)
+unfolding parts_at
+parts_begin inner bytes n body names ss ts e = front_none part view_part ss (run_at (parts_list inner bytes n body) (length ts + 1) (names, false) ts) e
+
+parts_stopped : (ts : List Token) (o : Option (Start × Token × List Token)) → None ≡ o → parts_stop ts o ≡ Some (no_part, ts)
+parts_stopped ts o e = ap (parts_stop ts) (sym e)
+
+pub parts_go : (ts : List Token) (o : Option (Start × Token × List Token)) (x : Start × Token × List Token) → Some x ≡ o → parts_stop ts o ≡ None
+parts_go ts o x e = ap (parts_stop ts) (sym e)
+
+pub parts_close : (inner : Bool) (bytes : List ℕ) (n m : ℕ) (body : Body) (names : Scope) (before : Bool) (ss : List Specifier) (ts : List Token) (all : Read Parts) → length ts < m → None ≡ start_at inner bytes (names, before) ts → Left (parts_list inner bytes n body) view_part m (names, before) ss ts all → all ≡ Some (parts_of ss, ts)
+parts_close inner bytes n m body names before ss ts all h e f =
+    closes (parts_list inner bytes n body) view_part m (names, before) ss ts (no_part, ts) all h (parts_stopped ts (start_at inner bytes (names, before) ts) e) f
+    ∙ ap (λ (ps : Parts). Some (ps, ts)) (all_parts ss)
+
+parts_after : (names : Scope) (ss : List Specifier) (s : Specifier) → with_parts names (parts_of (ss ++ s ∷ [])) ≡ with_part (with_parts names (parts_of ss)) (view_part s)
+parts_after names [] s = refl
+parts_after names (x ∷ xs) s = parts_after (with_part names (view_part x)) xs s
+
+pub parts_push : (names now new : Scope) (ss rr : List Specifier) (s : Specifier) → rr ≡ ss ++ s ∷ [] → now ≡ with_parts names (parts_of ss) → new ≡ with_part now (view_part s) → new ≡ with_parts names (parts_of rr)
+parts_push names now new ss rr s f same is =
+    is ∙ ap (λ (x : Scope). with_part x (view_part s)) same ∙ sym (parts_after names ss s) ∙ ap (λ (xs : List Specifier). with_parts names (parts_of xs)) (sym f)
+
+typedef_after : (ss : List Specifier) (s : Specifier) → have_typedef (parts_of (ss ++ s ∷ [])) ≡ (have_typedef (parts_of ss) || is_typedef (view_part s))
+typedef_after [] s = or_nothing (is_typedef (view_part s))
+typedef_after (x ∷ xs) s = ap (λ (b : Bool). is_typedef (view_part x) || b) (typedef_after xs s) ∙ sym (or_three (is_typedef (view_part x)) (have_typedef (parts_of xs)) (is_typedef (view_part s)))
+
+pub typedef_push : (types new one : Bool) (ss rr : List Specifier) (s : Specifier) → rr ≡ ss ++ s ∷ [] → types ≡ have_typedef (parts_of ss) → one ≡ is_typedef (view_part s) → new ≡ (types || one) → new ≡ have_typedef (parts_of rr)
+typedef_push types new one ss rr s f same is made =
+    made ∙ ap (λ (b : Bool). b || one) same ∙ ap (λ (b : Bool). have_typedef (parts_of ss) || b) is ∙ sym (typedef_after ss s) ∙ ap (λ (xs : List Specifier). have_typedef (parts_of xs)) (sym f)
+
+-- an item of specifiers
+pub part_reads : (bytes : List ℕ) (n : ℕ) (body : Body) (names : Scope) (o : Option (Start × Token × List Token)) (x : Start × Token × List Token) (y : Read Part) → Some x ≡ o → part_from bytes n body names x.0 x.1 x.2 ≡ y → (o >>= λ x. part_from bytes n body names x.0 x.1 x.2) ≡ y
+part_reads bytes n body names o x y e f = bind_gives o (λ x. part_from bytes n body names x.0 x.1 x.2) x y (sym e) f
+
+pub part_state : (names new : Scope) (before both one : Bool) (p : Part) → new ≡ with_part names p → one ≡ specifies p → both ≡ (before || one) → pair new both ≡ pair (with_part names p) (before || specifies p)
+part_state names new before both one p e f g = ap (λ (x : Scope). pair x both) e ∙ ap (pair (with_part names p)) (g ∙ ap (λ (b : Bool). before || b) f)
+
+-- a structure with its members
+pub record_made : (bytes : List ℕ) (body : Body) (names : Scope) (line : ℕ) (kind : RecordKind) (ts : List Token) (g : Option (List ℕ) × List Token) (x : Token × List Token) (tag : Option Name) (ms : Vec MemberDeclaration Global) (rest : List Token) → g ≡ tag_at bytes ts → Some x ≡ token_at (is_mark marks.LeftBrace) g.1 → body names x.1 ≡ Some (members_of ms.items, rest) → option_map view_name tag ≡ g.0 → record_at bytes body names line kind ts ≡ Some (view_part (Record line kind tag ms), rest)
+unfolding record_at
+record_made bytes body names line kind ts g x tag ms rest e f b t =
+    ap (record_from body names line kind) (sym e)
+    ∙ ap (record_by body names line kind g.0 g.1) (sym f)
+    ∙ ap (λ (o : Read Members). o >>= λ ms. Some (structure line kind g.0 ms.0, ms.1)) b
+    ∙ ap (λ (n : Option (List ℕ)). Some (structure line kind n (members_of ms.items), rest)) (sym t)
+    ∙ ap (λ (p : Part). Some (p, rest)) (sym (view_record line kind tag ms))
+
+-- declarations of members
+abbrev pub member_of : MemberDeclaration → Parts × List Declared
+member_of m = (parts_of m.specifiers.items, map view_declarator m.declarators.items)
+
+all_members : (ms : List MemberDeclaration) → placed_all (λ (m : Parts × List Declared) (rest : Members). members m.0 m.1 rest) member_of ms no_member ≡ members_of ms
+all_members [] = refl
+all_members (m ∷ ms) = ap (members (parts_of m.specifiers.items) (map view_declarator m.declarators.items)) (all_members ms)
+
+pub members_begin : (bytes : List ℕ) (n : ℕ) (body : Body) (names : Scope) (ms : List MemberDeclaration) (ts : List Token) → ms ≡ [] → Left (members_list bytes n body) member_of (length ts + 1) names ms ts (members_at bytes n body names ts)
+unfolding members_at
+members_begin bytes n body names ms ts e = front_none (members_list bytes n body).put member_of ms (run_at (members_list bytes n body) (length ts + 1) names ts) e
+
+pub members_close : (bytes : List ℕ) (n m : ℕ) (body : Body) (names : Scope) (ms : List MemberDeclaration) (ts : List Token) (x : Token × List Token) (all : Read Members) → length ts < m → Some x ≡ token_at (is_mark marks.RightBrace) ts → Left (members_list bytes n body) member_of m names ms ts all → all ≡ Some (members_of ms, x.1)
+members_close bytes n m body names ms ts x all h e f =
+    closes (members_list bytes n body) member_of m names ms ts (no_member, x.1) all h (ended_some marks.RightBrace no_member ts x e) f
+    ∙ ap (λ (xs : Members). Some (xs, x.1)) (all_members ms)
+
+members_after : (names : Scope) (ms : List MemberDeclaration) (m : MemberDeclaration) → with_members names (members_of (ms ++ m ∷ [])) ≡ with_parts (with_members names (members_of ms)) (parts_of m.specifiers.items)
+members_after names [] m = refl
+members_after names (x ∷ xs) m = members_after (with_parts names (parts_of x.specifiers.items)) xs m
+
+pub members_push : (names now new : Scope) (ms rr : List MemberDeclaration) (m : MemberDeclaration) → rr ≡ ms ++ m ∷ [] → now ≡ with_members names (members_of ms) → new ≡ with_parts now (parts_of m.specifiers.items) → new ≡ with_members names (members_of rr)
+members_push names now new ms rr m f same is =
+    is ∙ ap (λ (x : Scope). with_parts x (parts_of m.specifiers.items)) same ∙ sym (members_after names ms m) ∙ ap (λ (xs : List MemberDeclaration). with_members names (members_of xs)) (sym f)
+
+-- initializers
+all_initials : (is : List Initializer) → placed_all initials view_initializer is no_initial ≡ initials_of is
+all_initials [] = refl
+all_initials (i ∷ is) = ap (initials (view_initializer i)) (all_initials is)
+
+pub initials_begin : (sub : List Token → Read Initial) (is : List Initializer) (ts : List Token) → is ≡ [] → Left (initials_list sub) view_initializer (length ts + 1) true is ts (initials_at sub ts)
+unfolding initials_at
+initials_begin sub is ts e = front_none initials view_initializer is (run_at (initials_list sub) (length ts + 1) true ts) e
+
+pub initials_close : (sub : List Token → Read Initial) (m : ℕ) (first : Bool) (is : List Initializer) (ts rest : List Token) (all : Read Initials) → length ts < m → Some rest ≡ shut_at first ts → Left (initials_list sub) view_initializer m first is ts all → all ≡ Some (initials_of is, rest)
+initials_close sub m first is ts rest all h e f =
+    closes (initials_list sub) view_initializer m first is ts (no_initial, rest) all h (shut_some no_initial first ts rest e) f
+    ∙ ap (λ (xs : Initials). Some (xs, rest)) (all_initials is)
+
+-- an initializer of one level or more
+initial_opens : (bytes : List ℕ) (names : Scope) (n levels : ℕ) (ts : List Token) (o : Read Token) → suc n ≡ levels → o ≡ token_at (is_mark marks.LeftBrace) ts → initial_at bytes names levels ts ≡ initial_by bytes names levels (initial_at bytes names n) ts o
+unfolding initial_at
+initial_opens bytes names n levels ts o e f =
+    ap (λ (l : ℕ). initial_at bytes names l ts) (sym e) ∙ ap (λ (l : ℕ). initial_by bytes names l (initial_at bytes names n) ts (token_at (is_mark marks.LeftBrace) ts)) e ∙ ap (initial_by bytes names levels (initial_at bytes names n) ts) (sym f)
+
+pub value_made : (bytes : List ℕ) (names : Scope) (n levels : ℕ) (ts rest : List Token) (e : Expr) → suc n ≡ levels → None ≡ token_at (is_mark marks.LeftBrace) ts → reader bytes names levels 2 ts ≡ Some (view e, rest) → initial_at bytes names levels ts ≡ Some (view_initializer (Value e), rest)
+value_made bytes names n levels ts rest e same f g =
+    initial_opens bytes names n levels ts None same f ∙ ap (λ (o : Read Tree). o >>= λ e. Some (initial e.0, e.1)) g
+
+pub value_fails : (bytes : List ℕ) (names : Scope) (n levels : ℕ) (ts : List Token) → suc n ≡ levels → None ≡ token_at (is_mark marks.LeftBrace) ts → reader bytes names levels 2 ts ≡ None → initial_at bytes names levels ts ≡ None
+value_fails bytes names n levels ts same f g =
+    initial_opens bytes names n levels ts None same f ∙ ap (λ (o : Read Tree). o >>= λ e. Some (initial e.0, e.1)) g
+
+pub braces_fail : (bytes : List ℕ) (names : Scope) (n levels : ℕ) (ts : List Token) (x : Token × List Token) → suc n ≡ levels → Some x ≡ token_at (is_mark marks.LeftBrace) ts → initials_at (initial_at bytes names n) x.1 ≡ None → initial_at bytes names levels ts ≡ None
+braces_fail bytes names n levels ts x same e f =
+    initial_opens bytes names n levels ts (Some x) same e ∙ ap (λ (o : Read Initials). o >>= λ is. Some (braces x.0.line is.0, is.1)) f
+
+pub braces_made : (bytes : List ℕ) (names : Scope) (n levels : ℕ) (ts rest : List Token) (x : Token × List Token) (is : Vec Initializer Global) → suc n ≡ levels → Some x ≡ token_at (is_mark marks.LeftBrace) ts → initials_at (initial_at bytes names n) x.1 ≡ Some (initials_of is.items, rest) → initial_at bytes names levels ts ≡ Some (view_initializer (Braces x.0.line is), rest)
+braces_made bytes names n levels ts rest x is same e f =
+    initial_opens bytes names n levels ts (Some x) same e
+    ∙ ap (λ (o : Read Initials). o >>= λ is. Some (braces x.0.line is.0, is.1)) f
+    ∙ ap (λ (i : Initial). Some (i, rest)) (sym (view_braces x.0.line is))
+
+-- declarators with initializers
+abbrev pub init_of : InitDeclarator → Declared × Option Initial
+init_of d = (view_declarator d.declarator, option_map view_initializer d.initializer)
+
+all_declarators : (ds : List InitDeclarator) → placed_all (λ (d : Declared × Option Initial) (rest : Declarators). declarator d.0 d.1 rest) init_of ds none_declared ≡ declarators_of ds
 all_declarators [] = refl
-all_declarators (d ∷ ds) = ap (placed_part (view_part d)) (all_declarators ds)
+all_declarators (d ∷ ds) = ap (view_init_declarator d) (all_declarators ds)
 
-pub none_declares : (bytes : List ℕ) (n : ℕ) (ts : List Token) (ds : List InitDeclarator) (x : Token × List Token) → ds ≡ [] → Some x ≡ token_at (is_mark marks.Semicolon) ts → declarators_at bytes n ts ≡ Some (declarators_of ds, x.1)
+pub declarators_begin : (bytes : List ℕ) (types : Bool) (n : ℕ) (names : Scope) (ds : List InitDeclarator) (ts : List Token) → ds ≡ [] → Left (declarators_list bytes types n) init_of (length ts + 1) (names, true) ds ts (declarators_at bytes names types n ts)
 unfolding declarators_at
-none_declares bytes n ts ds x e f =
-    list_stops placed_part ended_at (declarator_at bytes n) (run_at placed_part ended_at (other_at bytes n) (length ts + 1)) ts (none_declared, x.1) (ended_gives ts x f)
-    ∙ ap (λ (ds : List InitDeclarator). Some (declarators_of ds, x.1)) (sym e)
+declarators_begin bytes types n names ds ts e = front_none (declarators_list bytes types n).put init_of ds (run_at (declarators_list bytes types n) (length ts + 1) (names, true) ts) e
 
-pub first_fails : (bytes : List ℕ) (n : ℕ) (ts : List Token) → None ≡ token_at (is_mark marks.Semicolon) ts → declarator_at bytes n ts ≡ None → declarators_at bytes n ts ≡ None
-unfolding declarators_at
-first_fails bytes n ts e f = list_fails placed_part ended_at (declarator_at bytes n) (run_at placed_part ended_at (other_at bytes n) (length ts + 1)) ts (ended_fails ts e) f
+pub declarators_close : (bytes : List ℕ) (types : Bool) (n m : ℕ) (names : Scope) (first : Bool) (ds : List InitDeclarator) (ts : List Token) (x : Token × List Token) (all : Read Declarators) → length ts < m → Some x ≡ token_at (is_mark marks.Semicolon) ts → Left (declarators_list bytes types n) init_of m (names, first) ds ts all → all ≡ Some (declarators_of ds, x.1)
+declarators_close bytes types n m names first ds ts x all h e f =
+    closes (declarators_list bytes types n) init_of m (names, first) ds ts (none_declared, x.1) all h (ended_some marks.Semicolon none_declared ts x e) f
+    ∙ ap (λ (xs : Declarators). Some (xs, x.1)) (all_declarators ds)
 
-pub first_goes : (bytes : List ℕ) (n : ℕ) (ts rest : List Token) (d : InitDeclarator) (ds : List InitDeclarator) → None ≡ token_at (is_mark marks.Semicolon) ts → declarator_at bytes n ts ≡ Some (view_part d, rest) → ds ≡ d ∷ [] → in_front placed_part view_part ds (run_at placed_part ended_at (other_at bytes n) (length ts + 1) rest) ≡ declarators_at bytes n ts
-unfolding declarators_at
-first_goes bytes n ts rest d ds e f g =
-    let others = run_at placed_part ended_at (other_at bytes n) (length ts + 1) in
-    ap (λ (ds : List InitDeclarator). in_front placed_part view_part ds (others rest)) g
-    ∙ front_push placed_part view_part [] d (others rest)
-    ∙ front_none placed_part view_part [] (others rest >>= λ y. Some (placed_part (view_part d) y.0, y.1)) refl
-    ∙ sym (list_turns placed_part ended_at (declarator_at bytes n) others ts rest (view_part d) (ended_fails ts e) f)
+declarators_after : (names : Scope) (types : Bool) (ds : List InitDeclarator) (d : InitDeclarator) → with_declarators names types (declarators_of (ds ++ d ∷ [])) ≡ (name_of (view_declarator d.declarator), types) ∷ with_declarators names types (declarators_of ds)
+declarators_after names types [] d = refl
+declarators_after names types (x ∷ xs) d = declarators_after ((name_of (view_declarator x.declarator), types) ∷ names) types xs d
 
-pub declarators_close : (bytes : List ℕ) (n m : ℕ) (ds : List InitDeclarator) (ts : List Token) (x : Token × List Token) (all : Read Declarators) → length ts < m → Some x ≡ token_at (is_mark marks.Semicolon) ts → Left placed_part view_part ended_at (other_at bytes n) m ds ts all → all ≡ Some (declarators_of ds, x.1)
-declarators_close bytes n m ds ts x all h e f =
-    closes placed_part view_part ended_at (other_at bytes n) m ds ts (none_declared, x.1) all h (ended_gives ts x e) f
-    ∙ ap (λ (t : Declarators). Some (t, x.1)) (all_declarators ds)
+pub declarators_push : (names now new : Scope) (types : Bool) (ds rr : List InitDeclarator) (d : InitDeclarator) → rr ≡ ds ++ d ∷ [] → now ≡ with_declarators names types (declarators_of ds) → new ≡ (name_of (view_declarator d.declarator), types) ∷ now → new ≡ with_declarators names types (declarators_of rr)
+declarators_push names now new types ds rr d f same is =
+    is ∙ ap (λ (x : Scope). (name_of (view_declarator d.declarator), types) ∷ x) same ∙ sym (declarators_after names types ds d) ∙ ap (λ (xs : List InitDeclarator). with_declarators names types (declarators_of xs)) (sym f)
 
 -- items
-all_items : (is : List Item) → placed_all placed part_of is done ≡ items_of is
+all_items : (is : List Item) → placed_all placed piece_of is done ≡ items_of is
 all_items [] = refl
 all_items (item.Declares d ∷ is) = ap (view_item (item.Declares d)) (all_items is)
 all_items (item.Does s ∷ is) = ap (view_item (item.Does s)) (all_items is)
 
-pub items_begin : (bytes : List ℕ) (n : ℕ) (sub : Reader) (is : List Item) (ts : List Token) → is ≡ [] → in_front placed part_of is (run_at placed closed_at (item_at bytes n sub) (length ts + 1) ts) ≡ items_at bytes n sub ts
+pub items_begin : (bytes : List ℕ) (n : ℕ) (sub : Reader) (names : Scope) (is : List Item) (ts : List Token) → is ≡ [] → Left (items_list bytes n sub) piece_of (length ts + 1) names is ts (items_at bytes n sub names ts)
 unfolding items_at
-items_begin bytes n sub is ts e = front_none placed part_of is (run_at placed closed_at (item_at bytes n sub) (length ts + 1) ts) e
+items_begin bytes n sub names is ts e = front_none placed piece_of is (run_at (items_list bytes n sub) (length ts + 1) names ts) e
 
-pub items_close : (bytes : List ℕ) (n m : ℕ) (sub : Reader) (is : List Item) (ts : List Token) (x : Token × List Token) (all : Read Items) → length ts < m → Some x ≡ token_at (is_mark marks.RightBrace) ts → Left placed part_of closed_at (item_at bytes n sub) m is ts all → all ≡ Some (items_of is, x.1)
-items_close bytes n m sub is ts x all h e f =
-    closes placed part_of closed_at (item_at bytes n sub) m is ts (done, x.1) all h (closed_gives ts x e) f
+pub items_close : (bytes : List ℕ) (n m : ℕ) (sub : Reader) (names : Scope) (is : List Item) (ts : List Token) (x : Token × List Token) (all : Read Items) → length ts < m → Some x ≡ token_at (is_mark marks.RightBrace) ts → Left (items_list bytes n sub) piece_of m names is ts all → all ≡ Some (items_of is, x.1)
+items_close bytes n m sub names is ts x all h e f =
+    closes (items_list bytes n sub) piece_of m names is ts (done, x.1) all h (ended_some marks.RightBrace done ts x e) f
     ∙ ap (λ (t : Items). Some (t, x.1)) (all_items is)
 
--- a block
-pub block_made : (bytes : List ℕ) (n : ℕ) (sub : Reader) (line : ℕ) (ts rest : List Token) (is : Vec Item Global) → items_at bytes n sub ts ≡ Some (items_of is.items, rest) → block_at bytes n sub line ts ≡ Some (view_statement (Block line is), rest)
+pub block_made : (bytes : List ℕ) (n : ℕ) (sub : Reader) (names : Scope) (line : ℕ) (ts rest : List Token) (is : Vec Item Global) → items_at bytes n sub names ts ≡ Some (items_of is.items, rest) → block_at bytes n sub names line ts ≡ Some (view_statement (Block line is), rest)
 unfolding block_at
-block_made bytes n sub line ts rest is e =
+block_made bytes n sub names line ts rest is e =
     ap (λ (o : Read Items). o >>= λ is. Some (block line is.0, is.1)) e
     ∙ ap (λ (s : Statement). Some (s, rest)) (sym (view_block line is))
+
+-- Names that are declared later stand in front.
+abbrev pub Extends : Scope → Scope → Type 0
+Extends names new = (front : Scope) × (new ≡ front ++ names)
+
+extends_more : (names mid new : Scope) → Extends names mid → Extends mid new → Extends names new
+extends_more names mid new (f, e) (g, h) = (g ++ f, h ∙ ap (λ (x : Scope). g ++ x) e ∙ sym (append_assoc g f names))
+
+extends_one : (names : Scope) (e : List ℕ × Bool) → Extends names (e ∷ names)
+extends_one names e = (e ∷ [], refl)
+
+enumerators_extend : (es : List Enumerated) (names : Scope) → Extends names (with_enumerators names es)
+enumerators_extend [] names = ([], refl)
+enumerators_extend (e ∷ es) names = extends_more names ((e.name, false) ∷ names) (with_enumerators ((e.name, false) ∷ names) es) (extends_one names (e.name, false)) (enumerators_extend es ((e.name, false) ∷ names))
+
+mutual
+  part_extends : (p : Part) (names : Scope) → Extends names (with_part names p)
+  part_extends (type_part p) names = ([], refl)
+  part_extends (storage line c) names = ([], refl)
+  part_extends (function line f) names = ([], refl)
+  part_extends (structure line kind tag ms) names = members_extend ms names
+  part_extends (enumeration line tag es) names = enumerators_extend es names
+
+  parts_extend : (ps : Parts) (names : Scope) → Extends names (with_parts names ps)
+  parts_extend no_part names = ([], refl)
+  parts_extend (part p ps) names = extends_more names (with_part names p) (with_parts (with_part names p) ps) (part_extends p names) (parts_extend ps (with_part names p))
+
+  members_extend : (ms : Members) (names : Scope) → Extends names (with_members names ms)
+  members_extend no_member names = ([], refl)
+  members_extend (members ps ds ms) names = extends_more names (with_parts names ps) (with_members (with_parts names ps) ms) (parts_extend ps names) (members_extend ms (with_parts names ps))
+
+declarators_extend : (ds : Declarators) (types : Bool) (names : Scope) → Extends names (with_declarators names types ds)
+declarators_extend none_declared types names = ([], refl)
+declarators_extend (declarator d i ds) types names =
+    extends_more names ((name_of d, types) ∷ names) (with_declarators ((name_of d, types) ∷ names) types ds) (extends_one names (name_of d, types)) (declarators_extend ds types ((name_of d, types) ∷ names))
+
+piece_extends : (p : Piece) (names : Scope) → Extends names (with_piece names p)
+piece_extends (declaration ps ds) names = extends_more names (with_parts names ps) (with_declaration names ps ds) (parts_extend ps names) (declarators_extend ds (have_typedef ps) (with_parts names ps))
+piece_extends (statement s) names = ([], refl)
+
+pub extends_here : (names : Scope) → Extends names names
+extends_here names = ([], refl)
+
+pub extends_on : (names now new : Scope) (i : Item) → Extends names now → new ≡ with_piece now (piece_of i) → Extends names new
+extends_on names now new i e f =
+    let g = piece_extends (piece_of i) now in
+    extends_more names now new e (g.0, f ∙ g.1)
+
+-- leaving a block
+pub mark_fits : (names new : Scope) → Extends names new → length names ≤ length new
+mark_fits names new (f, e) = let g = ap (λ (x : Scope). length x) e ∙ length-append f names in omega (arith, g)
+
+drop_front : (front names : Scope) → drop (length (front ++ names) - length names) (front ++ names) ≡ names
+drop_front front names = ap (λ (n : ℕ). drop n (front ++ names)) (let g = length-append front names in omega (arith, g)) ∙ drop-append_seam front names
+
+pub left_behind : (names new left : Scope) → Extends names new → left ≡ drop (length new - length names) new → left ≡ names
+left_behind names new left (f, e) g = g ∙ ap (λ (x : Scope). drop (length x - length names) x) e ∙ drop_front f names

@@ -14,11 +14,11 @@ use Rattle.c_lexer.specs.declared.token.Mark.TheVariants as marks
 use Rattle.c_lexer.specs.Spelling.{keyword_text, mark_text, keyword_of, mark_of}
 use Rattle.c_lexer.specs.Kinds.{text_of}
 use Rattle.c_tree.specs.Spelling.{Names}
-use Rattle.c_parse_expr.specs.Reading.{is_mark}
-use Rattle.c_parse_expr.proofs.Marks.{some_is}
-use Rattle.c_parse_decl.specs.Reading.{Read, is_keyword, is_identifier, is_main, token_at, main_at}
+use Rattle.c_parse_expr.specs.Reading.{is_mark, is_identifier}
+use Rattle.c_parse_decl.specs.Reading.{Read, is_keyword, is_main, token_at, main_at}
+use Rattle.c_parse_decl.proofs.Lists.{some_is}
 
-mark_back : (m : Mark) → mark_of (mark_text m) ≡ Some m
+pub mark_back : (m : Mark) → mark_of (mark_text m) ≡ Some m
 mark_back marks.LeftBracket = refl
 mark_back marks.RightBracket = refl
 mark_back marks.LeftParenthesis = refl
@@ -206,3 +206,8 @@ unfolding main_at
 main_gives bytes line t ts n =
     ap (λ (b : Bool). cond {A = Read Token} b (Some (t, ts)) None)
     (ap (λ (b : Bool). b && bytes_eq (text_of bytes t) (codes "main")) (ap is_identifier n.kind) ∙ (bytes_eq-Decides (text_of bytes t) (codes "main")).1 n.text)
+
+pub main_fails : (bytes : List ℕ) (t : Token) (ts : List Token) → is_identifier t.kind ≡ false → main_at bytes (t ∷ ts) ≡ None
+unfolding main_at
+main_fails bytes t ts e =
+    ap (λ (b : Bool). cond {A = Read Token} b (Some (t, ts)) None) (ap (λ (b : Bool). b && bytes_eq (text_of bytes t) (codes "main")) e)

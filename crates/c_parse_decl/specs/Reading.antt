@@ -1,22 +1,31 @@
--- Reading declarations, statements and definitions from left to right, with the levels that their parts may have.
-use Rattle.std.specs.Prelude.{ℕ, zero, suc, ◌+◌, List, [], ◌∷◌, length, codes, Bool, true, false, ◌&&◌, if◌then◌else◌, Option, Some, None, option_map}
+-- Reading declarations, statements and what stands in a file from left to right, with the names that are those of types and
+-- the levels that the parts may have.
+use Rattle.std.specs.Prelude.{ℕ, zero, suc, ◌+◌, List, [], ◌∷◌, length, codes, Bool, true, false, not, ◌&&◌, ◌||◌, if◌then◌else◌, Option, Some, None, option_map}
 use Rattle.std.specs.Str.{bytes_eq}
 use Rattle.c_lexer.specs.declared.token.Token.{Token}
 use Rattle.c_lexer.specs.declared.token.Kind.{Kind}
 use Rattle.c_lexer.specs.declared.token.Kind.TheVariants as kinds
 use Rattle.c_lexer.specs.declared.token.Keyword.{Keyword}
 use Rattle.c_lexer.specs.declared.token.Keyword.TheVariants as keywords
+use Rattle.c_lexer.specs.declared.token.Mark.{Mark}
 use Rattle.c_lexer.specs.declared.token.Mark.TheVariants as marks
 use Rattle.c_lexer.specs.Spelling.{keyword_text}
 use Rattle.c_lexer.specs.Kinds.{text_of}
-use Rattle.c_tree.specs.declared.statement.InitDeclarator.{InitDeclarator}
-use Rattle.c_tree.specs.declared.statement.Item.{Item}
-use Rattle.c_tree.specs.declared.statement.Item as items
-use Rattle.c_tree.specs.Tree.{Tree, view}
-use Rattle.c_tree.specs.Statements.{Declarators, none_declared, declarator, Statement, block, if_then, if_else, evaluate, return_nothing, return_value, Items, done, declares, does, view_statement, declarators_of}
-use Rattle.c_parse_expr.specs.Reading.{◌>>=◌, is_mark, reader}
+use Rattle.c_tree.specs.declared.specifier.TagKind.{TagKind}
+use Rattle.c_tree.specs.declared.specifier.TagKind.TheVariants as tag_kinds
+use Rattle.c_tree.specs.declared.declaration.RecordKind.{RecordKind}
+use Rattle.c_tree.specs.Tree.{qualified, word, tagged, typedef_name, Tree, Declared}
+use Rattle.c_tree.specs.Names.{Scope, is_type}
+use Rattle.c_tree.specs.Declarations.{Enumerated, Part, type_part, storage, function, structure, enumeration, Parts, no_part, part, Members, no_member, members, Initial, initial, braces, Initials, no_initial, initials, Declarators, none_declared, declarator, name_of, with_part, with_parts, with_declaration, have_typedef, specifies}
+use Rattle.c_tree.specs.Statements.{Statement, block, if_then, if_else, evaluate, return_nothing, return_value, Items, done, declares, does}
+use Rattle.c_parse_expr.specs.Many.{◌>>=◌}
+use Rattle.c_parse_expr.specs.Reading.{is_mark, is_identifier, reader, declared_at}
 use Rattle.c_parse_decl.specs.declared.slices.Begin.{Begin}
 use Rattle.c_parse_decl.specs.declared.slices.Begin.TheVariants as begins
+use Rattle.c_parse_decl.specs.declared.table.Start.{Start}
+use Rattle.c_parse_decl.specs.declared.table.Start.TheVariants as starts
+use Rattle.c_parse_decl.specs.Tables.{start_of_keyword, record_tag}
+use Rattle.c_parse_decl.specs.Standing.{Outer, declaring, defining}
 
 abbrev pub is_keyword : Keyword → Kind → Bool
 is_keyword keyword kinds.Identifier = false
@@ -25,14 +34,6 @@ is_keyword keyword (kinds.Constant c) = false
 is_keyword keyword (kinds.Character c) = false
 is_keyword keyword kinds.String = false
 is_keyword keyword (kinds.Mark m) = false
-
-abbrev pub is_identifier : Kind → Bool
-is_identifier kinds.Identifier = true
-is_identifier (kinds.Keyword k) = false
-is_identifier (kinds.Constant c) = false
-is_identifier (kinds.Character c) = false
-is_identifier kinds.String = false
-is_identifier (kinds.Mark m) = false
 
 abbrev pub is_main : List ℕ → Token → Bool
 is_main bytes t = is_identifier t.kind && bytes_eq (text_of bytes t) (codes "main")
@@ -62,132 +63,357 @@ abbrev pub or_else : {A : Type 0} → Option A → Option A → Option A
 or_else None other = other
 or_else (Some x) other = Some x
 
--- what stops a list, or its first and the others behind it
-abbrev pub list_at : {A T : Type 0} → (A → T → T) → (List Token → Read T) → (List Token → Read A) → (List Token → Read T) → List Token → Read T
-list_at place stop first others ts = or_else (stop ts) (do
-  x ← first ts
-  y ← others x.1
-  Some (place x.0 y.0, y.1))
+-- How a list is read: what is known behind an item, how the item stands in front of others, what ends the list, and an item.
+pub record Listing (S A T : Type 0) : Type 0 where
+  pub after : S → A → S
+  pub put : A → T → T
+  pub stop : S → List Token → Read T
+  pub item : S → List Token → Read A
 
--- a list of fewer than m, up to what stops it
-unfoldable pub run_at : {A T : Type 0} → (A → T → T) → (List Token → Read T) → (List Token → Read A) → ℕ → List Token → Read T
-run_at place stop next zero ts = None
-run_at place stop next (suc m) ts = list_at place stop next (run_at place stop next m) ts
+-- a list of fewer than m items, up to what ends it
+unfoldable pub run_at : {S A T : Type 0} → Listing S A T → ℕ → S → List Token → Read T
+run_at l zero s ts = None
+run_at l (suc m) s ts = or_else (l.stop s ts) (do
+  x ← l.item s ts
+  y ← run_at l m (l.after s x.0) x.1
+  Some (l.put x.0 y.0, y.1))
 
--- a declarator apart from those behind it: its line, its name and its initializer
-abbrev pub Part : Type 0
-Part = ℕ × List ℕ × Option Tree
+-- before the first item nothing, before the others a comma
+unfoldable pub comma_at : Bool → List Token → Option (List Token)
+comma_at true ts = Some ts
+comma_at false ts = token_at (is_mark marks.Comma) ts >>= λ x. Some x.1
 
-abbrev pub placed_part : Part → Declarators → Declarators
-placed_part p rest = declarator p.0 p.1 p.2 rest
+-- an item of a list
+abbrev pub next_at : {A : Type 0} → Bool → (List Token → Read A) → List Token → Read A
+next_at first item ts = comma_at first ts >>= item
 
-abbrev pub view_part : InitDeclarator → Part
-view_part d = (d.line, d.name.bytes.items, option_map view d.initializer)
+-- the brace that closes a list, with a comma before it or not; a list has an item
+unfoldable pub shut_at : Bool → List Token → Option (List Token)
+shut_at true ts = None
+shut_at false ts = or_else (token_at (is_mark marks.RightBrace) ts >>= λ x. Some x.1) (do
+  x ← token_at (is_mark marks.Comma) ts
+  y ← token_at (is_mark marks.RightBrace) x.1
+  Some y.1)
 
-abbrev pub initialized : List ℕ → ℕ → List Token → Read Token → Read (Option Tree)
-initialized bytes n ts None = Some (None, ts)
-initialized bytes n ts (Some x) = do
-  e ← reader bytes n 2 x.1
+-- a list that ends at the mark
+unfoldable pub ended_at : {T : Type 0} → Mark → T → List Token → Read T
+ended_at mark t ts = token_at (is_mark mark) ts >>= λ x. Some (t, x.1)
+
+-- names, and whether a type is specified, or whether no item came yet
+abbrev pub State : Type 0
+State = Scope × Bool
+
+abbrev pub start_by : Bool → Kind → Option Start
+start_by named kinds.Identifier = if named then Some starts.Name else None
+start_by named (kinds.Keyword k) = start_of_keyword k
+start_by named (kinds.Constant c) = None
+start_by named (kinds.Character c) = None
+start_by named kinds.String = None
+start_by named (kinds.Mark m) = None
+
+-- among the specifiers of members stands no storage class and no function specifier
+abbrev pub kept : Bool → Start → Option Start
+kept inner (starts.Qualifier q) = Some (starts.Qualifier q)
+kept inner (starts.Word w) = Some (starts.Word w)
+kept inner (starts.Storage c) = if inner then None else Some (starts.Storage c)
+kept inner (starts.Function f) = if inner then None else Some (starts.Function f)
+kept inner (starts.Record k) = Some (starts.Record k)
+kept inner starts.Enumeration = Some starts.Enumeration
+kept inner starts.Name = Some starts.Name
+
+-- what a token begins among specifiers: a name does where it is that of a type and no type is specified before it
+abbrev pub start_of : Bool → List ℕ → State → Token → Option Start
+start_of inner bytes s t = start_by (not s.1 && is_type s.0 (text_of bytes t)) t.kind >>= kept inner
+
+-- what the first token begins among specifiers, the token, and those behind it
+unfoldable pub start_at : Bool → List ℕ → State → List Token → Option (Start × Token × List Token)
+start_at inner bytes s [] = None
+start_at inner bytes s (t ∷ ts) = start_of inner bytes s t >>= λ x. Some (x, t, ts)
+
+abbrev pub tag_by : List ℕ → List Token → Read Token → Option (List ℕ) × List Token
+tag_by bytes ts None = (None, ts)
+tag_by bytes ts (Some x) = (Some (text_of bytes x.0), x.1)
+
+-- the tag at the front, if one stands there
+unfoldable pub tag_at : List ℕ → List Token → Option (List ℕ) × List Token
+tag_at bytes ts = tag_by bytes ts (token_at is_identifier ts)
+
+-- without braces a tag is owed
+abbrev pub tagged_by : TagKind → ℕ → Option (List ℕ) → List Token → Read Part
+tagged_by kind line None ts = None
+tagged_by kind line (Some n) ts = Some (type_part (tagged line kind n), ts)
+
+-- the members of a structure behind its brace
+abbrev pub Body : Type 0
+Body = Scope → List Token → Read Members
+
+abbrev pub record_by : Body → Scope → ℕ → RecordKind → Option (List ℕ) → List Token → Read Token → Read Part
+record_by body names line kind tag ts None = tagged_by (record_tag kind) line tag ts
+record_by body names line kind tag ts (Some x) = do
+  ms ← body names x.1
+  Some (structure line kind tag ms.0, ms.1)
+
+abbrev pub record_from : Body → Scope → ℕ → RecordKind → Option (List ℕ) × List Token → Read Part
+record_from body names line kind g = record_by body names line kind g.0 g.1 (token_at (is_mark marks.LeftBrace) g.1)
+
+-- behind the keyword of a structure or a union
+unfoldable pub record_at : List ℕ → Body → Scope → ℕ → RecordKind → List Token → Read Part
+record_at bytes body names line kind ts = record_from body names line kind (tag_at bytes ts)
+
+abbrev pub value_by : List ℕ → Scope → ℕ → List Token → Read Token → Read (Option Tree)
+value_by bytes names n ts None = Some (None, ts)
+value_by bytes names n ts (Some x) = do
+  e ← reader bytes names n 3 x.1
   Some (Some e.0, e.1)
 
-unfoldable pub initializer_at : List ℕ → ℕ → List Token → Read (Option Tree)
-initializer_at bytes n ts = initialized bytes n ts (token_at (is_mark marks.Equal) ts)
+-- the value of an enumerator, if a `=` stands there
+unfoldable pub value_at : List ℕ → Scope → ℕ → List Token → Read (Option Tree)
+value_at bytes names n ts = value_by bytes names n ts (token_at (is_mark marks.Equal) ts)
 
--- a declarator of at most n levels
-unfoldable pub declarator_at : List ℕ → ℕ → List Token → Read Part
-declarator_at bytes zero ts = None
-declarator_at bytes (suc n) ts = do
+unfoldable pub enumerator_at : List ℕ → Scope → ℕ → List Token → Read Enumerated
+enumerator_at bytes names n ts = do
   x ← token_at is_identifier ts
-  e ← initializer_at bytes (suc n) x.1
-  Some ((x.0.line, text_of bytes x.0, e.0), e.1)
+  e ← value_at bytes names n x.1
+  Some (record { line = x.0.line; name = text_of bytes x.0; value = e.0 }, e.1)
 
-unfoldable pub other_at : List ℕ → ℕ → List Token → Read Part
-other_at bytes n ts = do
-  x ← token_at (is_mark marks.Comma) ts
-  declarator_at bytes n x.1
+abbrev pub enumerators_list : List ℕ → ℕ → Listing State Enumerated (List Enumerated)
+enumerators_list bytes n = record {
+  after = λ s e. ((e.name, false) ∷ s.0, false);
+  put = λ e es. e ∷ es;
+  stop = λ s ts. shut_at s.1 ts >>= λ rest. Some ([], rest);
+  item = λ s ts. comma_at s.1 ts >>= λ rest. enumerator_at bytes s.0 n rest;
+}
 
--- the `;` behind declarators
-unfoldable pub ended_at : List Token → Read Declarators
-ended_at ts = do
-  x ← token_at (is_mark marks.Semicolon) ts
-  Some (none_declared, x.1)
+-- enumerators and the brace that closes them
+unfoldable pub enumerators_at : List ℕ → Scope → ℕ → List Token → Read (List Enumerated)
+enumerators_at bytes names n ts = run_at (enumerators_list bytes n) (length ts + 1) (names, true) ts
 
-unfoldable pub declarators_at : List ℕ → ℕ → List Token → Read Declarators
-declarators_at bytes n ts = list_at placed_part ended_at (declarator_at bytes n) (run_at placed_part ended_at (other_at bytes n) (length ts + 1)) ts
+abbrev pub enumeration_by : List ℕ → Scope → ℕ → ℕ → Option (List ℕ) → List Token → Read Token → Read Part
+enumeration_by bytes names n line tag ts None = tagged_by tag_kinds.Enum line tag ts
+enumeration_by bytes names n line tag ts (Some x) = do
+  es ← enumerators_at bytes names n x.1
+  Some (enumeration line tag es.0, es.1)
+
+abbrev pub enumeration_from : List ℕ → Scope → ℕ → ℕ → Option (List ℕ) × List Token → Read Part
+enumeration_from bytes names n line g = enumeration_by bytes names n line g.0 g.1 (token_at (is_mark marks.LeftBrace) g.1)
+
+-- behind the keyword of an enumeration
+unfoldable pub enumeration_at : List ℕ → Scope → ℕ → ℕ → List Token → Read Part
+enumeration_at bytes names n line ts = enumeration_from bytes names n line (tag_at bytes ts)
+
+-- a specifier that a token begins
+unfoldable pub part_from : List ℕ → ℕ → Body → Scope → Start → Token → List Token → Read Part
+part_from bytes n body names (starts.Qualifier q) t ts = Some (type_part (qualified t.line q), ts)
+part_from bytes n body names (starts.Word w) t ts = Some (type_part (word t.line w), ts)
+part_from bytes n body names (starts.Storage c) t ts = Some (storage t.line c, ts)
+part_from bytes n body names (starts.Function f) t ts = Some (function t.line f, ts)
+part_from bytes n body names (starts.Record kind) t ts = record_at bytes body names t.line kind ts
+part_from bytes n body names starts.Enumeration t ts = enumeration_at bytes names n t.line ts
+part_from bytes n body names starts.Name t ts = Some (type_part (typedef_name t.line (text_of bytes t)), ts)
+
+abbrev pub parts_stop : List Token → Option (Start × Token × List Token) → Read Parts
+parts_stop ts None = Some (no_part, ts)
+parts_stop ts (Some x) = None
+
+abbrev pub parts_list : Bool → List ℕ → ℕ → Body → Listing State Part Parts
+parts_list inner bytes n body = record {
+  after = λ s p. (with_part s.0 p, s.1 || specifies p);
+  put = part;
+  stop = λ s ts. parts_stop ts (start_at inner bytes s ts);
+  item = λ s ts. start_at inner bytes s ts >>= λ x. part_from bytes n body s.0 x.0 x.1 x.2;
+}
+
+-- the specifiers at the front, of members or of others
+unfoldable pub parts_at : Bool → List ℕ → ℕ → Body → Scope → List Token → Read Parts
+parts_at inner bytes n body names ts = run_at (parts_list inner bytes n body) (length ts + 1) (names, false) ts
+
+abbrev pub are_some : Parts → Bool
+are_some no_part = false
+are_some (part first rest) = true
+
+abbrev pub declareds_list : List ℕ → ℕ → Listing State Declared (List Declared)
+declareds_list bytes n = record {
+  after = λ s d. (s.0, false);
+  put = λ d ds. d ∷ ds;
+  stop = λ s ts. ended_at marks.Semicolon [] ts;
+  item = λ s ts. comma_at s.1 ts >>= λ rest. declared_at bytes s.0 n true rest;
+}
+
+-- the declarators of members and the `;` behind them
+unfoldable pub declareds_at : List ℕ → Scope → ℕ → List Token → Read (List Declared)
+declareds_at bytes names n ts = run_at (declareds_list bytes n) (length ts + 1) (names, true) ts
+
+-- a declaration of members
+unfoldable pub member_at : List ℕ → ℕ → Body → Scope → List Token → Read (Parts × List Declared)
+member_at bytes n body names ts = do
+  p ← parts_at true bytes n body names ts
+  ds ← (if are_some p.0 then declareds_at bytes (with_parts names p.0) n p.1 else None)
+  Some ((p.0, ds.0), ds.1)
+
+abbrev pub members_list : List ℕ → ℕ → Body → Listing Scope (Parts × List Declared) Members
+members_list bytes n body = record {
+  after = λ s m. with_parts s m.0;
+  put = λ m ms. members m.0 m.1 ms;
+  stop = λ s ts. ended_at marks.RightBrace no_member ts;
+  item = member_at bytes n body;
+}
+
+abbrev pub have_some : Members → Bool
+have_some no_member = false
+have_some (members parts ds rest) = true
+
+-- declarations of members, and the brace that closes them
+unfoldable pub members_at : List ℕ → ℕ → Body → Body
+members_at bytes n body names ts = run_at (members_list bytes n body) (length ts + 1) names ts
+
+-- one at least
+unfoldable pub some_members_at : Body → Body
+some_members_at body names ts = do
+  ms ← body names ts
+  if have_some ms.0 then Some ms else None
+
+-- the members of a structure of at most n levels
+unfoldable pub body_at : List ℕ → ℕ → Body
+body_at bytes zero names ts = None
+body_at bytes (suc n) names ts = some_members_at (members_at bytes n (body_at bytes n)) names ts
+
+abbrev pub initials_list : (List Token → Read Initial) → Listing Bool Initial Initials
+initials_list sub = record {
+  after = λ s i. false;
+  put = initials;
+  stop = λ s ts. shut_at s ts >>= λ rest. Some (no_initial, rest);
+  item = λ s ts. comma_at s ts >>= sub;
+}
+
+-- initializers and the brace that closes them
+unfoldable pub initials_at : (List Token → Read Initial) → List Token → Read Initials
+initials_at sub ts = run_at (initials_list sub) (length ts + 1) true ts
+
+abbrev pub initial_by : List ℕ → Scope → ℕ → (List Token → Read Initial) → List Token → Read Token → Read Initial
+initial_by bytes names n sub ts None = do
+  e ← reader bytes names n 2 ts
+  Some (initial e.0, e.1)
+initial_by bytes names n sub ts (Some x) = do
+  is ← initials_at sub x.1
+  Some (braces x.0.line is.0, is.1)
+
+-- an initializer of at most n levels
+unfoldable pub initial_at : List ℕ → Scope → ℕ → List Token → Read Initial
+initial_at bytes names zero ts = None
+initial_at bytes names (suc n) ts = initial_by bytes names (suc n) (initial_at bytes names n) ts (token_at (is_mark marks.LeftBrace) ts)
+
+abbrev pub initializer_by : List ℕ → Scope → ℕ → List Token → Read Token → Read (Option Initial)
+initializer_by bytes names n ts None = Some (None, ts)
+initializer_by bytes names n ts (Some x) = do
+  i ← initial_at bytes names n x.1
+  Some (Some i.0, i.1)
+
+-- the initializer at the front, if a `=` stands there
+unfoldable pub initializer_at : List ℕ → Scope → ℕ → List Token → Read (Option Initial)
+initializer_at bytes names n ts = initializer_by bytes names n ts (token_at (is_mark marks.Equal) ts)
+
+-- a declarator with its initializer; its name is declared between them, as a type or not
+unfoldable pub declarator_at : List ℕ → Scope → Bool → ℕ → List Token → Read (Declared × Option Initial)
+declarator_at bytes names types n ts = do
+  d ← declared_at bytes names n true ts
+  i ← initializer_at bytes ((name_of d.0, types) ∷ names) n d.1
+  Some ((d.0, i.0), i.1)
+
+abbrev pub declarators_list : List ℕ → Bool → ℕ → Listing State (Declared × Option Initial) Declarators
+declarators_list bytes types n = record {
+  after = λ s d. ((name_of d.0, types) ∷ s.0, false);
+  put = λ d ds. declarator d.0 d.1 ds;
+  stop = λ s ts. ended_at marks.Semicolon none_declared ts;
+  item = λ s ts. comma_at s.1 ts >>= λ rest. declarator_at bytes s.0 types n rest;
+}
+
+-- declarators and the `;` behind them
+unfoldable pub declarators_at : List ℕ → Scope → Bool → ℕ → List Token → Read Declarators
+declarators_at bytes names types n ts = run_at (declarators_list bytes types n) (length ts + 1) (names, true) ts
+
+-- a declaration of at most n levels
+unfoldable pub declaration_at : List ℕ → Scope → ℕ → List Token → Read (Parts × Declarators)
+declaration_at bytes names n ts = do
+  p ← parts_at false bytes n (body_at bytes n) names ts
+  ds ← (if are_some p.0 then declarators_at bytes (with_parts names p.0) (have_typedef p.0) n p.1 else None)
+  Some ((p.0, ds.0), ds.1)
 
 -- what stands in a block, apart from what stands behind it
 pub data Piece : Type 0 where
-  declaration : (line : ℕ) (declarators : Declarators) → Piece
+  declaration : (specifiers : Parts) (declarators : Declarators) → Piece
   statement : (s : Statement) → Piece
 
 abbrev pub placed : Piece → Items → Items
-placed (declaration line ds) rest = declares line ds rest
+placed (declaration parts ds) rest = declares parts ds rest
 placed (statement s) rest = does s rest
 
-abbrev pub part_of : Item → Piece
-part_of (items.Declares d) = declaration d.line (declarators_of d.declarators.items)
-part_of (items.Does s) = statement (view_statement s)
+-- the names behind it
+abbrev pub with_piece : Scope → Piece → Scope
+with_piece names (declaration parts ds) = with_declaration names parts ds
+with_piece names (statement s) = names
 
 -- reads a statement
 abbrev pub Reader : Type 0
-Reader = List Token → Read Statement
+Reader = Scope → List Token → Read Statement
 
-abbrev pub declared : List ℕ → ℕ → Reader → List Token → Read Token → Read Piece
-declared bytes n sub ts None = do
-  s ← sub ts
+abbrev pub item_by : List ℕ → ℕ → Reader → Scope → List Token → Option (Start × Token × List Token) → Read Piece
+item_by bytes n sub names ts None = do
+  s ← sub names ts
   Some (statement s.0, s.1)
-declared bytes n sub ts (Some x) = do
-  ds ← declarators_at bytes n x.1
-  Some (declaration x.0.line ds.0, ds.1)
+item_by bytes n sub names ts (Some x) = do
+  d ← declaration_at bytes names n ts
+  Some (declaration d.0.0 d.0.1, d.1)
 
 -- a declaration or a statement of at most n levels
-unfoldable pub item_at : List ℕ → ℕ → Reader → List Token → Read Piece
-item_at bytes n sub ts = declared bytes n sub ts (token_at (is_keyword keywords.Int) ts)
+unfoldable pub item_at : List ℕ → ℕ → Reader → Scope → List Token → Read Piece
+item_at bytes n sub names ts = item_by bytes n sub names ts (start_at false bytes (names, false) ts)
 
--- the brace that closes a block
-unfoldable pub closed_at : List Token → Read Items
-closed_at ts = do
-  x ← token_at (is_mark marks.RightBrace) ts
-  Some (done, x.1)
+abbrev pub items_list : List ℕ → ℕ → Reader → Listing Scope Piece Items
+items_list bytes n sub = record {
+  after = with_piece;
+  put = placed;
+  stop = λ s ts. ended_at marks.RightBrace done ts;
+  item = item_at bytes n sub;
+}
 
-unfoldable pub items_at : List ℕ → ℕ → Reader → List Token → Read Items
-items_at bytes n sub ts = run_at placed closed_at (item_at bytes n sub) (length ts + 1) ts
+unfoldable pub items_at : List ℕ → ℕ → Reader → Scope → List Token → Read Items
+items_at bytes n sub names ts = run_at (items_list bytes n sub) (length ts + 1) names ts
 
 -- behind the brace
-unfoldable pub block_at : List ℕ → ℕ → Reader → ℕ → List Token → Read Statement
-block_at bytes n sub line ts = do
-  is ← items_at bytes n sub ts
+unfoldable pub block_at : List ℕ → ℕ → Reader → Scope → ℕ → List Token → Read Statement
+block_at bytes n sub names line ts = do
+  is ← items_at bytes n sub names ts
   Some (block line is.0, is.1)
 
-abbrev pub branched : Reader → ℕ → Tree → Statement → List Token → Read Token → Read Statement
-branched sub line test s ts None = Some (if_then line test s, ts)
-branched sub line test s ts (Some x) = do
-  u ← sub x.1
+abbrev pub branched : Reader → Scope → ℕ → Tree → Statement → List Token → Read Token → Read Statement
+branched sub names line test s ts None = Some (if_then line test s, ts)
+branched sub names line test s ts (Some x) = do
+  u ← sub names x.1
   Some (if_else line test s u.0, u.1)
 
 -- behind the first branch: an `else` at the front belongs to the `if`
-unfoldable pub branched_at : Reader → ℕ → Tree → Statement → List Token → Read Statement
-branched_at sub line test s ts = branched sub line test s ts (token_at (is_keyword keywords.Else) ts)
+unfoldable pub branched_at : Reader → Scope → ℕ → Tree → Statement → List Token → Read Statement
+branched_at sub names line test s ts = branched sub names line test s ts (token_at (is_keyword keywords.Else) ts)
 
 -- behind the `if`
-unfoldable pub tested_at : List ℕ → ℕ → Reader → ℕ → List Token → Read Statement
-tested_at bytes n sub line ts = do
+unfoldable pub tested_at : List ℕ → ℕ → Reader → Scope → ℕ → List Token → Read Statement
+tested_at bytes n sub names line ts = do
   x ← token_at (is_mark marks.LeftParenthesis) ts
-  e ← reader bytes n 1 x.1
+  e ← reader bytes names n 1 x.1
   y ← token_at (is_mark marks.RightParenthesis) e.1
-  s ← sub y.1
-  branched_at sub line e.0 s.0 s.1
+  s ← sub names y.1
+  branched_at sub names line e.0 s.0 s.1
 
 -- an expression and the `;` behind it
-unfoldable pub value_at : List ℕ → ℕ → List Token → Read Tree
-value_at bytes n ts = do
-  e ← reader bytes n 1 ts
+unfoldable pub closed_at : List ℕ → Scope → ℕ → List Token → Read Tree
+closed_at bytes names n ts = do
+  e ← reader bytes names n 1 ts
   x ← token_at (is_mark marks.Semicolon) e.1
   Some (e.0, x.1)
 
-unfoldable pub valued_at : List ℕ → ℕ → ℕ → List Token → Read Statement
-valued_at bytes n line ts = do
-  e ← value_at bytes n ts
+unfoldable pub valued_at : List ℕ → Scope → ℕ → ℕ → List Token → Read Statement
+valued_at bytes names n line ts = do
+  e ← closed_at bytes names n ts
   Some (return_value line e.0, e.1)
 
 abbrev pub bare : ℕ → Read Token → Read Statement
@@ -195,42 +421,57 @@ bare line None = None
 bare line (Some x) = Some (return_nothing line, x.1)
 
 -- behind the `return`
-unfoldable pub returned_at : List ℕ → ℕ → ℕ → List Token → Read Statement
-returned_at bytes n line ts = or_else (bare line (token_at (is_mark marks.Semicolon) ts)) (valued_at bytes n line ts)
+unfoldable pub returned_at : List ℕ → Scope → ℕ → ℕ → List Token → Read Statement
+returned_at bytes names n line ts = or_else (bare line (token_at (is_mark marks.Semicolon) ts)) (valued_at bytes names n line ts)
 
-unfoldable pub evaluated_at : List ℕ → ℕ → List Token → Read Statement
-evaluated_at bytes n ts = do
-  e ← value_at bytes n ts
+unfoldable pub evaluated_at : List ℕ → Scope → ℕ → List Token → Read Statement
+evaluated_at bytes names n ts = do
+  e ← closed_at bytes names n ts
   Some (evaluate e.0, e.1)
 
-abbrev pub begun : List ℕ → ℕ → Reader → Begin → Token → List Token → Read Statement
-begun bytes n sub begins.Block t ts = block_at bytes n sub t.line ts
-begun bytes n sub begins.If t ts = tested_at bytes n sub t.line ts
-begun bytes n sub begins.Return t ts = returned_at bytes n t.line ts
-begun bytes n sub begins.Expression t ts = evaluated_at bytes n (t ∷ ts)
+abbrev pub begun : List ℕ → ℕ → Reader → Scope → Begin → Token → List Token → Read Statement
+begun bytes n sub names begins.Block t ts = block_at bytes n sub names t.line ts
+begun bytes n sub names begins.If t ts = tested_at bytes n sub names t.line ts
+begun bytes n sub names begins.Return t ts = returned_at bytes names n t.line ts
+begun bytes n sub names begins.Expression t ts = evaluated_at bytes names n (t ∷ ts)
 
 -- a statement whose parts have at most n levels
 unfoldable pub started_at : List ℕ → ℕ → Reader → Reader
-started_at bytes n sub [] = None
-started_at bytes n sub (t ∷ ts) = begun bytes n sub (begin_of t.kind) t ts
+started_at bytes n sub names [] = None
+started_at bytes n sub names (t ∷ ts) = begun bytes n sub names (begin_of t.kind) t ts
 
 -- a statement of at most n levels
 unfoldable pub statement_at : List ℕ → ℕ → Reader
-statement_at bytes zero ts = None
-statement_at bytes (suc n) ts = started_at bytes n (statement_at bytes n) ts
+statement_at bytes zero names ts = None
+statement_at bytes (suc n) names ts = started_at bytes n (statement_at bytes n) names ts
 
-unfoldable pub body_at : List ℕ → Reader
-body_at bytes ts = do
+unfoldable pub main_body_at : List ℕ → Reader
+main_body_at bytes names ts = do
   x ← token_at (is_mark marks.LeftBrace) ts
-  block_at bytes 399 (statement_at bytes 399) x.0.line x.1
+  block_at bytes 399 (statement_at bytes 399) names x.0.line x.1
 
--- a definition of at most 400 levels: the lines of its `int` and of its name, and its body
-unfoldable pub definition_at : List ℕ → List Token → Read (ℕ × ℕ × Statement)
-definition_at bytes ts = do
+-- `int`, `main` and a parenthesis at the front, and the tokens behind them
+unfoldable pub head_at : List ℕ → List Token → Read (ℕ × ℕ)
+head_at bytes ts = do
   int ← token_at (is_keyword keywords.Int) ts
   name ← main_at bytes int.1
   x ← token_at (is_mark marks.LeftParenthesis) name.1
-  y ← token_at (is_keyword keywords.Void) x.1
+  Some ((int.0.line, name.0.line), x.1)
+
+-- a definition of at most 400 levels behind these: its name is declared before its body
+unfoldable pub definition_at : List ℕ → Scope → ℕ × ℕ → List Token → Read Outer
+definition_at bytes names lines ts = do
+  y ← token_at (is_keyword keywords.Void) ts
   z ← token_at (is_mark marks.RightParenthesis) y.1
-  body ← body_at bytes z.1
-  Some ((int.0.line, name.0.line, body.0), body.1)
+  body ← main_body_at bytes ((codes "main", false) ∷ names) z.1
+  Some (defining lines.0 lines.1 body.0, body.1)
+
+abbrev pub outer_by : List ℕ → Scope → List Token → Read (ℕ × ℕ) → Read Outer
+outer_by bytes names ts None = do
+  d ← declaration_at bytes names 400 ts
+  Some (declaring d.0.0 d.0.1, d.1)
+outer_by bytes names ts (Some x) = definition_at bytes names x.0 x.1
+
+-- a declaration or a definition of at most 400 levels
+unfoldable pub outer_at : List ℕ → Scope → List Token → Read Outer
+outer_at bytes names ts = outer_by bytes names ts (head_at bytes ts)

@@ -1,108 +1,227 @@
-//! Reading declarations.
+//! Reading initializers, declarators and declarations.
 
-ghost use Rattle.std.specs.Prelude.{◌<◌, ◌≤◌, length, IfOk, option_map};
-ghost use Rattle.c_tree.specs.Tree.{view};
-ghost use Rattle.c_tree.specs.Statements.{declarators_of};
+ghost use Rattle.std.specs.Prelude.{◌<◌, ◌≤◌, ◌≡◌, ◌∷◌, length, option_map, IfOk};
+ghost use Rattle.c_tree.specs.Tree.{view_declarator};
+ghost use Rattle.c_tree.specs.Declarations.{view_initializer, initials_of, declarators_of, parts_of, name_of, with_declarators, with_declaration};
 ghost use Rattle.c_parse_expr.specs.Reading.{Gives};
-ghost use Rattle.c_parse_decl.specs.Reading.{initializer_at, declarator_at, other_at, declarators_at, view_part};
+ghost use Rattle.c_parse_decl.specs.Reading.{next_at, initial_at, initials_at, initializer_at, declarator_at, declarators_at, declaration_at};
 
-use crate::slices::{identifier_at, mark_at};
+use crate::slices::{comma_at, mark_at, shut_at};
+use crate::specifying::{are_some, specifiers};
 use c_lexer::{Mark, Token};
-use c_parse_expr::{Refused, name_of, read};
-use c_tree::{Expr, InitDeclarator};
+use c_parse_expr::{Refused, TypeNames, declarator, read};
+use c_tree::{Declaration, Declarator, DeclaratorCore, InitDeclarator, Initializer};
 use std::alloc::Global;
 
-/// The initializer at the front, if a `=` stands there.
-#[tactic(auto, unfolding(crate::specs::Reading::initializer_at))]
-fn initializer<'a>(
+/// The initializer at the front (C11 6.7.9). Braces take a level.
+#[cycle(initializers)]
+#[tactic(auto, unfolding(crate::specs::Reading::initial_at))]
+fn initial<'a>(
     alloc: Global,
     bytes: &[u8],
+    names: &TypeNames,
     tokens: &'a [Token],
     levels: u32,
-) -> Result<(Option<Expr>, &'a [Token]), Refused>
+) -> Result<(Initializer, &'a [Token]), Refused>
     requires { levels ≤ 400 }
-    ensures exact { Gives (λ x. (option_map view x.0, x.1.now)) result (initializer_at bytes.now levels tokens.now) }
-    ensures shorter { IfOk result (λ x. length x.1.now ≤ length tokens.now) }
-{
-    let Some((_, rest)) = mark_at(tokens, Mark::Equal) else {
-        return Ok((None, tokens));
-    };
-    let found = read(alloc, bytes, rest, 2, levels)?;
-    Ok((Some(found.tree), found.rest))
-}
-
-/// The declarator at the front, with its initializer.
-#[tactic(auto, unfolding(crate::specs::Reading::declarator_at))]
-fn declarator<'a>(
-    alloc: Global,
-    bytes: &[u8],
-    tokens: &'a [Token],
-    levels: u32,
-) -> Result<(InitDeclarator, &'a [Token]), Refused>
-    requires { levels ≤ 400 }
-    ensures exact { Gives (λ x. (view_part x.0, x.1.now)) result (declarator_at bytes.now levels tokens.now) }
+    ensures exact { Gives (λ x. (view_initializer x.0, x.1.now)) result (initial_at bytes.now names.now levels tokens.now) }
     ensures shorter { IfOk result (λ x. length x.1.now < length tokens.now) }
 {
     if levels == 0 {
         return Err(Refused::Syntax);
     }
-    let Some((token, rest)) = identifier_at(tokens) else {
+    let Some((token, rest)) = mark_at(tokens, Mark::LeftBrace) else {
+        let found = read(alloc, bytes, names, tokens, 2, levels)?;
+        return Ok((Initializer::Value(found.tree), found.rest));
+    };
+    let (items, rest) = initials(alloc, bytes, names, rest, levels - 1)?;
+    Ok((
+        Initializer::List {
+            line: token.line,
+            items,
+        },
+        rest,
+    ))
+}
+
+/// The initializer at the front, or behind a comma where it isn't the first.
+#[cycle(initializers)]
+fn next_initial<'a>(
+    alloc: Global,
+    bytes: &[u8],
+    names: &TypeNames,
+    first: bool,
+    tokens: &'a [Token],
+    levels: u32,
+) -> Result<(Initializer, &'a [Token]), Refused>
+    requires { levels < 400 }
+    ensures exact { Gives (λ x. (view_initializer x.0, x.1.now)) result (next_at first (initial_at bytes.now names.now levels) tokens.now) }
+    ensures shorter { IfOk result (λ x. length x.1.now < length tokens.now) }
+{
+    let Some(rest) = comma_at(tokens, first) else {
         return Err(Refused::Syntax);
     };
-    let name = name_of(alloc, bytes, token)?;
-    let (initializer, rest) = initializer(alloc, bytes, rest, levels)?;
+    initial(alloc, bytes, names, rest, levels)
+}
+
+/// Initializers behind a brace, one at least, and the tokens behind the brace that closes them.
+#[cycle(initializers)]
+fn initials<'a>(
+    alloc: Global,
+    bytes: &[u8],
+    names: &TypeNames,
+    tokens: &'a [Token],
+    levels: u32,
+) -> Result<(Vec<Initializer>, &'a [Token]), Refused>
+    requires { levels < 400 }
+    ensures exact { Gives (λ x. (initials_of x.0.items, x.1.now)) result (initials_at (initial_at bytes.now names.now levels) tokens.now) }
+    ensures shorter { IfOk result (λ x. length x.1.now ≤ length tokens.now) }
+{
+    let mut initials = Vec::new(alloc);
+    let mut first = true;
+    let mut rest = tokens;
+    'initials: loop {
+        if let Some(behind) = shut_at(rest, first) {
+            return Ok((initials, behind));
+        }
+        let (next, behind) = next_initial(alloc, bytes, names, first, rest, levels)?;
+        initials.push(next)?;
+        first = false;
+        rest = behind;
+    }
+}
+
+/// The initializer of a declarator, if a `=` stands at the front.
+#[tactic(auto, unfolding(crate::specs::Reading::initializer_at))]
+fn initializer<'a>(
+    alloc: Global,
+    bytes: &[u8],
+    names: &TypeNames,
+    tokens: &'a [Token],
+    levels: u32,
+) -> Result<(Option<Initializer>, &'a [Token]), Refused>
+    requires { levels ≤ 400 }
+    ensures exact { Gives (λ x. (option_map view_initializer x.0, x.1.now)) result (initializer_at bytes.now names.now levels tokens.now) }
+    ensures shorter { IfOk result (λ x. length x.1.now ≤ length tokens.now) }
+{
+    let Some((_, rest)) = mark_at(tokens, Mark::Equal) else {
+        return Ok((None, tokens));
+    };
+    let (initial, rest) = initial(alloc, bytes, names, rest, levels)?;
+    Ok((Some(initial), rest))
+}
+
+/// The name that a declarator declares; none has no bytes.
+fn declared_name(declarator: &Declarator) -> &[u8]
+    ensures { result.now ≡ name_of (view_declarator declarator.now) }
+{
+    match &declarator.core {
+        DeclaratorCore::Absent => &[],
+        DeclaratorCore::Named { line: _, name } => &name.bytes,
+        DeclaratorCore::Inside { line: _, inner } => declared_name(inner),
+    }
+}
+
+/// The declarator at the front with its initializer. Its name is declared between them, as a type or not.
+#[tactic(auto, unfolding(crate::specs::Reading::declarator_at))]
+fn initialized<'a>(
+    alloc: Global,
+    bytes: &[u8],
+    names: &mut TypeNames,
+    types: bool,
+    tokens: &'a [Token],
+    levels: u32,
+) -> Result<(InitDeclarator, &'a [Token]), Refused>
+    requires { levels ≤ 400 }
+    ensures exact { Gives (λ x. ((view_declarator x.0.declarator, option_map view_initializer x.0.initializer), x.1.now)) result (declarator_at bytes.now names.old types levels tokens.now) }
+    ensures names { IfOk result (λ x. names.new ≡ (name_of (view_declarator x.0.declarator), types) ∷ names.old) }
+    ensures shorter { IfOk result (λ x. length x.1.now < length tokens.now) }
+{
+    let found = declarator(alloc, bytes, names, tokens, true, levels)?;
+    names.declare(alloc, declared_name(&found.declarator), types)?;
+    let (initializer, rest) = initializer(alloc, bytes, names, found.rest, levels)?;
     Ok((
         InitDeclarator {
-            line: token.line,
-            name,
+            declarator: found.declarator,
             initializer,
         },
         rest,
     ))
 }
 
-/// The comma at the front and the declarator behind it.
-#[tactic(auto, unfolding(crate::specs::Reading::other_at))]
-fn other<'a>(
+/// The declarator at the front with its initializer, or behind a comma where it isn't the first.
+fn next_initialized<'a>(
     alloc: Global,
     bytes: &[u8],
+    names: &mut TypeNames,
+    types: bool,
+    first: bool,
     tokens: &'a [Token],
     levels: u32,
 ) -> Result<(InitDeclarator, &'a [Token]), Refused>
     requires { levels ≤ 400 }
-    ensures exact { Gives (λ x. (view_part x.0, x.1.now)) result (other_at bytes.now levels tokens.now) }
+    ensures exact { Gives (λ x. ((view_declarator x.0.declarator, option_map view_initializer x.0.initializer), x.1.now)) result (next_at first (declarator_at bytes.now names.old types levels) tokens.now) }
+    ensures names { IfOk result (λ x. names.new ≡ (name_of (view_declarator x.0.declarator), types) ∷ names.old) }
     ensures shorter { IfOk result (λ x. length x.1.now < length tokens.now) }
 {
-    let Some((_, rest)) = mark_at(tokens, Mark::Comma) else {
+    let Some(rest) = comma_at(tokens, first) else {
         return Err(Refused::Syntax);
     };
-    declarator(alloc, bytes, rest, levels)
+    initialized(alloc, bytes, names, types, rest, levels)
 }
 
-/// The declarators behind an `int`, and the tokens behind their `;`.
-pub fn declarators<'a>(
+/// The declarators behind specifiers, and the tokens behind their `;`. They are declared, as types or not.
+fn declarators<'a>(
     alloc: Global,
     bytes: &[u8],
+    names: &mut TypeNames,
+    types: bool,
     tokens: &'a [Token],
     levels: u32,
 ) -> Result<(Vec<InitDeclarator>, &'a [Token]), Refused>
     requires { levels ≤ 400 }
-    ensures exact { Gives (λ x. (declarators_of x.0.items, x.1.now)) result (declarators_at bytes.now levels tokens.now) }
+    ensures exact { Gives (λ x. (declarators_of x.0.items, x.1.now)) result (declarators_at bytes.now names.old types levels tokens.now) }
+    ensures names { IfOk result (λ x. names.new ≡ with_declarators names.old types (declarators_of x.0.items)) }
     ensures shorter { IfOk result (λ x. length x.1.now < length tokens.now) }
 {
     let mut declarators = Vec::new(alloc);
-    if let Some((_, rest)) = mark_at(tokens, Mark::Semicolon) {
-        return Ok((declarators, rest));
-    }
-    let (first, behind) = declarator(alloc, bytes, tokens, levels)?;
-    declarators.push(first)?;
-    let mut rest = behind;
-    'others: loop {
+    let mut first = true;
+    let mut rest = tokens;
+    'declarators: loop {
         if let Some((_, behind)) = mark_at(rest, Mark::Semicolon) {
             return Ok((declarators, behind));
         }
-        let (next, behind) = other(alloc, bytes, rest, levels)?;
+        let (next, behind) = next_initialized(alloc, bytes, names, types, first, rest, levels)?;
         declarators.push(next)?;
+        first = false;
         rest = behind;
     }
+}
+
+/// The declaration at the front (C11 6.7), with a specifier at least. What it declares is declared behind it.
+#[tactic(auto, unfolding(crate::specs::Reading::declaration_at))]
+pub fn declaration<'a>(
+    alloc: Global,
+    bytes: &[u8],
+    names: &mut TypeNames,
+    tokens: &'a [Token],
+    levels: u32,
+) -> Result<(Declaration, &'a [Token]), Refused>
+    requires { levels ≤ 400 }
+    ensures exact { Gives (λ x. ((parts_of x.0.specifiers.items, declarators_of x.0.declarators.items), x.1.now)) result (declaration_at bytes.now names.old levels tokens.now) }
+    ensures names { IfOk result (λ x. names.new ≡ with_declaration names.old (parts_of x.0.specifiers.items) (declarators_of x.0.declarators.items)) }
+    ensures shorter { IfOk result (λ x. length x.1.now < length tokens.now) }
+{
+    let found = specifiers(alloc, bytes, names, false, tokens, levels)?;
+    if !are_some(&found.items) {
+        return Err(Refused::Syntax);
+    }
+    let (declarators, rest) = declarators(alloc, bytes, names, found.types, found.rest, levels)?;
+    Ok((
+        Declaration {
+            specifiers: found.items,
+            declarators,
+        },
+        rest,
+    ))
 }

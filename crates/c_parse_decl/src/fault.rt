@@ -9,9 +9,9 @@ use thiserror::Error;
 /// Why a file has no tree.
 #[derive(Clone, Copy, Debug, PartialEq, Eq, Error)]
 pub enum ParseError {
-    /// No tree of a file spells its tokens. The line is that of the first token of the first definition that has no tree,
+    /// No tree of a file spells its tokens. The line is that of the first token of the first external declaration that has no tree,
     /// or the file's last line where no token is left.
-    #[error("line {line}: no definition")]
+    #[error("line {line}: no external declaration")]
     Syntax { line: u32 },
     #[error("out of memory")]
     Memory,

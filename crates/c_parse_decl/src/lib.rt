@@ -3,10 +3,13 @@
 
 mod declaring;
 mod defining;
+mod enumerating;
 mod fault;
 mod file;
 mod slices;
+mod specifying;
 mod stating;
+mod table;
 #[cfg(test)]
 mod tests;
 

@@ -1,11 +1,12 @@
 //! Taking tokens from the front of a slice.
 
-ghost use Rattle.std.specs.Prelude.{◌≡◌, ◌<◌, IfSome, length, option_map};
-ghost use Rattle.c_parse_expr.specs.Reading.{is_mark};
-ghost use Rattle.c_parse_decl.specs.Reading.{is_keyword, is_identifier, is_main, token_at, main_at, begin_of};
+ghost use Rattle.std.specs.Prelude.{◌≡◌, ◌<◌, ◌≤◌, IfSome, length, option_map};
+ghost use Rattle.c_parse_expr.specs.Reading.{is_mark, is_identifier};
+ghost use Rattle.c_parse_decl.specs.Reading.{is_keyword, is_main, token_at, main_at, begin_of, comma_at, shut_at, tag_at, start_by, kept, start_of, start_at};
 
+use crate::table::{Start, start_of_keyword};
 use c_lexer::{Keyword, Kind, Mark, Token};
-use c_parse_expr::{is_mark, split, token_text};
+use c_parse_expr::{TypeNames, is_mark, split, token_text};
 
 /// What the first token of a statement begins.
 #[derive(Clone, Copy, Debug, PartialEq, Eq)]
@@ -132,5 +133,119 @@ pub fn begin_of(kind: Kind) -> Begin
         Begin::Return
     } else {
         Begin::Expression
+    }
+}
+
+/// Where an item of a list stands: the first at the front, the others behind a comma.
+#[tactic(auto, unfolding(crate::specs::Reading::comma_at))]
+pub fn comma_at(tokens: &[Token], first: bool) -> Option<&[Token]>
+    ensures value { option_map (λ x. x.now) result ≡ comma_at first tokens.now }
+    ensures shorter { IfSome result (λ x. length x.now ≤ length tokens.now) }
+{
+    if first {
+        return Some(tokens);
+    }
+    match mark_at(tokens, Mark::Comma) {
+        Some((_, rest)) => Some(rest),
+        None => None,
+    }
+}
+
+/// The tokens behind the brace that closes a list, with a comma before it or not. A list has an item.
+#[tactic(auto, unfolding(crate::specs::Reading::shut_at))]
+pub fn shut_at(tokens: &[Token], first: bool) -> Option<&[Token]>
+    ensures value { option_map (λ x. x.now) result ≡ shut_at first tokens.now }
+    ensures shorter { IfSome result (λ x. length x.now < length tokens.now) }
+{
+    if first {
+        return None;
+    }
+    if let Some((_, rest)) = mark_at(tokens, Mark::RightBrace) {
+        return Some(rest);
+    }
+    let Some((_, rest)) = mark_at(tokens, Mark::Comma) else {
+        return None;
+    };
+    match mark_at(rest, Mark::RightBrace) {
+        Some((_, rest)) => Some(rest),
+        None => None,
+    }
+}
+
+/// The text of a tag at the front, if one stands there, and the tokens behind it.
+#[tactic(auto, unfolding(crate::specs::Reading::tag_at))]
+pub fn tag_at<'a, 'b>(bytes: &'b [u8], tokens: &'a [Token]) -> (Option<&'b [u8]>, &'a [Token])
+    ensures value { (option_map (λ x. x.now) result.0, result.1.now) ≡ tag_at bytes.now tokens.now }
+    ensures shorter { length result.1.now ≤ length tokens.now }
+{
+    match identifier_at(tokens) {
+        Some((token, rest)) => (Some(token_text(bytes, token)), rest),
+        None => (None, tokens),
+    }
+}
+
+fn start_by(named: bool, kind: Kind) -> Option<Start>
+    ensures { result ≡ start_by named kind }
+{
+    match kind {
+        Kind::Identifier => { if named { Some(Start::Name) } else { None } }
+        Kind::Keyword(keyword) => start_of_keyword(keyword),
+        Kind::Constant(_) => None,
+        Kind::Character(_) => None,
+        Kind::String => None,
+        Kind::Mark(_) => None,
+    }
+}
+
+/// What may stand among the specifiers of members, or of others.
+fn kept(inner: bool, start: Start) -> Option<Start>
+    ensures { result ≡ kept inner start }
+{
+    match start {
+        Start::Qualifier(_) => Some(start),
+        Start::Word(_) => Some(start),
+        Start::Storage(_) => { if inner { None } else { Some(start) } }
+        Start::Function(_) => { if inner { None } else { Some(start) } }
+        Start::Record(_) => Some(start),
+        Start::Enumeration => Some(start),
+        Start::Name => Some(start),
+    }
+}
+
+/// What a token begins among the specifiers of members, or of others, where a type is specified before it or not.
+fn start_of(
+    inner: bool,
+    bytes: &[u8],
+    names: &TypeNames,
+    before: bool,
+    token: Token,
+) -> Option<Start>
+    ensures { result ≡ start_of inner bytes.now (names.now, before) token }
+{
+    let is_type = names.is_type(token_text(bytes, token));
+    match start_by(!before && is_type, token.kind) {
+        Some(start) => kept(inner, start),
+        None => None,
+    }
+}
+
+/// What the first token begins among specifiers, the token, and those behind it.
+#[tactic(auto, unfolding(crate::specs::Reading::start_at))]
+pub fn start_at<'a>(
+    inner: bool,
+    bytes: &[u8],
+    names: &TypeNames,
+    before: bool,
+    tokens: &'a [Token],
+) -> Option<(Start, Token, &'a [Token])>
+    ensures value { option_map (λ x. (x.0, x.1, x.2.now)) result ≡ start_at inner bytes.now (names.now, before) tokens.now }
+    ensures shorter { IfSome result (λ x. length x.2.now < length tokens.now) }
+{
+    let Some((token, rest)) = split(tokens) else {
+        return None;
+    };
+    match start_of(inner, bytes, names, before, token) {
+        Some(start) => Some((start, token, rest)),
+        None => None,
     }
 }

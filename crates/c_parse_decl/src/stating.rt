@@ -1,16 +1,18 @@
 //! Reading statements.
 
-ghost use Rattle.std.specs.Prelude.{◌<◌, ◌≤◌, length, IfOk};
+ghost use Rattle.std.specs.Prelude.{◌<◌, ◌≤◌, ◌≡◌, ◌++◌, length, IfOk};
 ghost use Rattle.c_tree.specs.Tree.{view};
 ghost use Rattle.c_tree.specs.Statements.{view_statement, items_of};
 ghost use Rattle.c_parse_expr.specs.Reading.{Gives};
-ghost use Rattle.c_parse_decl.specs.Reading.{statement_at, started_at, block_at, tested_at, branched_at, value_at, valued_at, returned_at, evaluated_at, items_at, item_at, part_of};
+ghost use Rattle.c_tree.specs.Names.{Scope};
+ghost use Rattle.c_parse_decl.specs.Reading.{statement_at, started_at, block_at, tested_at, branched_at, closed_at, valued_at, returned_at, evaluated_at, items_at, item_at, with_piece};
+ghost use Rattle.c_parse_decl.specs.Pieces.{piece_of};
 
-use crate::declaring::declarators;
-use crate::slices::{Begin, begin_of, keyword_at, mark_at};
+use crate::declaring::declaration;
+use crate::slices::{Begin, begin_of, keyword_at, mark_at, start_at};
 use c_lexer::{Keyword, Mark, Token};
-use c_parse_expr::{Refused, read, split};
-use c_tree::{Declaration, Expr, Item, Stmt};
+use c_parse_expr::{Refused, TypeNames, read, split};
+use c_tree::{Expr, Item, Stmt};
 use std::alloc::Global;
 
 /// The statement with at most so many levels at the front, and the tokens behind it.
@@ -19,17 +21,19 @@ use std::alloc::Global;
 fn statement<'a>(
     alloc: Global,
     bytes: &[u8],
+    names: &mut TypeNames,
     tokens: &'a [Token],
     levels: u32,
 ) -> Result<(Stmt, &'a [Token]), Refused>
     requires { levels ≤ 400 }
-    ensures exact { Gives (λ x. (view_statement x.0, x.1.now)) result (statement_at bytes.now levels tokens.now) }
+    ensures exact { Gives (λ x. (view_statement x.0, x.1.now)) result (statement_at bytes.now levels names.old tokens.now) }
+    ensures names { IfOk result (λ _. names.new ≡ names.old) }
     ensures shorter { IfOk result (λ x. length x.1.now < length tokens.now) }
 {
     if levels == 0 {
         return Err(Refused::Syntax);
     }
-    started(alloc, bytes, tokens, levels - 1)
+    started(alloc, bytes, names, tokens, levels - 1)
 }
 
 /// The statement at the front, whose parts have at most so many levels.
@@ -38,21 +42,23 @@ fn statement<'a>(
 fn started<'a>(
     alloc: Global,
     bytes: &[u8],
+    names: &mut TypeNames,
     tokens: &'a [Token],
     levels: u32,
 ) -> Result<(Stmt, &'a [Token]), Refused>
     requires { levels < 400 }
-    ensures exact { Gives (λ x. (view_statement x.0, x.1.now)) result (started_at bytes.now levels (statement_at bytes.now levels) tokens.now) }
+    ensures exact { Gives (λ x. (view_statement x.0, x.1.now)) result (started_at bytes.now levels (statement_at bytes.now levels) names.old tokens.now) }
+    ensures names { IfOk result (λ _. names.new ≡ names.old) }
     ensures shorter { IfOk result (λ x. length x.1.now < length tokens.now) }
 {
     let Some((token, rest)) = split(tokens) else {
         return Err(Refused::Syntax);
     };
     match begin_of(token.kind) {
-        Begin::Block => block(alloc, bytes, token.line, rest, levels),
-        Begin::If => conditional(alloc, bytes, token.line, rest, levels),
-        Begin::Return => returned(alloc, bytes, token.line, rest, levels),
-        Begin::Expression => evaluation(alloc, bytes, tokens, levels),
+        Begin::Block => block(alloc, bytes, names, token.line, rest, levels),
+        Begin::If => conditional(alloc, bytes, names, token.line, rest, levels),
+        Begin::Return => returned(alloc, bytes, names, token.line, rest, levels),
+        Begin::Expression => evaluation(alloc, bytes, names, tokens, levels),
     }
 }
 
@@ -62,15 +68,19 @@ fn started<'a>(
 pub fn block<'a>(
     alloc: Global,
     bytes: &[u8],
+    names: &mut TypeNames,
     line: u32,
     tokens: &'a [Token],
     levels: u32,
 ) -> Result<(Stmt, &'a [Token]), Refused>
     requires { levels < 400 }
-    ensures exact { Gives (λ x. (view_statement x.0, x.1.now)) result (block_at bytes.now levels (statement_at bytes.now levels) line tokens.now) }
+    ensures exact { Gives (λ x. (view_statement x.0, x.1.now)) result (block_at bytes.now levels (statement_at bytes.now levels) names.old line tokens.now) }
+    ensures names { IfOk result (λ _. names.new ≡ names.old) }
     ensures shorter { IfOk result (λ x. length x.1.now ≤ length tokens.now) }
 {
-    let (items, rest) = items(alloc, bytes, tokens, levels)?;
+    let mark = names.mark();
+    let (items, rest) = items(alloc, bytes, names, tokens, levels)?;
+    names.leave(mark);
     Ok((Stmt::Block { line, items }, rest))
 }
 
@@ -80,23 +90,25 @@ pub fn block<'a>(
 fn conditional<'a>(
     alloc: Global,
     bytes: &[u8],
+    names: &mut TypeNames,
     line: u32,
     tokens: &'a [Token],
     levels: u32,
 ) -> Result<(Stmt, &'a [Token]), Refused>
     requires { levels < 400 }
-    ensures exact { Gives (λ x. (view_statement x.0, x.1.now)) result (tested_at bytes.now levels (statement_at bytes.now levels) line tokens.now) }
+    ensures exact { Gives (λ x. (view_statement x.0, x.1.now)) result (tested_at bytes.now levels (statement_at bytes.now levels) names.old line tokens.now) }
+    ensures names { IfOk result (λ _. names.new ≡ names.old) }
     ensures shorter { IfOk result (λ x. length x.1.now ≤ length tokens.now) }
 {
     let Some((_, rest)) = mark_at(tokens, Mark::LeftParenthesis) else {
         return Err(Refused::Syntax);
     };
-    let test = read(alloc, bytes, rest, 1, levels)?;
+    let test = read(alloc, bytes, names, rest, 1, levels)?;
     let Some((_, rest)) = mark_at(test.rest, Mark::RightParenthesis) else {
         return Err(Refused::Syntax);
     };
-    let (yes, rest) = statement(alloc, bytes, rest, levels)?;
-    branches(alloc, bytes, line, test.tree, yes, rest, levels)
+    let (yes, rest) = statement(alloc, bytes, names, rest, levels)?;
+    branches(alloc, bytes, names, line, test.tree, yes, rest, levels)
 }
 
 /// An `if` with its first branch, and with the second where an `else` follows.
@@ -105,6 +117,7 @@ fn conditional<'a>(
 fn branches<'a>(
     alloc: Global,
     bytes: &[u8],
+    names: &mut TypeNames,
     line: u32,
     test: Expr,
     yes: Stmt,
@@ -112,14 +125,15 @@ fn branches<'a>(
     levels: u32,
 ) -> Result<(Stmt, &'a [Token]), Refused>
     requires { levels < 400 }
-    ensures exact { Gives (λ x. (view_statement x.0, x.1.now)) result (branched_at (statement_at bytes.now levels) line (view test) (view_statement yes) tokens.now) }
+    ensures exact { Gives (λ x. (view_statement x.0, x.1.now)) result (branched_at (statement_at bytes.now levels) names.old line (view test) (view_statement yes) tokens.now) }
+    ensures names { IfOk result (λ _. names.new ≡ names.old) }
     ensures shorter { IfOk result (λ x. length x.1.now ≤ length tokens.now) }
 {
     let yes = Box::new(alloc, yes)?;
     let Some((_, rest)) = keyword_at(tokens, Keyword::Else) else {
         return Ok((Stmt::If { line, test, yes }, tokens));
     };
-    let (no, rest) = statement(alloc, bytes, rest, levels)?;
+    let (no, rest) = statement(alloc, bytes, names, rest, levels)?;
     let no = Box::new(alloc, no)?;
     Ok((
         Stmt::IfElse {
@@ -133,18 +147,19 @@ fn branches<'a>(
 }
 
 /// The expression at the front, and the tokens behind its `;`.
-#[tactic(auto, unfolding(crate::specs::Reading::value_at))]
+#[tactic(auto, unfolding(crate::specs::Reading::closed_at))]
 fn value<'a>(
     alloc: Global,
     bytes: &[u8],
+    names: &TypeNames,
     tokens: &'a [Token],
     levels: u32,
 ) -> Result<(Expr, &'a [Token]), Refused>
     requires { levels < 400 }
-    ensures exact { Gives (λ x. (view x.0, x.1.now)) result (value_at bytes.now levels tokens.now) }
+    ensures exact { Gives (λ x. (view x.0, x.1.now)) result (closed_at bytes.now names.now levels tokens.now) }
     ensures shorter { IfOk result (λ x. length x.1.now < length tokens.now) }
 {
-    let found = read(alloc, bytes, tokens, 1, levels)?;
+    let found = read(alloc, bytes, names, tokens, 1, levels)?;
     let Some((_, rest)) = mark_at(found.rest, Mark::Semicolon) else {
         return Err(Refused::Syntax);
     };
@@ -156,15 +171,16 @@ fn value<'a>(
 fn valued<'a>(
     alloc: Global,
     bytes: &[u8],
+    names: &TypeNames,
     line: u32,
     tokens: &'a [Token],
     levels: u32,
 ) -> Result<(Stmt, &'a [Token]), Refused>
     requires { levels < 400 }
-    ensures exact { Gives (λ x. (view_statement x.0, x.1.now)) result (valued_at bytes.now levels line tokens.now) }
+    ensures exact { Gives (λ x. (view_statement x.0, x.1.now)) result (valued_at bytes.now names.now levels line tokens.now) }
     ensures shorter { IfOk result (λ x. length x.1.now ≤ length tokens.now) }
 {
-    let (value, rest) = value(alloc, bytes, tokens, levels)?;
+    let (value, rest) = value(alloc, bytes, names, tokens, levels)?;
     Ok((Stmt::ReturnValue { line, value }, rest))
 }
 
@@ -173,17 +189,18 @@ fn valued<'a>(
 fn returned<'a>(
     alloc: Global,
     bytes: &[u8],
+    names: &TypeNames,
     line: u32,
     tokens: &'a [Token],
     levels: u32,
 ) -> Result<(Stmt, &'a [Token]), Refused>
     requires { levels < 400 }
-    ensures exact { Gives (λ x. (view_statement x.0, x.1.now)) result (returned_at bytes.now levels line tokens.now) }
+    ensures exact { Gives (λ x. (view_statement x.0, x.1.now)) result (returned_at bytes.now names.now levels line tokens.now) }
     ensures shorter { IfOk result (λ x. length x.1.now ≤ length tokens.now) }
 {
     match mark_at(tokens, Mark::Semicolon) {
         Some((_, rest)) => Ok((Stmt::ReturnNothing { line }, rest)),
-        None => valued(alloc, bytes, line, tokens, levels),
+        None => valued(alloc, bytes, names, line, tokens, levels),
     }
 }
 
@@ -192,14 +209,15 @@ fn returned<'a>(
 fn evaluation<'a>(
     alloc: Global,
     bytes: &[u8],
+    names: &TypeNames,
     tokens: &'a [Token],
     levels: u32,
 ) -> Result<(Stmt, &'a [Token]), Refused>
     requires { levels < 400 }
-    ensures exact { Gives (λ x. (view_statement x.0, x.1.now)) result (evaluated_at bytes.now levels tokens.now) }
+    ensures exact { Gives (λ x. (view_statement x.0, x.1.now)) result (evaluated_at bytes.now names.now levels tokens.now) }
     ensures shorter { IfOk result (λ x. length x.1.now < length tokens.now) }
 {
-    let (expression, rest) = value(alloc, bytes, tokens, levels)?;
+    let (expression, rest) = value(alloc, bytes, names, tokens, levels)?;
     Ok((Stmt::Evaluate { expression }, rest))
 }
 
@@ -208,11 +226,13 @@ fn evaluation<'a>(
 fn items<'a>(
     alloc: Global,
     bytes: &[u8],
+    names: &mut TypeNames,
     tokens: &'a [Token],
     levels: u32,
 ) -> Result<(Vec<Item>, &'a [Token]), Refused>
     requires { levels < 400 }
-    ensures exact { Gives (λ x. (items_of x.0.items, x.1.now)) result (items_at bytes.now levels (statement_at bytes.now levels) tokens.now) }
+    ensures exact { Gives (λ x. (items_of x.0.items, x.1.now)) result (items_at bytes.now levels (statement_at bytes.now levels) names.old tokens.now) }
+    ensures names { IfOk result (λ x. (front : Scope) × (names.new ≡ front ++ names.old)) }
     ensures shorter { IfOk result (λ x. length x.1.now ≤ length tokens.now) }
 {
     let mut items = Vec::new(alloc);
@@ -221,7 +241,7 @@ fn items<'a>(
         if let Some((_, behind)) = mark_at(rest, Mark::RightBrace) {
             return Ok((items, behind));
         }
-        let (next, behind) = item(alloc, bytes, rest, levels)?;
+        let (next, behind) = item(alloc, bytes, names, rest, levels)?;
         items.push(next)?;
         rest = behind;
     }
@@ -233,23 +253,19 @@ fn items<'a>(
 fn item<'a>(
     alloc: Global,
     bytes: &[u8],
+    names: &mut TypeNames,
     tokens: &'a [Token],
     levels: u32,
 ) -> Result<(Item, &'a [Token]), Refused>
     requires { levels < 400 }
-    ensures exact { Gives (λ x. (part_of x.0, x.1.now)) result (item_at bytes.now levels (statement_at bytes.now levels) tokens.now) }
+    ensures exact { Gives (λ x. (piece_of x.0, x.1.now)) result (item_at bytes.now levels (statement_at bytes.now levels) names.old tokens.now) }
+    ensures names { IfOk result (λ x. names.new ≡ with_piece names.old (piece_of x.0)) }
     ensures shorter { IfOk result (λ x. length x.1.now < length tokens.now) }
 {
-    if let Some((token, rest)) = keyword_at(tokens, Keyword::Int) {
-        let (declarators, rest) = declarators(alloc, bytes, rest, levels)?;
-        return Ok((
-            Item::Declares(Declaration {
-                line: token.line,
-                declarators,
-            }),
-            rest,
-        ));
+    if let Some(_) = start_at(false, bytes, names, false, tokens) {
+        let (declaration, rest) = declaration(alloc, bytes, names, tokens, levels)?;
+        return Ok((Item::Declares(declaration), rest));
     }
-    let (statement, rest) = statement(alloc, bytes, tokens, levels)?;
+    let (statement, rest) = statement(alloc, bytes, names, tokens, levels)?;
     Ok((Item::Does(statement), rest))
 }

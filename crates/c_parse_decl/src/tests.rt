@@ -1,6 +1,10 @@
 use super::*;
 use c_lexer::{LexError, Tokens, lex};
-use c_tree::{Declaration, Expr, File, Item, Stmt, depth};
+use c_tree::{
+    ArraySuffix, Declaration, Declarator, DeclaratorCore, Enumerator, Expr, External, File,
+    FunctionSpecifier, Initializer, Item, MemberDeclaration, Qualifier, RecordKind, Specifier,
+    Stmt, StorageClass, TagKind, TypeSpecifier, TypeWord, depth,
+};
 use std::alloc::{AllocError, Global};
 use std::test::*;
 
@@ -20,23 +24,225 @@ fn put(out: &mut Vec<u8>, text: &[u8]) -> Result<(), AllocError> {
     Ok(())
 }
 
-/// Writes a name, and `#` for any other expression.
+/// Writes a name, `@` for a cast, and `#` for any other expression.
 fn show_expression(out: &mut Vec<u8>, expr: &Expr) -> Result<(), AllocError> {
-    if let Expr::Name { line: _, name } = expr {
-        put(out, &name.bytes)
-    } else {
-        put(out, b"#")
+    match expr {
+        Expr::Name { line: _, name } => put(out, &name.bytes),
+        Expr::Cast {
+            line: _,
+            type_name: _,
+            operand: _,
+        } => put(out, b"@"),
+        _ => put(out, b"#"),
+    }
+}
+
+/// Writes a declarator, and `.` below so many levels.
+#[cycle(declarators)]
+fn show_declarator(
+    out: &mut Vec<u8>,
+    declarator: &Declarator,
+    levels: u32,
+) -> Result<(), AllocError> {
+    show_core(out, &declarator.core, levels)?;
+    for suffix in &declarator.suffixes {
+        put(out, b"[")?;
+        if let ArraySuffix::Bounded { line: _, bound } = suffix {
+            show_expression(out, bound)?;
+        }
+        put(out, b"]")?;
+    }
+    Ok(())
+}
+
+#[cycle(declarators)]
+fn show_core(out: &mut Vec<u8>, core: &DeclaratorCore, levels: u32) -> Result<(), AllocError> {
+    if levels == 0 {
+        return put(out, b".");
+    }
+    match core {
+        DeclaratorCore::Absent => Ok(()),
+        DeclaratorCore::Named { line: _, name } => put(out, &name.bytes),
+        DeclaratorCore::Inside { line: _, inner } => {
+            put(out, b"(")?;
+            show_declarator(out, inner, levels - 1)?;
+            put(out, b")")
+        }
+    }
+}
+
+fn word_text(word: TypeWord) -> &'static [u8] {
+    match word {
+        TypeWord::Void => b"void",
+        TypeWord::Char => b"char",
+        TypeWord::Short => b"short",
+        TypeWord::Int => b"int",
+        TypeWord::Long => b"long",
+        TypeWord::Signed => b"signed",
+        TypeWord::Unsigned => b"unsigned",
+        TypeWord::Bool => b"_Bool",
+    }
+}
+
+/// Writes a specifier of a type, the name of a typedef with a colon before it.
+fn show_type(out: &mut Vec<u8>, part: &TypeSpecifier) -> Result<(), AllocError> {
+    match part {
+        TypeSpecifier::Qualifier { line: _, qualifier } => match qualifier {
+            Qualifier::Const => put(out, b"const"),
+            Qualifier::Volatile => put(out, b"volatile"),
+            Qualifier::Restrict => put(out, b"restrict"),
+        },
+        TypeSpecifier::Word { line: _, word } => put(out, word_text(*word)),
+        TypeSpecifier::Tagged {
+            line: _,
+            kind,
+            name,
+        } => {
+            match kind {
+                TagKind::Struct => put(out, b"struct ")?,
+                TagKind::Union => put(out, b"union ")?,
+                TagKind::Enum => put(out, b"enum ")?,
+            }
+            put(out, &name.bytes)
+        }
+        TypeSpecifier::Named { line: _, name } => {
+            put(out, b":")?;
+            put(out, &name.bytes)
+        }
+    }
+}
+
+fn class_text(class: StorageClass) -> &'static [u8] {
+    match class {
+        StorageClass::Typedef => b"typedef",
+        StorageClass::Extern => b"extern",
+        StorageClass::Static => b"static",
+        StorageClass::Auto => b"auto",
+        StorageClass::Register => b"register",
+    }
+}
+
+fn show_enumerators(out: &mut Vec<u8>, enumerators: &[Enumerator]) -> Result<(), AllocError> {
+    put(out, b"{")?;
+    for enumerator in enumerators {
+        put(out, &enumerator.name.bytes)?;
+        if let Some(value) = &enumerator.value {
+            put(out, b"=")?;
+            show_expression(out, value)?;
+        }
+        put(out, b",")?;
+    }
+    put(out, b"}")
+}
+
+/// Writes a specifier, and `.` below so many levels.
+#[cycle(specifiers)]
+fn show_specifier(out: &mut Vec<u8>, specifier: &Specifier, levels: u32) -> Result<(), AllocError> {
+    match specifier {
+        Specifier::Type(part) => show_type(out, part),
+        Specifier::Storage { line: _, class } => put(out, class_text(*class)),
+        Specifier::Function { line: _, specifier } => match specifier {
+            FunctionSpecifier::Inline => put(out, b"inline"),
+            FunctionSpecifier::Noreturn => put(out, b"_Noreturn"),
+        },
+        Specifier::Record {
+            line: _,
+            kind,
+            tag,
+            members,
+        } => {
+            match kind {
+                RecordKind::Struct => put(out, b"struct ")?,
+                RecordKind::Union => put(out, b"union ")?,
+            }
+            if let Some(name) = tag {
+                put(out, &name.bytes)?;
+            }
+            show_members(out, members, levels)
+        }
+        Specifier::Enumeration {
+            line: _,
+            tag,
+            enumerators,
+        } => {
+            put(out, b"enum ")?;
+            if let Some(name) = tag {
+                put(out, &name.bytes)?;
+            }
+            show_enumerators(out, enumerators)
+        }
+    }
+}
+
+#[cycle(specifiers)]
+fn show_members(
+    out: &mut Vec<u8>,
+    members: &[MemberDeclaration],
+    levels: u32,
+) -> Result<(), AllocError> {
+    if levels == 0 {
+        return put(out, b".");
+    }
+    put(out, b"{")?;
+    for member in members {
+        show_specifiers(out, &member.specifiers, levels - 1)?;
+        for declarator in &member.declarators {
+            put(out, b" ")?;
+            show_declarator(out, declarator, levels)?;
+        }
+        put(out, b";")?;
+    }
+    put(out, b"}")
+}
+
+#[cycle(specifiers)]
+fn show_specifiers(
+    out: &mut Vec<u8>,
+    specifiers: &[Specifier],
+    levels: u32,
+) -> Result<(), AllocError> {
+    let mut first = true;
+    for specifier in specifiers {
+        if !first {
+            put(out, b" ")?;
+        }
+        first = false;
+        show_specifier(out, specifier, levels)?;
+    }
+    Ok(())
+}
+
+/// Writes an initializer, and `.` below so many levels.
+#[cycle(initializers)]
+fn show_initializer(
+    out: &mut Vec<u8>,
+    initializer: &Initializer,
+    levels: u32,
+) -> Result<(), AllocError> {
+    if levels == 0 {
+        return put(out, b".");
+    }
+    match initializer {
+        Initializer::Value(expr) => show_expression(out, expr),
+        Initializer::List { line: _, items } => {
+            put(out, b"{")?;
+            for item in items {
+                show_initializer(out, item, levels - 1)?;
+                put(out, b",")?;
+            }
+            put(out, b"}")
+        }
     }
 }
 
 fn show_declaration(out: &mut Vec<u8>, declaration: &Declaration) -> Result<(), AllocError> {
-    put(out, b"int")?;
+    show_specifiers(out, &declaration.specifiers, 10)?;
     for declarator in &declaration.declarators {
         put(out, b" ")?;
-        put(out, &declarator.name.bytes)?;
+        show_declarator(out, &declarator.declarator, 10)?;
         if let Some(initializer) = &declarator.initializer {
             put(out, b"=")?;
-            show_expression(out, initializer)?;
+            show_initializer(out, initializer, 10)?;
         }
     }
     put(out, b";")
@@ -99,9 +305,13 @@ fn show(out: &mut Vec<u8>, statement: &Stmt, levels: u32) -> Result<(), AllocErr
     }
 }
 
+/// Writes the declarations of a file, and the bodies of its definitions.
 fn show_file(out: &mut Vec<u8>, file: &File) -> Result<(), AllocError> {
-    for definition in &file.definitions {
-        show(out, &definition.body, 10)?;
+    for external in &file.externals {
+        match external {
+            External::Declares(declaration) => show_declaration(out, declaration)?,
+            External::Defines(definition) => show(out, &definition.body, 10)?,
+        }
     }
     Ok(())
 }
@@ -122,37 +332,137 @@ fn shown(alloc: Global, text: &[u8]) -> Result<(Vec<u8>, u32), AllocError> {
     }
 }
 
-const TREES: [(&[u8], &[u8]); 15] = [
-    (b"int main(void){}", b"{}"),
-    (b"int main(void){}int main(void){return;}", b"{}{return;}"),
-    (b"int main(void){int main;}", b"{int main;}"),
-    (b"int main(void){int;}", b"{int;}"),
-    (b"int main(void){int a,b=1,c=d;e;}", b"{int a b=# c=d;e;}"),
+/// Bodies of `int main(void)`.
+const BODIES: [(&[u8], &[u8]); 14] = [
+    (b"{}", b"{}"),
+    (b"{int main;}", b"{int main;}"),
+    (b"{int;}", b"{int;}"),
+    (b"{int a,b=1,c=d;e;}", b"{int a b=# c=d;e;}"),
     (
-        b"int main(void){a;int b;{int c;{}}return b;}",
+        b"{a;int b;{int c;{}}return b;}",
         b"{a;int b;{int c;{}}return b;}",
     ),
-    (b"int main(void){if(a)b;}", b"{?a[b;]}"),
-    (b"int main(void){if(a)b;else c;}", b"{?a[b;][c;]}"),
-    (b"int main(void){if(a)if(b)c;else d;}", b"{?a[?b[c;][d;]]}"),
-    (
-        b"int main(void){if(a)if(b)c;else d;else e;}",
-        b"{?a[?b[c;][d;]][e;]}",
-    ),
-    (
-        b"int main(void){if(a){if(b)c;}else d;}",
-        b"{?a[{?b[c;]}][d;]}",
-    ),
-    (
-        b"int main(void){if(a)b;else if(c)d;else e;}",
-        b"{?a[b;][?c[d;][e;]]}",
-    ),
-    (b"int main(void){if(a,b)c,d;}", b"{?#[#;]}"),
-    (b"int main(void){return a,b;}", b"{return #;}"),
-    (b"int main(void){a+b;a+b=c;}", b""),
+    (b"{if(a)b;}", b"{?a[b;]}"),
+    (b"{if(a)b;else c;}", b"{?a[b;][c;]}"),
+    (b"{if(a)if(b)c;else d;}", b"{?a[?b[c;][d;]]}"),
+    (b"{if(a)if(b)c;else d;else e;}", b"{?a[?b[c;][d;]][e;]}"),
+    (b"{if(a){if(b)c;}else d;}", b"{?a[{?b[c;]}][d;]}"),
+    (b"{if(a)b;else if(c)d;else e;}", b"{?a[b;][?c[d;][e;]]}"),
+    (b"{if(a,b)c,d;}", b"{?#[#;]}"),
+    (b"{return a,b;}", b"{return #;}"),
+    (b"{a+b;a+b=c;}", b""),
 ];
 
-const LINES: [(&[u8], u32); 17] = [
+/// Declarations at the level of the file.
+const DECLARATIONS: [(&[u8], &[u8]); 24] = [
+    (b"int a;", b"int a;"),
+    (b"int main;", b"int main;"),
+    (b"int main[2];", b"int main[#];"),
+    (b"int a=main,main;", b"int a=main main;"),
+    (
+        b"long unsigned x;unsigned long x;",
+        b"long unsigned x;unsigned long x;",
+    ),
+    (
+        b"const long volatile unsigned int long x;",
+        b"const long volatile unsigned int long x;",
+    ),
+    (
+        b"int static x;inline _Noreturn extern _Bool y;",
+        b"int static x;inline _Noreturn extern _Bool y;",
+    ),
+    (
+        b"auto char a;register short b;signed c;void d;int restrict e;",
+        b"auto char a;register short b;signed c;void d;int restrict e;",
+    ),
+    (b"int ((a)[2])[b][3];", b"int ((a)[#])[b][#];"),
+    (b"int a[],b[]={1,{c,},};", b"int a[] b[]={#,{c,},};"),
+    (b"int a={{1}},b=(c,d);", b"int a={{#,},} b=#;"),
+    (
+        b"struct s;union s a;enum s b;",
+        b"struct s;union s a;enum s b;",
+    ),
+    (b"struct{int a;}s,t[2];", b"struct {int a;} s t[#];"),
+    (
+        b"struct s{const int a,b[2];struct{long c;};union u{int(d);}e;}const f;",
+        b"struct s{const int a b[#];struct {long c;};union u{int (d);} e;} const f;",
+    ),
+    (
+        b"struct{enum{A,B=C,}a;enum e b;}c;enum e{D=1?A:B};",
+        b"struct {enum {A,B=C,} a;enum e b;} c;enum e{D=#,};",
+    ),
+    (
+        b"size_t a;const pthread_mutex_t b;",
+        b":size_t a;const :pthread_mutex_t b;",
+    ),
+    (b"int typedef T;T a;", b"int typedef T;:T a;"),
+    (b"typedef int T;const T;", b"typedef int T;const :T;"),
+    (b"typedef int T;T(x);T T;", b"typedef int T;:T (x);:T T;"),
+    (
+        b"typedef int T,U[2];U x={1,2};",
+        b"typedef int T U[#];:U x={#,#,};",
+    ),
+    (
+        b"typedef int T;unsigned T;int a=T;",
+        b"typedef int T;unsigned T;int a=T;",
+    ),
+    (b"typedef int T;int a=(T)-1;", b"typedef int T;int a=@;"),
+    (
+        b"typedef int T;struct T{T T;}a;T b;",
+        b"typedef int T;struct T{:T T;} a;:T b;",
+    ),
+    (
+        b"typedef struct{int a;}T,(U);U b;",
+        b"typedef struct {int a;} T (U);:U b;",
+    ),
+];
+
+/// Names that hide types.
+const HIDING: [(&[u8], &[u8]); 9] = [
+    (b"{T x;int T;T=x;{T;}}", b"{:T x;int T;#;{T;}}"),
+    (b"{T T=T;}", b"{:T T=T;}"),
+    (b"{{int T;T;}T y;}", b"{{int T;T;}:T y;}"),
+    (
+        b"{{typedef long U;U x;}U;T z;}",
+        b"{{typedef long U;:U x;}U;:T z;}",
+    ),
+    (b"{enum{A=(T)1,T,B=(T)-1};T;}", b"{enum {A=@,T,B=#,};T;}"),
+    (b"{struct{enum{T}a;}b;T;}", b"{struct {enum {T,} a;} b;T;}"),
+    (b"{int T=1,a=(T)-1;}", b"{int T=# a=#;}"),
+    (b"{int a=(T)-1,T;}", b"{int a=@ T;}"),
+    (
+        b"{int T;{typedef int T;T x;}T;}",
+        b"{int T;{typedef int T;:T x;}T;}",
+    ),
+];
+
+/// A text, and behind it another.
+fn joined(alloc: Global, front: &[u8], back: &[u8]) -> Result<Vec<u8>, AllocError> {
+    let mut text = Vec::new(alloc);
+    put(&mut text, front)?;
+    put(&mut text, back)?;
+    Ok(text)
+}
+
+#[test]
+fn trees(rt: HostRuntime) -> Result<(), Fail> {
+    let alloc = rt.alloc();
+    for (text, expected) in DECLARATIONS {
+        assert_eq!(rt; shown(alloc, text)?.0.as_slice(), expected);
+    }
+    for (text, expected) in BODIES {
+        let text = joined(alloc, b"int main(void)", text)?;
+        assert_eq!(rt; shown(alloc, &text)?.0.as_slice(), expected);
+    }
+    for (text, expected) in HIDING {
+        let text = joined(alloc, b"typedef int T;int main(void)", text)?;
+        let expected = joined(alloc, b"typedef int T;", expected)?;
+        assert_eq!(rt; shown(alloc, &text)?.0.as_slice(), expected.as_slice());
+    }
+    Ok(())
+}
+
+const LINES: [(&[u8], u32); 42] = [
     (b"", 1),
     (b"\n\n", 3),
     (b"\nint main(void){\nint a=b,c\n}", 2),
@@ -167,32 +477,55 @@ const LINES: [(&[u8], u32); 17] = [
     (b"int main(void){\nif(a)int b;}", 1),
     (b"int main(void){\nint a", 1),
     (b"int main(){}", 1),
+    (b"int main(void);", 1),
     (b"int f(void){}", 1),
+    (b"int f(void);", 1),
     (b"void main(void){}", 1),
     (b"int main(void){}\n}", 2),
+    (b"int a;\n;", 2),
+    (b"int a;\nb;", 2),
+    (b"int a;\nint b\nint c;", 2),
+    (b"int *a;", 1),
+    (b"int (a;", 1),
+    (b"int ();", 1),
+    (b"int a=b,;", 1),
+    (b"int a={};", 1),
+    (b"int a={,};", 1),
+    (b"int a={1,,};", 1),
+    (b"int a={b,c=1,d};\nint e={1 2};", 2),
+    (b"struct;", 1),
+    (b"struct{};", 1),
+    (b"struct{int a};", 1),
+    (b"struct{static int a;};", 1),
+    (b"struct{a;};", 1),
+    (b"struct{int a:3;};", 1),
+    (b"struct{int a=1;};", 1),
+    (b"enum{};", 1),
+    (b"enum{A,,};", 1),
+    (b"enum{A=1,2};", 1),
+    (b"int size_t;\nsize_t x;", 2),
+    (b"typedef int T;\nint main(void){int T;\nT y;}", 2),
 ];
 
 #[test]
-fn trees_and_lines(rt: HostRuntime) -> Result<(), Fail> {
-    for (text, expected) in TREES {
-        assert_eq!(rt; shown(rt.alloc(), text)?.0.as_slice(), expected);
-    }
+fn lines(rt: HostRuntime) -> Result<(), Fail> {
     for (text, line) in LINES {
         assert_eq!(rt; shown(rt.alloc(), text)?.1, line);
     }
     Ok(())
 }
 
-/// `int main(void){`, so many times a text, a middle, so many times another text, `}`.
+/// A beginning, so many times a text, a middle, so many times another text, and an end.
 fn nested(
     alloc: Global,
     count: u32,
+    around: (&[u8], &[u8]),
     open: &[u8],
     middle: &[u8],
     close: &[u8],
 ) -> Result<Vec<u8>, AllocError> {
     let mut text = Vec::new(alloc);
-    put(&mut text, b"int main(void){")?;
+    put(&mut text, around.0)?;
     for _ in 0..count {
         put(&mut text, open)?;
     }
@@ -200,17 +533,35 @@ fn nested(
     for _ in 0..count {
         put(&mut text, close)?;
     }
-    put(&mut text, b"}")?;
+    put(&mut text, around.1)?;
     Ok(text)
 }
 
-/// A nesting: the greatest count that stays within 400 levels, what is repeated before and behind the middle.
-const NESTINGS: [(u32, &[u8], &[u8], &[u8]); 5] = [
-    (399, b"{", b"", b"}"),
-    (398, b"{", b"int a;", b"}"),
-    (397, b"if(a)", b"b;", b""),
-    (397, b"if(a)b;else ", b"b;", b""),
-    (398, b"if(a)", b"{}", b""),
+const MAIN: (&[u8], &[u8]) = (b"int main(void){", b"}");
+
+const RETURN: (&[u8], &[u8]) = (b"int main(void){return ", b";}");
+
+const INT: (&[u8], &[u8]) = (b"int ", b";");
+
+const VALUE: (&[u8], &[u8]) = (b"int a=", b";");
+
+const BARE: (&[u8], &[u8]) = (b"", b"");
+
+/// A nesting: the greatest count that stays within 400 levels and the next one, what stands around it, what is repeated before
+/// the middle, the middle, and what is repeated behind it.
+const NESTINGS: [(u32, u32, (&[u8], &[u8]), &[u8], &[u8], &[u8]); 12] = [
+    (399, 400, MAIN, b"{", b"", b"}"),
+    (398, 399, MAIN, b"{", b"int a;", b"}"),
+    (397, 398, MAIN, b"if(a)", b"b;", b""),
+    (397, 398, MAIN, b"if(a)b;else ", b"b;", b""),
+    (398, 399, MAIN, b"if(a)", b"{}", b""),
+    (397, 398, RETURN, b"(", b"a", b")"),
+    (399, 400, INT, b"(", b"a", b")"),
+    (397, 398, INT, b"(", b"a[(b)]", b")"),
+    (399, 400, VALUE, b"(", b"1", b")"),
+    (399, 400, VALUE, b"{", b"1", b"}"),
+    (399, 400, BARE, b"struct{", b"int a;", b"}a;"),
+    (400, 401, BARE, b"union{", b"int;", b"};"),
 ];
 
 /// The number of levels of a text's tree, or 0 where it has none.
@@ -227,54 +578,66 @@ fn levels_of(alloc: Global, text: &[u8]) -> u32 {
 #[test]
 fn at_most_400_levels(rt: HostRuntime) -> Result<(), Fail> {
     let alloc = rt.alloc();
-    for (count, open, middle, close) in NESTINGS {
+    for (most, next, around, open, middle, close) in NESTINGS {
         assert_eq!(rt;
-            levels_of(alloc, &nested(alloc, count, open, middle, close)?),
+            levels_of(alloc, &nested(alloc, most, around, open, middle, close)?),
             400
         );
         assert_eq!(rt;
-            levels_of(alloc, &nested(alloc, count + 1, open, middle, close)?),
+            levels_of(alloc, &nested(alloc, next, around, open, middle, close)?),
             0
         );
     }
-    let mut text = Vec::new(alloc);
-    put(&mut text, b"return ")?;
-    for _ in 0..397 {
-        put(&mut text, b"(")?;
-    }
-    put(&mut text, b"a")?;
-    for _ in 0..397 {
-        put(&mut text, b")")?;
-    }
-    put(&mut text, b";")?;
-    assert_eq!(rt; levels_of(alloc, &nested(alloc, 0, b"", &text, b"")?), 400);
-    assert_eq!(rt; levels_of(alloc, &nested(alloc, 1, b"{", &text, b"}")?), 0);
     Ok(())
 }
 
-/// A page of C, in which each definition begins a line.
-const PAGE: &[u8] = b"int main(void) {
-int a = 1, b; b = a; if (a < b) { return a; } else if (b) return; else { int c = f(a, b); } return (b);
+/// A page of C.
+const PAGE: &[u8] = b"typedef unsigned long T, U[2];
+const struct s { T a; union { int b, c[2]; }; enum { A = 1, B, } d; } s, t = { 1, { 2, }, };
+enum e { C = 1 ? A : B };
+int main(void) {
+T a = 1, b; b = a; if (a < b) { enum { T }; return T; } else if (b) return; else { int c = f(a, b); } return (T) b;
 }
+size_t (v)[3];
 int main(void) {
 if (a) if (b) c; else d; { } return a ? b : c;
-}";
+}
+T w;";
+
+/// Where each external declaration of the page begins and ends, and its first line.
+const PLACES: [(usize, usize, u32); 7] = [
+    (0, 30, 1),
+    (31, 123, 2),
+    (124, 149, 3),
+    (150, 284, 4),
+    (285, 299, 7),
+    (300, 365, 8),
+    (366, 370, 11),
+];
+
+/// The line that has no tree where the page is cut, or 0 where it is cut behind an external declaration.
+fn line_where_cut(count: usize) -> u32 {
+    if count == 0 {
+        return 1;
+    }
+    for (start, end, line) in PLACES {
+        if start < count && count < end {
+            return line;
+        }
+    }
+    0
+}
 
 #[test]
-fn each_beginning_of_a_page_is_refused(rt: HostRuntime) -> Result<(), Fail> {
+fn each_beginning_of_a_page_is_refused_or_ends_with_a_declaration(
+    rt: HostRuntime,
+) -> Result<(), Fail> {
     let alloc = rt.alloc();
     let whole = lexed(alloc, PAGE).ok().ok_or("the page is cut")?;
     assert!(rt; parse(alloc, &whole).is_ok());
     for count in 0..PAGE.len() {
         let (front, _) = PAGE.split_at(count);
-        let line = if count < 122 {
-            1
-        } else if count < 124 {
-            0
-        } else {
-            4
-        };
-        assert_eq!(rt; shown(alloc, front)?.1, line);
+        assert_eq!(rt; shown(alloc, front)?.1, line_where_cut(count));
     }
     Ok(())
 }

@@ -1,357 +1,415 @@
 -- What stands there is read.
 use Rattle.std.proofs.Common.{◌≡◌, ◌≤◌, ◌<◌, ◌+◌, ℕ, zero, suc, List, [], ◌∷◌, ◌++◌, length, Bool, true, false, cond, Option, Some, None, refl, ap, sym, subst, ◌∙◌, arith}
 use Rattle.std.specs.Prelude.{IfSome}
-use Rattle.std.proofs.lemmas.Bool.{lt-ltb}
+use Rattle.std.specs.Prelude.{nat_le}
+use Rattle.std.proofs.lemmas.Bool.{lt-ltb, le-leb}
 use Rattle.std.proofs.Common.{length-append}
 use Rattle.std.proofs.lemmas.List.{append_assoc}
 use Rattle.c_lexer.specs.declared.token.Token.{Token}
 use Rattle.c_lexer.specs.declared.token.Kind.{Kind}
 use Rattle.c_lexer.specs.declared.token.Kind.TheVariants as kinds
 use Rattle.c_lexer.specs.declared.token.Constant.{Constant}
+use Rattle.c_lexer.specs.declared.token.Keyword.{Keyword}
+use Rattle.c_lexer.specs.declared.token.Keyword.TheVariants as keywords
 use Rattle.c_lexer.specs.declared.token.Mark.{Mark}
 use Rattle.c_lexer.specs.declared.token.Mark.TheVariants as marks
 use Rattle.c_lexer.specs.Kinds.{text_of}
 use Rattle.c_tree.specs.declared.expr.BinaryOp.{BinaryOp}
 use Rattle.c_tree.specs.declared.expr.UnaryOp.{UnaryOp}
 use Rattle.c_tree.specs.declared.expr.StepOp.{StepOp}
-use Rattle.c_tree.specs.Tree.{Tree, Trees, constant, name, parens, unary, step, binary, choice, assign, comma, call, none, more, depth, depth_of}
+use Rattle.c_tree.specs.Tree.{TypePart, Tree, Trees, Declared, Suffixes, constant, character, strings, name, parens, unary, cast, sizeof_expr, sizeof_type, step, member, binary, choice, assign, comma, call, none, more, unnamed, named, inside, no_suffix, bounded, unbounded, depth, depth_of, declared_depth, suffixes_depth}
+use Rattle.c_tree.specs.Names.{Scope, is_type}
 use Rattle.c_tree.specs.Tables.{strength_of, operand_level, level_of}
-use Rattle.c_tree.specs.Spelling.{Spells, SpellsArguments, SpellsRest, IsWell, AreWell}
+use Rattle.c_tree.specs.Spelling.{Spells, SpellsArguments, SpellsRest, IsWell, AreWell, has_name}
 use Rattle.c_parse_expr.specs.declared.table.Lead.{Lead}
 use Rattle.c_parse_expr.specs.declared.table.Lead.TheVariants as leads
 use Rattle.c_parse_expr.specs.declared.table.Suffix.{Suffix}
 use Rattle.c_parse_expr.specs.declared.table.Suffix.TheVariants as suffixes
 use Rattle.c_parse_expr.specs.Tables.{lead_of, suffix_of, strength_behind, least_left}
-use Rattle.c_parse_expr.specs.Reading.{◌>>=◌, Read, Reader, is_mark, behind, closed, goes_on, rest_at, arguments_at, prefixed, prefix_at, suffixed, turn, climb, reader}
-use Rattle.c_parse_expr.specs.Standing.{goes_on_inside, suffix_at, Inside, Ends, Stands}
+use Rattle.c_parse_expr.specs.Many.{◌>>=◌}
+use Rattle.c_parse_expr.specs.Reading.{Read, Reader, DeclaredReader, is_mark, behind, closed, goes_on, rest_at, arguments_at, identifier_at, strings_behind, start_by, start_of, begins_type, type_behind, type_name_at, grouped, sized, sizeof_at, prefixed, prefix_at, suffixed, turn, climb, from_operand, reader, declared_at}
+use Rattle.c_parse_expr.specs.Standing.{goes_on_inside, suffix_at, Inside, Ends, Stands, DeclaredStands}
 use Rattle.c_parse_expr.proofs.Marks.{Leads, behaves_so, leads_so, close_is, some_is}
 use Rattle.c_parse_expr.proofs.Steps.{behind_gives, next_ends, next_goes, goes_so, first_false, second_false}
 use Rattle.c_parse_expr.proofs.Within.{low, quiet, has_depth}
+use Rattle.c_parse_expr.proofs.AgainSteps.{Again, seam, from_token, begins_again, finish, mark_is, inside_some, ends_some, before, goes_again, First, first_of, first_token, no_type_first, not_first, no_type_behind}
+use Rattle.c_parse_expr.proofs.AgainWords.{identifier_read, strings_read, specifiers_begin}
+use Rattle.c_parse_expr.proofs.AgainDeclared.{SuffixesAgain, DeclaredAgain, suffixes_none, suffixes_bounded, suffixes_unbounded, again_unnamed, again_named, again_inside, type_read}
 
--- From a tree's tokens reading comes to the tree, and goes on from it.
-abbrev pub Again : List ℕ → Tree → Type 0
-Again bytes t = (n k : ℕ) (own rest : List Token) → Spells bytes t own → IsWell t → depth t ≤ n + 1 → k ≤ level_of t → Inside t rest → (m : ℕ) × (n + 1 < m + depth t) × (reader bytes (suc n) k (own ++ rest) ≡ climb m (reader bytes n) (suc n) k t rest)
-
-seam : (own left right rest : List Token) → own ≡ left ++ right → own ++ rest ≡ left ++ (right ++ rest)
-seam own left right rest e = ap (λ (xs : List Token). xs ++ rest) e ∙ append_assoc left right rest
-
--- from a token on
-from_token : (right rest own : List Token) (t : Token) → right ≡ t ∷ own → right ++ rest ≡ t ∷ (own ++ rest)
-from_token right rest own t e = ap (λ (xs : List Token). xs ++ rest) e
-
-climb_step : (m n k line : ℕ) (sub : Reader) (left u : Tree) (t : Token) (ts rest : List Token) (s : Suffix) → suffix_of t.kind ≡ Some s → t.line ≡ line → goes_on k (level_of left) s ≡ true → depth left < n → suffixed sub s line left ts ≡ Some (u, rest) → climb (suc m) sub n k left (t ∷ ts) ≡ climb m sub n k u rest
-unfolding climb
-climb_step m n k line sub left u t ts rest s is at goes deep e =
-    ap (λ (o : Option (Suffix × ℕ × List Token)). turn sub n (climb m sub n k) left (t ∷ ts) o) (next_goes k (level_of left) t ts s is goes)
-    ∙ ap (λ (b : Bool). cond {A = Read} b (suffixed sub s t.line left ts >>= λ x. climb m sub n k x.0 x.1) None) (lt-ltb (depth left) n deep)
-    ∙ ap (λ (o : Read). o >>= λ x. climb m sub n k x.0 x.1) (ap (λ (l : ℕ). suffixed sub s l left ts) at ∙ e)
-
-climb_ends : (m n k : ℕ) (sub : Reader) (t : Tree) (rest : List Token) → Ends k t rest → climb (suc m) sub n k t rest ≡ Some (t, rest)
-unfolding climb
-climb_ends m n k sub t rest e = ap (λ (o : Option (Suffix × ℕ × List Token)). turn sub n (climb m sub n k) t rest o) (next_ends k (level_of t) rest e)
-
-finish_at : (n k : ℕ) (bytes : List ℕ) (t : Tree) (own rest : List Token) (m : ℕ) → depth t ≤ n + 1 → n + 1 < m + depth t → reader bytes (suc n) k (own ++ rest) ≡ climb m (reader bytes n) (suc n) k t rest → Ends k t rest → reader bytes (suc n) k (own ++ rest) ≡ Some (t, rest)
-finish_at n k bytes t own rest zero h g e f = absurd (omega arith)
-finish_at n k bytes t own rest (suc m) h g e f = e ∙ climb_ends m (suc n) k (reader bytes n) t rest f
-
-finish : (bytes : List ℕ) (t : Tree) → Again bytes t → (n k : ℕ) (own rest : List Token) → Spells bytes t own → IsWell t → depth t ≤ n → k ≤ level_of t → Inside t rest → Ends k t rest → reader bytes n k (own ++ rest) ≡ Some (t, rest)
-finish bytes t again zero k own rest s w d l i f = absurd (let h = has_depth t in omega arith)
-finish bytes t again (suc n) k own rest s w d l i f =
-    let a = again n k own rest s w (omega arith) l i in
-    finish_at n k bytes t own rest a.0 (omega arith) a.1 a.2 f
-
--- a node that a token begins
-begins_again : (bytes : List ℕ) (n k : ℕ) (lead : Lead) (t : Token) (ts rest : List Token) (u : Tree) → Leads lead t.kind → prefixed bytes (reader bytes n) lead t ts ≡ Some (u, rest) → reader bytes (suc n) k (t ∷ ts) ≡ climb (suc n) (reader bytes n) (suc n) k u rest
-unfolding reader prefix_at
-begins_again bytes n k lead t ts rest u is e =
-    ap (λ (o : Option Lead). (o >>= λ lead. prefixed bytes (reader bytes n) lead t ts) >>= λ x. climb (suc n) (reader bytes n) (suc n) k x.0 x.1) (leads_so t.kind lead is)
-    ∙ ap (λ (o : Read). o >>= λ x. climb (suc n) (reader bytes n) (suc n) k x.0 x.1) e
-
-again_name : (bytes : List ℕ) (line : ℕ) (n : List ℕ) → Again bytes (name line n)
+again_name : (bytes : List ℕ) (names : Scope) (line : ℕ) (n : List ℕ) → Again bytes names (name line n)
 unfolding prefixed
-again_name bytes line text n k own rest s w d l i = (
+again_name bytes names line text n k own rest s w d l i = (
   suc n,
   omega arith,
-  ap (reader bytes (suc n) k) (from_token own rest [] s.token s.whole)
-      ∙ begins_again bytes n k leads.Name s.token rest rest (name line text) s.is.kind (ap (λ (x : ℕ). Some (name x (text_of bytes s.token), rest)) s.is.line ∙ ap (λ (x : List ℕ). Some (name line x, rest)) s.is.text),
+  ap (reader bytes names (suc n) k) (from_token own rest [] s.token s.whole)
+      ∙ begins_again bytes names n k leads.Name s.token rest rest (name line text) s.is.kind l
+      (ap (λ (b : Bool). cond {A = Read} b None (Some (name s.token.line (text_of bytes s.token), rest))) (ap (is_type names) s.is.text ∙ w)
+      ∙ ap (λ (x : ℕ). Some (name x (text_of bytes s.token), rest)) s.is.line ∙ ap (λ (x : List ℕ). Some (name line x, rest)) s.is.text),
 )
 
-again_constant : (bytes : List ℕ) (line : ℕ) (c : Constant) → Again bytes (constant line c)
+again_constant : (bytes : List ℕ) (names : Scope) (line : ℕ) (c : Constant) → Again bytes names (constant line c)
 unfolding prefixed
-again_constant bytes line c n k own rest s w d l i = (
+again_constant bytes names line c n k own rest s w d l i = (
   suc n,
   omega arith,
-  ap (reader bytes (suc n) k) (from_token own rest [] s.token s.whole)
-      ∙ begins_again bytes n k (leads.Constant c) s.token rest rest (constant line c) s.is.kind (ap (λ (x : ℕ). Some (constant x c, rest)) s.is.line),
+  ap (reader bytes names (suc n) k) (from_token own rest [] s.token s.whole)
+      ∙ begins_again bytes names n k (leads.Constant c) s.token rest rest (constant line c) s.is.kind l (ap (λ (x : ℕ). Some (constant x c, rest)) s.is.line),
 )
 
-mark_is : (mark : Mark) (k : Kind) (b : Bool) (of : Mark) → k ≡ kinds.Mark of → is_mark mark (kinds.Mark of) ≡ b → is_mark mark k ≡ b
-mark_is mark k b of e f = ap (is_mark mark) e ∙ f
-
-inside_none : (t : Tree) (k : ℕ) (tok : Token) (ts : List Token) → suffix_of tok.kind ≡ None → Inside t (tok ∷ ts) × Ends k t (tok ∷ ts)
-inside_none t k tok ts e = (
-  subst (λ (o : Option Suffix). IfSome o (λ s. goes_on_inside t s ≡ false)) (sym e) tt,
-  subst (λ (o : Option Suffix). IfSome o (λ s. goes_on k (level_of t) s ≡ false)) (sym e) tt,
-)
-
-inside_some : (t : Tree) (tok : Token) (ts : List Token) (s : Suffix) → suffix_of tok.kind ≡ Some s → goes_on_inside t s ≡ false → Inside t (tok ∷ ts)
-inside_some t tok ts s e f = subst (λ (o : Option Suffix). IfSome o (λ s. goes_on_inside t s ≡ false)) (sym e) f
-
-ends_some : (k : ℕ) (t : Tree) (tok : Token) (ts : List Token) (s : Suffix) → suffix_of tok.kind ≡ Some s → goes_on k (level_of t) s ≡ false → Ends k t (tok ∷ ts)
-ends_some k t tok ts s e f = subst (λ (o : Option Suffix). IfSome o (λ s. goes_on k (level_of t) s ≡ false)) (sym e) f
-
--- a tree in front of a closing mark or of a colon
-before : (bytes : List ℕ) (e : Tree) → Again bytes e → (n k : ℕ) (own rest : List Token) (tok : Token) → Spells bytes e own → IsWell e → depth e ≤ n → k ≤ level_of e → suffix_of tok.kind ≡ None → reader bytes n k (own ++ (tok ∷ rest)) ≡ Some (e, tok ∷ rest)
-before bytes e again n k own rest tok s w d l is =
-    let f = inside_none e k tok rest is in
-    finish bytes e again n k own (tok ∷ rest) s w d l f.0 f.1
-
-again_parens : (bytes : List ℕ) (line : ℕ) (e : Tree) → Again bytes e → Again bytes (parens line e)
+again_character : (bytes : List ℕ) (names : Scope) (line c : ℕ) → Again bytes names (character line c)
 unfolding prefixed
-again_parens bytes line e again n k own rest s w d l i =
+again_character bytes names line c n k own rest s w d l i = (
+  suc n,
+  omega arith,
+  ap (reader bytes names (suc n) k) (from_token own rest [] s.token s.whole)
+      ∙ begins_again bytes names n k (leads.Character c) s.token rest rest (character line c) s.is.kind l (ap (λ (x : ℕ). Some (character x c, rest)) s.is.line),
+)
+
+again_strings : (bytes : List ℕ) (names : Scope) (line : ℕ) (parts : List (List ℕ)) → Again bytes names (strings line parts)
+unfolding prefixed
+again_strings bytes names line [] n k own rest s w d l i = absurd s
+again_strings bytes names line (part ∷ parts) n k own rest s w d l i = (
+  suc n,
+  omega arith,
+  ap (reader bytes names (suc n) k) (from_token own rest s.rest s.token s.whole)
+      ∙ begins_again bytes names n k leads.Strings s.token (s.rest ++ rest) rest (strings line (part ∷ parts)) s.is.kind l
+      (ap (λ (o : Option (List (List ℕ) × List Token)). o >>= λ x. Some (strings s.token.line x.0, x.1)) (strings_read bytes (text_of bytes s.token) parts s.rest rest s.behind i)
+      ∙ ap (λ (x : ℕ). Some (strings x (text_of bytes s.token ∷ parts), rest)) s.is.line ∙ ap (λ (x : List ℕ). Some (strings line (x ∷ parts), rest)) s.is.text),
+)
+
+parens_read : (bytes : List ℕ) (names : Scope) (sub : Reader) (declared : DeclaredReader) (line : ℕ) (e : Tree) (ts rest : List Token) (t : Token) → begins_type bytes names ts ≡ false → sub 1 ts ≡ Some (e, t ∷ rest) → t.kind ≡ kinds.Mark marks.RightParenthesis → grouped bytes names sub declared line ts ≡ Some (parens line e, rest)
+unfolding grouped
+parens_read bytes names sub declared line e ts rest t untyped one is =
+    ap (λ (b : Bool). cond {A = Read} b (type_name_at bytes names declared ts >>= λ x. sub 14 x.1 >>= λ e. Some (cast line x.0.0 x.0.1 e.0, e.1)) (sub 1 ts >>= λ a. behind marks.RightParenthesis a.1 >>= λ rest. Some (parens line a.0, rest))) untyped
+    ∙ ap (λ (o : Read). o >>= λ a. behind marks.RightParenthesis a.1 >>= λ rest. Some (parens line a.0, rest)) one
+    ∙ ap (λ (o : Option (List Token)). o >>= λ rest. Some (parens line e, rest)) (behind_gives marks.RightParenthesis t rest true (mark_is marks.RightParenthesis t.kind true marks.RightParenthesis is refl))
+
+again_parens : (bytes : List ℕ) (names : Scope) (line : ℕ) (e : Tree) → Again bytes names e → Again bytes names (parens line e)
+unfolding prefixed
+again_parens bytes names line e again n k own rest s w d l i =
     let inner = s.behind in
     let close = inner.second in
-    let one = before bytes e again n 1 inner.left rest close.token inner.first w.1 (omega arith) w.0 (ap suffix_of close.is) in
-    let two = behind_gives marks.RightParenthesis close.token rest true (mark_is marks.RightParenthesis close.token.kind true marks.RightParenthesis close.is refl) in
+    let one = before bytes names e again n 1 inner.left rest close.token inner.first w.1 (omega arith) w.0 (ap suffix_of close.is) in
     let where_ = seam s.rest inner.left inner.right rest inner.whole ∙ ap (λ (xs : List Token). inner.left ++ xs) (from_token inner.right rest [] close.token close.whole) in (
       suc n,
       (let h = has_depth e in omega arith),
-      ap (reader bytes (suc n) k) (from_token own rest s.rest s.token s.whole ∙ ap (λ (xs : List Token). s.token ∷ xs) where_)
-          ∙ begins_again bytes n k leads.Group s.token (inner.left ++ (close.token ∷ rest)) rest (parens line e) s.is.kind
-          (ap (λ (o : Read). o >>= λ a. behind marks.RightParenthesis a.1 >>= λ r. Some (parens s.token.line a.0, r)) one
-          ∙ ap (λ (o : Option (List Token)). o >>= λ r. Some (parens s.token.line e, r)) two
+      ap (reader bytes names (suc n) k) (from_token own rest s.rest s.token s.whole ∙ ap (λ (xs : List Token). s.token ∷ xs) where_)
+          ∙ begins_again bytes names n k leads.Group s.token (inner.left ++ (close.token ∷ rest)) rest (parens line e) s.is.kind l
+          (parens_read bytes names (reader bytes names n) (declared_at bytes names n) s.token.line e (inner.left ++ (close.token ∷ rest)) rest close.token
+          (no_type_first bytes names e inner.left (close.token ∷ rest) inner.first w.1) one close.is
           ∙ ap (λ (x : ℕ). Some (parens x e, rest)) s.is.line),
     )
 
-again_unary : (bytes : List ℕ) (line : ℕ) (op : UnaryOp) (e : Tree) → Again bytes e → Again bytes (unary line op e)
+pub cast_read : (bytes : List ℕ) (names : Scope) (sub : Reader) (declared : DeclaredReader) (line : ℕ) (parts : List TypePart) (d : Declared) (e : Tree) (ts mid rest : List Token) → begins_type bytes names ts ≡ true → type_name_at bytes names declared ts ≡ Some ((parts, d), mid) → sub 14 mid ≡ Some (e, rest) → grouped bytes names sub declared line ts ≡ Some (cast line parts d e, rest)
+unfolding grouped
+cast_read bytes names sub declared line parts d e ts mid rest begun one two =
+    ap (λ (b : Bool). cond {A = Read} b (type_name_at bytes names declared ts >>= λ x. sub 14 x.1 >>= λ e. Some (cast line x.0.0 x.0.1 e.0, e.1)) (sub 1 ts >>= λ a. behind marks.RightParenthesis a.1 >>= λ rest. Some (parens line a.0, rest))) begun
+    ∙ ap (λ (o : Option ((List TypePart × Declared) × List Token)). o >>= λ x. sub 14 x.1 >>= λ e. Some (cast line x.0.0 x.0.1 e.0, e.1)) one
+    ∙ ap (λ (o : Read). o >>= λ e. Some (cast line parts d e.0, e.1)) two
+
+again_cast : (bytes : List ℕ) (names : Scope) (line : ℕ) (parts : List TypePart) (d : Declared) (e : Tree) → DeclaredAgain bytes names d → Again bytes names e → Again bytes names (cast line parts d e)
 unfolding prefixed
-again_unary bytes line op e again n k own rest s w d l i =
-    let one = finish bytes e again n (operand_level op) s.rest rest s.behind w.1 (omega arith) w.0
+again_cast bytes names line parts d e first second n k own rest s w h l i =
+    let one = s.behind in
+    let two = one.second in
+    let close = two.second in
+    let left = one.left in
+    let middle = two.left in
+    let where_ = seam s.rest left one.right rest one.whole ∙ ap (λ (xs : List Token). left ++ xs)
+    (seam one.right middle two.right rest two.whole ∙ ap (λ (xs : List Token). middle ++ xs) (from_token two.right rest close.rest close.token close.whole)) in
+    let ts = left ++ (middle ++ (close.token ∷ (close.rest ++ rest))) in (
+      suc n,
+      omega arith,
+      ap (reader bytes names (suc n) k) (from_token own rest s.rest s.token s.whole ∙ ap (λ (xs : List Token). s.token ∷ xs) where_)
+          ∙ begins_again bytes names n k leads.Group s.token ts rest (cast line parts d e) s.is.kind l
+          (cast_read bytes names (reader bytes names n) (declared_at bytes names n) s.token.line parts d e ts (close.rest ++ rest) rest
+          (specifiers_begin bytes names parts left (middle ++ (close.token ∷ (close.rest ++ rest))) one.first w.0)
+          (type_read bytes names n parts d first left middle (close.rest ++ rest) close.token one.first two.first close.is w.0 w.1 w.2 (omega arith))
+          (finish bytes names e second n 14 close.rest rest close.behind w.4 (omega arith) w.3
+          (second_false (suffix_at rest) (goes_on 14 (level_of e)) (goes_on_inside e) i)
+          (first_false (suffix_at rest) (goes_on 14 (level_of e)) (goes_on_inside e) i))
+          ∙ ap (λ (x : ℕ). Some (cast x parts d e, rest)) s.is.line),
+    )
+
+sizeof_expr_read : (bytes : List ℕ) (names : Scope) (sub : Reader) (declared : DeclaredReader) (line : ℕ) (e : Tree) (ts rest : List Token) → type_behind bytes names (behind marks.LeftParenthesis ts) ≡ None → sub 15 ts ≡ Some (e, rest) → sizeof_at bytes names sub declared line ts ≡ Some (sizeof_expr line e, rest)
+unfolding sizeof_at
+sizeof_expr_read bytes names sub declared line e ts rest untyped one =
+    ap (λ (o : Option (List Token)). sized bytes names sub declared line ts o) untyped ∙ ap (λ (o : Read). o >>= λ e. Some (sizeof_expr line e.0, e.1)) one
+
+again_sizeof_expr : (bytes : List ℕ) (names : Scope) (line : ℕ) (e : Tree) → Again bytes names e → Again bytes names (sizeof_expr line e)
+unfolding prefixed
+again_sizeof_expr bytes names line e again n k own rest s w d l i =
+    let one = finish bytes names e again n 15 s.rest rest s.behind w.1 (omega arith) w.0
+    (second_false (suffix_at rest) (goes_on 15 (level_of e)) (goes_on_inside e) i)
+    (first_false (suffix_at rest) (goes_on 15 (level_of e)) (goes_on_inside e) i) in (
+      suc n,
+      omega arith,
+      ap (reader bytes names (suc n) k) (from_token own rest s.rest s.token s.whole)
+          ∙ begins_again bytes names n k leads.Sizeof s.token (s.rest ++ rest) rest (sizeof_expr line e) s.is.kind l
+          (sizeof_expr_read bytes names (reader bytes names n) (declared_at bytes names n) s.token.line e (s.rest ++ rest) rest (no_type_behind bytes names e s.rest rest s.behind w.1 w.0) one
+          ∙ ap (λ (x : ℕ). Some (sizeof_expr x e, rest)) s.is.line),
+    )
+
+sizeof_type_read : (bytes : List ℕ) (names : Scope) (sub : Reader) (declared : DeclaredReader) (line : ℕ) (parts : List TypePart) (d : Declared) (t : Token) (ts rest : List Token) → t.kind ≡ kinds.Mark marks.LeftParenthesis → begins_type bytes names ts ≡ true → type_name_at bytes names declared ts ≡ Some ((parts, d), rest) → sizeof_at bytes names sub declared line (t ∷ ts) ≡ Some (sizeof_type line parts d, rest)
+unfolding sizeof_at
+sizeof_type_read bytes names sub declared line parts d t ts rest is begun one =
+    ap (λ (o : Option (List Token)). sized bytes names sub declared line (t ∷ ts) (type_behind bytes names o)) (behind_gives marks.LeftParenthesis t ts true (mark_is marks.LeftParenthesis t.kind true marks.LeftParenthesis is refl))
+    ∙ ap (λ (b : Bool). sized bytes names sub declared line (t ∷ ts) (cond {A = Option (List Token)} b (Some ts) None)) begun
+    ∙ ap (λ (o : Option ((List TypePart × Declared) × List Token)). o >>= λ x. Some (sizeof_type line x.0.0 x.0.1, x.1)) one
+
+again_sizeof_type : (bytes : List ℕ) (names : Scope) (line : ℕ) (parts : List TypePart) (d : Declared) → DeclaredAgain bytes names d → Again bytes names (sizeof_type line parts d)
+unfolding prefixed
+again_sizeof_type bytes names line parts d first n k own rest s w h l i =
+    let paren = s.behind in
+    let one = paren.behind in
+    let two = one.second in
+    let close = two.second in
+    let left = one.left in
+    let middle = two.left in
+    let where_ = from_token s.rest rest paren.rest paren.token paren.whole ∙ ap (λ (xs : List Token). paren.token ∷ xs)
+    (seam paren.rest left one.right rest one.whole ∙ ap (λ (xs : List Token). left ++ xs)
+    (seam one.right middle two.right rest two.whole ∙ ap (λ (xs : List Token). middle ++ xs) (from_token two.right rest [] close.token close.whole))) in
+    let ts = left ++ (middle ++ (close.token ∷ rest)) in (
+      suc n,
+      omega arith,
+      ap (reader bytes names (suc n) k) (from_token own rest s.rest s.token s.whole ∙ ap (λ (xs : List Token). s.token ∷ xs) where_)
+          ∙ begins_again bytes names n k leads.Sizeof s.token (paren.token ∷ ts) rest (sizeof_type line parts d) s.is.kind l
+          (sizeof_type_read bytes names (reader bytes names n) (declared_at bytes names n) s.token.line parts d paren.token ts rest paren.is
+          (specifiers_begin bytes names parts left (middle ++ (close.token ∷ rest)) one.first w.0)
+          (type_read bytes names n parts d first left middle rest close.token one.first two.first close.is w.0 w.1 w.2 (omega arith))
+          ∙ ap (λ (x : ℕ). Some (sizeof_type x parts d, rest)) s.is.line),
+    )
+
+again_unary : (bytes : List ℕ) (names : Scope) (line : ℕ) (op : UnaryOp) (e : Tree) → Again bytes names e → Again bytes names (unary line op e)
+unfolding prefixed
+again_unary bytes names line op e again n k own rest s w d l i =
+    let one = finish bytes names e again n (operand_level op) s.rest rest s.behind w.1 (omega arith) w.0
     (second_false (suffix_at rest) (goes_on (operand_level op) (level_of e)) (goes_on_inside e) i)
     (first_false (suffix_at rest) (goes_on (operand_level op) (level_of e)) (goes_on_inside e) i) in (
       suc n,
       omega arith,
-      ap (reader bytes (suc n) k) (from_token own rest s.rest s.token s.whole)
-          ∙ begins_again bytes n k (leads.Unary op) s.token (s.rest ++ rest) rest (unary line op e) s.is.kind
+      ap (reader bytes names (suc n) k) (from_token own rest s.rest s.token s.whole)
+          ∙ begins_again bytes names n k (leads.Unary op) s.token (s.rest ++ rest) rest (unary line op e) s.is.kind l
           (ap (λ (o : Read). o >>= λ a. Some (unary s.token.line op a.0, a.1)) one
           ∙ ap (λ (x : ℕ). Some (unary x op e, rest)) s.is.line),
     )
 
--- a node behind its left operand
-goes_again : (bytes : List ℕ) (a u : Tree) → Again bytes a → (s : Suffix) (n k line : ℕ) (own left right ts rest : List Token) (tok : Token) → Spells bytes a left → IsWell a → own ≡ left ++ right → right ≡ tok ∷ ts → suffix_of tok.kind ≡ Some s → tok.line ≡ line → k ≤ strength_behind s → least_left s ≤ level_of a → k ≤ level_of a → depth a < n + 1 → depth a < depth u → suffixed (reader bytes n) s line a (ts ++ rest) ≡ Some (u, rest) → (m : ℕ) × (n + 1 < m + depth u) × (reader bytes (suc n) k (own ++ rest) ≡ climb m (reader bytes n) (suc n) k u rest)
-goes_again bytes a u again s n k line own left right ts rest tok sp w e f is at low least lev deep more_deep made =
-    let one = again n k left (tok ∷ (ts ++ rest)) sp w (omega arith) lev (inside_some a tok (ts ++ rest) s is (quiet a s least w)) in
-    after bytes a u s n k line own left ts rest tok is at (goes_so k (level_of a) s low least) deep more_deep made one.0 one.1
-    (seam own left right rest e ∙ ap (λ (xs : List Token). left ++ xs) (from_token right rest ts tok f)) one.2
-  where
-    after : (bytes : List ℕ) (a u : Tree) (s : Suffix) (n k line : ℕ) (own left ts rest : List Token) (tok : Token) → suffix_of tok.kind ≡ Some s → tok.line ≡ line → goes_on k (level_of a) s ≡ true → depth a < n + 1 → depth a < depth u → suffixed (reader bytes n) s line a (ts ++ rest) ≡ Some (u, rest) → (m : ℕ) → n + 1 < m + depth a → own ++ rest ≡ left ++ (tok ∷ (ts ++ rest)) → reader bytes (suc n) k (left ++ (tok ∷ (ts ++ rest))) ≡ climb m (reader bytes n) (suc n) k a (tok ∷ (ts ++ rest)) → (m : ℕ) × (n + 1 < m + depth u) × (reader bytes (suc n) k (own ++ rest) ≡ climb m (reader bytes n) (suc n) k u rest)
-    after bytes a u s n k line own left ts rest tok is at goes deep more_deep made zero g e one = absurd (omega arith)
-    after bytes a u s n k line own left ts rest tok is at goes deep more_deep made (suc m) g e one =
-        (m, omega arith, ap (reader bytes (suc n) k) e ∙ one ∙ climb_step m (suc n) k line (reader bytes n) a u tok (ts ++ rest) rest s is at goes (omega arith) made)
-
-again_binary : (bytes : List ℕ) (line : ℕ) (op : BinaryOp) (a b : Tree) → Again bytes a → Again bytes b → Again bytes (binary line op a b)
+again_binary : (bytes : List ℕ) (names : Scope) (line : ℕ) (op : BinaryOp) (a b : Tree) → Again bytes names a → Again bytes names b → Again bytes names (binary line op a b)
 unfolding suffixed
-again_binary bytes line op a b first second n k own rest s w d l i =
+again_binary bytes names line op a b first second n k own rest s w d l i =
     let t = s.second in
-    let one = finish bytes b second n (strength_of op + 1) t.rest rest t.behind w.3 (omega arith) w.1
+    let one = finish bytes names b second n (strength_of op + 1) t.rest rest t.behind w.3 (omega arith) w.1
     (second_false (suffix_at rest) (goes_on (strength_of op + 1) (level_of b)) (goes_on_inside b) i)
     (first_false (suffix_at rest) (goes_on (strength_of op + 1) (level_of b)) (goes_on_inside b) i) in
-    goes_again bytes a (binary line op a b) first (suffixes.Operator op) n k line own s.left s.right t.rest rest t.token s.first w.2 s.whole t.whole
+    goes_again bytes names a (binary line op a b) first (suffixes.Operator op) n k line own s.left s.right t.rest rest t.token s.first w.2 s.whole t.whole
     (behaves_so t.token.kind (suffixes.Operator op) t.is.kind) t.is.line l w.0 (omega (arith, w.0)) (omega arith) (omega arith)
     (ap (λ (o : Read). o >>= λ b. Some (binary line op a b.0, b.1)) one)
 
-again_assign : (bytes : List ℕ) (line : ℕ) (op : Option BinaryOp) (a b : Tree) → Again bytes a → Again bytes b → Again bytes (assign line op a b)
+again_assign : (bytes : List ℕ) (names : Scope) (line : ℕ) (op : Option BinaryOp) (a b : Tree) → Again bytes names a → Again bytes names b → Again bytes names (assign line op a b)
 unfolding suffixed
-again_assign bytes line op a b first second n k own rest s w d l i =
+again_assign bytes names line op a b first second n k own rest s w d l i =
     let t = s.second in
-    let one = finish bytes b second n 2 t.rest rest t.behind w.3 (omega arith) w.1
+    let one = finish bytes names b second n 2 t.rest rest t.behind w.3 (omega arith) w.1
     (second_false (suffix_at rest) (goes_on 2 (level_of b)) (goes_on_inside b) i)
     (first_false (suffix_at rest) (goes_on 2 (level_of b)) (goes_on_inside b) i) in
-    goes_again bytes a (assign line op a b) first (suffixes.Becomes op) n k line own s.left s.right t.rest rest t.token s.first w.2 s.whole t.whole
+    goes_again bytes names a (assign line op a b) first (suffixes.Becomes op) n k line own s.left s.right t.rest rest t.token s.first w.2 s.whole t.whole
     (behaves_so t.token.kind (suffixes.Becomes op) t.is.kind) t.is.line l w.0 (omega (arith, w.0)) (omega arith) (omega arith)
     (ap (λ (o : Read). o >>= λ b. Some (assign line op a b.0, b.1)) one)
 
-again_comma : (bytes : List ℕ) (line : ℕ) (a b : Tree) → Again bytes a → Again bytes b → Again bytes (comma line a b)
+again_comma : (bytes : List ℕ) (names : Scope) (line : ℕ) (a b : Tree) → Again bytes names a → Again bytes names b → Again bytes names (comma line a b)
 unfolding suffixed
-again_comma bytes line a b first second n k own rest s w d l i =
+again_comma bytes names line a b first second n k own rest s w d l i =
     let t = s.second in
-    let one = finish bytes b second n 2 t.rest rest t.behind w.3 (omega arith) w.1
+    let one = finish bytes names b second n 2 t.rest rest t.behind w.3 (omega arith) w.1
     (second_false (suffix_at rest) (goes_on 2 (level_of b)) (goes_on_inside b) i)
     (first_false (suffix_at rest) (goes_on 2 (level_of b)) (goes_on_inside b) i) in
-    goes_again bytes a (comma line a b) first suffixes.Then n k line own s.left s.right t.rest rest t.token s.first w.2 s.whole t.whole
+    goes_again bytes names a (comma line a b) first suffixes.Then n k line own s.left s.right t.rest rest t.token s.first w.2 s.whole t.whole
     (behaves_so t.token.kind suffixes.Then t.is.kind) t.is.line l w.0 (omega (arith, w.0)) (omega arith) (omega arith)
     (ap (λ (o : Read). o >>= λ b. Some (comma line a b.0, b.1)) one)
 
-again_step : (bytes : List ℕ) (line : ℕ) (op : StepOp) (a : Tree) → Again bytes a → Again bytes (step line op a)
+again_step : (bytes : List ℕ) (names : Scope) (line : ℕ) (op : StepOp) (a : Tree) → Again bytes names a → Again bytes names (step line op a)
 unfolding suffixed
-again_step bytes line op a first n k own rest s w d l i =
+again_step bytes names line op a first n k own rest s w d l i =
     let t = s.second in
-    goes_again bytes a (step line op a) first (suffixes.Step op) n k line own s.left s.right [] rest t.token s.first w.1 s.whole t.whole
+    goes_again bytes names a (step line op a) first (suffixes.Step op) n k line own s.left s.right [] rest t.token s.first w.1 s.whole t.whole
     (behaves_so t.token.kind (suffixes.Step op) t.is.kind) t.is.line l w.0 (omega (arith, w.0)) (omega arith) (omega arith)
     (ap (λ (o : Read). o) refl)
 
-again_choice : (bytes : List ℕ) (line : ℕ) (a b c : Tree) → Again bytes a → Again bytes b → Again bytes c → Again bytes (choice line a b c)
+again_member : (bytes : List ℕ) (names : Scope) (line : ℕ) (a : Tree) (text : List ℕ) → Again bytes names a → Again bytes names (member line a text)
 unfolding suffixed
-again_choice bytes line a b c first second third n k own rest s w d l i =
+again_member bytes names line a text first n k own rest s w d l i =
+    let t = s.second in
+    let id = t.behind in
+    goes_again bytes names a (member line a text) first suffixes.Member n k line own s.left s.right t.rest rest t.token s.first w.1 s.whole t.whole
+    (behaves_so t.token.kind suffixes.Member t.is.kind) t.is.line l w.0 (omega (arith, w.0)) (omega arith) (omega arith)
+    (ap (λ (o : Option (List ℕ × List Token)). o >>= λ x. Some (member line a x.0, x.1))
+    (ap (identifier_at bytes) (from_token t.rest rest [] id.token id.whole) ∙ identifier_read bytes text id.token rest id.is.kind id.is.text))
+
+again_choice : (bytes : List ℕ) (names : Scope) (line : ℕ) (a b c : Tree) → Again bytes names a → Again bytes names b → Again bytes names c → Again bytes names (choice line a b c)
+unfolding suffixed
+again_choice bytes names line a b c first second third n k own rest s w d l i =
     let t = s.second in
     let mid = t.behind in
     let colon = mid.second in
-    let two = before bytes b second n 1 mid.left (colon.rest ++ rest) colon.token mid.first w.4 (omega arith) w.1 (ap suffix_of colon.is) in
+    let two = before bytes names b second n 1 mid.left (colon.rest ++ rest) colon.token mid.first w.4 (omega arith) w.1 (ap suffix_of colon.is) in
     let gives = behind_gives marks.Colon colon.token (colon.rest ++ rest) true (mark_is marks.Colon colon.token.kind true marks.Colon colon.is refl) in
-    let three = finish bytes c third n 3 colon.rest rest colon.behind w.5 (omega arith) w.2
+    let three = finish bytes names c third n 3 colon.rest rest colon.behind w.5 (omega arith) w.2
     (second_false (suffix_at rest) (goes_on 3 (level_of c)) (goes_on_inside c) i)
     (first_false (suffix_at rest) (goes_on 3 (level_of c)) (goes_on_inside c) i) in
     let where_ = seam t.rest mid.left mid.right rest mid.whole ∙ ap (λ (xs : List Token). mid.left ++ xs) (from_token mid.right rest colon.rest colon.token colon.whole) in
-    goes_again bytes a (choice line a b c) first suffixes.Choice n k line own s.left s.right t.rest rest t.token s.first w.3 s.whole t.whole
+    goes_again bytes names a (choice line a b c) first suffixes.Choice n k line own s.left s.right t.rest rest t.token s.first w.3 s.whole t.whole
     (behaves_so t.token.kind suffixes.Choice t.is.kind) t.is.line l w.0 (omega (arith, w.0)) (omega arith) (omega arith)
-    (ap (λ (xs : List Token). reader bytes n 1 xs >>= λ x. behind marks.Colon x.1 >>= λ r. reader bytes n 3 r >>= λ y. Some (choice line a x.0 y.0, y.1)) where_
-    ∙ ap (λ (o : Read). o >>= λ x. behind marks.Colon x.1 >>= λ r. reader bytes n 3 r >>= λ y. Some (choice line a x.0 y.0, y.1)) two
-    ∙ ap (λ (o : Option (List Token)). o >>= λ r. reader bytes n 3 r >>= λ y. Some (choice line a b y.0, y.1)) gives
+    (ap (λ (xs : List Token). reader bytes names n 1 xs >>= λ x. behind marks.Colon x.1 >>= λ r. reader bytes names n 3 r >>= λ y. Some (choice line a x.0 y.0, y.1)) where_
+    ∙ ap (λ (o : Read). o >>= λ x. behind marks.Colon x.1 >>= λ r. reader bytes names n 3 r >>= λ y. Some (choice line a x.0 y.0, y.1)) two
+    ∙ ap (λ (o : Option (List Token)). o >>= λ r. reader bytes names n 3 r >>= λ y. Some (choice line a b y.0, y.1)) gives
     ∙ ap (λ (o : Read). o >>= λ y. Some (choice line a b y.0, y.1)) three)
 
 -- an argument in front of a comma
-before_comma : (bytes : List ℕ) (e : Tree) → Again bytes e → (n : ℕ) (own rest : List Token) (tok : Token) → Spells bytes e own → IsWell e → depth e ≤ n → 2 ≤ level_of e → tok.kind ≡ kinds.Mark marks.Comma → reader bytes n 2 (own ++ (tok ∷ rest)) ≡ Some (e, tok ∷ rest)
-before_comma bytes e again n own rest tok s w d l is =
-    finish bytes e again n 2 own (tok ∷ rest) s w d l
-    (inside_some e tok rest suffixes.Then (ap suffix_of is) (quiet e suffixes.Then (omega arith) w))
+before_comma : (bytes : List ℕ) (names : Scope) (e : Tree) → Again bytes names e → (n : ℕ) (own rest : List Token) (tok : Token) → Spells bytes e own → IsWell names e → depth e ≤ n → 2 ≤ level_of e → tok.kind ≡ kinds.Mark marks.Comma → reader bytes names n 2 (own ++ (tok ∷ rest)) ≡ Some (e, tok ∷ rest)
+before_comma bytes names e again n own rest tok s w d l is =
+    finish bytes names e again n 2 own (tok ∷ rest) s w d l
+    (inside_some e tok rest suffixes.Then (ap suffix_of is) (quiet names e suffixes.Then (omega arith) w))
     (ends_some 2 e tok rest suffixes.Then (ap suffix_of is) refl)
 
 -- the arguments that are left
-abbrev pub RestAgain : List ℕ → Trees → Type 0
-RestAgain bytes args = (n m : ℕ) (own rest : List Token) → SpellsRest bytes args own → AreWell args → depth_of args ≤ n → length own ≤ m → rest_at m (reader bytes n) (own ++ rest) ≡ Some (args, rest)
+abbrev pub RestAgain : List ℕ → Scope → Trees → Type 0
+RestAgain bytes names args = (n m : ℕ) (own rest : List Token) → SpellsRest bytes args own → AreWell names args → depth_of args ≤ n → length own ≤ m → rest_at m (reader bytes names n) (own ++ rest) ≡ Some (args, rest)
 
 -- an argument in front of those that are left
-argument : (bytes : List ℕ) (a : Tree) (aa : Trees) → Again bytes a → (n : ℕ) (own others rest : List Token) → Spells bytes a own → IsWell a → depth a ≤ n → 2 ≤ level_of a → SpellsRest bytes aa others → reader bytes n 2 (own ++ (others ++ rest)) ≡ Some (a, others ++ rest)
-argument bytes a none again n own others rest s w d l r =
-    ap (λ (xs : List Token). reader bytes n 2 (own ++ xs)) (from_token others rest [] r.token r.whole)
-    ∙ before bytes a again n 2 own rest r.token s w d l (ap suffix_of r.is)
+argument : (bytes : List ℕ) (names : Scope) (a : Tree) (aa : Trees) → Again bytes names a → (n : ℕ) (own others rest : List Token) → Spells bytes a own → IsWell names a → depth a ≤ n → 2 ≤ level_of a → SpellsRest bytes aa others → reader bytes names n 2 (own ++ (others ++ rest)) ≡ Some (a, others ++ rest)
+argument bytes names a none again n own others rest s w d l r =
+    ap (λ (xs : List Token). reader bytes names n 2 (own ++ xs)) (from_token others rest [] r.token r.whole)
+    ∙ before bytes names a again n 2 own rest r.token s w d l (ap suffix_of r.is)
     ∙ ap (λ (xs : List Token). Some (a, xs)) (sym (from_token others rest [] r.token r.whole))
-argument bytes a (more b bs) again n own others rest s w d l r =
-    ap (λ (xs : List Token). reader bytes n 2 (own ++ xs)) (from_token others rest r.rest r.token r.whole)
-    ∙ before_comma bytes a again n own (r.rest ++ rest) r.token s w d l r.is
+argument bytes names a (more b bs) again n own others rest s w d l r =
+    ap (λ (xs : List Token). reader bytes names n 2 (own ++ xs)) (from_token others rest r.rest r.token r.whole)
+    ∙ before_comma bytes names a again n own (r.rest ++ rest) r.token s w d l r.is
     ∙ ap (λ (xs : List Token). Some (a, xs)) (sym (from_token others rest r.rest r.token r.whole))
 
-rest_none : (bytes : List ℕ) → RestAgain bytes none
+rest_none : (bytes : List ℕ) (names : Scope) → RestAgain bytes names none
 unfolding rest_at
-rest_none bytes n zero own rest s w d h = absurd (omega (arith, ap (λ (xs : List Token). length xs) s.whole))
-rest_none bytes n (suc m) own rest s w d h =
-    ap (λ (xs : List Token). rest_at (suc m) (reader bytes n) xs) (from_token own rest [] s.token s.whole)
-    ∙ ap (λ (o : Option (List Token)). closed o (behind marks.Comma (s.token ∷ rest) >>= λ r. reader bytes n 2 r >>= λ a. rest_at m (reader bytes n) a.1 >>= λ b. Some (more a.0 b.0, b.1)))
+rest_none bytes names n zero own rest s w d h = absurd (omega (arith, ap (λ (xs : List Token). length xs) s.whole))
+rest_none bytes names n (suc m) own rest s w d h =
+    ap (λ (xs : List Token). rest_at (suc m) (reader bytes names n) xs) (from_token own rest [] s.token s.whole)
+    ∙ ap (λ (o : Option (List Token)). closed o (behind marks.Comma (s.token ∷ rest) >>= λ r. reader bytes names n 2 r >>= λ a. rest_at m (reader bytes names n) a.1 >>= λ b. Some (more a.0 b.0, b.1)))
     (behind_gives marks.RightParenthesis s.token rest true (mark_is marks.RightParenthesis s.token.kind true marks.RightParenthesis s.is refl))
 
-rest_more : (bytes : List ℕ) (a : Tree) (aa : Trees) → Again bytes a → RestAgain bytes aa → RestAgain bytes (more a aa)
+rest_more : (bytes : List ℕ) (names : Scope) (a : Tree) (aa : Trees) → Again bytes names a → RestAgain bytes names aa → RestAgain bytes names (more a aa)
 unfolding rest_at
-rest_more bytes a aa again others n zero own rest s w d h = absurd (omega (arith, ap (λ (xs : List Token). length xs) s.whole))
-rest_more bytes a aa again others n (suc m) own rest s w d h =
+rest_more bytes names a aa again others n zero own rest s w d h = absurd (omega (arith, ap (λ (xs : List Token). length xs) s.whole))
+rest_more bytes names a aa again others n (suc m) own rest s w d h =
     let two = s.behind in
     let long = ap (λ (xs : List Token). length xs) s.whole in
     let parts = ap (λ (xs : List Token). length xs) two.whole ∙ length-append two.left two.right in
     let where_ = from_token own rest s.rest s.token s.whole in
-    ap (λ (xs : List Token). rest_at (suc m) (reader bytes n) xs) where_
-    ∙ ap (λ (o : Option (List Token)). closed o (behind marks.Comma (s.token ∷ (s.rest ++ rest)) >>= λ r. reader bytes n 2 r >>= λ a. rest_at m (reader bytes n) a.1 >>= λ b. Some (more a.0 b.0, b.1)))
+    ap (λ (xs : List Token). rest_at (suc m) (reader bytes names n) xs) where_
+    ∙ ap (λ (o : Option (List Token)). closed o (behind marks.Comma (s.token ∷ (s.rest ++ rest)) >>= λ r. reader bytes names n 2 r >>= λ a. rest_at m (reader bytes names n) a.1 >>= λ b. Some (more a.0 b.0, b.1)))
     (behind_gives marks.RightParenthesis s.token (s.rest ++ rest) false (mark_is marks.RightParenthesis s.token.kind false marks.Comma s.is refl))
-    ∙ ap (λ (o : Option (List Token)). o >>= λ r. reader bytes n 2 r >>= λ a. rest_at m (reader bytes n) a.1 >>= λ b. Some (more a.0 b.0, b.1))
+    ∙ ap (λ (o : Option (List Token)). o >>= λ r. reader bytes names n 2 r >>= λ a. rest_at m (reader bytes names n) a.1 >>= λ b. Some (more a.0 b.0, b.1))
     (behind_gives marks.Comma s.token (s.rest ++ rest) true (mark_is marks.Comma s.token.kind true marks.Comma s.is refl))
-    ∙ ap (λ (o : Read). o >>= λ a. rest_at m (reader bytes n) a.1 >>= λ b. Some (more a.0 b.0, b.1))
-    (ap (reader bytes n 2) (seam s.rest two.left two.right rest two.whole) ∙ argument bytes a aa again n two.left two.right rest two.first w.1 (omega arith) w.0 two.second)
+    ∙ ap (λ (o : Read). o >>= λ a. rest_at m (reader bytes names n) a.1 >>= λ b. Some (more a.0 b.0, b.1))
+    (ap (reader bytes names n 2) (seam s.rest two.left two.right rest two.whole) ∙ argument bytes names a aa again n two.left two.right rest two.first w.1 (omega arith) w.0 two.second)
     ∙ ap (λ (o : Option (Trees × List Token)). o >>= λ b. Some (more a b.0, b.1))
     (others n m two.right rest two.second w.2 (omega arith) (omega (arith, long, parts)))
 
 -- all the arguments
-abbrev pub ArgumentsAgain : List ℕ → Trees → Type 0
-ArgumentsAgain bytes args = (n : ℕ) (own rest : List Token) → SpellsArguments bytes args own → AreWell args → depth_of args ≤ n → arguments_at (reader bytes n) (own ++ rest) ≡ Some (args, rest)
+abbrev pub ArgumentsAgain : List ℕ → Scope → Trees → Type 0
+ArgumentsAgain bytes names args = (n : ℕ) (own rest : List Token) → SpellsArguments bytes args own → AreWell names args → depth_of args ≤ n → arguments_at (reader bytes names n) (own ++ rest) ≡ Some (args, rest)
 
-arguments_none : (bytes : List ℕ) → ArgumentsAgain bytes none
+arguments_none : (bytes : List ℕ) (names : Scope) → ArgumentsAgain bytes names none
 unfolding arguments_at
-arguments_none bytes n own rest s w d =
-    ap (λ (xs : List Token). arguments_at (reader bytes n) xs) (from_token own rest [] s.token s.whole)
-    ∙ ap (λ (o : Option (List Token)). closed o (reader bytes n 2 (s.token ∷ rest) >>= λ a. rest_at (length (s.token ∷ rest) + 1) (reader bytes n) a.1 >>= λ b. Some (more a.0 b.0, b.1)))
+arguments_none bytes names n own rest s w d =
+    ap (λ (xs : List Token). arguments_at (reader bytes names n) xs) (from_token own rest [] s.token s.whole)
+    ∙ ap (λ (o : Option (List Token)). closed o (reader bytes names n 2 (s.token ∷ rest) >>= λ a. rest_at (length (s.token ∷ rest) + 1) (reader bytes names n) a.1 >>= λ b. Some (more a.0 b.0, b.1)))
     (behind_gives marks.RightParenthesis s.token rest true (mark_is marks.RightParenthesis s.token.kind true marks.RightParenthesis s.is refl))
 
--- the first token of an expression, which begins one
-pub record First (own : List Token) : Type 0 where
-  pub token : Token
-  pub others : List Token
-  pub lead : Lead
-  pub is : lead_of token.kind ≡ Some lead
-  pub whole : own ≡ token ∷ others
-
-first_of : (own left right : List Token) → own ≡ left ++ right → First left → First own
-first_of own left right e f = record { token = f.token; others = f.others ++ right; lead = f.lead; is = f.is; whole = e ∙ ap (λ (xs : List Token). xs ++ right) f.whole }
-
-pub first_token : (bytes : List ℕ) (t : Tree) (own : List Token) → Spells bytes t own → First own
-first_token bytes (constant line c) own s = record { token = s.token; others = []; lead = leads.Constant c; is = leads_so s.token.kind (leads.Constant c) s.is.kind; whole = s.whole }
-first_token bytes (name line n) own s = record { token = s.token; others = []; lead = leads.Name; is = leads_so s.token.kind leads.Name s.is.kind; whole = s.whole }
-first_token bytes (parens line e) own s = record { token = s.token; others = s.rest; lead = leads.Group; is = leads_so s.token.kind leads.Group s.is.kind; whole = s.whole }
-first_token bytes (unary line op e) own s = record { token = s.token; others = s.rest; lead = leads.Unary op; is = leads_so s.token.kind (leads.Unary op) s.is.kind; whole = s.whole }
-first_token bytes (step line op e) own s = first_of own s.left s.right s.whole (first_token bytes e s.left s.first)
-first_token bytes (binary line op a b) own s = first_of own s.left s.right s.whole (first_token bytes a s.left s.first)
-first_token bytes (choice line a b c) own s = first_of own s.left s.right s.whole (first_token bytes a s.left s.first)
-first_token bytes (assign line op a b) own s = first_of own s.left s.right s.whole (first_token bytes a s.left s.first)
-first_token bytes (comma line a b) own s = first_of own s.left s.right s.whole (first_token bytes a s.left s.first)
-first_token bytes (call f args) own s = first_of own s.left s.right s.whole (first_token bytes f s.left s.first)
-
-not_close : (k : Kind) (l : Lead) (b : Bool) → is_mark marks.RightParenthesis k ≡ b → lead_of k ≡ Some l → is_mark marks.RightParenthesis k ≡ false
-not_close k l true e f = let g = ap lead_of (close_is k e) in absurd cc
-not_close k l false e f = e
-
-open_first : (own rest : List Token) (sub : Reader) → First own → arguments_at sub (own ++ rest) ≡ (sub 2 (own ++ rest) >>= λ a. rest_at (length (own ++ rest) + 1) sub a.1 >>= λ b. Some (more a.0 b.0, b.1))
+open_first : (bytes : List ℕ) (names : Scope) (own rest : List Token) (sub : Reader) → First bytes names own → arguments_at sub (own ++ rest) ≡ (sub 2 (own ++ rest) >>= λ a. rest_at (length (own ++ rest) + 1) sub a.1 >>= λ b. Some (more a.0 b.0, b.1))
 unfolding arguments_at
-open_first own rest sub f =
-    let e = from_token own rest f.others f.token f.whole in
-    let no : behind marks.RightParenthesis (own ++ rest) ≡ None = ap (λ (xs : List Token). behind marks.RightParenthesis xs) e ∙ behind_gives marks.RightParenthesis f.token (f.others ++ rest) false (not_close f.token.kind f.lead (is_mark marks.RightParenthesis f.token.kind) refl f.is) in
-    ap (λ (o : Option (List Token)). closed o (sub 2 (own ++ rest) >>= λ a. rest_at (length (own ++ rest) + 1) sub a.1 >>= λ b. Some (more a.0 b.0, b.1))) no
+open_first bytes names own rest sub f =
+    ap (λ (o : Option (List Token)). closed o (sub 2 (own ++ rest) >>= λ a. rest_at (length (own ++ rest) + 1) sub a.1 >>= λ b. Some (more a.0 b.0, b.1))) (not_first bytes names marks.RightParenthesis close_is refl own rest f)
 
-arguments_more : (bytes : List ℕ) (a : Tree) (aa : Trees) → Again bytes a → RestAgain bytes aa → ArgumentsAgain bytes (more a aa)
-arguments_more bytes a aa again others n own rest s w d =
+arguments_more : (bytes : List ℕ) (names : Scope) (a : Tree) (aa : Trees) → Again bytes names a → RestAgain bytes names aa → ArgumentsAgain bytes names (more a aa)
+arguments_more bytes names a aa again others n own rest s w d =
     let long = ap (λ (xs : List Token). length xs) (seam own s.left s.right rest s.whole) ∙ length-append s.left (s.right ++ rest) in
     let parts = length-append s.right rest in
-    open_first own rest (reader bytes n) (first_of own s.left s.right s.whole (first_token bytes a s.left s.first))
-    ∙ ap (λ (o : Read). o >>= λ a. rest_at (length (own ++ rest) + 1) (reader bytes n) a.1 >>= λ b. Some (more a.0 b.0, b.1))
-    (ap (reader bytes n 2) (seam own s.left s.right rest s.whole) ∙ argument bytes a aa again n s.left s.right rest s.first w.1 (omega arith) w.0 s.second)
+    open_first bytes names own rest (reader bytes names n) (first_of bytes names own s.left s.right s.whole (first_token bytes names a s.left s.first w.1))
+    ∙ ap (λ (o : Read). o >>= λ a. rest_at (length (own ++ rest) + 1) (reader bytes names n) a.1 >>= λ b. Some (more a.0 b.0, b.1))
+    (ap (reader bytes names n 2) (seam own s.left s.right rest s.whole) ∙ argument bytes names a aa again n s.left s.right rest s.first w.1 (omega arith) w.0 s.second)
     ∙ ap (λ (o : Option (Trees × List Token)). o >>= λ b. Some (more a b.0, b.1))
     (others n (length (own ++ rest) + 1) s.right rest s.second w.2 (omega arith) (omega (arith, long, parts)))
 
-again_call : (bytes : List ℕ) (f : Tree) (args : Trees) → Again bytes f → ArgumentsAgain bytes args → Again bytes (call f args)
+again_call : (bytes : List ℕ) (names : Scope) (f : Tree) (args : Trees) → Again bytes names f → ArgumentsAgain bytes names args → Again bytes names (call f args)
 unfolding suffixed
-again_call bytes f args first others n k own rest s w d l i =
+again_call bytes names f args first others n k own rest s w d l i =
     let t = s.second in
-    goes_again bytes f (call f args) first suffixes.Arguments n k t.token.line own s.left s.right t.rest rest t.token s.first w.1 s.whole t.whole
+    goes_again bytes names f (call f args) first suffixes.Arguments n k t.token.line own s.left s.right t.rest rest t.token s.first w.1 s.whole t.whole
     (behaves_so t.token.kind suffixes.Arguments t.is) refl l w.0 (omega (arith, w.0)) (omega arith) (omega arith)
     (ap (λ (o : Option (Trees × List Token)). o >>= λ b. Some (call f b.0, b.1)) (others n t.rest rest t.behind w.2 (omega arith)))
 
 mutual
-  pub again : (bytes : List ℕ) (t : Tree) → Again bytes t
-  again bytes (constant line c) = again_constant bytes line c
-  again bytes (name line n) = again_name bytes line n
-  again bytes (parens line e) = again_parens bytes line e (again bytes e)
-  again bytes (unary line op e) = again_unary bytes line op e (again bytes e)
-  again bytes (step line op e) = again_step bytes line op e (again bytes e)
-  again bytes (binary line op a b) = again_binary bytes line op a b (again bytes a) (again bytes b)
-  again bytes (choice line a b c) = again_choice bytes line a b c (again bytes a) (again bytes b) (again bytes c)
-  again bytes (assign line op a b) = again_assign bytes line op a b (again bytes a) (again bytes b)
-  again bytes (comma line a b) = again_comma bytes line a b (again bytes a) (again bytes b)
-  again bytes (call f args) = again_call bytes f args (again bytes f) (all_again bytes args)
+  pub again : (bytes : List ℕ) (names : Scope) (t : Tree) → Again bytes names t
+  again bytes names (constant line c) = again_constant bytes names line c
+  again bytes names (character line c) = again_character bytes names line c
+  again bytes names (strings line parts) = again_strings bytes names line parts
+  again bytes names (name line n) = again_name bytes names line n
+  again bytes names (parens line e) = again_parens bytes names line e (again bytes names e)
+  again bytes names (unary line op e) = again_unary bytes names line op e (again bytes names e)
+  again bytes names (cast line parts d e) = again_cast bytes names line parts d e (declared_again bytes names d) (again bytes names e)
+  again bytes names (sizeof_expr line e) = again_sizeof_expr bytes names line e (again bytes names e)
+  again bytes names (sizeof_type line parts d) = again_sizeof_type bytes names line parts d (declared_again bytes names d)
+  again bytes names (step line op e) = again_step bytes names line op e (again bytes names e)
+  again bytes names (member line e n) = again_member bytes names line e n (again bytes names e)
+  again bytes names (binary line op a b) = again_binary bytes names line op a b (again bytes names a) (again bytes names b)
+  again bytes names (choice line a b c) = again_choice bytes names line a b c (again bytes names a) (again bytes names b) (again bytes names c)
+  again bytes names (assign line op a b) = again_assign bytes names line op a b (again bytes names a) (again bytes names b)
+  again bytes names (comma line a b) = again_comma bytes names line a b (again bytes names a) (again bytes names b)
+  again bytes names (call f args) = again_call bytes names f args (again bytes names f) (all_again bytes names args)
 
-  all_again : (bytes : List ℕ) (args : Trees) → ArgumentsAgain bytes args
-  all_again bytes none = arguments_none bytes
-  all_again bytes (more a aa) = arguments_more bytes a aa (again bytes a) (rest_again bytes aa)
+  all_again : (bytes : List ℕ) (names : Scope) (args : Trees) → ArgumentsAgain bytes names args
+  all_again bytes names none = arguments_none bytes names
+  all_again bytes names (more a aa) = arguments_more bytes names a aa (again bytes names a) (rest_again bytes names aa)
 
-  rest_again : (bytes : List ℕ) (args : Trees) → RestAgain bytes args
-  rest_again bytes none = rest_none bytes
-  rest_again bytes (more a aa) = rest_more bytes a aa (again bytes a) (rest_again bytes aa)
+  rest_again : (bytes : List ℕ) (names : Scope) (args : Trees) → RestAgain bytes names args
+  rest_again bytes names none = rest_none bytes names
+  rest_again bytes names (more a aa) = rest_more bytes names a aa (again bytes names a) (rest_again bytes names aa)
+
+  pub declared_again : (bytes : List ℕ) (names : Scope) (d : Declared) → DeclaredAgain bytes names d
+  declared_again bytes names (unnamed ss) = again_unnamed bytes names ss (suffixes_again bytes names ss)
+  declared_again bytes names (named line n ss) = again_named bytes names line n ss (suffixes_again bytes names ss)
+  declared_again bytes names (inside line d ss) = again_inside bytes names line d ss (declared_again bytes names d) (suffixes_again bytes names ss)
+
+  suffixes_again : (bytes : List ℕ) (names : Scope) (ss : Suffixes) → SuffixesAgain bytes names ss
+  suffixes_again bytes names no_suffix = suffixes_none bytes names
+  suffixes_again bytes names (bounded line e ss) = suffixes_bounded bytes names line e ss (again bytes names e) (suffixes_again bytes names ss)
+  suffixes_again bytes names (unbounded line ss) = suffixes_unbounded bytes names line ss (suffixes_again bytes names ss)
 
 -- what stands there is read
-pub is_read : (bytes : List ℕ) (n k : ℕ) (t : Tree) (tokens rest : List Token) → Stands bytes n k t tokens rest → reader bytes n k tokens ≡ Some (t, rest)
-is_read bytes n k t tokens rest s =
-    ap (reader bytes n k) s.front ∙ finish bytes t (again bytes t) n k s.own rest s.spelled s.well s.deep s.level s.inside s.ends
+pub is_read : (bytes : List ℕ) (names : Scope) (n k : ℕ) (t : Tree) (tokens rest : List Token) → Stands bytes names n k t tokens rest → reader bytes names n k tokens ≡ Some (t, rest)
+is_read bytes names n k t tokens rest s =
+    ap (reader bytes names n k) s.front ∙ finish bytes names t (again bytes names t) n k s.own rest s.spelled s.well s.deep s.level s.inside s.ends
 
-pub no_tree : (bytes : List ℕ) (n k : ℕ) (tokens : List Token) → reader bytes n k tokens ≡ None → (t : Tree) (rest : List Token) → Stands bytes n k t tokens rest → ⊥
-no_tree bytes n k tokens e t rest s = let f = is_read bytes n k t tokens rest s in cc
+pub no_tree : (bytes : List ℕ) (names : Scope) (n k : ℕ) (tokens : List Token) → reader bytes names n k tokens ≡ None → (t : Tree) (rest : List Token) → Stands bytes names n k t tokens rest → ⊥
+no_tree bytes names n k tokens e t rest s = let f = is_read bytes names n k t tokens rest s in cc
 
-pub one_tree : (bytes : List ℕ) (n k : ℕ) (t u : Tree) (tokens rest others : List Token) → Stands bytes n k t tokens rest → Stands bytes n k u tokens others → (t ≡ u) × (rest ≡ others)
-one_tree bytes n k t u tokens rest others s r =
-    let e = is_read bytes n k t tokens rest s in
-    let f = is_read bytes n k u tokens others r in
+pub one_tree : (bytes : List ℕ) (names : Scope) (n k : ℕ) (t u : Tree) (tokens rest others : List Token) → Stands bytes names n k t tokens rest → Stands bytes names n k u tokens others → (t ≡ u) × (rest ≡ others)
+one_tree bytes names n k t u tokens rest others s r =
+    let e = is_read bytes names n k t tokens rest s in
+    let f = is_read bytes names n k u tokens others r in
     let g = some_is (sym e ∙ f) in
     (ap (λ (x : Tree × List Token). x.0) g, ap (λ (x : Tree × List Token). x.1) g)
+
+-- the same of a declarator
+pub is_declared : (bytes : List ℕ) (names : Scope) (n : ℕ) (with_name : Bool) (d : Declared) (tokens rest : List Token) → DeclaredStands bytes names n with_name d tokens rest → declared_at bytes names n with_name tokens ≡ Some (d, rest)
+is_declared bytes names n with_name d tokens rest s =
+    ap (λ (b : Bool). declared_at bytes names n b tokens) (sym s.heart) ∙ ap (declared_at bytes names n (has_name d)) s.front
+    ∙ declared_again bytes names d n s.own rest s.spelled s.well s.deep s.ends
+
+pub no_declared : (bytes : List ℕ) (names : Scope) (n : ℕ) (with_name : Bool) (tokens : List Token) → declared_at bytes names n with_name tokens ≡ None → (d : Declared) (rest : List Token) → DeclaredStands bytes names n with_name d tokens rest → ⊥
+no_declared bytes names n with_name tokens e d rest s = let f = is_declared bytes names n with_name d tokens rest s in cc
+
+pub one_declared : (bytes : List ℕ) (names : Scope) (n : ℕ) (with_name : Bool) (d e : Declared) (tokens rest others : List Token) → DeclaredStands bytes names n with_name d tokens rest → DeclaredStands bytes names n with_name e tokens others → (d ≡ e) × (rest ≡ others)
+one_declared bytes names n with_name d e tokens rest others s r =
+    let f = is_declared bytes names n with_name d tokens rest s in
+    let g = is_declared bytes names n with_name e tokens others r in
+    let h = some_is (sym f ∙ g) in
+    (ap (λ (x : Declared × List Token). x.0) h, ap (λ (x : Declared × List Token). x.1) h)

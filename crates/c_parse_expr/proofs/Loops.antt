@@ -6,8 +6,10 @@ use Rattle.c_tree.specs.Tree.{Tree, Trees, call, none, more, depth, depth_of}
 use Rattle.c_tree.specs.Tables.{level_of}
 use Rattle.c_parse_expr.specs.declared.table.Suffix.{Suffix}
 use Rattle.c_parse_expr.specs.declared.table.Suffix.TheVariants as suffixes
-use Rattle.c_parse_expr.specs.Reading.{◌>>=◌, Read, Reader, behind, closed, next_at, rest_at, arguments_at, prefix_at, suffixed, turn, climb, reader}
-use Rattle.std.proofs.lemmas.Bool.{lt-ltb, le-ltb}
+use Rattle.c_parse_expr.specs.Many.{◌>>=◌}
+use Rattle.c_parse_expr.specs.Reading.{Read, Reader, behind, closed, next_at, rest_at, arguments_at, prefix_at, suffixed, turn, climb, from_operand, reader, declared_at}
+use Rattle.std.proofs.lemmas.Bool.{lt-ltb, le-ltb, le-leb, lt-leb}
+use Rattle.c_tree.specs.Names.{Scope}
 use Rattle.c_tree.specs.declared.expr.Expr.{Expr, Call}
 use Rattle.c_tree.specs.Tree.{view, views_of}
 use Rattle.std.specs.Prelude.{Box, Vec}
@@ -93,52 +95,55 @@ depth_push [] e = omega arith
 depth_push (x ∷ es) e = let above = depth_push es e in omega arith
 
 -- suffixes
-pub reader_begins : (bytes : List ℕ) (n levels k : ℕ) (ts rest : List Token) (t : Tree) → suc n ≡ levels → prefix_at bytes (reader bytes n) ts ≡ Some (t, rest) → climb levels (reader bytes n) levels k t rest ≡ reader bytes levels k ts
+pub reader_begins : (bytes : List ℕ) (names : Scope) (n levels k l : ℕ) (ts rest : List Token) (t : Tree) → suc n ≡ levels → l ≡ level_of t → k ≤ l → prefix_at bytes names (reader bytes names n) (declared_at bytes names n) ts ≡ Some (t, rest) → climb bytes levels (reader bytes names n) levels k t rest ≡ reader bytes names levels k ts
 unfolding reader
-reader_begins bytes n levels k ts rest t e f =
-    subst (λ (l : ℕ). climb l (reader bytes n) l k t rest ≡ reader bytes l k ts) e
-    (sym (ap (λ (o : Read). o >>= λ x. climb (suc n) (reader bytes n) (suc n) k x.0 x.1) f))
+reader_begins bytes names n levels k l ts rest t e same low f =
+    subst (λ (x : ℕ). climb bytes x (reader bytes names n) x k t rest ≡ reader bytes names x k ts) e
+    (sym (ap (λ (o : Read). o >>= from_operand bytes (suc n) (reader bytes names n) k) f
+    ∙ ap (λ (b : Bool). cond {A = Read} b (climb bytes (suc n) (reader bytes names n) (suc n) k t rest) None) (le-leb k (level_of t) (omega arith))))
 
-pub reader_fails : (bytes : List ℕ) (n levels k : ℕ) (ts : List Token) → suc n ≡ levels → prefix_at bytes (reader bytes n) ts ≡ None → reader bytes levels k ts ≡ None
+pub reader_low : (bytes : List ℕ) (names : Scope) (n levels k l : ℕ) (ts rest : List Token) (t : Tree) → suc n ≡ levels → l ≡ level_of t → l < k → prefix_at bytes names (reader bytes names n) (declared_at bytes names n) ts ≡ Some (t, rest) → reader bytes names levels k ts ≡ None
 unfolding reader
-reader_fails bytes n levels k ts e f =
-    subst (λ (l : ℕ). reader bytes l k ts ≡ None) e (ap (λ (o : Read). o >>= λ x. climb (suc n) (reader bytes n) (suc n) k x.0 x.1) f)
+reader_low bytes names n levels k l ts rest t e same high f =
+    subst (λ (x : ℕ). reader bytes names x k ts ≡ None) e
+    (ap (λ (o : Read). o >>= from_operand bytes (suc n) (reader bytes names n) k) f
+    ∙ ap (λ (b : Bool). cond {A = Read} b (climb bytes (suc n) (reader bytes names n) (suc n) k t rest) None) (lt-leb k (level_of t) (omega arith)))
 
-takes_turn : (m n k l : ℕ) (sub : Reader) (t : Tree) (ts : List Token) (o : Option (Suffix × ℕ × List Token)) → l ≡ level_of t → o ≡ next_at k l ts → climb (suc m) sub n k t ts ≡ turn sub n (climb m sub n k) t ts o
+takes_turn : (bytes : List ℕ) (m n k l : ℕ) (sub : Reader) (t : Tree) (ts : List Token) (o : Option (Suffix × ℕ × List Token)) → l ≡ level_of t → o ≡ next_at k l ts → climb bytes (suc m) sub n k t ts ≡ turn bytes sub n (climb bytes m sub n k) t ts o
 unfolding climb
-takes_turn m n k l sub t ts o e f =
-    ap (λ (p : Option (Suffix × ℕ × List Token)). turn sub n (climb m sub n k) t ts p) (ap (λ (x : ℕ). next_at k x ts) (sym e) ∙ sym f)
+takes_turn bytes m n k l sub t ts o e f =
+    ap (λ (p : Option (Suffix × ℕ × List Token)). turn bytes sub n (climb bytes m sub n k) t ts p) (ap (λ (x : ℕ). next_at k x ts) (sym e) ∙ sym f)
 
-pub stops : (m n k l h : ℕ) (sub : Reader) (t : Tree) (ts : List Token) (all : Read) → n < m + h → h ≤ n → l ≡ level_of t → None ≡ next_at k l ts → climb m sub n k t ts ≡ all → all ≡ Some (t, ts)
-stops zero n k l h sub t ts all f g e i j = absurd (omega arith)
-stops (suc m) n k l h sub t ts all f g e i j = sym j ∙ takes_turn m n k l sub t ts None e i
+pub stops : (bytes : List ℕ) (m n k l h : ℕ) (sub : Reader) (t : Tree) (ts : List Token) (all : Read) → n < m + h → h ≤ n → l ≡ level_of t → None ≡ next_at k l ts → climb bytes m sub n k t ts ≡ all → all ≡ Some (t, ts)
+stops bytes zero n k l h sub t ts all f g e i j = absurd (omega arith)
+stops bytes (suc m) n k l h sub t ts all f g e i j = sym j ∙ takes_turn bytes m n k l sub t ts None e i
 
-pub too_deep : (m n k l h : ℕ) (sub : Reader) (t : Tree) (ts : List Token) (s : Suffix × ℕ × List Token) (all : Read) → n < m + h → h ≤ n → h ≡ depth t → n ≤ h → l ≡ level_of t → Some s ≡ next_at k l ts → climb m sub n k t ts ≡ all → all ≡ None
-too_deep zero n k l h sub t ts s all f g d p e i j = absurd (omega arith)
-too_deep (suc m) n k l h sub t ts s all f g d p e i j =
-    sym j ∙ takes_turn m n k l sub t ts (Some s) e i
-    ∙ ap (λ (b : Bool). cond {A = Read} b (suffixed sub s.0 s.1 t s.2 >>= λ x. climb m sub n k x.0 x.1) None) (le-ltb (depth t) n (omega arith))
+pub too_deep : (bytes : List ℕ) (m n k l h : ℕ) (sub : Reader) (t : Tree) (ts : List Token) (s : Suffix × ℕ × List Token) (all : Read) → n < m + h → h ≤ n → h ≡ depth t → n ≤ h → l ≡ level_of t → Some s ≡ next_at k l ts → climb bytes m sub n k t ts ≡ all → all ≡ None
+too_deep bytes zero n k l h sub t ts s all f g d p e i j = absurd (omega arith)
+too_deep bytes (suc m) n k l h sub t ts s all f g d p e i j =
+    sym j ∙ takes_turn bytes m n k l sub t ts (Some s) e i
+    ∙ ap (λ (b : Bool). cond {A = Read} b (suffixed bytes sub s.0 s.1 t s.2 >>= λ x. climb bytes m sub n k x.0 x.1) None) (le-ltb (depth t) n (omega arith))
 
-climbs : (m n k l h : ℕ) (sub : Reader) (t : Tree) (ts : List Token) (s : Suffix × ℕ × List Token) (all : Read) → h ≡ depth t → h < n → l ≡ level_of t → Some s ≡ next_at k l ts → climb (suc m) sub n k t ts ≡ all → all ≡ (suffixed sub s.0 s.1 t s.2 >>= λ x. climb m sub n k x.0 x.1)
-climbs m n k l h sub t ts s all d p e i j =
-    sym j ∙ takes_turn m n k l sub t ts (Some s) e i
-    ∙ ap (λ (b : Bool). cond {A = Read} b (suffixed sub s.0 s.1 t s.2 >>= λ x. climb m sub n k x.0 x.1) None) (lt-ltb (depth t) n (omega arith))
+climbs : (bytes : List ℕ) (m n k l h : ℕ) (sub : Reader) (t : Tree) (ts : List Token) (s : Suffix × ℕ × List Token) (all : Read) → h ≡ depth t → h < n → l ≡ level_of t → Some s ≡ next_at k l ts → climb bytes (suc m) sub n k t ts ≡ all → all ≡ (suffixed bytes sub s.0 s.1 t s.2 >>= λ x. climb bytes m sub n k x.0 x.1)
+climbs bytes m n k l h sub t ts s all d p e i j =
+    sym j ∙ takes_turn bytes m n k l sub t ts (Some s) e i
+    ∙ ap (λ (b : Bool). cond {A = Read} b (suffixed bytes sub s.0 s.1 t s.2 >>= λ x. climb bytes m sub n k x.0 x.1) None) (lt-ltb (depth t) n (omega arith))
 
-pub suffix_fails : (m n k l h : ℕ) (sub : Reader) (t : Tree) (ts : List Token) (s : Suffix × ℕ × List Token) (all : Read) → n < m + h → h ≡ depth t → h < n → l ≡ level_of t → Some s ≡ next_at k l ts → climb m sub n k t ts ≡ all → suffixed sub s.0 s.1 t s.2 ≡ None → all ≡ None
-suffix_fails zero n k l h sub t ts s all f d p e i j q = absurd (omega arith)
-suffix_fails (suc m) n k l h sub t ts s all f d p e i j q =
-    climbs m n k l h sub t ts s all d p e i j ∙ ap (λ (o : Read). o >>= λ x. climb m sub n k x.0 x.1) q
+pub suffix_fails : (bytes : List ℕ) (m n k l h : ℕ) (sub : Reader) (t : Tree) (ts : List Token) (s : Suffix × ℕ × List Token) (all : Read) → n < m + h → h ≡ depth t → h < n → l ≡ level_of t → Some s ≡ next_at k l ts → climb bytes m sub n k t ts ≡ all → suffixed bytes sub s.0 s.1 t s.2 ≡ None → all ≡ None
+suffix_fails bytes zero n k l h sub t ts s all f d p e i j q = absurd (omega arith)
+suffix_fails bytes (suc m) n k l h sub t ts s all f d p e i j q =
+    climbs bytes m n k l h sub t ts s all d p e i j ∙ ap (λ (o : Read). o >>= λ x. climb bytes m sub n k x.0 x.1) q
 
-pub goes_up : (m n k l h g : ℕ) (sub : Reader) (t u : Tree) (ts rest : List Token) (s : Suffix × ℕ × List Token) (all : Read) → n < m + h → h ≡ depth t → h < n → h < g → l ≡ level_of t → Some s ≡ next_at k l ts → climb m sub n k t ts ≡ all → suffixed sub s.0 s.1 t s.2 ≡ Some (u, rest) → (m : ℕ) × (n < m + g) × (climb m sub n k u rest ≡ all)
-goes_up zero n k l h g sub t u ts rest s all f d p w e i j q = absurd (omega arith)
-goes_up (suc m) n k l h g sub t u ts rest s all f d p w e i j q =
-    (m, omega arith, sym (climbs m n k l h sub t ts s all d p e i j ∙ ap (λ (o : Read). o >>= λ x. climb m sub n k x.0 x.1) q))
+pub goes_up : (bytes : List ℕ) (m n k l h g : ℕ) (sub : Reader) (t u : Tree) (ts rest : List Token) (s : Suffix × ℕ × List Token) (all : Read) → n < m + h → h ≡ depth t → h < n → h < g → l ≡ level_of t → Some s ≡ next_at k l ts → climb bytes m sub n k t ts ≡ all → suffixed bytes sub s.0 s.1 t s.2 ≡ Some (u, rest) → (m : ℕ) × (n < m + g) × (climb bytes m sub n k u rest ≡ all)
+goes_up bytes zero n k l h g sub t u ts rest s all f d p w e i j q = absurd (omega arith)
+goes_up bytes (suc m) n k l h g sub t u ts rest s all f d p w e i j q =
+    (m, omega arith, sym (climbs bytes m n k l h sub t ts s all d p e i j ∙ ap (λ (o : Read). o >>= λ x. climb bytes m sub n k x.0 x.1) q))
 
 -- a call
-pub call_made : (sub : Reader) (s : Suffix) (line : ℕ) (left : Expr) (ts rest : List Token) (f : Box Expr Global) (args : Vec Expr Global) → s ≡ suffixes.Arguments → f.value ≡ left → arguments_at sub ts ≡ Some (views_of args.items, rest) → suffixed sub s line (view left) ts ≡ Some (view (Call f args), rest)
+pub call_made : (bytes : List ℕ) (sub : Reader) (s : Suffix) (line : ℕ) (left : Expr) (ts rest : List Token) (f : Box Expr Global) (args : Vec Expr Global) → s ≡ suffixes.Arguments → f.value ≡ left → arguments_at sub ts ≡ Some (views_of args.items, rest) → suffixed bytes sub s line (view left) ts ≡ Some (view (Call f args), rest)
 unfolding suffixed
-call_made sub s line left ts rest f args e v g =
-    ap (λ (x : Suffix). suffixed sub x line (view left) ts) e
+call_made bytes sub s line left ts rest f args e v g =
+    ap (λ (x : Suffix). suffixed bytes sub x line (view left) ts) e
     ∙ ap (λ (o : Option (Trees × List Token)). o >>= λ a. Some (call (view left) a.0, a.1)) g
     ∙ ap (λ (x : Expr). Some (call (view x) (views_of args.items), rest)) (sym v)
     ∙ ap (λ (t : Tree). Some (t, rest)) (sym (view_call f args))

@@ -3,6 +3,7 @@ use Rattle.std.proofs.Common.{◌≡◌, ◌≤◌, ℕ, List, ◌++◌, length,
 use Rattle.std.proofs.lemmas.List.{append_assoc}
 use Rattle.c_lexer.specs.declared.token.Token.{Token}
 use Rattle.c_tree.specs.Tree.{Tree}
+use Rattle.c_tree.specs.Names.{Scope}
 use Rattle.c_parse_expr.specs.Reading.{Read, reader}
 use Rattle.c_parse_expr.specs.Standing.{Stands}
 use Rattle.std.proofs.Common.{◌-◌, take, drop, length-append}
@@ -27,15 +28,15 @@ back_at : (at : ℕ) (xs own rest : List Token) → drop at xs ≡ own ++ rest �
 back_at at xs own rest e =
     ends_with xs (take at xs ++ own) rest (sym (take-append-drop at xs) ∙ ap (λ (ys : List Token). take at xs ++ ys) e ∙ sym (append_assoc (take at xs) own rest))
 
-pub same_reading : (bytes b : List ℕ) (items xs back : List Token) (at k l : ℕ) (o : Read) → b ≡ bytes → xs ≡ items → back ≡ drop at xs → l ≡ k → reader b 400 l back ≡ o → reader bytes 400 k (drop at items) ≡ o
-same_reading bytes b items xs back at k l o e f g h i =
-    ap (λ (x : List ℕ). reader x 400 k (drop at items)) (sym e)
-    ∙ ap (λ (x : ℕ). reader b 400 x (drop at items)) (sym h)
-    ∙ ap (λ (ys : List Token). reader b 400 l (drop at ys)) (sym f)
-    ∙ ap (λ (ys : List Token). reader b 400 l ys) (sym g) ∙ i
+pub same_reading : (bytes b : List ℕ) (names : Scope) (items xs back : List Token) (at k l : ℕ) (o : Read) → b ≡ bytes → xs ≡ items → back ≡ drop at xs → l ≡ k → reader b names 400 l back ≡ o → reader bytes names 400 k (drop at items) ≡ o
+same_reading bytes b names items xs back at k l o e f g h i =
+    ap (λ (x : List ℕ). reader x names 400 k (drop at items)) (sym e)
+    ∙ ap (λ (x : ℕ). reader b names 400 x (drop at items)) (sym h)
+    ∙ ap (λ (ys : List Token). reader b names 400 l (drop at ys)) (sym f)
+    ∙ ap (λ (ys : List Token). reader b names 400 l ys) (sym g) ∙ i
 
-pub place_found : (bytes : List ℕ) (items : List Token) (at len : ℕ) (level : Level) (t : Tree) (rest : List Token) → length items ≡ len → reader bytes 400 (number_of level) (drop at items) ≡ Some (t, rest) → Stands bytes 400 (number_of level) t (drop at items) (drop (len - length rest) items)
-place_found bytes items at len level t rest e f =
-    let s = reads bytes 400 (number_of level) (drop at items) (t, rest) (number_small level) f in
-    subst (λ (ys : List Token). Stands bytes 400 (number_of level) t (drop at items) ys)
+pub place_found : (bytes : List ℕ) (names : Scope) (items : List Token) (at len : ℕ) (level : Level) (t : Tree) (rest : List Token) → length items ≡ len → reader bytes names 400 (number_of level) (drop at items) ≡ Some (t, rest) → Stands bytes names 400 (number_of level) t (drop at items) (drop (len - length rest) items)
+place_found bytes names items at len level t rest e f =
+    let s = reads bytes names 400 (number_of level) (drop at items) (t, rest) (number_small level) f in
+    subst (λ (ys : List Token). Stands bytes names 400 (number_of level) t (drop at items) ys)
     (sym (back_at at items s.own rest s.front) ∙ ap (λ (n : ℕ). drop (n - length rest) items) e) s

@@ -9,7 +9,8 @@ use Rattle.c_lexer.specs.declared.token.Kind.TheVariants as kinds
 use Rattle.c_lexer.specs.declared.token.Mark.{Mark}
 use Rattle.c_parse_expr.specs.declared.table.Suffix.{Suffix}
 use Rattle.c_parse_expr.specs.Tables.{suffix_of, strength_behind, least_left}
-use Rattle.c_parse_expr.specs.Reading.{◌>>=◌, is_mark, behind, goes_on, kept, next_at}
+use Rattle.c_parse_expr.specs.Many.{◌>>=◌}
+use Rattle.c_parse_expr.specs.Reading.{is_mark, behind, goes_on, kept, next_at}
 use Rattle.c_parse_expr.specs.Standing.{suffix_at}
 
 pub bind_some : {A B : Type 0} (o : Option A) (f : A → Option B) (y : B) → (o >>= f) ≡ Some y → (x : A) × (o ≡ Some x) × (f x ≡ Some y)
@@ -52,7 +53,7 @@ unfolding next_at
 next_some k l [] x e = absurd cc
 next_some k l (t ∷ ts) x e = kept_some k l t ts (suffix_of t.kind) x refl e
 
-none_by : {A : Type 0} (b : Bool) (x : A) → cond b (Some x) None ≡ None → b ≡ false
+pub none_by : {A : Type 0} (b : Bool) (x : A) → cond b (Some x) None ≡ None → b ≡ false
 none_by true x e = cc
 none_by false x e = refl
 
@@ -79,7 +80,7 @@ unfolding next_at
 next_goes k l t ts s e f =
     ap (λ (o : Option Suffix). kept k l t.line ts o) e ∙ ap (λ (b : Bool). cond {A = Option (Suffix × ℕ × List Token)} b (Some (s, t.line, ts)) None) f
 
-and_true : (a b : Bool) → (a && b) ≡ true → (a ≡ true) × (b ≡ true)
+pub and_true : (a b : Bool) → (a && b) ≡ true → (a ≡ true) × (b ≡ true)
 and_true true b e = (refl, e)
 and_true false b e = cc
 

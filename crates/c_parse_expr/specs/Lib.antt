@@ -1,3 +1,5 @@
+pub mod Flags
 pub mod Tables
+pub mod Many
 pub mod Reading
 pub mod Standing

@@ -1,15 +1,22 @@
-//! The tree of a C expression (C11 6.5) among the tokens of a file.
+//! The tree of a C expression (C11 6.5) among the tokens of a file, with the type names and declarators in it (C11 6.7.6,
+//! 6.7.7).
 #![tactic(auto)]
 
 mod fault;
+mod flags;
+mod heart;
+mod names;
 mod place;
 mod reading;
 mod slices;
 mod table;
 #[cfg(test)]
 mod tests;
+mod words;
 
 pub use fault::{ExpressionError, Refused};
-pub use place::{Level, expression, line_of, one_expression};
-pub use reading::{Found, read};
-pub use slices::{is_mark, name_of, split, token_text};
+pub use names::TypeNames;
+pub use place::{Level, expression, line_of, one_declarator, one_expression};
+pub use reading::{Found, FoundDeclarator, declarator, read};
+pub use slices::{behind_mark, identifier, is_mark, name_of, split, text_name, token_text};
+pub use words::{begins_type, type_specifier};

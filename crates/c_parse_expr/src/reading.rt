@@ -1,14 +1,19 @@
 //! Reading a tree from left to right.
 
-ghost use Rattle.std.specs.Prelude.{◌≡◌, ◌<◌, ◌≤◌, ◌+◌, ◌++◌, length, max, IfOk};
-ghost use Rattle.c_tree.specs.Tree.{view, views_of, depth, depth_of};
-ghost use Rattle.c_parse_expr.specs.Reading.{Gives, reader, prefix_at, prefixed, suffixed, arguments_at};
+ghost use Rattle.std.specs.Prelude.{◌≡◌, ◌<◌, ◌≤◌, ◌+◌, [], ◌∷◌, ◌++◌, Some, length, map, max, IfOk};
+ghost use Rattle.c_tree.specs.Tree.{view, views_of, view_type_part, view_declarator, suffixes_of, unnamed, no_suffix, depth, depth_of, declared_depth, suffixes_depth};
+ghost use Rattle.c_parse_expr.specs.Reading.{Gives, reader, declared_at, declared_from, bare, inside_at, suffixes_at, unnamed_at, bound_at, pair_of, type_name_at, grouped, sizeof_at, prefix_at, prefixed, suffixed, arguments_at};
 
 use crate::fault::Refused;
-use crate::slices::{behind_mark, level_of, name_of, next_suffix, split};
+use crate::heart::Heart;
+use crate::names::TypeNames;
+use crate::slices::{
+    behind_mark, bracket, identifier, level_of, name_of, next_suffix, split, text_name, token_text,
+};
 use crate::table::{Lead, Suffix, lead_of, operand_level, strength_of};
+use crate::words::{begins_type, heart_at, strings, type_behind, type_specifiers};
 use c_lexer::{Mark, Token};
-use c_tree::Expr;
+use c_tree::{ArraySuffix, Declarator, DeclaratorCore, Expr, TypeName};
 use std::alloc::Global;
 
 /// A tree with its number of levels, and the tokens behind it.
@@ -27,6 +32,38 @@ struct Items<'a> {
     rest: &'a [Token],
 }
 
+/// A declarator with its number of levels, and the tokens behind it.
+#[derive(Drop)]
+pub struct FoundDeclarator<'a> {
+    pub declarator: Declarator,
+    pub height: u32,
+    pub rest: &'a [Token],
+}
+
+/// A type name with the levels of its declarator, and the tokens behind the parenthesis that closes it.
+#[derive(Drop)]
+struct FoundType<'a> {
+    type_name: TypeName,
+    height: u32,
+    rest: &'a [Token],
+}
+
+/// A suffix with the levels of its bound, and the tokens behind it.
+#[derive(Drop)]
+struct FoundSuffix<'a> {
+    suffix: ArraySuffix,
+    height: u32,
+    rest: &'a [Token],
+}
+
+/// Suffixes, the most levels that one has, and the tokens behind them.
+#[derive(Drop)]
+struct FoundSuffixes<'a> {
+    suffixes: Vec<ArraySuffix>,
+    height: u32,
+    rest: &'a [Token],
+}
+
 fn larger(a: u32, b: u32) -> u32
     ensures { result ≡ max a b }
 {
@@ -39,13 +76,14 @@ fn larger(a: u32, b: u32) -> u32
 fn prefix_behind<'a>(
     alloc: Global,
     bytes: &[u8],
+    names: &TypeNames,
     lead: Lead,
     token: Token,
     tokens: &'a [Token],
     levels: u32,
 ) -> Result<Found<'a>, Refused>
     requires { levels < 400 }
-    ensures exact { Gives (λ x. (view x.tree, x.rest.now)) result (prefixed bytes.now (reader bytes.now levels) lead token tokens.now) }
+    ensures exact { Gives (λ x. (view x.tree, x.rest.now)) result (prefixed bytes.now names.now (reader bytes.now names.now levels) (declared_at bytes.now names.now levels) lead token tokens.now) }
     ensures height { IfOk result (λ x. x.height ≡ depth (view x.tree)) }
     ensures low { IfOk result (λ x. x.height ≤ levels + 1) }
     ensures shorter { IfOk result (λ x. length x.rest.now ≤ length tokens.now) }
@@ -53,6 +91,9 @@ fn prefix_behind<'a>(
     let line = token.line;
     match lead {
         Lead::Name => {
+            if names.is_type(token_text(bytes, token)) {
+                return Err(Refused::Syntax);
+            }
             let name = name_of(alloc, bytes, token)?;
             Ok(Found {
                 tree: Expr::Name { line, name },
@@ -65,20 +106,22 @@ fn prefix_behind<'a>(
             height: 1,
             rest: tokens,
         }),
-        Lead::Group => {
-            let found = read(alloc, bytes, tokens, 1, levels)?;
-            let Some(rest) = behind_mark(found.rest, Mark::RightParenthesis) else {
-                return Err(Refused::Syntax);
-            };
-            let inner = Box::new(alloc, found.tree)?;
+        Lead::Character(value) => Ok(Found {
+            tree: Expr::Character { line, value },
+            height: 1,
+            rest: tokens,
+        }),
+        Lead::Strings => {
+            let (parts, rest) = strings(alloc, bytes, token, tokens)?;
             Ok(Found {
-                tree: Expr::Parens { line, inner },
-                height: found.height + 1,
+                tree: Expr::Strings { line, parts },
+                height: 1,
                 rest,
             })
         }
+        Lead::Group => group_behind(alloc, bytes, names, line, tokens, levels),
         Lead::Unary(operator) => {
-            let found = read(alloc, bytes, tokens, operand_level(operator), levels)?;
+            let found = read(alloc, bytes, names, tokens, operand_level(operator), levels)?;
             let operand = Box::new(alloc, found.tree)?;
             Ok(Found {
                 tree: Expr::Unary {
@@ -90,7 +133,377 @@ fn prefix_behind<'a>(
                 rest: found.rest,
             })
         }
+        Lead::Sizeof => sizeof_behind(alloc, bytes, names, line, tokens, levels),
     }
+}
+
+/// Behind a parenthesis: a cast where a type name begins, else an expression in parentheses.
+#[cycle(reading)]
+#[tactic(auto, unfolding(crate::specs::Reading::grouped))]
+fn group_behind<'a>(
+    alloc: Global,
+    bytes: &[u8],
+    names: &TypeNames,
+    line: u32,
+    tokens: &'a [Token],
+    levels: u32,
+) -> Result<Found<'a>, Refused>
+    requires { levels < 400 }
+    ensures exact { Gives (λ x. (view x.tree, x.rest.now)) result (grouped bytes.now names.now (reader bytes.now names.now levels) (declared_at bytes.now names.now levels) line tokens.now) }
+    ensures height { IfOk result (λ x. x.height ≡ depth (view x.tree)) }
+    ensures low { IfOk result (λ x. x.height ≤ levels + 1) }
+    ensures shorter { IfOk result (λ x. length x.rest.now ≤ length tokens.now) }
+{
+    if begins_type(bytes, names, tokens) {
+        let found = type_name(alloc, bytes, names, tokens, levels)?;
+        let value = read(alloc, bytes, names, found.rest, 14, levels)?;
+        let type_name = Box::new(alloc, found.type_name)?;
+        let operand = Box::new(alloc, value.tree)?;
+        let height = larger(found.height, value.height) + 1;
+        return Ok(Found {
+            tree: Expr::Cast {
+                line,
+                type_name,
+                operand,
+            },
+            height,
+            rest: value.rest,
+        });
+    }
+    let found = read(alloc, bytes, names, tokens, 1, levels)?;
+    let Some(rest) = behind_mark(found.rest, Mark::RightParenthesis) else {
+        return Err(Refused::Syntax);
+    };
+    let inner = Box::new(alloc, found.tree)?;
+    Ok(Found {
+        tree: Expr::Parens { line, inner },
+        height: found.height + 1,
+        rest,
+    })
+}
+
+/// Behind `sizeof`: a type name in parentheses, or an operand.
+#[cycle(reading)]
+#[tactic(auto, unfolding(crate::specs::Reading::sizeof_at))]
+fn sizeof_behind<'a>(
+    alloc: Global,
+    bytes: &[u8],
+    names: &TypeNames,
+    line: u32,
+    tokens: &'a [Token],
+    levels: u32,
+) -> Result<Found<'a>, Refused>
+    requires { levels < 400 }
+    ensures exact { Gives (λ x. (view x.tree, x.rest.now)) result (sizeof_at bytes.now names.now (reader bytes.now names.now levels) (declared_at bytes.now names.now levels) line tokens.now) }
+    ensures height { IfOk result (λ x. x.height ≡ depth (view x.tree)) }
+    ensures low { IfOk result (λ x. x.height ≤ levels + 1) }
+    ensures shorter { IfOk result (λ x. length x.rest.now ≤ length tokens.now) }
+{
+    match type_behind(bytes, names, tokens) {
+        Some(rest) => {
+            let found = type_name(alloc, bytes, names, rest, levels)?;
+            let type_name = Box::new(alloc, found.type_name)?;
+            Ok(Found {
+                tree: Expr::SizeofType { line, type_name },
+                height: found.height + 1,
+                rest: found.rest,
+            })
+        }
+        None => {
+            let found = read(alloc, bytes, names, tokens, 15, levels)?;
+            let operand = Box::new(alloc, found.tree)?;
+            Ok(Found {
+                tree: Expr::SizeofExpr { line, operand },
+                height: found.height + 1,
+                rest: found.rest,
+            })
+        }
+    }
+}
+
+/// A type name, with the parenthesis behind it.
+#[cycle(reading)]
+#[tactic(auto, unfolding(crate::specs::Reading::type_name_at))]
+fn type_name<'a>(
+    alloc: Global,
+    bytes: &[u8],
+    names: &TypeNames,
+    tokens: &'a [Token],
+    levels: u32,
+) -> Result<FoundType<'a>, Refused>
+    requires { levels < 400 }
+    ensures exact { Gives (λ x. ((map view_type_part x.type_name.specifiers.items, view_declarator x.type_name.declarator), x.rest.now)) result (type_name_at bytes.now names.now (declared_at bytes.now names.now levels) tokens.now) }
+    ensures height { IfOk result (λ x. x.height ≡ declared_depth (view_declarator x.type_name.declarator)) }
+    ensures low { IfOk result (λ x. x.height ≤ levels) }
+    ensures shorter { IfOk result (λ x. length x.rest.now ≤ length tokens.now) }
+{
+    let (specifiers, rest) = type_specifiers(alloc, bytes, names, tokens)?;
+    let found = declarator(alloc, bytes, names, rest, false, levels)?;
+    let Some(rest) = behind_mark(found.rest, Mark::RightParenthesis) else {
+        return Err(Refused::Syntax);
+    };
+    Ok(FoundType {
+        type_name: TypeName {
+            specifiers,
+            declarator: found.declarator,
+        },
+        height: found.height,
+        rest,
+    })
+}
+
+/// A suffix behind its bracket, which stands on a line.
+#[cycle(reading)]
+#[tactic(auto, unfolding(crate::specs::Reading::bound_at))]
+fn array_suffix<'a>(
+    alloc: Global,
+    bytes: &[u8],
+    names: &TypeNames,
+    line: u32,
+    tokens: &'a [Token],
+    levels: u32,
+) -> Result<FoundSuffix<'a>, Refused>
+    requires { levels < 400 }
+    ensures exact { Gives (λ x. Some (pair_of x.suffix, tt, x.rest.now)) result (bound_at (reader bytes.now names.now levels) line tokens.now) }
+    ensures height { IfOk result (λ x. x.height ≡ suffixes_depth (suffixes_of (x.suffix ∷ []))) }
+    ensures low { IfOk result (λ x. x.height ≤ levels) }
+    ensures shorter { IfOk result (λ x. length x.rest.now < length tokens.now) }
+{
+    if let Some(rest) = behind_mark(tokens, Mark::RightBracket) {
+        return Ok(FoundSuffix {
+            suffix: ArraySuffix::Open { line },
+            height: 0,
+            rest,
+        });
+    }
+    let found = read(alloc, bytes, names, tokens, 3, levels)?;
+    let Some(rest) = behind_mark(found.rest, Mark::RightBracket) else {
+        return Err(Refused::Syntax);
+    };
+    Ok(FoundSuffix {
+        suffix: ArraySuffix::Bounded {
+            line,
+            bound: found.tree,
+        },
+        height: found.height,
+        rest,
+    })
+}
+
+/// The suffixes at the front.
+#[cycle(reading)]
+fn array_suffixes<'a>(
+    alloc: Global,
+    bytes: &[u8],
+    names: &TypeNames,
+    tokens: &'a [Token],
+    levels: u32,
+) -> Result<FoundSuffixes<'a>, Refused>
+    requires { levels < 400 }
+    ensures exact { Gives (λ x. (suffixes_of x.suffixes.items, x.rest.now)) result (suffixes_at (reader bytes.now names.now levels) tokens.now) }
+    ensures height { IfOk result (λ x. x.height ≡ suffixes_depth (suffixes_of x.suffixes.items)) }
+    ensures low { IfOk result (λ x. x.height ≤ levels) }
+    ensures shorter { IfOk result (λ x. length x.rest.now ≤ length tokens.now) }
+{
+    let mut suffixes = Vec::new(alloc);
+    let mut height = 0;
+    let mut rest = tokens;
+    'suffixes: while let Some((line, behind)) = bracket(rest) {
+        let found = array_suffix(alloc, bytes, names, line, behind, levels)?;
+        suffixes.push(found.suffix)?;
+        height = larger(height, found.height);
+        rest = found.rest;
+    }
+    Ok(FoundSuffixes {
+        suffixes,
+        height,
+        rest,
+    })
+}
+
+/// The empty declarator.
+fn nothing(alloc: Global, tokens: &[Token]) -> FoundDeclarator<'_>
+    ensures tree { view_declarator result.declarator ≡ unnamed no_suffix }
+    ensures height { result.height ≡ 0 }
+    ensures rest { result.rest.now ≡ tokens.now }
+{
+    FoundDeclarator {
+        declarator: Declarator {
+            core: DeclaratorCore::Absent,
+            suffixes: Vec::new(alloc),
+        },
+        height: 0,
+        rest: tokens,
+    }
+}
+
+/// A declarator without levels, which is the empty one.
+fn bare<'a>(
+    alloc: Global,
+    heart: Heart,
+    tokens: &'a [Token],
+) -> Result<FoundDeclarator<'a>, Refused>
+    ensures exact { Gives (λ x. (view_declarator x.declarator, x.rest.now)) result (bare (Some heart) tokens.now) }
+    ensures height { IfOk result (λ x. x.height ≡ declared_depth (view_declarator x.declarator)) }
+    ensures low { IfOk result (λ x. x.height ≤ 0) }
+    ensures shorter { IfOk result (λ x. length x.rest.now ≤ length tokens.now) }
+{
+    match heart {
+        Heart::Nothing => Ok(nothing(alloc, tokens)),
+        Heart::Suffixes => Err(Refused::Syntax),
+        Heart::Name => Err(Refused::Syntax),
+        Heart::Inside => Err(Refused::Syntax),
+    }
+}
+
+/// A declarator in parentheses behind its parenthesis, which stands on a line, and its suffixes.
+#[cycle(reading)]
+#[tactic(auto, unfolding(crate::specs::Reading::inside_at))]
+fn inside<'a>(
+    alloc: Global,
+    bytes: &[u8],
+    names: &TypeNames,
+    named: bool,
+    line: u32,
+    tokens: &'a [Token],
+    levels: u32,
+) -> Result<FoundDeclarator<'a>, Refused>
+    requires { levels < 400 }
+    ensures exact { Gives (λ x. (view_declarator x.declarator, x.rest.now)) result (inside_at (reader bytes.now names.now levels) (declared_at bytes.now names.now levels) named line tokens.now) }
+    ensures height { IfOk result (λ x. x.height ≡ declared_depth (view_declarator x.declarator)) }
+    ensures low { IfOk result (λ x. x.height ≤ levels + 1) }
+    ensures shorter { IfOk result (λ x. length x.rest.now ≤ length tokens.now) }
+{
+    let found = declarator(alloc, bytes, names, tokens, named, levels)?;
+    let Some(rest) = behind_mark(found.rest, Mark::RightParenthesis) else {
+        return Err(Refused::Syntax);
+    };
+    if found.height == 0 {
+        return Err(Refused::Syntax);
+    }
+    let behind = array_suffixes(alloc, bytes, names, rest, levels)?;
+    let inner = Box::new(alloc, found.declarator)?;
+    let height = larger(found.height, behind.height) + 1;
+    Ok(FoundDeclarator {
+        declarator: Declarator {
+            core: DeclaratorCore::Inside { line, inner },
+            suffixes: behind.suffixes,
+        },
+        height,
+        rest: behind.rest,
+    })
+}
+
+/// The levels of an abstract declarator with these suffixes.
+#[tactic(auto, using(crate::proofs::Made::unnamed_depth))]
+fn unnamed_height(suffixes: &[ArraySuffix], height: u32) -> u32
+    requires low { height < 400 }
+    requires height { height ≡ suffixes_depth (suffixes_of suffixes.now) }
+    ensures height { result ≡ declared_depth (unnamed (suffixes_of suffixes.now)) }
+    ensures low { result ≤ height + 1 }
+{
+    if suffixes.is_empty() { 0 } else { height + 1 }
+}
+
+/// The suffixes of an abstract declarator, one at least.
+#[cycle(reading)]
+fn unnamed<'a>(
+    alloc: Global,
+    bytes: &[u8],
+    names: &TypeNames,
+    tokens: &'a [Token],
+    levels: u32,
+) -> Result<FoundDeclarator<'a>, Refused>
+    requires { levels < 400 }
+    ensures exact { Gives (λ x. (view_declarator x.declarator, x.rest.now)) result (unnamed_at (reader bytes.now names.now levels) tokens.now) }
+    ensures height { IfOk result (λ x. x.height ≡ declared_depth (view_declarator x.declarator)) }
+    ensures low { IfOk result (λ x. x.height ≤ levels + 1) }
+    ensures shorter { IfOk result (λ x. length x.rest.now ≤ length tokens.now) }
+{
+    let found = array_suffixes(alloc, bytes, names, tokens, levels)?;
+    let height = unnamed_height(&found.suffixes, found.height);
+    Ok(FoundDeclarator {
+        declarator: Declarator {
+            core: DeclaratorCore::Absent,
+            suffixes: found.suffixes,
+        },
+        height,
+        rest: found.rest,
+    })
+}
+
+/// A declarator that begins so.
+#[cycle(reading)]
+#[tactic(auto, unfolding(crate::specs::Reading::declared_from))]
+fn declarator_behind<'a>(
+    alloc: Global,
+    bytes: &[u8],
+    names: &TypeNames,
+    named: bool,
+    heart: Heart,
+    tokens: &'a [Token],
+    levels: u32,
+) -> Result<FoundDeclarator<'a>, Refused>
+    requires { levels < 400 }
+    ensures exact { Gives (λ x. (view_declarator x.declarator, x.rest.now)) result (declared_from bytes.now (reader bytes.now names.now levels) (declared_at bytes.now names.now levels) named heart tokens.now) }
+    ensures height { IfOk result (λ x. x.height ≡ declared_depth (view_declarator x.declarator)) }
+    ensures low { IfOk result (λ x. x.height ≤ levels + 1) }
+    ensures shorter { IfOk result (λ x. length x.rest.now ≤ length tokens.now) }
+{
+    match heart {
+        Heart::Nothing => Ok(nothing(alloc, tokens)),
+        Heart::Suffixes => unnamed(alloc, bytes, names, tokens, levels),
+        Heart::Name => {
+            let Some((token, rest)) = split(tokens) else {
+                return Err(Refused::Syntax);
+            };
+            let name = name_of(alloc, bytes, token)?;
+            let found = array_suffixes(alloc, bytes, names, rest, levels)?;
+            Ok(FoundDeclarator {
+                declarator: Declarator {
+                    core: DeclaratorCore::Named {
+                        line: token.line,
+                        name,
+                    },
+                    suffixes: found.suffixes,
+                },
+                height: found.height + 1,
+                rest: found.rest,
+            })
+        }
+        Heart::Inside => {
+            let Some((token, rest)) = split(tokens) else {
+                return Err(Refused::Syntax);
+            };
+            inside(alloc, bytes, names, named, token.line, rest, levels)
+        }
+    }
+}
+
+/// The declarator with at most so many levels that stands at the front of the tokens: with a name, or an abstract one.
+#[cycle(reading)]
+#[tactic(auto, unfolding(crate::specs::Reading::declared_at))]
+pub fn declarator<'a>(
+    alloc: Global,
+    bytes: &[u8],
+    names: &TypeNames,
+    tokens: &'a [Token],
+    named: bool,
+    levels: u32,
+) -> Result<FoundDeclarator<'a>, Refused>
+    requires { levels ≤ 400 }
+    ensures exact { Gives (λ x. (view_declarator x.declarator, x.rest.now)) result (declared_at bytes.now names.now levels named tokens.now) }
+    ensures height { IfOk result (λ x. x.height ≡ declared_depth (view_declarator x.declarator)) }
+    ensures low { IfOk result (λ x. x.height ≤ levels) }
+    ensures shorter { IfOk result (λ x. length x.rest.now ≤ length tokens.now) }
+{
+    let Some(heart) = heart_at(named, tokens) else {
+        return Err(Refused::Syntax);
+    };
+    if levels == 0 {
+        return bare(alloc, heart, tokens);
+    }
+    declarator_behind(alloc, bytes, names, named, heart, tokens, levels - 1)
 }
 
 /// What the tokens begin.
@@ -99,11 +512,12 @@ fn prefix_behind<'a>(
 fn operand<'a>(
     alloc: Global,
     bytes: &[u8],
+    names: &TypeNames,
     tokens: &'a [Token],
     levels: u32,
 ) -> Result<Found<'a>, Refused>
     requires { levels < 400 }
-    ensures exact { Gives (λ x. (view x.tree, x.rest.now)) result (prefix_at bytes.now (reader bytes.now levels) tokens.now) }
+    ensures exact { Gives (λ x. (view x.tree, x.rest.now)) result (prefix_at bytes.now names.now (reader bytes.now names.now levels) (declared_at bytes.now names.now levels) tokens.now) }
     ensures height { IfOk result (λ x. x.height ≡ depth (view x.tree)) }
     ensures low { IfOk result (λ x. x.height ≤ levels + 1) }
     ensures shorter { IfOk result (λ x. length x.rest.now ≤ length tokens.now) }
@@ -114,7 +528,7 @@ fn operand<'a>(
     let Some(lead) = lead_of(token.kind) else {
         return Err(Refused::Syntax);
     };
-    prefix_behind(alloc, bytes, lead, token, rest, levels)
+    prefix_behind(alloc, bytes, names, lead, token, rest, levels)
 }
 
 /// The arguments of a call, behind its parenthesis, with the one that closes them.
@@ -122,11 +536,12 @@ fn operand<'a>(
 fn arguments<'a>(
     alloc: Global,
     bytes: &[u8],
+    names: &TypeNames,
     tokens: &'a [Token],
     levels: u32,
 ) -> Result<Items<'a>, Refused>
     requires { levels < 400 }
-    ensures exact { Gives (λ x. (views_of x.items.items, x.rest.now)) result (arguments_at (reader bytes.now levels) tokens.now) }
+    ensures exact { Gives (λ x. (views_of x.items.items, x.rest.now)) result (arguments_at (reader bytes.now names.now levels) tokens.now) }
     ensures height { IfOk result (λ x. x.height ≡ depth_of (views_of x.items.items)) }
     ensures low { IfOk result (λ x. x.height ≤ levels) }
     ensures shorter { IfOk result (λ x. length x.rest.now ≤ length tokens.now) }
@@ -139,7 +554,7 @@ fn arguments<'a>(
             rest,
         });
     }
-    let first = read(alloc, bytes, tokens, 2, levels)?;
+    let first = read(alloc, bytes, names, tokens, 2, levels)?;
     items.push(first.tree)?;
     let mut height = first.height;
     let mut rest = first.rest;
@@ -154,7 +569,7 @@ fn arguments<'a>(
         let Some(behind) = behind_mark(rest, Mark::Comma) else {
             return Err(Refused::Syntax);
         };
-        let next = read(alloc, bytes, behind, 2, levels)?;
+        let next = read(alloc, bytes, names, behind, 2, levels)?;
         items.push(next.tree)?;
         height = larger(height, next.height);
         rest = next.rest;
@@ -167,6 +582,7 @@ fn arguments<'a>(
 fn suffix_behind<'a>(
     alloc: Global,
     bytes: &[u8],
+    names: &TypeNames,
     suffix: Suffix,
     line: u32,
     left: Expr,
@@ -177,7 +593,7 @@ fn suffix_behind<'a>(
     requires levels { levels < 400 }
     requires height { height ≡ depth (view left) }
     requires low { height ≤ levels }
-    ensures exact { Gives (λ x. (view x.tree, x.rest.now)) result (suffixed (reader bytes.now levels) suffix line (view left) tokens.now) }
+    ensures exact { Gives (λ x. (view x.tree, x.rest.now)) result (suffixed bytes.now (reader bytes.now names.now levels) suffix line (view left) tokens.now) }
     ensures height { IfOk result (λ x. x.height ≡ depth (view x.tree)) }
     ensures higher { IfOk result (λ x. height < x.height) }
     ensures low { IfOk result (λ x. x.height ≤ levels + 1) }
@@ -185,7 +601,14 @@ fn suffix_behind<'a>(
 {
     match suffix {
         Suffix::Operator(operator) => {
-            let found = read(alloc, bytes, tokens, strength_of(operator) + 1, levels)?;
+            let found = read(
+                alloc,
+                bytes,
+                names,
+                tokens,
+                strength_of(operator) + 1,
+                levels,
+            )?;
             let left = Box::new(alloc, left)?;
             let right = Box::new(alloc, found.tree)?;
             let height = larger(height, found.height) + 1;
@@ -201,7 +624,7 @@ fn suffix_behind<'a>(
             })
         }
         Suffix::Becomes(operator) => {
-            let found = read(alloc, bytes, tokens, 2, levels)?;
+            let found = read(alloc, bytes, names, tokens, 2, levels)?;
             let place = Box::new(alloc, left)?;
             let value = Box::new(alloc, found.tree)?;
             let height = larger(height, found.height) + 1;
@@ -217,11 +640,11 @@ fn suffix_behind<'a>(
             })
         }
         Suffix::Choice => {
-            let middle = read(alloc, bytes, tokens, 1, levels)?;
+            let middle = read(alloc, bytes, names, tokens, 1, levels)?;
             let Some(rest) = behind_mark(middle.rest, Mark::Colon) else {
                 return Err(Refused::Syntax);
             };
-            let last = read(alloc, bytes, rest, 3, levels)?;
+            let last = read(alloc, bytes, names, rest, 3, levels)?;
             let test = Box::new(alloc, left)?;
             let yes = Box::new(alloc, middle.tree)?;
             let no = Box::new(alloc, last.tree)?;
@@ -238,7 +661,7 @@ fn suffix_behind<'a>(
             })
         }
         Suffix::Then => {
-            let found = read(alloc, bytes, tokens, 2, levels)?;
+            let found = read(alloc, bytes, names, tokens, 2, levels)?;
             let left = Box::new(alloc, left)?;
             let right = Box::new(alloc, found.tree)?;
             let height = larger(height, found.height) + 1;
@@ -260,8 +683,21 @@ fn suffix_behind<'a>(
                 rest: tokens,
             })
         }
+        Suffix::Member => {
+            let Some((text, rest)) = identifier(bytes, tokens) else {
+                return Err(Refused::Syntax);
+            };
+            let name = text_name(alloc, text)?;
+            let left = Box::new(alloc, left)?;
+            Ok(Found {
+                tree: Expr::Member { line, left, name },
+                height: height + 1,
+                rest,
+            })
+        }
+        Suffix::Another => Err(Refused::Syntax),
         Suffix::Arguments => {
-            let arguments = arguments(alloc, bytes, tokens, levels)?;
+            let arguments = arguments(alloc, bytes, names, tokens, levels)?;
             let function = Box::new(alloc, left)?;
             let height = larger(height, arguments.height) + 1;
             Ok(Found {
@@ -283,12 +719,13 @@ fn suffix_behind<'a>(
 pub fn read<'a>(
     alloc: Global,
     bytes: &[u8],
+    names: &TypeNames,
     tokens: &'a [Token],
     level: u8,
     levels: u32,
 ) -> Result<Found<'a>, Refused>
     requires { levels ≤ 400 }
-    ensures exact { Gives (λ x. (view x.tree, x.rest.now)) result (reader bytes.now levels level tokens.now) }
+    ensures exact { Gives (λ x. (view x.tree, x.rest.now)) result (reader bytes.now names.now levels level tokens.now) }
     ensures height { IfOk result (λ x. x.height ≡ depth (view x.tree)) }
     ensures low { IfOk result (λ x. x.height ≤ levels) }
     ensures shorter { IfOk result (λ x. length x.rest.now ≤ length tokens.now) }
@@ -296,7 +733,10 @@ pub fn read<'a>(
     if levels == 0 {
         return Err(Refused::Syntax);
     }
-    let mut found = operand(alloc, bytes, tokens, levels - 1)?;
+    let mut found = operand(alloc, bytes, names, tokens, levels - 1)?;
+    if level_of(&found.tree) < level {
+        return Err(Refused::Syntax);
+    }
     'suffixes: while let Some((suffix, line, rest)) = next_suffix(
         found.rest,
         level,
@@ -308,6 +748,7 @@ pub fn read<'a>(
         found = suffix_behind(
             alloc,
             bytes,
+            names,
             suffix,
             line,
             found.tree,

@@ -1,11 +1,11 @@
 //! Taking tokens from the front of a slice.
 
-ghost use Rattle.std.specs.Prelude.{◌≡◌, ◌<◌, [], ◌∷◌, MatchOption, IfSome, IfOk, length, option_map};
+ghost use Rattle.std.specs.Prelude.{◌≡◌, ◌<◌, ◌≤◌, [], ◌∷◌, MatchOption, IfSome, IfOk, length, option_map};
 ghost use Rattle.c_lexer.specs.Kinds.{text_of};
 ghost use Rattle.c_tree.specs.Tables.{name_level};
 ghost use Rattle.c_tree.specs.Tree.{view};
 ghost use Rattle.c_tree.specs.Tables.{level_of};
-ghost use Rattle.c_parse_expr.specs.Reading.{behind, is_mark, next_at, goes_on};
+ghost use Rattle.c_parse_expr.specs.Reading.{behind, is_mark, is_identifier, is_string, identifier_at, string, bracket, next_at, goes_on};
 
 use crate::table::{Suffix, least_left, strength_behind, strength_of, suffix_of};
 use c_lexer::{Kind, Mark, Token};
@@ -46,6 +46,86 @@ pub fn behind_mark(tokens: &[Token], mark: Mark) -> Option<&[Token]>
         Some((token, rest)) => {
             if is_mark(mark, token.kind) {
                 Some(rest)
+            } else {
+                None
+            }
+        }
+        None => None,
+    }
+}
+
+pub fn is_identifier(kind: Kind) -> bool
+    ensures { result ≡ is_identifier kind }
+{
+    match kind {
+        Kind::Identifier => true,
+        Kind::Keyword(_) => false,
+        Kind::Constant(_) => false,
+        Kind::Character(_) => false,
+        Kind::String => false,
+        Kind::Mark(_) => false,
+    }
+}
+
+fn is_string(kind: Kind) -> bool
+    ensures { result ≡ is_string kind }
+{
+    match kind {
+        Kind::Identifier => false,
+        Kind::Keyword(_) => false,
+        Kind::Constant(_) => false,
+        Kind::Character(_) => false,
+        Kind::String => true,
+        Kind::Mark(_) => false,
+    }
+}
+
+/// The text of an identifier at the front, and the tokens behind it.
+#[tactic(auto, unfolding(crate::specs::Reading::identifier_at))]
+pub fn identifier<'a, 'b>(bytes: &'b [u8], tokens: &'a [Token]) -> Option<(&'b [u8], &'a [Token])>
+    ensures value { option_map (λ x. (x.0.now, x.1.now)) result ≡ identifier_at bytes.now tokens.now }
+    ensures shorter { IfSome result (λ x. length x.1.now < length tokens.now) }
+{
+    match split(tokens) {
+        Some((token, rest)) => {
+            if is_identifier(token.kind) {
+                Some((token_text(bytes, token), rest))
+            } else {
+                None
+            }
+        }
+        None => None,
+    }
+}
+
+/// The text of a string literal at the front, and the tokens behind it.
+#[tactic(auto, unfolding(crate::specs::Reading::string))]
+pub fn string<'a, 'b>(bytes: &'b [u8], tokens: &'a [Token]) -> Option<(&'b [u8], &'a [Token])>
+    ensures value { option_map (λ x. (x.0.now, x.1.now)) result ≡ string bytes.now tokens.now }
+    ensures shorter { IfSome result (λ x. length x.1.now < length tokens.now) }
+{
+    match split(tokens) {
+        Some((token, rest)) => {
+            if is_string(token.kind) {
+                Some((token_text(bytes, token), rest))
+            } else {
+                None
+            }
+        }
+        None => None,
+    }
+}
+
+/// The line of a bracket at the front, and the tokens behind it.
+#[tactic(auto, unfolding(crate::specs::Reading::bracket))]
+pub fn bracket(tokens: &[Token]) -> Option<(u32, &[Token])>
+    ensures value { option_map (λ x. (x.0, x.1.now)) result ≡ bracket tokens.now }
+    ensures shorter { IfSome result (λ x. length x.1.now < length tokens.now) }
+{
+    match split(tokens) {
+        Some((token, rest)) => {
+            if is_mark(Mark::LeftBracket, token.kind) {
+                Some((token.line, rest))
             } else {
                 None
             }
@@ -97,12 +177,19 @@ pub fn token_text(bytes: &[u8], token: Token) -> &[u8]
     rest.split_at(length).0
 }
 
+/// The name of a text.
+pub fn text_name(alloc: Global, text: &[u8]) -> Result<Name, AllocError>
+    ensures { IfOk result (λ name. name.bytes.items ≡ text.now) }
+{
+    let bytes = text.to_vec(alloc)?;
+    Ok(Name { bytes })
+}
+
 /// The name that a token spells.
 pub fn name_of(alloc: Global, bytes: &[u8], token: Token) -> Result<Name, AllocError>
     ensures { IfOk result (λ name. name.bytes.items ≡ text_of bytes.now token) }
 {
-    let bytes = token_text(bytes, token).iter().copied().collect(alloc)?;
-    Ok(Name { bytes })
+    text_name(alloc, token_text(bytes, token))
 }
 
 fn name_level(name: &Name) -> u8
@@ -115,8 +202,8 @@ fn name_level(name: &Name) -> u8
     }
 }
 
-/// The level of a tree: comma 1, assignment 2, `?:` 3, the binary operators 4 to 13, unary 15, postfix 16, primary 17, and 18
-/// for a name that can be called.
+/// The level of a tree: comma 1, assignment 2, `?:` 3, the binary operators 4 to 13, cast 14, unary 15, postfix 16, primary 17,
+/// and 18 for a name that can be called.
 pub fn level_of(expr: &Expr) -> u8
     ensures { result ≡ level_of (view expr.now) }
 {
@@ -125,6 +212,8 @@ pub fn level_of(expr: &Expr) -> u8
             line: _,
             constant: _,
         } => 17,
+        Expr::Character { line: _, value: _ } => 17,
+        Expr::Strings { line: _, parts: _ } => 17,
         Expr::Name { line: _, name } => name_level(name),
         Expr::Parens { line: _, inner: _ } => 17,
         Expr::Unary {
@@ -132,10 +221,28 @@ pub fn level_of(expr: &Expr) -> u8
             operator: _,
             operand: _,
         } => 15,
+        Expr::Cast {
+            line: _,
+            type_name: _,
+            operand: _,
+        } => 14,
+        Expr::SizeofExpr {
+            line: _,
+            operand: _,
+        } => 15,
+        Expr::SizeofType {
+            line: _,
+            type_name: _,
+        } => 15,
         Expr::Step {
             line: _,
             operator: _,
             operand: _,
+        } => 16,
+        Expr::Member {
+            line: _,
+            left: _,
+            name: _,
         } => 16,
         Expr::Binary {
             line: _,

@@ -2,19 +2,23 @@
 
 ghost use Rattle.std.specs.Prelude.{◌≡◌};
 ghost use Rattle.c_tree.specs.Tables.{strength_of, operand_level};
-ghost use Rattle.c_parse_expr.specs.Tables.{lead_of_mark, lead_of, suffix_of_mark, suffix_of, strength_behind, least_left};
+ghost use Rattle.c_parse_expr.specs.Tables.{lead_of_keyword, lead_of_mark, lead_of, suffix_of_mark, suffix_of, strength_behind, least_left, keyword_start};
 
-use c_lexer::{Constant, Kind, Mark};
-use c_tree::{BinaryOp, StepOp, UnaryOp};
+use c_lexer::{Constant, Keyword, Kind, Mark};
+use c_tree::{BinaryOp, Qualifier, StepOp, TagKind, TypeWord, UnaryOp};
 
 /// What a token begins where an operand is due.
 #[derive(Clone, Copy, Debug, PartialEq, Eq)]
 pub enum Lead {
     Name,
     Constant(Constant),
-    /// An expression in parentheses.
+    /// A character constant, with the bits of its value of type int.
+    Character(u32),
+    Strings,
+    /// An expression in parentheses, or a cast.
     Group,
     Unary(UnaryOp),
+    Sizeof,
 }
 
 /// What a token does behind an operand.
@@ -30,6 +34,104 @@ pub enum Suffix {
     Step(StepOp),
     /// The parenthesis before a call's arguments.
     Arguments,
+    /// The point before a member's name.
+    Member,
+    /// A further string literal. String literals in a row are read at once, so it goes on with nothing that was read.
+    Another,
+}
+
+/// What begins a specifier of a type.
+#[derive(Clone, Copy, Debug, PartialEq, Eq)]
+pub enum TypeStart {
+    Qualifier(Qualifier),
+    Word(TypeWord),
+    Tag(TagKind),
+    /// The name of a typedef.
+    Name,
+}
+
+/// What a keyword begins.
+fn lead_of_keyword(keyword: Keyword) -> Option<Lead>
+    ensures { result ≡ lead_of_keyword keyword }
+{
+    match keyword {
+        Keyword::Auto => None,
+        Keyword::Break => None,
+        Keyword::Case => None,
+        Keyword::Char => None,
+        Keyword::Const => None,
+        Keyword::Continue => None,
+        Keyword::Default => None,
+        Keyword::Do => None,
+        Keyword::Else => None,
+        Keyword::Enum => None,
+        Keyword::Extern => None,
+        Keyword::For => None,
+        Keyword::Goto => None,
+        Keyword::If => None,
+        Keyword::Inline => None,
+        Keyword::Int => None,
+        Keyword::Long => None,
+        Keyword::Register => None,
+        Keyword::Restrict => None,
+        Keyword::Return => None,
+        Keyword::Short => None,
+        Keyword::Signed => None,
+        Keyword::Sizeof => Some(Lead::Sizeof),
+        Keyword::Static => None,
+        Keyword::Struct => None,
+        Keyword::Switch => None,
+        Keyword::Typedef => None,
+        Keyword::Union => None,
+        Keyword::Unsigned => None,
+        Keyword::Void => None,
+        Keyword::Volatile => None,
+        Keyword::While => None,
+        Keyword::Bool => None,
+        Keyword::Noreturn => None,
+    }
+}
+
+/// The specifier of a type that a keyword begins.
+pub fn keyword_start(keyword: Keyword) -> Option<TypeStart>
+    ensures { result ≡ keyword_start keyword }
+{
+    match keyword {
+        Keyword::Auto => None,
+        Keyword::Break => None,
+        Keyword::Case => None,
+        Keyword::Char => Some(TypeStart::Word(TypeWord::Char)),
+        Keyword::Const => Some(TypeStart::Qualifier(Qualifier::Const)),
+        Keyword::Continue => None,
+        Keyword::Default => None,
+        Keyword::Do => None,
+        Keyword::Else => None,
+        Keyword::Enum => Some(TypeStart::Tag(TagKind::Enum)),
+        Keyword::Extern => None,
+        Keyword::For => None,
+        Keyword::Goto => None,
+        Keyword::If => None,
+        Keyword::Inline => None,
+        Keyword::Int => Some(TypeStart::Word(TypeWord::Int)),
+        Keyword::Long => Some(TypeStart::Word(TypeWord::Long)),
+        Keyword::Register => None,
+        Keyword::Restrict => Some(TypeStart::Qualifier(Qualifier::Restrict)),
+        Keyword::Return => None,
+        Keyword::Short => Some(TypeStart::Word(TypeWord::Short)),
+        Keyword::Signed => Some(TypeStart::Word(TypeWord::Signed)),
+        Keyword::Sizeof => None,
+        Keyword::Static => None,
+        Keyword::Struct => Some(TypeStart::Tag(TagKind::Struct)),
+        Keyword::Switch => None,
+        Keyword::Typedef => None,
+        Keyword::Union => Some(TypeStart::Tag(TagKind::Union)),
+        Keyword::Unsigned => Some(TypeStart::Word(TypeWord::Unsigned)),
+        Keyword::Void => Some(TypeStart::Word(TypeWord::Void)),
+        Keyword::Volatile => Some(TypeStart::Qualifier(Qualifier::Volatile)),
+        Keyword::While => None,
+        Keyword::Bool => Some(TypeStart::Word(TypeWord::Bool)),
+        Keyword::Noreturn => None,
+    }
 }
 
 /// What a mark begins.
@@ -93,10 +195,10 @@ pub fn lead_of(kind: Kind) -> Option<Lead>
 {
     match kind {
         Kind::Identifier => Some(Lead::Name),
-        Kind::Keyword(_) => None,
+        Kind::Keyword(keyword) => lead_of_keyword(keyword),
         Kind::Constant(constant) => Some(Lead::Constant(constant)),
-        Kind::Character(_) => None,
-        Kind::String => None,
+        Kind::Character(value) => Some(Lead::Character(value)),
+        Kind::String => Some(Lead::Strings),
         Kind::Mark(mark) => lead_of_mark(mark),
     }
 }
@@ -112,7 +214,7 @@ fn suffix_of_mark(mark: Mark) -> Option<Suffix>
         Mark::RightParenthesis => None,
         Mark::LeftBrace => None,
         Mark::RightBrace => None,
-        Mark::Dot => None,
+        Mark::Dot => Some(Suffix::Member),
         Mark::Arrow => None,
         Mark::PlusPlus => Some(Suffix::Step(StepOp::Increment)),
         Mark::MinusMinus => Some(Suffix::Step(StepOp::Decrement)),
@@ -165,7 +267,7 @@ pub fn suffix_of(kind: Kind) -> Option<Suffix>
         Kind::Keyword(_) => None,
         Kind::Constant(_) => None,
         Kind::Character(_) => None,
-        Kind::String => None,
+        Kind::String => Some(Suffix::Another),
         Kind::Mark(mark) => suffix_of_mark(mark),
     }
 }
@@ -221,10 +323,12 @@ pub fn strength_behind(suffix: Suffix) -> u8
         Suffix::Then => 1,
         Suffix::Step(_) => 16,
         Suffix::Arguments => 16,
+        Suffix::Member => 16,
+        Suffix::Another => 17,
     }
 }
 
-/// The lowest level of what may stand before it.
+/// The lowest level of what may stand before it; nothing has the level 19.
 pub fn least_left(suffix: Suffix) -> u8
     ensures { result ≡ least_left suffix }
 {
@@ -235,5 +339,7 @@ pub fn least_left(suffix: Suffix) -> u8
         Suffix::Then => 1,
         Suffix::Step(_) => 16,
         Suffix::Arguments => 18,
+        Suffix::Member => 16,
+        Suffix::Another => 19,
     }
 }

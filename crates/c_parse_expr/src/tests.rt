@@ -1,6 +1,9 @@
 use super::*;
 use c_lexer::{LexError, Tokens, lex};
-use c_tree::{BinaryOp, Expr, StepOp, UnaryOp};
+use c_tree::{
+    ArraySuffix, BinaryOp, Declarator, DeclaratorCore, Expr, Name, Qualifier, StepOp, TagKind,
+    TypeName, TypeSpecifier, TypeWord, UnaryOp,
+};
 use std::alloc::{AllocError, Global};
 use std::test::*;
 
@@ -54,14 +57,95 @@ fn put(out: &mut Vec<u8>, text: &[u8]) -> Result<(), AllocError> {
     Ok(())
 }
 
-/// Writes a tree with brackets round each operator and its operands. A constant is `1`, and of a call the name and the
-/// number of its arguments are written.
+fn word_text(word: TypeWord) -> &'static [u8] {
+    match word {
+        TypeWord::Void => b"void",
+        TypeWord::Char => b"char",
+        TypeWord::Short => b"short",
+        TypeWord::Int => b"int",
+        TypeWord::Long => b"long",
+        TypeWord::Signed => b"signed",
+        TypeWord::Unsigned => b"unsigned",
+        TypeWord::Bool => b"_Bool",
+    }
+}
+
+fn put_specifier(out: &mut Vec<u8>, specifier: &TypeSpecifier) -> Result<(), AllocError> {
+    match specifier {
+        TypeSpecifier::Qualifier { line: _, qualifier } => match qualifier {
+            Qualifier::Const => put(out, b"const"),
+            Qualifier::Volatile => put(out, b"volatile"),
+            Qualifier::Restrict => put(out, b"restrict"),
+        },
+        TypeSpecifier::Word { line: _, word } => put(out, word_text(*word)),
+        TypeSpecifier::Tagged {
+            line: _,
+            kind,
+            name,
+        } => {
+            match kind {
+                TagKind::Struct => put(out, b"struct ")?,
+                TagKind::Union => put(out, b"union ")?,
+                TagKind::Enum => put(out, b"enum ")?,
+            }
+            put(out, &name.bytes)
+        }
+        TypeSpecifier::Named { line: _, name } => put(out, &name.bytes),
+    }
+}
+
+fn put_suffixes(out: &mut Vec<u8>, suffixes: &[ArraySuffix]) -> Result<(), AllocError> {
+    for suffix in suffixes {
+        match suffix {
+            ArraySuffix::Bounded { line: _, bound: _ } => put(out, b"[#]")?,
+            ArraySuffix::Open { line: _ } => put(out, b"[]")?,
+        }
+    }
+    Ok(())
+}
+
+/// Writes a declarator; a bound is `#`.
+fn put_declarator(out: &mut Vec<u8>, declarator: &Declarator) -> Result<(), AllocError> {
+    match &declarator.core {
+        DeclaratorCore::Absent => {}
+        DeclaratorCore::Named { line: _, name } => put(out, &name.bytes)?,
+        DeclaratorCore::Inside { line: _, inner } => {
+            put(out, b"(")?;
+            put_declarator(out, inner)?;
+            put(out, b")")?;
+        }
+    }
+    put_suffixes(out, &declarator.suffixes)
+}
+
+/// Writes a type name in parentheses, with a comma behind each specifier.
+fn put_type(out: &mut Vec<u8>, type_name: &TypeName) -> Result<(), AllocError> {
+    put(out, b"(")?;
+    for specifier in &type_name.specifiers {
+        put_specifier(out, specifier)?;
+        put(out, b",")?;
+    }
+    put_declarator(out, &type_name.declarator)?;
+    put(out, b")")
+}
+
+fn put_strings(out: &mut Vec<u8>, parts: &[Name]) -> Result<(), AllocError> {
+    for part in parts {
+        put(out, &part.bytes)?;
+    }
+    Ok(())
+}
+
+/// Writes a tree with brackets round each operator and its operands. A constant is `1`, a character constant
+/// `c`, and of a call the name and the number of its arguments are written.
 fn show(out: &mut Vec<u8>, expr: &Expr) -> Result<(), AllocError> {
     match expr {
         Expr::Constant {
             line: _,
             constant: _,
         } => put(out, b"1"),
+        Expr::Character { line: _, value: _ } => put(out, b"c"),
+        Expr::Strings { line: _, parts } => put_strings(out, parts),
         Expr::Name { line: _, name } => put(out, &name.bytes),
         Expr::Parens { line: _, inner } => {
             put(out, b"(")?;
@@ -78,6 +162,26 @@ fn show(out: &mut Vec<u8>, expr: &Expr) -> Result<(), AllocError> {
             show(out, operand)?;
             put(out, b"]")
         }
+        Expr::Cast {
+            line: _,
+            type_name,
+            operand,
+        } => {
+            put(out, b"[")?;
+            put_type(out, type_name)?;
+            show(out, operand)?;
+            put(out, b"]")
+        }
+        Expr::SizeofExpr { line: _, operand } => {
+            put(out, b"[sizeof ")?;
+            show(out, operand)?;
+            put(out, b"]")
+        }
+        Expr::SizeofType { line: _, type_name } => {
+            put(out, b"[sizeof")?;
+            put_type(out, type_name)?;
+            put(out, b"]")
+        }
         Expr::Step {
             line: _,
             operator,
@@ -89,6 +193,17 @@ fn show(out: &mut Vec<u8>, expr: &Expr) -> Result<(), AllocError> {
                 StepOp::Increment => put(out, b"++]"),
                 StepOp::Decrement => put(out, b"--]"),
             }
+        }
+        Expr::Member {
+            line: _,
+            left,
+            name,
+        } => {
+            put(out, b"[")?;
+            show(out, left)?;
+            put(out, b".")?;
+            put(out, &name.bytes)?;
+            put(out, b"]")
         }
         Expr::Binary {
             line: _,
@@ -155,13 +270,27 @@ fn show(out: &mut Vec<u8>, expr: &Expr) -> Result<(), AllocError> {
     }
 }
 
+/// The names where `T` is a type, and `U` one that a variable hides.
+fn some_names(alloc: Global) -> Result<TypeNames, AllocError> {
+    let mut names = TypeNames::new(alloc);
+    names.declare(alloc, b"T", true)?;
+    names.declare(alloc, b"U", true)?;
+    names.declare(alloc, b"U", false)?;
+    Ok(names)
+}
+
 /// The tree of a whole text, written out, or nothing.
-fn shown(alloc: Global, text: &[u8], level: Level) -> Result<Vec<u8>, AllocError> {
+fn shown(
+    alloc: Global,
+    names: &TypeNames,
+    text: &[u8],
+    level: Level,
+) -> Result<Vec<u8>, AllocError> {
     let mut out = Vec::new(alloc);
     let Ok(tokens) = lexed(alloc, text) else {
         return Ok(out);
     };
-    if let Ok((expr, end)) = expression(alloc, &tokens, 0, level) {
+    if let Ok((expr, end)) = expression(alloc, &tokens, 0, level, names) {
         if end == tokens.tokens.len() {
             show(&mut out, &expr)?;
         }
@@ -170,15 +299,20 @@ fn shown(alloc: Global, text: &[u8], level: Level) -> Result<Vec<u8>, AllocError
 }
 
 /// Why no expression stands at a place.
-fn error_at(alloc: Global, tokens: &Tokens, at: usize) -> Option<ExpressionError> {
+fn error_at(
+    alloc: Global,
+    names: &TypeNames,
+    tokens: &Tokens,
+    at: usize,
+) -> Option<ExpressionError> {
     if at <= tokens.tokens.len() {
-        expression(alloc, tokens, at, Level::Comma).err()
+        expression(alloc, tokens, at, Level::Comma, names).err()
     } else {
         None
     }
 }
 
-const TREES: [(&[u8], &[u8]); 24] = [
+const TREES: [(&[u8], &[u8]); 53] = [
     (b"a", b"a"),
     (b"a-b-c", b"[[a-b]-c]"),
     (b"a+b*c", b"[a+[b*c]]"),
@@ -206,34 +340,72 @@ const TREES: [(&[u8], &[u8]); 24] = [
     (b"main()", b""),
     (b"main+1", b"[main+1]"),
     (b"f()()", b""),
+    (b"'a'+1", b"[c+1]"),
+    (b"\"a\" \"b\"+c", b"[\"a\"\"b\"+c]"),
+    (b"-s.a.b++", b"[-[[[s.a].b]++]]"),
+    (b"s.(a)", b""),
+    (b"sizeof(T)-1", b"[[sizeof(T,)]-1]"),
+    (b"sizeof(a)-1", b"[[sizeof (a)]-1]"),
+    (b"sizeof(U)-1", b"[[sizeof (U)]-1]"),
+    (b"sizeof a++", b"[sizeof [a++]]"),
+    (b"sizeof(int)a", b""),
+    (
+        b"sizeof(unsigned long[2][])",
+        b"[sizeof(unsigned,long,[#][])]",
+    ),
+    (b"(T)(a)", b"[(T,)(a)]"),
+    (b"(T)+1", b"[(T,)[+1]]"),
+    (b"(a)+1", b"[(a)+1]"),
+    (b"(U)+1", b"[(U)+1]"),
+    (b"(U)(a)", b""),
+    (b"(T)(int)a+b", b"[[(T,)[(int,)a]]+b]"),
+    (b"-(T)a", b"[-[(T,)a]]"),
+    (b"++(T)a", b""),
+    (b"(T)a=b", b""),
+    (b"(T const)a", b"[(T,const,)a]"),
+    (b"(const T([a=b]))a", b""),
+    (b"(const T([1]))a", b"[(const,T,([#]))a]"),
+    (b"(T())a", b""),
+    (b"(struct T)a", b"[(struct T,)a]"),
+    (b"(struct)a", b""),
+    (b"(T T)a", b""),
+    (b"(T b)a", b""),
+    (b"a+T", b""),
+    (b"(T)", b""),
+];
+
+/// Texts that are read from another level than the lowest.
+const LEVELS: [(Level, &[u8], &[u8]); 4] = [
+    (Level::Assignment, b"a=b", b"[a=b]"),
+    (Level::Assignment, b"a,b", b""),
+    (Level::Conditional, b"a?b:c", b"[a?b:c]"),
+    (Level::Conditional, b"a=b", b""),
 ];
 
 #[test]
 fn trees_and_refusals(rt: HostRuntime) -> Result<(), Fail> {
+    let names = some_names(rt.alloc())?;
     for (text, expected) in TREES {
-        assert_eq!(rt; shown(rt.alloc(), text, Level::Comma)?.as_slice(), expected);
+        let found = shown(rt.alloc(), &names, text, Level::Comma)?;
+        assert_eq!(rt; found.as_slice(), expected);
     }
-    assert_eq!(rt;
-        shown(rt.alloc(), b"a=b", Level::Assignment)?.as_slice(),
-        b"[a=b]".as_slice()
-    );
-    assert_eq!(rt; shown(rt.alloc(), b"a,b", Level::Assignment)?.len(), 0);
-    assert_eq!(rt;
-        shown(rt.alloc(), b"a?b:c", Level::Conditional)?.as_slice(),
-        b"[a?b:c]".as_slice()
-    );
-    assert_eq!(rt; shown(rt.alloc(), b"a=b", Level::Conditional)?.len(), 0);
+    for (level, text, expected) in LEVELS {
+        let found = shown(rt.alloc(), &names, text, level)?;
+        assert_eq!(rt; found.as_slice(), expected);
+    }
+    Ok(())
+}
+
+#[test]
+fn lines_of_refusals(rt: HostRuntime) -> Result<(), Fail> {
+    let names = some_names(rt.alloc())?;
     let tokens = lexed(rt.alloc(), b"a;\n(b\n")
         .ok()
         .ok_or("the text is cut")?;
-    assert_eq!(rt;
-        error_at(rt.alloc(), &tokens, 2),
-        Some(ExpressionError::Syntax { line: 2 })
-    );
-    assert_eq!(rt;
-        error_at(rt.alloc(), &tokens, 4),
-        Some(ExpressionError::Syntax { line: 3 })
-    );
+    for (at, line) in [(2, 2), (4, 3)] {
+        let error = error_at(rt.alloc(), &names, &tokens, at);
+        assert_eq!(rt; error, Some(ExpressionError::Syntax { line }));
+    }
     Ok(())
 }
 
@@ -260,18 +432,102 @@ fn chain(alloc: Global, count: u32) -> Result<Vec<u8>, AllocError> {
     Ok(text)
 }
 
+/// So many casts of a name.
+fn casts(alloc: Global, count: u32) -> Result<Vec<u8>, AllocError> {
+    let mut text = Vec::new(alloc);
+    for _ in 0..count {
+        put(&mut text, b"(int)")?;
+    }
+    text.push(b'a')?;
+    Ok(text)
+}
+
+/// The size of an array type whose declarator stands in so many parentheses.
+fn declarators(alloc: Global, count: u32) -> Result<Vec<u8>, AllocError> {
+    let mut text = Vec::new(alloc);
+    put(&mut text, b"sizeof(int")?;
+    for _ in 0..count {
+        text.push(b'(')?;
+    }
+    put(&mut text, b"[]")?;
+    for _ in 0..count {
+        text.push(b')')?;
+    }
+    text.push(b')')?;
+    Ok(text)
+}
+
+/// What is repeated in a text.
+#[derive(Clone, Copy, Debug)]
+enum Nesting {
+    Parentheses,
+    Sums,
+    Casts,
+    Declarators,
+}
+
+/// A text with so many levels but one or two.
+fn nested_text(alloc: Global, nesting: Nesting, count: u32) -> Result<Vec<u8>, AllocError> {
+    match nesting {
+        Nesting::Parentheses => nested(alloc, count),
+        Nesting::Sums => chain(alloc, count),
+        Nesting::Casts => casts(alloc, count),
+        Nesting::Declarators => declarators(alloc, count),
+    }
+}
+
+/// Nestings of 400 and of 401 levels, and how long their trees are, written out.
+const NESTINGS: [(Nesting, u32, usize); 8] = [
+    (Nesting::Parentheses, 399, 799),
+    (Nesting::Parentheses, 400, 0),
+    (Nesting::Sums, 399, 1597),
+    (Nesting::Sums, 400, 0),
+    (Nesting::Casts, 399, 3193),
+    (Nesting::Casts, 400, 0),
+    (Nesting::Declarators, 398, 812),
+    (Nesting::Declarators, 399, 0),
+];
+
 #[test]
 fn at_most_400_levels(rt: HostRuntime) -> Result<(), Fail> {
-    let alloc = rt.alloc();
+    let names = TypeNames::new(rt.alloc());
+    for (nesting, count, length) in NESTINGS {
+        let text = nested_text(rt.alloc(), nesting, count)?;
+        let found = shown(rt.alloc(), &names, &text, Level::Comma)?;
+        assert_eq!(rt; found.len(), length, "{nesting:?} {count}");
+    }
+    Ok(())
+}
+
+#[test]
+fn names_are_left_with_their_scope(rt: HostRuntime) -> Result<(), Fail> {
+    let mut names = some_names(rt.alloc())?;
+    let mark = names.mark();
+    assert_eq!(rt; mark, 3);
+    names.declare(rt.alloc(), b"T", false)?;
+    names.declare(rt.alloc(), b"a", true)?;
     assert_eq!(rt;
-        shown(alloc, &nested(alloc, 399)?, Level::Comma)?.len(),
-        799
+        (
+            names.is_type(b"T"),
+            names.is_type(b"U"),
+            names.is_type(b"a")
+        ),
+        (false, false, true)
     );
-    assert_eq!(rt; shown(alloc, &nested(alloc, 400)?, Level::Comma)?.len(), 0);
+    if mark <= names.mark() {
+        names.leave(mark);
+    }
     assert_eq!(rt;
-        shown(alloc, &chain(alloc, 399)?, Level::Comma)?.len(),
-        1597
+        (
+            names.is_type(b"T"),
+            names.is_type(b"U"),
+            names.is_type(b"a")
+        ),
+        (true, false, false)
     );
-    assert_eq!(rt; shown(alloc, &chain(alloc, 400)?, Level::Comma)?.len(), 0);
+    if 2 <= names.mark() {
+        names.leave(2);
+    }
+    assert_eq!(rt; names.is_type(b"U"), true);
     Ok(())
 }

@@ -1,2 +1,4 @@
 pub mod Views
+pub mod Deepest
+pub mod DeclarationViews
 pub mod StatementViews

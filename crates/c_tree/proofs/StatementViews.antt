@@ -7,9 +7,9 @@ use Rattle.std.specs.Global.{Global}
 use Rattle.c_tree.specs.declared.statement.Stmt.{Stmt, Block, Block', Row_of-Item, end_of-Item, more_of-Item, items-the_row-Item, items_hidden-the_row-Item-0}
 use Rattle.c_tree.specs.declared.statement.Item.{Item}
 use Rattle.c_tree.specs.declared.statement.Item as items
-use Rattle.c_tree.specs.declared.statement.InitDeclarator.{InitDeclarator}
-use Rattle.c_tree.specs.declared.statement.Definition.{Definition}
-use Rattle.c_tree.specs.Statements.{none_declared, Items, done, no_more, block, view_statement, view_item, view_items, items_of, view_declarator, declarators_of, view_definition, definitions_of, declarators_depth, items_depth, file_depth}
+use Rattle.c_tree.specs.declared.statement.External.{External}
+use Rattle.c_tree.specs.declared.statement.External.TheVariants as externals
+use Rattle.c_tree.specs.Statements.{Items, done, Externals, no_more, block, view_statement, view_item, view_items, items_of, view_external, externals_of, items_depth, file_depth}
 
 items_row : (n : _) (row : Row_of-Item n) → view_items row ≡ items_of (items-the_row-Item n row)
 items_row _ end_of-Item = refl
@@ -44,28 +44,19 @@ item_push (x ∷ xs) i = let above = item_push xs i in omega (arith, item_depth 
 pub item_more : (is : List Item) (n : ℕ) (i : Item) → n < length is → items_depth (items_of (take (n + 1) is)) ≡ max (items_depth (items_of (take n is))) (items_depth (view_item (get_or is n i) done))
 item_more is n i h = ap (λ (xs : List Item). items_depth (items_of xs)) (take_more is n i h) ∙ item_push (take n is) (get_or is n i)
 
--- the same of declarators
-pub declarator_within : (ds : List InitDeclarator) (n : ℕ) (d : InitDeclarator) → n < length ds → declarators_depth (view_declarator (get_or ds n d) none_declared) ≤ declarators_depth (declarators_of ds)
-declarator_within [] n d h = omega arith
-declarator_within (x ∷ xs) zero d h = omega arith
-declarator_within (x ∷ xs) (suc n) d h = let below = declarator_within xs n d (omega arith) in omega arith
+-- the same of what stands in a file
+external_depth : (e : External) (rest : Externals) → file_depth (view_external e rest) ≡ max (file_depth (view_external e no_more)) (file_depth rest)
+external_depth (externals.Declares d) rest = omega arith
+external_depth (externals.Defines d) rest = omega arith
 
-declarator_push : (ds : List InitDeclarator) (d : InitDeclarator) → declarators_depth (declarators_of (ds ++ d ∷ [])) ≡ max (declarators_depth (declarators_of ds)) (declarators_depth (view_declarator d none_declared))
-declarator_push [] d = omega arith
-declarator_push (x ∷ xs) d = let above = declarator_push xs d in omega arith
+pub external_within : (es : List External) (n : ℕ) (e : External) → n < length es → file_depth (view_external (get_or es n e) no_more) ≤ file_depth (externals_of es)
+external_within [] n e h = omega arith
+external_within (x ∷ xs) zero e h = omega (arith, external_depth x (externals_of xs))
+external_within (x ∷ xs) (suc n) e h = let below = external_within xs n e (omega arith) in omega (arith, external_depth x (externals_of xs))
 
-pub declarator_more : (ds : List InitDeclarator) (n : ℕ) (d : InitDeclarator) → n < length ds → declarators_depth (declarators_of (take (n + 1) ds)) ≡ max (declarators_depth (declarators_of (take n ds))) (declarators_depth (view_declarator (get_or ds n d) none_declared))
-declarator_more ds n d h = ap (λ (xs : List InitDeclarator). declarators_depth (declarators_of xs)) (take_more ds n d h) ∙ declarator_push (take n ds) (get_or ds n d)
+external_push : (es : List External) (e : External) → file_depth (externals_of (es ++ e ∷ [])) ≡ max (file_depth (externals_of es)) (file_depth (view_external e no_more))
+external_push [] e = omega arith
+external_push (x ∷ xs) e = let above = external_push xs e in omega (arith, external_depth x (externals_of xs), external_depth x (externals_of (xs ++ e ∷ [])))
 
--- the same of definitions
-pub definition_within : (ds : List Definition) (n : ℕ) (d : Definition) → n < length ds → file_depth (view_definition (get_or ds n d) no_more) ≤ file_depth (definitions_of ds)
-definition_within [] n d h = omega arith
-definition_within (x ∷ xs) zero d h = omega arith
-definition_within (x ∷ xs) (suc n) d h = let below = definition_within xs n d (omega arith) in omega arith
-
-definition_push : (ds : List Definition) (d : Definition) → file_depth (definitions_of (ds ++ d ∷ [])) ≡ max (file_depth (definitions_of ds)) (file_depth (view_definition d no_more))
-definition_push [] d = omega arith
-definition_push (x ∷ xs) d = let above = definition_push xs d in omega arith
-
-pub definition_more : (ds : List Definition) (n : ℕ) (d : Definition) → n < length ds → file_depth (definitions_of (take (n + 1) ds)) ≡ max (file_depth (definitions_of (take n ds))) (file_depth (view_definition (get_or ds n d) no_more))
-definition_more ds n d h = ap (λ (xs : List Definition). file_depth (definitions_of xs)) (take_more ds n d h) ∙ definition_push (take n ds) (get_or ds n d)
+pub external_more : (es : List External) (n : ℕ) (e : External) → n < length es → file_depth (externals_of (take (n + 1) es)) ≡ max (file_depth (externals_of (take n es))) (file_depth (view_external (get_or es n e) no_more))
+external_more es n e h = ap (λ (xs : List External). file_depth (externals_of xs)) (take_more es n e h) ∙ external_push (take n es) (get_or es n e)

@@ -1,5 +1,7 @@
 pub mod Tree
 pub mod Tables
+pub mod Names
 pub mod Spelling
+pub mod Declarations
 pub mod Statements
 pub mod Files

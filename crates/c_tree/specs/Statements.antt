@@ -1,18 +1,15 @@
--- Statements, declarations and the file, without where they lie in memory (C11 6.7, 6.8, 6.9).
-use Rattle.std.specs.Prelude.{ℕ, ◌+◌, max, List, [], ◌∷◌, Option, Some, None, option_map}
-use Rattle.c_tree.specs.declared.statement.InitDeclarator.{InitDeclarator}
+-- Statements and the file, without where they lie in memory (C11 6.8, 6.9).
+use Rattle.std.specs.Prelude.{ℕ, ◌+◌, max, List, [], ◌∷◌}
 use Rattle.c_tree.specs.declared.statement.Definition.{Definition}
+use Rattle.c_tree.specs.declared.statement.External.{External}
+use Rattle.c_tree.specs.declared.statement.External.TheVariants as externals
 use Rattle.c_tree.specs.declared.statement.File.{File}
 use Rattle.c_tree.specs.declared.statement.Stmt.{Stmt, Row_of-Item, end_of-Item, more_of-Item}
 use Rattle.c_tree.specs.declared.statement.Stmt as stmts
 use Rattle.c_tree.specs.declared.statement.Item.{Item}
 use Rattle.c_tree.specs.declared.statement.Item as items
 use Rattle.c_tree.specs.Tree.{Tree, view, depth, first_line}
-
--- declared names, each with the line of the name
-pub data Declarators : Type 0 where
-  none_declared : Declarators
-  declarator : (line : ℕ) (name : List ℕ) (initializer : Option Tree) (rest : Declarators) → Declarators
+use Rattle.c_tree.specs.Declarations.{Parts, Declarators, parts_of, declarators_of, parts_depth, declarators_depth}
 
 mutual
   -- a block has the line of its brace
@@ -24,25 +21,17 @@ mutual
     return_nothing : (line : ℕ) → Statement
     return_value : (line : ℕ) (value : Tree) → Statement
 
-  -- what stands in a block; a declaration has the line of its `int`
+  -- what stands in a block
   pub data Items : Type 0 where
     done : Items
-    declares : (line : ℕ) (declarators : Declarators) (rest : Items) → Items
+    declares : (specifiers : Parts) (declarators : Declarators) (rest : Items) → Items
     does : (first : Statement) (rest : Items) → Items
 
--- definitions of `main`: the lines of the `int` and of the name, and the body
-pub data Definitions : Type 0 where
-  no_more : Definitions
-  defines : (line : ℕ) (name_line : ℕ) (body : Statement) (rest : Definitions) → Definitions
-
--- a declarator in front of others
-abbrev pub view_declarator : InitDeclarator → Declarators → Declarators
-view_declarator d rest = declarator d.line d.name.bytes.items (option_map view d.initializer) rest
-
--- the declarators of a list
-abbrev pub declarators_of : List InitDeclarator → Declarators
-declarators_of [] = none_declared
-declarators_of (d ∷ ds) = view_declarator d (declarators_of ds)
+-- what stands in a file: declarations, and definitions of `main` with the lines of the `int` and of the name, and the body
+pub data Externals : Type 0 where
+  no_more : Externals
+  declared : (specifiers : Parts) (declarators : Declarators) (rest : Externals) → Externals
+  defines : (line : ℕ) (name_line : ℕ) (body : Statement) (rest : Externals) → Externals
 
 abbrev mutual
   pub view_statement : Stmt → Statement
@@ -55,7 +44,7 @@ abbrev mutual
 
   -- an item in front of others
   pub view_item : Item → Items → Items
-  view_item (items.Declares d) rest = declares d.line (declarators_of d.declarators.items) rest
+  view_item (items.Declares d) rest = declares (parts_of d.specifiers.items) (declarators_of d.declarators.items) rest
   view_item (items.Does s) rest = does (view_statement s) rest
 
   pub view_items : {m : _} → Row_of-Item m → Items
@@ -67,17 +56,18 @@ abbrev pub items_of : List Item → Items
 items_of [] = done
 items_of (i ∷ is) = view_item i (items_of is)
 
--- a definition in front of others
-abbrev pub view_definition : Definition → Definitions → Definitions
-view_definition d rest = defines d.line d.name_line (view_statement d.body) rest
+-- what stands in a file, in front of what follows
+abbrev pub view_external : External → Externals → Externals
+view_external (externals.Declares d) rest = declared (parts_of d.specifiers.items) (declarators_of d.declarators.items) rest
+view_external (externals.Defines d) rest = defines d.line d.name_line (view_statement d.body) rest
 
--- the definitions of a list
-abbrev pub definitions_of : List Definition → Definitions
-definitions_of [] = no_more
-definitions_of (d ∷ ds) = view_definition d (definitions_of ds)
+-- what stands in a file, of a list
+abbrev pub externals_of : List External → Externals
+externals_of [] = no_more
+externals_of (e ∷ es) = view_external e (externals_of es)
 
-abbrev pub view_file : File → Definitions
-view_file f = definitions_of f.definitions.items
+abbrev pub view_file : File → Externals
+view_file f = externals_of f.externals.items
 
 -- the line of the first token
 abbrev pub statement_line : Statement → ℕ
@@ -88,15 +78,7 @@ statement_line (evaluate e) = first_line e
 statement_line (return_nothing line) = line
 statement_line (return_value line e) = line
 
--- Levels: each expression, statement and declarator is one; an initializer lies beside its declarator.
-abbrev pub initializer_depth : Option Tree → ℕ
-initializer_depth None = 0
-initializer_depth (Some e) = depth e
-
-abbrev pub declarators_depth : Declarators → ℕ
-declarators_depth none_declared = 0
-declarators_depth (declarator line n e rest) = max (max 1 (initializer_depth e)) (declarators_depth rest)
-
+-- Levels: each statement is one.
 abbrev mutual
   pub statement_depth : Statement → ℕ
   statement_depth (block line is) = items_depth is + 1
@@ -108,10 +90,11 @@ abbrev mutual
 
   pub items_depth : Items → ℕ
   items_depth done = 0
-  items_depth (declares line ds rest) = max (declarators_depth ds) (items_depth rest)
+  items_depth (declares parts ds rest) = max (max (parts_depth parts) (declarators_depth ds)) (items_depth rest)
   items_depth (does s rest) = max (statement_depth s) (items_depth rest)
 
 -- a definition is as deep as its declarator, which is one level, and its body
-abbrev pub file_depth : Definitions → ℕ
+abbrev pub file_depth : Externals → ℕ
 file_depth no_more = 0
+file_depth (declared parts ds rest) = max (max (parts_depth parts) (declarators_depth ds)) (file_depth rest)
 file_depth (defines line name_line body rest) = max (max 1 (statement_depth body)) (file_depth rest)

@@ -1,6 +1,8 @@
--- The operators of C: how strongly each binds, and its mark (C11 6.5).
+-- The operators of C: how strongly each binds, and its mark (C11 6.5); and the keywords of specifiers (C11 6.7).
 use Rattle.std.specs.Prelude.{ℕ, Option, Some, None, List, codes, if◌then◌else◌}
 use Rattle.std.specs.Str.{bytes_eq}
+use Rattle.c_lexer.specs.declared.token.Keyword.{Keyword}
+use Rattle.c_lexer.specs.declared.token.Keyword.TheVariants as keywords
 use Rattle.c_lexer.specs.declared.token.Mark.{Mark}
 use Rattle.c_lexer.specs.declared.token.Mark.TheVariants as marks
 use Rattle.c_tree.specs.declared.expr.BinaryOp.{BinaryOp}
@@ -9,7 +11,19 @@ use Rattle.c_tree.specs.declared.expr.UnaryOp.{UnaryOp}
 use Rattle.c_tree.specs.declared.expr.UnaryOp.TheVariants as unaries
 use Rattle.c_tree.specs.declared.expr.StepOp.{StepOp}
 use Rattle.c_tree.specs.declared.expr.StepOp.TheVariants as steps
-use Rattle.c_tree.specs.Tree.{Tree, constant, name, parens, unary, step, binary, choice, assign, comma, call}
+use Rattle.c_tree.specs.declared.specifier.Qualifier.{Qualifier}
+use Rattle.c_tree.specs.declared.specifier.Qualifier.TheVariants as qualifiers
+use Rattle.c_tree.specs.declared.specifier.TypeWord.{TypeWord}
+use Rattle.c_tree.specs.declared.specifier.TypeWord.TheVariants as type_words
+use Rattle.c_tree.specs.declared.specifier.TagKind.{TagKind}
+use Rattle.c_tree.specs.declared.specifier.TagKind.TheVariants as tag_kinds
+use Rattle.c_tree.specs.declared.declaration.StorageClass.{StorageClass}
+use Rattle.c_tree.specs.declared.declaration.StorageClass.TheVariants as storage_classes
+use Rattle.c_tree.specs.declared.declaration.FunctionSpecifier.{FunctionSpecifier}
+use Rattle.c_tree.specs.declared.declaration.FunctionSpecifier.TheVariants as function_specifiers
+use Rattle.c_tree.specs.declared.declaration.RecordKind.{RecordKind}
+use Rattle.c_tree.specs.declared.declaration.RecordKind.TheVariants as record_kinds
+use Rattle.c_tree.specs.Tree.{Tree, constant, character, strings, name, parens, unary, cast, sizeof_expr, sizeof_type, step, member, binary, choice, assign, comma, call}
 
 -- The levels, lowest first: comma 1, assignment 2, ?: 3, the binary operators 4 to 13, cast 14, unary 15, postfix 16, primary
 -- 17, and 18 for a name that can be called.
@@ -105,12 +119,53 @@ name_level bytes = if bytes_eq bytes (codes "main") then 17 else 18
 
 abbrev pub level_of : Tree → ℕ
 level_of (constant line c) = 17
+level_of (character line c) = 17
+level_of (strings line parts) = 17
 level_of (name line n) = name_level n
 level_of (parens line e) = 17
 level_of (unary line op e) = 15
+level_of (cast line parts d e) = 14
+level_of (sizeof_expr line e) = 15
+level_of (sizeof_type line parts d) = 15
 level_of (step line op e) = 16
+level_of (member line e n) = 16
 level_of (binary line op a b) = strength_of op
 level_of (choice line a b c) = 3
 level_of (assign line op a b) = 2
 level_of (comma line a b) = 1
 level_of (call f args) = 16
+
+abbrev pub qualifier_keyword : Qualifier → Keyword
+qualifier_keyword qualifiers.Const = keywords.Const
+qualifier_keyword qualifiers.Volatile = keywords.Volatile
+qualifier_keyword qualifiers.Restrict = keywords.Restrict
+
+abbrev pub word_keyword : TypeWord → Keyword
+word_keyword type_words.Void = keywords.Void
+word_keyword type_words.Char = keywords.Char
+word_keyword type_words.Short = keywords.Short
+word_keyword type_words.Int = keywords.Int
+word_keyword type_words.Long = keywords.Long
+word_keyword type_words.Signed = keywords.Signed
+word_keyword type_words.Unsigned = keywords.Unsigned
+word_keyword type_words.Bool = keywords.Bool
+
+abbrev pub tag_keyword : TagKind → Keyword
+tag_keyword tag_kinds.Struct = keywords.Struct
+tag_keyword tag_kinds.Union = keywords.Union
+tag_keyword tag_kinds.Enum = keywords.Enum
+
+abbrev pub storage_keyword : StorageClass → Keyword
+storage_keyword storage_classes.Typedef = keywords.Typedef
+storage_keyword storage_classes.Extern = keywords.Extern
+storage_keyword storage_classes.Static = keywords.Static
+storage_keyword storage_classes.Auto = keywords.Auto
+storage_keyword storage_classes.Register = keywords.Register
+
+abbrev pub function_keyword : FunctionSpecifier → Keyword
+function_keyword function_specifiers.Inline = keywords.Inline
+function_keyword function_specifiers.Noreturn = keywords.Noreturn
+
+abbrev pub record_keyword : RecordKind → Keyword
+record_keyword record_kinds.Struct = keywords.Struct
+record_keyword record_kinds.Union = keywords.Union

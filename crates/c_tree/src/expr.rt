@@ -1,5 +1,6 @@
-//! Expressions.
+//! Expressions, and the type names and declarators in them.
 
+use crate::specifier::TypeSpecifier;
 use c_lexer::Constant;
 
 /// A name, by its bytes.
@@ -49,13 +50,24 @@ pub enum StepOp {
     Decrement,
 }
 
-/// An expression. Each node but a call has the line of its own token: of the constant, the name, the operator, the `?`, or
-/// the parenthesis that opens it. A call has the line of its function's name, which is a node.
+/// An expression. Each node but a call has the line of its own token: of the constant, the name, the first string, the operator,
+/// the `?`, the `.`, the `sizeof`, or the parenthesis that opens it. A call has the line of its function's name, which is a node.
 #[derive(Debug, Drop)]
+#[cycle(expression)]
 pub enum Expr {
     Constant {
         line: u32,
         constant: Constant,
+    },
+    /// A character constant, with the bits of its value of type int.
+    Character {
+        line: u32,
+        value: u32,
+    },
+    /// String literals in a row, one at least, each as it is spelled.
+    Strings {
+        line: u32,
+        parts: Vec<Name>,
     },
     Name {
         line: u32,
@@ -70,11 +82,33 @@ pub enum Expr {
         operator: UnaryOp,
         operand: Box<Expr>,
     },
+    /// `(type_name) operand`
+    Cast {
+        line: u32,
+        type_name: Box<TypeName>,
+        operand: Box<Expr>,
+    },
+    /// `sizeof operand`
+    SizeofExpr {
+        line: u32,
+        operand: Box<Expr>,
+    },
+    /// `sizeof (type_name)`
+    SizeofType {
+        line: u32,
+        type_name: Box<TypeName>,
+    },
     /// `++` or `--` behind its operand.
     Step {
         line: u32,
         operator: StepOp,
         operand: Box<Expr>,
+    },
+    /// `left.name`
+    Member {
+        line: u32,
+        left: Box<Expr>,
+        name: Name,
     },
     Binary {
         line: u32,
@@ -105,4 +139,41 @@ pub enum Expr {
         function: Box<Expr>,
         arguments: Vec<Expr>,
     },
+}
+
+/// The name of a type (C11 6.7.7): specifiers, one at least, and a declarator without a name, which may be empty.
+#[derive(Debug, Drop)]
+#[cycle(expression)]
+pub struct TypeName {
+    pub specifiers: Vec<TypeSpecifier>,
+    pub declarator: Declarator,
+}
+
+/// A declarator (C11 6.7.6), or an abstract one, which has no name (C11 6.7.7). The empty abstract declarator is an absent core
+/// without suffixes.
+#[derive(Debug, Drop)]
+#[cycle(expression)]
+pub struct Declarator {
+    pub core: DeclaratorCore,
+    pub suffixes: Vec<ArraySuffix>,
+}
+
+/// What a declarator's suffixes stand behind.
+#[derive(Debug, Drop)]
+#[cycle(expression)]
+pub enum DeclaratorCore {
+    Absent,
+    Named { line: u32, name: Name },
+    /// `(inner)`, with the line of its parenthesis.
+    Inside { line: u32, inner: Box<Declarator> },
+}
+
+/// A suffix of an array's declarator, with the line of its bracket.
+#[derive(Debug, Drop)]
+#[cycle(expression)]
+pub enum ArraySuffix {
+    /// `[bound]`
+    Bounded { line: u32, bound: Expr },
+    /// `[]`
+    Open { line: u32 },
 }

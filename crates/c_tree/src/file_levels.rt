@@ -1,19 +1,132 @@
-//! How many levels statements and files have.
+//! How many levels declarations, statements and files have.
 
-ghost use Rattle.std.specs.Prelude.{◌≡◌, ◌<◌, ◌^◌, option_map};
-ghost use Rattle.c_tree.specs.Tree.{view};
-ghost use Rattle.c_tree.specs.Statements.{initializer_depth, declarators_depth, declarators_of, statement_depth, view_statement, items_depth, items_of, view_item, done, definitions_of, file_depth, view_file};
+ghost use Rattle.std.specs.Prelude.{◌≡◌, ◌<◌, ◌^◌, max, map, option_map};
+ghost use Rattle.c_tree.specs.Tree.{view, view_declarator};
+ghost use Rattle.c_tree.specs.Declarations.{view_enumerator, view_part, parts_of, members_of, view_initializer, initials_of, declarators_of, value_depth, enumerators_depth, declareds_depth, part_depth, parts_depth, members_depth, initial_depth, initials_depth, initializer_depth, declarators_depth};
+ghost use Rattle.c_tree.specs.Statements.{statement_depth, view_statement, items_depth, items_of, view_item, done, externals_of, view_external, no_more, file_depth, view_file};
 
-use crate::expr::Expr;
-use crate::levels::{expression_depth, larger};
-use crate::statement::{Definition, File, InitDeclarator, Item, Stmt};
+use crate::declaration::{
+    Declaration, Enumerator, InitDeclarator, Initializer, MemberDeclaration, Specifier,
+};
+use crate::expr::{Declarator, Expr};
+use crate::levels::{declarator_depth, expression_depth, larger};
+use crate::statement::{External, File, Item, Stmt};
 
-fn initializer_depth(initializer: &Option<Expr>) -> u32
-    requires { initializer_depth (option_map view initializer.now) < 2 ^ 32 }
-    ensures { result ≡ initializer_depth (option_map view initializer.now) }
+fn value_depth(value: &Option<Expr>) -> u32
+    requires { value_depth (option_map view value.now) < 2 ^ 32 }
+    ensures { result ≡ value_depth (option_map view value.now) }
+{
+    match value {
+        Some(expr) => expression_depth(expr),
+        None => 0,
+    }
+}
+
+fn enumerators_depth(enumerators: &[Enumerator]) -> u32
+    requires { enumerators_depth (map view_enumerator enumerators.now) < 2 ^ 32 }
+    ensures { result ≡ enumerators_depth (map view_enumerator enumerators.now) }
+{
+    let mut levels = 0;
+    for enumerator in enumerators {
+        levels = larger(levels, value_depth(&enumerator.value));
+    }
+    levels
+}
+
+fn declareds_depth(declarators: &[Declarator]) -> u32
+    requires { declareds_depth (map view_declarator declarators.now) < 2 ^ 32 }
+    ensures { result ≡ declareds_depth (map view_declarator declarators.now) }
+{
+    let mut levels = 0;
+    for declarator in declarators {
+        levels = larger(levels, declarator_depth(declarator));
+    }
+    levels
+}
+
+#[cycle(specifiers)]
+fn part_depth(specifier: &Specifier) -> u32
+    requires { part_depth (view_part specifier.now) < 2 ^ 32 }
+    ensures { result ≡ part_depth (view_part specifier.now) }
+{
+    match specifier {
+        Specifier::Type(_) => 0,
+        Specifier::Storage { line: _, class: _ } => 0,
+        Specifier::Function {
+            line: _,
+            specifier: _,
+        } => 0,
+        Specifier::Record {
+            line: _,
+            kind: _,
+            tag: _,
+            members,
+        } => members_depth(members) + 1,
+        Specifier::Enumeration {
+            line: _,
+            tag: _,
+            enumerators,
+        } => enumerators_depth(enumerators),
+    }
+}
+
+#[cycle(specifiers)]
+fn parts_depth(specifiers: &[Specifier]) -> u32
+    requires { parts_depth (parts_of specifiers.now) < 2 ^ 32 }
+    ensures { result ≡ parts_depth (parts_of specifiers.now) }
+{
+    let mut levels = 0;
+    for specifier in specifiers {
+        levels = larger(levels, part_depth(specifier));
+    }
+    levels
+}
+
+#[cycle(specifiers)]
+fn members_depth(members: &[MemberDeclaration]) -> u32
+    requires { members_depth (members_of members.now) < 2 ^ 32 }
+    ensures { result ≡ members_depth (members_of members.now) }
+{
+    let mut levels = 0;
+    for member in members {
+        let own = larger(
+            parts_depth(&member.specifiers),
+            declareds_depth(&member.declarators),
+        );
+        levels = larger(levels, own);
+    }
+    levels
+}
+
+#[cycle(initializers)]
+fn initial_depth(initializer: &Initializer) -> u32
+    requires { initial_depth (view_initializer initializer.now) < 2 ^ 32 }
+    ensures { result ≡ initial_depth (view_initializer initializer.now) }
 {
     match initializer {
-        Some(expr) => expression_depth(expr),
+        Initializer::Value(expr) => expression_depth(expr),
+        Initializer::List { line: _, items } => initials_depth(items) + 1,
+    }
+}
+
+#[cycle(initializers)]
+fn initials_depth(initializers: &[Initializer]) -> u32
+    requires { initials_depth (initials_of initializers.now) < 2 ^ 32 }
+    ensures { result ≡ initials_depth (initials_of initializers.now) }
+{
+    let mut levels = 0;
+    for initializer in initializers {
+        levels = larger(levels, initial_depth(initializer));
+    }
+    levels
+}
+
+fn initializer_depth(initializer: &Option<Initializer>) -> u32
+    requires { initializer_depth (option_map view_initializer initializer.now) < 2 ^ 32 }
+    ensures { result ≡ initializer_depth (option_map view_initializer initializer.now) }
+{
+    match initializer {
+        Some(initializer) => initial_depth(initializer),
         None => 0,
     }
 }
@@ -24,10 +137,24 @@ fn declarators_depth(declarators: &[InitDeclarator]) -> u32
 {
     let mut levels = 0;
     for declarator in declarators {
-        let own = larger(1, initializer_depth(&declarator.initializer));
+        let own = larger(
+            declarator_depth(&declarator.declarator),
+            initializer_depth(&declarator.initializer),
+        );
         levels = larger(levels, own);
     }
     levels
+}
+
+fn declaration_depth(declaration: &Declaration) -> u32
+    requires parts { parts_depth (parts_of declaration.now.specifiers.items) < 2 ^ 32 }
+    requires declarators { declarators_depth (declarators_of declaration.now.declarators.items) < 2 ^ 32 }
+    ensures { result ≡ max (parts_depth (parts_of declaration.now.specifiers.items)) (declarators_depth (declarators_of declaration.now.declarators.items)) }
+{
+    larger(
+        parts_depth(&declaration.specifiers),
+        declarators_depth(&declaration.declarators),
+    )
 }
 
 #[cycle(statements)]
@@ -48,7 +175,7 @@ fn item_depth(item: &Item) -> u32
     ensures { result ≡ items_depth (view_item item.now done) }
 {
     match item {
-        Item::Declares(declaration) => declarators_depth(&declaration.declarators),
+        Item::Declares(declaration) => declaration_depth(declaration),
         Item::Does(statement) => statement_depth(statement),
     }
 }
@@ -78,23 +205,32 @@ fn statement_depth(statement: &Stmt) -> u32
     }
 }
 
-fn definitions_depth(definitions: &[Definition]) -> u32
-    requires { file_depth (definitions_of definitions.now) < 2 ^ 32 }
-    ensures { result ≡ file_depth (definitions_of definitions.now) }
+fn external_depth(external: &External) -> u32
+    requires { file_depth (view_external external.now no_more) < 2 ^ 32 }
+    ensures { result ≡ file_depth (view_external external.now no_more) }
+{
+    match external {
+        External::Declares(declaration) => declaration_depth(declaration),
+        External::Defines(definition) => larger(1, statement_depth(&definition.body)),
+    }
+}
+
+fn externals_depth(externals: &[External]) -> u32
+    requires { file_depth (externals_of externals.now) < 2 ^ 32 }
+    ensures { result ≡ file_depth (externals_of externals.now) }
 {
     let mut levels = 0;
-    for definition in definitions {
-        let own = larger(1, statement_depth(&definition.body));
-        levels = larger(levels, own);
+    for external in externals {
+        levels = larger(levels, external_depth(external));
     }
     levels
 }
 
-/// The number of the file's levels: each expression, statement and declarator is one, and an initializer lies beside its
-/// declarator.
+/// The number of the file's levels: each expression, statement and declarator is one, as are the braces of a structure and of
+/// an initializer; an initializer lies beside its declarator.
 pub fn depth(file: &File) -> u32
     requires { file_depth (view_file file.now) < 2 ^ 32 }
     ensures { result ≡ file_depth (view_file file.now) }
 {
-    definitions_depth(&file.definitions)
+    externals_depth(&file.externals)
 }

@@ -1,9 +1,9 @@
-//! How many levels an expression has.
+//! How many levels an expression and a declarator have.
 
 ghost use Rattle.std.specs.Prelude.{◌≡◌, ◌<◌, ◌^◌, max};
-ghost use Rattle.c_tree.specs.Tree.{view, views_of, depth, depth_of};
+ghost use Rattle.c_tree.specs.Tree.{no_suffix, unnamed, view, views_of, view_declarator, view_suffix, suffixes_of, depth, depth_of, declared_depth, suffixes_depth};
 
-use crate::expr::Expr;
+use crate::expr::{ArraySuffix, Declarator, DeclaratorCore, Expr};
 
 pub fn larger(a: u32, b: u32) -> u32
     ensures { result ≡ max a b }
@@ -23,6 +23,59 @@ fn arguments_depth(exprs: &[Expr]) -> u32
     levels
 }
 
+#[cycle(expressions)]
+fn suffix_depth(suffix: &ArraySuffix) -> u32
+    requires { suffixes_depth (view_suffix suffix.now no_suffix) < 2 ^ 32 }
+    ensures { result ≡ suffixes_depth (view_suffix suffix.now no_suffix) }
+{
+    match suffix {
+        ArraySuffix::Bounded { line: _, bound } => expression_depth(bound),
+        ArraySuffix::Open { line: _ } => 0,
+    }
+}
+
+#[cycle(expressions)]
+fn suffixes_depth(suffixes: &[ArraySuffix]) -> u32
+    requires { suffixes_depth (suffixes_of suffixes.now) < 2 ^ 32 }
+    ensures { result ≡ suffixes_depth (suffixes_of suffixes.now) }
+{
+    let mut levels = 0;
+    for suffix in suffixes {
+        levels = larger(levels, suffix_depth(suffix));
+    }
+    levels
+}
+
+/// The levels of a declarator without a name, by those of its suffixes.
+#[tactic(auto, using(crate::proofs::Views::unnamed_depth))]
+fn unnamed_depth(suffixes: &[ArraySuffix], levels: u32) -> u32
+    requires small { declared_depth (unnamed (suffixes_of suffixes.now)) < 2 ^ 32 }
+    requires levels { levels ≡ suffixes_depth (suffixes_of suffixes.now) }
+    ensures { result ≡ declared_depth (unnamed (suffixes_of suffixes.now)) }
+{
+    if suffixes.is_empty() { 0 } else { levels + 1 }
+}
+
+/// The number of the declarator's levels: each declarator is one, but the empty one none, and its bounds lie below it.
+#[cycle(expressions)]
+pub fn declarator_depth(declarator: &Declarator) -> u32
+    requires { declared_depth (view_declarator declarator.now) < 2 ^ 32 }
+    ensures { result ≡ declared_depth (view_declarator declarator.now) }
+{
+    match &declarator.core {
+        DeclaratorCore::Absent => {
+            unnamed_depth(&declarator.suffixes, suffixes_depth(&declarator.suffixes))
+        }
+        DeclaratorCore::Named { line: _, name: _ } => suffixes_depth(&declarator.suffixes) + 1,
+        DeclaratorCore::Inside { line: _, inner } => {
+            larger(
+                declarator_depth(inner),
+                suffixes_depth(&declarator.suffixes),
+            ) + 1
+        }
+    }
+}
+
 /// The number of the tree's levels: each node is one.
 #[cycle(expressions)]
 pub fn expression_depth(expr: &Expr) -> u32
@@ -34,6 +87,8 @@ pub fn expression_depth(expr: &Expr) -> u32
             line: _,
             constant: _,
         } => 1,
+        Expr::Character { line: _, value: _ } => 1,
+        Expr::Strings { line: _, parts: _ } => 1,
         Expr::Name { line: _, name: _ } => 1,
         Expr::Parens { line: _, inner } => expression_depth(inner) + 1,
         Expr::Unary {
@@ -41,11 +96,26 @@ pub fn expression_depth(expr: &Expr) -> u32
             operator: _,
             operand,
         } => expression_depth(operand) + 1,
+        Expr::Cast {
+            line: _,
+            type_name,
+            operand,
+        } => larger(
+            declarator_depth(&type_name.declarator),
+            expression_depth(operand),
+        ) + 1,
+        Expr::SizeofExpr { line: _, operand } => expression_depth(operand) + 1,
+        Expr::SizeofType { line: _, type_name } => declarator_depth(&type_name.declarator) + 1,
         Expr::Step {
             line: _,
             operator: _,
             operand,
         } => expression_depth(operand) + 1,
+        Expr::Member {
+            line: _,
+            left,
+            name: _,
+        } => expression_depth(left) + 1,
         Expr::Binary {
             line: _,
             operator: _,

@@ -1,14 +1,23 @@
-//! The trees of C expressions, statements and files (C11 6.5, 6.7, 6.8, 6.9), and which tokens spell them.
+//! The trees of C expressions, declarations, statements and files (C11 6.5, 6.7, 6.8, 6.9), and which tokens spell them.
 #![tactic(auto)]
 
+mod declaration;
 mod expr;
 mod file_levels;
 mod levels;
+mod specifier;
 mod statement;
 #[cfg(test)]
 mod tests;
 
-pub use expr::{BinaryOp, Expr, Name, StepOp, UnaryOp};
+pub use declaration::{
+    Declaration, Enumerator, FunctionSpecifier, InitDeclarator, Initializer, MemberDeclaration,
+    RecordKind, Specifier, StorageClass,
+};
+pub use expr::{
+    ArraySuffix, BinaryOp, Declarator, DeclaratorCore, Expr, Name, StepOp, TypeName, UnaryOp,
+};
 pub use file_levels::depth;
-pub use levels::expression_depth;
-pub use statement::{Declaration, Definition, File, InitDeclarator, Item, Stmt};
+pub use levels::{declarator_depth, expression_depth};
+pub use specifier::{Qualifier, TagKind, TypeSpecifier, TypeWord};
+pub use statement::{Definition, External, File, Item, Stmt};

@@ -1,21 +1,7 @@
-//! Statements, declarations and the file.
+//! Statements and the file.
 
-use crate::expr::{Expr, Name};
-
-/// A declared name with its initializer (C11 6.7, 6.7.9). The line is that of the name.
-#[derive(Debug, Drop)]
-pub struct InitDeclarator {
-    pub line: u32,
-    pub name: Name,
-    pub initializer: Option<Expr>,
-}
-
-/// A declaration (C11 6.7), with the line of its `int`.
-#[derive(Debug, Drop)]
-pub struct Declaration {
-    pub line: u32,
-    pub declarators: Vec<InitDeclarator>,
-}
+use crate::declaration::Declaration;
+use crate::expr::Expr;
 
 /// A statement (C11 6.8). Each has the line of its first token, but for an expression statement, whose expression has one.
 #[derive(Debug, Drop)]
@@ -68,8 +54,15 @@ pub struct Definition {
     pub body: Stmt,
 }
 
+/// What stands in a file (C11 6.9).
+#[derive(Debug, Drop)]
+pub enum External {
+    Declares(Declaration),
+    Defines(Definition),
+}
+
 /// A file (C11 6.9).
 #[derive(Debug, Drop)]
 pub struct File {
-    pub definitions: Vec<Definition>,
+    pub externals: Vec<External>,
 }

@@ -7,11 +7,11 @@ use Rattle.core_tree.specs.declared.functions.Function.{Function}
 use Rattle.core_tree.specs.declared.functions.Name.{Name}
 use Rattle.core_tree.specs.Trees.{Procedure, view_core}
 use Rattle.core_tree.specs.Ranges.{Limits}
-use Rattle.c_tree.specs.Statements.{Definitions, no_more, defines}
+use Rattle.c_tree.specs.Statements.{Externals, no_more, declared, defines}
 use Rattle.c_elab_expr.specs.Scopes.{Scoped}
 use Rattle.c_elab_expr.specs.Nodes.{◌>>=◌}
 use Rattle.c_elab_expr.specs.Typing.{on_line}
-use Rattle.c_elab_decl.specs.Elaborated.{typed_definitions, typed_statement, with_function, undeclared, main}
+use Rattle.c_elab_decl.specs.Elaborated.{typed_definitions, typed_statement, with_function, undeclared, on_external, main}
 use Rattle.c_types.specs.declared.integers.IntegerType.{IntegerType}
 use Rattle.core_tree.specs.Trees.{Statement}
 use Rattle.std.proofs.lemmas.Bool.Decides.{nat_tests}
@@ -40,17 +40,18 @@ ok_from (Err z) f y e = cc
 ok_is : {A E : Type 0} (x y : A) (r : Result A E) → r ≡ Ok x → r ≡ Ok y → x ≡ y
 ok_is x y r p q = cc
 
-first_or_later : (t : Scoped) (rest : Definitions) (line : ℕ) (vs : List IntegerType) (b : Statement) (fs : List Procedure) (n : ℕ) (x : List ℕ) → ((m : ℕ) (y : List ℕ) → name_in fs m ≡ Some y → y ≡ codes "main")
+first_or_later : (t : Scoped) (rest : Externals) (line : ℕ) (vs : List IntegerType) (b : Statement) (fs : List Procedure) (n : ℕ) (x : List ℕ) → ((m : ℕ) (y : List ℕ) → name_in fs m ≡ Some y → y ≡ codes "main")
     → name_in (main line vs b ∷ fs) n ≡ Some x → x ≡ codes "main"
 first_or_later t rest line vs b fs zero x later h = some_is (sym h)
 first_or_later t rest line vs b fs (suc n) x later h = later n x h
 
-all_main : (s : Scoped) (d : Definitions) (functions : List Procedure) → typed_definitions s d ≡ Ok functions → (n : ℕ) (x : List ℕ) → name_in functions n ≡ Some x → x ≡ codes "main"
+all_main : (s : Scoped) (d : Externals) (functions : List Procedure) → typed_definitions s d ≡ Ok functions → (n : ℕ) (x : List ℕ) → name_in functions n ≡ Some x → x ≡ codes "main"
 all_main s no_more functions e n x h = let none : [] ≡ functions = ok_is [] functions (Ok []) refl e in let no : None ≡ Some x = subst (λ fs. name_in fs n ≡ Some x) (sym none) h in cc
+all_main s (declared parts ds rest) functions e n x h = cc
 all_main s (defines line name_line body rest) functions e n x h =
     let a = ok_from (on_line name_line (undeclared 0 s (codes "main")))
-    (λ fresh. typed_statement (with_function s (codes "main")) body >>= λ y. typed_definitions (record y.1 { variables = [] }) rest >>= λ fs. Ok (main name_line y.1.variables y.0 ∷ fs)) functions e in
-    let b = ok_from (typed_statement (with_function s (codes "main")) body) (λ y. typed_definitions (record y.1 { variables = [] }) rest >>= λ fs. Ok (main name_line y.1.variables y.0 ∷ fs)) functions a.2 in
+    (λ fresh. on_external line (typed_statement (with_function s (codes "main")) body) >>= λ y. typed_definitions (record y.1 { variables = [] }) rest >>= λ fs. Ok (main name_line y.1.variables y.0 ∷ fs)) functions e in
+    let b = ok_from (on_external line (typed_statement (with_function s (codes "main")) body)) (λ y. typed_definitions (record y.1 { variables = [] }) rest >>= λ fs. Ok (main name_line y.1.variables y.0 ∷ fs)) functions a.2 in
     let c = ok_from (typed_definitions (record b.0.1 { variables = [] }) rest) (λ fs. Ok (main name_line b.0.1.variables b.0.0 ∷ fs)) functions b.2 in
     let whole : (main name_line b.0.1.variables b.0.0 ∷ c.0) ≡ functions = ok_is (main name_line b.0.1.variables b.0.0 ∷ c.0) functions (Ok (main name_line b.0.1.variables b.0.0 ∷ c.0)) refl c.2 in
     first_or_later (record b.0.1 { variables = [] }) rest name_line b.0.1.variables b.0.0 c.0 n x (all_main (record b.0.1 { variables = [] }) rest c.0 c.1) (subst (λ fs. name_in fs n ≡ Some x) (sym whole) h)

@@ -5,7 +5,7 @@ use Rattle.c_lexer.specs.declared.token.Token.{Token}
 use Rattle.c_lexer.specs.declared.fault.LexError.{LexError}
 use Rattle.c_lexer.specs.declared.fault.LexError.TheVariants as errors
 use Rattle.c_lexer.specs.Cutting.{IsCutInto, bytes_of, last_line_of}
-use Rattle.c_tree.specs.Statements.{Definitions}
+use Rattle.c_tree.specs.Statements.{Externals}
 use Rattle.c_tree.specs.Files.{IsFile}
 use Rattle.c_parse_expr.specs.Standing.{line_at}
 use Rattle.c_parse_decl.specs.Standing.{EndsAt}
@@ -18,7 +18,7 @@ use Rattle.c_elab_decl.specs.Elaborated.{elaborated}
 use Rattle.c_profile.specs.Rules.{Breach, first_breach}
 use Rattle.goto_unwind.specs.Counts.{passed}
 use Rattle.cbmc_top.specs.Programs.{directive_line, IsFileOf, IsAccepted, IsCheckable}
-use Rattle.cbmc_top.specs.Answers.{Answer, usage, read_fault, limited, refused, successful, failed, refusal, AfterCounts, AtCounts, AtProfile, AtTyping, HasTree, AtTree, extra_line, stops_at, screened, AtTokens, lexing_answer, AtLexing, Decides, AreRuns}
+use Rattle.cbmc_top.specs.Answers.{Answer, usage, read_fault, limited, refused, successful, failed, refusal, AfterCounts, AtCounts, AtProfile, typing_cause, AtTyping, HasTree, AtTree, extra_line, stops_at, screened, AtTokens, lexing_answer, AtLexing, Decides, AreRuns}
 use Rattle.cbmc_top.specs.Stops.{StopsWith, HasNoTyping, IsOutside, IsPassed}
 use Rattle.cbmc_top.specs.declared.stop.Stop.{Stop}
 use Rattle.cbmc_top.specs.declared.stop.Stop.TheVariants as stops
@@ -36,16 +36,16 @@ stop_map stops.Memory P Q f x = tt
 pub from_tokens : (limits : Limits) (file : List ℕ) (tokens : List Token) (o : Option Answer) (a : Answer) → length file ≤ 1048576 → IsCutInto file (Ok tokens) → screened tokens ≡ o → AtTokens limits file tokens o a → Decides limits file a
 from_tokens limits file tokens o a short cut is on = inr (record { short = short; found = Ok tokens; cut = cut; on = subst (λ x. AtTokens limits file tokens x a) (sym is) on })
 
-pub from_typing : (limits : Limits) (bytes : List ℕ) (tokens : List Token) (tree : Definitions) (r : Result (List Procedure) Fault) (a : Answer) → IsFile bytes tokens tree → elaborated tree ≡ r → AtTyping limits r a → HasTree limits bytes tokens a
+pub from_typing : (limits : Limits) (bytes : List ℕ) (tokens : List Token) (tree : Externals) (r : Result (List Procedure) Fault) (a : Answer) → IsFile bytes tokens tree → elaborated tree ≡ r → AtTyping limits r a → HasTree limits bytes tokens a
 from_typing limits bytes tokens tree r a is_tree is on = record { tree = tree; is_tree = is_tree; on = subst (λ x. AtTyping limits x a) (sym is) on }
 
-pub no_typing : (limits : Limits) (bytes : List ℕ) (tokens : List Token) (tree : Definitions) (a : Answer) → IsFile bytes tokens tree → HasNoTyping tree a → HasTree limits bytes tokens a
+pub no_typing : (limits : Limits) (bytes : List ℕ) (tokens : List Token) (tree : Externals) (a : Answer) → IsFile bytes tokens tree → HasNoTyping tree a → HasTree limits bytes tokens a
 no_typing limits bytes tokens tree a is_tree x = from_typing limits bytes tokens tree (Err x.0) a is_tree x.1 x.2
 
 from_profile : (limits : Limits) (functions : List Procedure) (o : Option Breach) (a : Answer) → first_breach functions ≡ o → AtProfile limits functions o a → AtTyping limits (Ok functions) a
 from_profile limits functions o a is on = subst (λ x. AtProfile limits functions x a) (sym is) on
 
-pub outside : (limits : Limits) (bytes : List ℕ) (tokens : List Token) (tree : Definitions) (functions : List Procedure) (a : Answer) → IsFile bytes tokens tree → elaborated tree ≡ Ok functions → IsOutside functions a → HasTree limits bytes tokens a
+pub outside : (limits : Limits) (bytes : List ℕ) (tokens : List Token) (tree : Externals) (functions : List Procedure) (a : Answer) → IsFile bytes tokens tree → elaborated tree ≡ Ok functions → IsOutside functions a → HasTree limits bytes tokens a
 outside limits bytes tokens tree functions a is_tree typed x = from_typing limits bytes tokens tree (Ok functions) a is_tree typed (from_profile limits functions (Some x.0) a x.1 x.2)
 
 -- ---- files that are accepted
@@ -66,7 +66,7 @@ there_none [] n le = refl
 there_none (t ∷ ts) zero le = absurd (omega (arith, le))
 there_none (t ∷ ts) (suc n) le = there_none ts n (omega (arith, le))
 
-pub is_accepted : (file : List ℕ) (tokens : List Token) (tree : Definitions) (functions : List Procedure) → length file ≤ 1048576 → IsCutInto file (Ok tokens) → screened tokens ≡ None → IsFile (bytes_of file) tokens tree → elaborated tree ≡ Ok functions
+pub is_accepted : (file : List ℕ) (tokens : List Token) (tree : Externals) (functions : List Procedure) → length file ≤ 1048576 → IsCutInto file (Ok tokens) → screened tokens ≡ None → IsFile (bytes_of file) tokens tree → elaborated tree ≡ Ok functions
     → first_breach functions ≡ None → IsAccepted file functions
 is_accepted file tokens tree functions short cut fine is_tree typed in_profile =
     let x = nothing_stops (directive_line tokens) (extra_line tokens) fine in
@@ -118,20 +118,20 @@ told_counts limits file functions None a runs p on = record { functions = functi
 told_counts limits file functions (Some l) a runs p on = absurd (no_runs a (limited l) (λ x. x) on runs)
 
 -- a file's tokens and tree, as far as they have come
-record HasCome (file : List ℕ) (tokens : List Token) (tree : Definitions) : Type 0 where
+record HasCome (file : List ℕ) (tokens : List Token) (tree : Externals) : Type 0 where
   cut : IsCutInto file (Ok tokens)
   plain : directive_line tokens ≡ None
   is_tree : IsFile (bytes_of file) tokens tree
 
-told_profile : (limits : Limits) (file : List ℕ) (tokens : List Token) (tree : Definitions) (functions : List Procedure) (o : Option Breach) (a : Answer) → AreRuns a → HasCome file tokens tree → elaborated tree ≡ Ok functions → first_breach functions ≡ o
+told_profile : (limits : Limits) (file : List ℕ) (tokens : List Token) (tree : Externals) (functions : List Procedure) (o : Option Breach) (a : Answer) → AreRuns a → HasCome file tokens tree → elaborated tree ≡ Ok functions → first_breach functions ≡ o
     → AtProfile limits functions o a → Told limits file a
 told_profile limits file tokens tree functions None a runs h typed is on =
     told_counts limits file functions (passed functions limits) a runs (record { tokens = tokens; cut = h.cut; plain = h.plain; tree = tree; is_tree = h.is_tree; typed = typed; in_profile = is }) on
 told_profile limits file tokens tree functions (Some b) a runs h typed is on = absurd (no_runs a (refusal 12 b.line (Some b.rule)) (λ x. x) on runs)
 
-told_typing : (limits : Limits) (file : List ℕ) (tokens : List Token) (tree : Definitions) (r : Result (List Procedure) Fault) (a : Answer) → AreRuns a → HasCome file tokens tree → elaborated tree ≡ r → AtTyping limits r a → Told limits file a
+told_typing : (limits : Limits) (file : List ℕ) (tokens : List Token) (tree : Externals) (r : Result (List Procedure) Fault) (a : Answer) → AreRuns a → HasCome file tokens tree → elaborated tree ≡ r → AtTyping limits r a → Told limits file a
 told_typing limits file tokens tree (Ok functions) a runs h is on = told_profile limits file tokens tree functions (first_breach functions) a runs h is refl on
-told_typing limits file tokens tree (Err f) a runs h is on = absurd (no_runs a (refusal 11 f.line (Some f.rule)) (λ x. x) on runs)
+told_typing limits file tokens tree (Err f) a runs h is on = absurd (no_runs a (refused (typing_cause f)) (λ x. x) on runs)
 
 told_tree : (limits : Limits) (file : List ℕ) (tokens : List Token) (a : Answer) → AreRuns a → IsCutInto file (Ok tokens) → directive_line tokens ≡ None → AtTree limits file tokens a → Told limits file a
 told_tree limits file tokens a runs cut plain (inl n) = absurd (no_runs a (refusal 10 (line_at (last_line_of file) n.rest) None) (λ x. x) n.on runs)
@@ -178,7 +178,7 @@ ok_is : {A B : Type 0} {a b : A} (x : Result A B) → x ≡ Ok a → x ≡ Ok b 
 ok_is x p q = cc
 
 module _ (one_cut : (file : List ℕ) (a b : Result (List Token) LexError) → IsCutInto file a → IsCutInto file b → a ≡ b)
-    (one_tree : (bytes : List ℕ) (tokens : List Token) (a b : Definitions) → IsFile bytes tokens a → IsFile bytes tokens b → a ≡ b) where
+    (one_tree : (bytes : List ℕ) (tokens : List Token) (a b : Externals) → IsFile bytes tokens a → IsFile bytes tokens b → a ≡ b) where
   pub one_program : (file : List ℕ) (some others : List Procedure) → IsFileOf file some → IsFileOf file others → some ≡ others
   one_program file some others p q =
       let tokens : p.tokens ≡ q.tokens = ok_is (Ok p.tokens) refl (one_cut file (Ok p.tokens) (Ok q.tokens) p.cut q.cut) in

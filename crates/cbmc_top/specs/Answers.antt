@@ -1,5 +1,5 @@
 -- What the checker may answer.
-use Rattle.std.specs.Prelude.{◌≡◌, ◌⊎◌, ℕ, ◌<◌, ◌≤◌, true, false, nat_le, List, [], ◌∷◌, ◌++◌, length, slice_get, Option, Some, None, option_map, replicate, if◌then◌else◌, codes, IfSome, Result, Ok, Err}
+use Rattle.std.specs.Prelude.{◌≡◌, ◌==◌, ◌⊎◌, ℕ, ◌<◌, ◌≤◌, true, false, nat_le, List, [], ◌∷◌, ◌++◌, length, slice_get, Option, Some, None, option_map, replicate, if◌then◌else◌, codes, IfSome, Result, Ok, Err}
 use Rattle.std.specs.List.{flat_map}
 use Rattle.words.specs.declared.check.Check.{Check}
 use Rattle.outside.specs.Sink.{appended}
@@ -7,7 +7,7 @@ use Rattle.c_lexer.specs.declared.token.Token.{Token}
 use Rattle.c_lexer.specs.declared.fault.LexError.{LexError}
 use Rattle.c_lexer.specs.declared.fault.LexError.TheVariants as errors
 use Rattle.c_lexer.specs.Cutting.{IsCutInto, bytes_of, last_line_of}
-use Rattle.c_tree.specs.Statements.{Definitions}
+use Rattle.c_tree.specs.Statements.{Externals}
 use Rattle.c_tree.specs.Files.{IsFile}
 use Rattle.c_parse_expr.specs.Standing.{line_at}
 use Rattle.c_parse_decl.specs.Standing.{EndsAt}
@@ -98,20 +98,25 @@ abbrev pub AtProfile : Limits → List Procedure → Option Breach → Answer �
 AtProfile limits functions (Some b) answer = answer ≡ refusal 12 b.line (Some b.rule)
 AtProfile limits functions None answer = AtCounts limits functions (passed functions limits) answer
 
+-- The cause of a refusal by typing. A form that has no typing yet, told as rule 0, is refused as no syntax, on the line of its
+-- external declaration.
+abbrev pub typing_cause : Fault → Cause
+typing_cause f = if f.rule == 0 then record { number = 10; line = f.line; rule = None } else record { number = 11; line = f.line; rule = Some f.rule }
+
 -- a rule of typing is broken
 abbrev pub AtTyping : Limits → Result (List Procedure) Fault → Answer → Type 0
-AtTyping limits (Err f) answer = answer ≡ refusal 11 f.line (Some f.rule)
+AtTyping limits (Err f) answer = answer ≡ refused (typing_cause f)
 AtTyping limits (Ok functions) answer = AtProfile limits functions (first_breach functions) answer
 
--- the tokens are no file: the first definition that has no tree stands at the rest
+-- the tokens are no file: the first external declaration that has no tree stands at the rest
 pub record HasNoTree (bytes : List ℕ) (last_line : ℕ) (tokens : List Token) (answer : Answer) : Type 0 where
-  pub none : (tree : Definitions) → IsFile bytes tokens tree → ⊥
+  pub none : (tree : Externals) → IsFile bytes tokens tree → ⊥
   pub rest : List Token
   pub ends : EndsAt bytes tokens rest
   pub on : answer ≡ refusal 10 (line_at last_line rest) None
 
 pub record HasTree (limits : Limits) (bytes : List ℕ) (tokens : List Token) (answer : Answer) : Type 0 where
-  pub tree : Definitions
+  pub tree : Externals
   pub is_tree : IsFile bytes tokens tree
   pub on : AtTyping limits (elaborated tree) answer
 

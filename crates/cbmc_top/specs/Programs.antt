@@ -4,7 +4,7 @@ use Rattle.c_lexer.specs.declared.token.Token.{Token}
 use Rattle.c_lexer.specs.declared.token.Mark.TheVariants.{Hash}
 use Rattle.c_lexer.specs.Cutting.{IsCutInto, bytes_of}
 use Rattle.c_parse_expr.specs.Reading.{is_mark}
-use Rattle.c_tree.specs.Statements.{Definitions}
+use Rattle.c_tree.specs.Statements.{Externals}
 use Rattle.c_tree.specs.Files.{IsFile}
 use Rattle.core_tree.specs.Trees.{Procedure}
 use Rattle.core_tree.specs.Ranges.{Limits}
@@ -22,7 +22,7 @@ pub record IsFileOf (bytes : List ℕ) (functions : List Procedure) : Type 0 whe
   pub tokens : List Token
   pub cut : IsCutInto bytes (Ok tokens)
   pub plain : directive_line tokens ≡ None
-  pub tree : Definitions
+  pub tree : Externals
   pub is_tree : IsFile (bytes_of bytes) tokens tree
   pub typed : elaborated tree ≡ Ok functions
   pub in_profile : first_breach functions ≡ None

@@ -3,12 +3,12 @@ use Rattle.std.specs.Prelude.{◌≡◌, List, Some, Err}
 use Rattle.core_tree.specs.Trees.{Procedure}
 use Rattle.core_tree.specs.Ranges.{Limits}
 use Rattle.core_tree.specs.declared.refusal.Limit.{Limit}
-use Rattle.c_tree.specs.Statements.{Definitions}
+use Rattle.c_tree.specs.Statements.{Externals}
 use Rattle.c_elab_expr.specs.Typing.{Fault}
 use Rattle.c_elab_decl.specs.Elaborated.{elaborated}
 use Rattle.c_profile.specs.Rules.{Breach, first_breach}
 use Rattle.goto_unwind.specs.Counts.{passed}
-use Rattle.cbmc_top.specs.Answers.{Answer, limited, refused, refusal}
+use Rattle.cbmc_top.specs.Answers.{Answer, limited, refused, refusal, typing_cause}
 use Rattle.cbmc_top.specs.declared.stop.Stop.{Stop}
 use Rattle.cbmc_top.specs.declared.stop.Stop.TheVariants as stops
 
@@ -18,9 +18,9 @@ StopsWith (stops.Refused r) allowed = allowed (refused r)
 StopsWith (stops.Limited l) allowed = allowed (limited l)
 StopsWith stops.Memory allowed = Unit {0}
 
--- a rule of typing is broken
-abbrev pub HasNoTyping : Definitions → Answer → Type 0
-HasNoTyping tree answer = (f : Fault) × (elaborated tree ≡ Err f) × (answer ≡ refusal 11 f.line (Some f.rule))
+-- a rule of typing is broken, or a form has no typing yet
+abbrev pub HasNoTyping : Externals → Answer → Type 0
+HasNoTyping tree answer = (f : Fault) × (elaborated tree ≡ Err f) × (answer ≡ refused (typing_cause f))
 
 -- a rule of the profile is broken
 abbrev pub IsOutside : List Procedure → Answer → Type 0

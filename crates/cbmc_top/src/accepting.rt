@@ -9,7 +9,7 @@ ghost use Rattle.core_tree.specs.Ranges.{Limits};
 ghost use Rattle.c_elab_decl.specs.Elaborated.{elaborated};
 ghost use Rattle.c_profile.specs.Rules.{first_breach};
 ghost use Rattle.cbmc_top.specs.Programs.{directive_line, IsAccepted};
-ghost use Rattle.cbmc_top.specs.Answers.{Decides, HasNoTree, AtLexing, screened, extra_line, lexing_answer};
+ghost use Rattle.cbmc_top.specs.Answers.{Decides, HasNoTree, AtLexing, screened, extra_line, lexing_answer, typing_cause};
 ghost use Rattle.cbmc_top.specs.Stops.{StopsWith, HasNoTyping, IsOutside};
 
 use crate::stop::Stop;
@@ -116,6 +116,17 @@ fn tree_of(alloc: Global, tokens: &Tokens) -> Result<File, Stop>
     }
 }
 
+/// The refusal of a file without a typing.
+fn typing_refusal(line: u32, rule: u32) -> Refusal
+    ensures { result ≡ typing_cause (record { line = line; rule = rule }) }
+{
+    if rule == 0 {
+        Refusal::new(10, line, None)
+    } else {
+        Refusal::new(11, line, Some(rule))
+    }
+}
+
 /// The typed tree of a file.
 fn typed_file(alloc: Global, file: &File) -> Result<Core, Stop>
     ensures found { IfOk result (λ c. elaborated (view_file file.now) ≡ Ok (view_core c)) }
@@ -124,7 +135,7 @@ fn typed_file(alloc: Global, file: &File) -> Result<Core, Stop>
     match elaborate(alloc, file) {
         Ok(core) => Ok(core),
         Err(TypingError::Typing { line, rule }) => {
-            Err(Stop::Refused(Refusal::new(11, line, Some(rule))))
+            Err(Stop::Refused(typing_refusal(line, rule)))
         }
         Err(TypingError::Memory) => Err(Stop::Memory),
     }

@@ -1,9 +1,9 @@
 use Rattle.std.proofs.Common.{◌≡◌, ◌≤◌, ◌+◌, ◌-◌, ℕ, List, [], length, drop, Ok, sym, ap, subst, ◌∙◌, arith}
 use Rattle.std.proofs.lemmas.Result.{err_from_is_err_and}
 use Rattle.std.proofs.lemmas.List.{drop_all}
-use Rattle.c_tree.specs.declared.statement.InitDeclarator.{InitDeclarator}
 use Rattle.c_tree.specs.declared.statement.Item.{Item}
-use Rattle.c_tree.specs.Statements.{declarators_of, view_statement as tree}
+use Rattle.c_tree.specs.Declarations.{parts_of, declarators_of}
+use Rattle.c_tree.specs.Statements.{view_statement as tree}
 use Rattle.c_tree.specs.Statements.{view_item, items_of as trees}
 use Rattle.c_tree.proofs.StatementViews.{view_block as view_tree_block}
 use Rattle.core_tree.specs.declared.statement.CoreItem.{CoreItem}
@@ -12,9 +12,11 @@ use Rattle.core_tree.specs.Trees.{view_statement, items_of}
 use Rattle.core_tree.specs.Trees as cores
 use Rattle.c_elab_expr.specs.Scopes.{Scoped}
 use Rattle.c_elab_expr.specs.Typing.{Fails}
-use Rattle.c_elab_decl.specs.Elaborated.{Typed, typed_declarators, typed_statement, typed_items}
+use Rattle.c_elab_decl.specs.Declarators.{Typed}
+use Rattle.c_elab_decl.specs.Statements.{typed_declaration, in_block, typed_statement, typed_items}
 use Rattle.c_elab_decl.specs.Steps.{items_first, Step}
-use Rattle.c_elab_decl.proofs.Fronts.{fails_on, none_first, prepend_all, behind_fails, items_at, statement_fails, statement_more, block_left, block_typed, block_fails, fault_step, memory_step, no_promise}
+use Rattle.c_elab_decl.proofs.Fronts.{none_first, prepend_all, behind_fails, items_at, statement_fails, statement_more, block_left, block_typed, block_fails, fault_step, memory_step}
+use Rattle.c_elab_decl.proofs.Steps.{fails_on, no_promise}
 use Rattle.c_elab_decl.proofs.stating.+statement.Goals as goal
 
 pub typed_item-returns-in-Declares-clause-step : goal.typed_item-returns-in-Declares-clause-step
@@ -22,10 +24,10 @@ typed_item-returns-in-Declares-clause-step t c = λ rest.
     let outer = c.args.outer in
     let s = c.args.scope.now in
     let go : Scoped → Typed = λ u. typed_items outer u rest in
-    let whole : typed_declarators outer s (declarators_of c.deref.result.now) go ≡ typed_items outer s (view_item c.args.item.now rest) =
-    ap (λ (ds : List InitDeclarator). typed_declarators outer s (declarators_of ds) go) c.deref.ensures.value
-    ∙ sym (ap (λ (x : Item). typed_items outer s (view_item x rest)) c.in-Declares.is) in
-    subst (λ (r : Typed). Step c.declare_all.result c.args.items.now.items c.declare_all.new.items.items r (typed_items outer c.declare_all.new.scope rest)) whole (c.declare_all.ensures.step go)
+    let d = c.in-Declares.declaration in
+    let whole : typed_declaration (in_block outer) s (parts_of d.specifiers.items) (declarators_of d.declarators.items) go ≡ typed_items outer s (view_item c.args.item.now rest) =
+    sym (ap (λ (x : Item). typed_items outer s (view_item x rest)) c.in-Declares.is) in
+    subst (λ (r : Typed). Step c.declare.result c.args.items.now.items c.declare.new.items.items r (typed_items outer c.declare.new.scope rest)) whole (c.declare.ensures.step go)
 
 pub typed_item-returns-in_err-statement-in-Does-clause-step : goal.typed_item-returns-in_err-statement-in-Does-clause-step
 typed_item-returns-in_err-statement-in-Does-clause-step t c = λ rest.
@@ -129,7 +131,7 @@ typed_statement-returns-in_ok-items-in-Block-clause-gives t c =
     ap (λ (k : ℕ). typed_items k s items) (sym c.len-outer.ensures) ∙ ap (λ (is : List Item). typed_items c.len-outer.result s (trees is)) (sym c.deref.ensures.value) in
     let left : c.leave.new.self ≡ record u { bindings = drop (length u.bindings - length s.bindings) u.bindings } =
     c.leave.ensures ∙ ap (λ (k : ℕ). record u { bindings = drop (length u.bindings - k) u.bindings }) c.len-outer.ensures in
-    shape ∙ block_typed s u c.in-Block.line items v c.prove_there.ensures (given ∙ c.in_ok-items-in-Block.ensures.gives)
+    shape ∙ block_typed s u c.in-Block.line items v (record { known = c.prove_there.ensures.there; built = c.prove_there.ensures.built_in }) (given ∙ c.in_ok-items-in-Block.ensures.gives)
     ∙ ap (λ (x : Scoped). Ok (view_statement (Block v), x)) (sym left)
 
 pub typed_statement-returns-in_ok-items-in-Block-clause-names : goal.typed_statement-returns-in_ok-items-in-Block-clause-names
@@ -142,4 +144,4 @@ typed_statement-returns-in_ok-items-in-Block-clause-names t c =
     ap (λ (k : ℕ). typed_items k s items) (sym c.len-outer.ensures) ∙ ap (λ (is : List Item). typed_items c.len-outer.result s (trees is)) (sym c.deref.ensures.value) in
     let left : c.leave.new.self ≡ record u { bindings = drop (length u.bindings - length s.bindings) u.bindings } =
     c.leave.ensures ∙ ap (λ (k : ℕ). record u { bindings = drop (length u.bindings - k) u.bindings }) c.len-outer.ensures in
-    ap (λ (x : Scoped). x.bindings) left ∙ block_left s u items v c.prove_there.ensures (given ∙ c.in_ok-items-in-Block.ensures.gives)
+    ap (λ (x : Scoped). x.bindings) left ∙ block_left s u items v (record { known = c.prove_there.ensures.there; built = c.prove_there.ensures.built_in }) (given ∙ c.in_ok-items-in-Block.ensures.gives)

@@ -1,6 +1,6 @@
 use Rattle.std.proofs.Common.{◌≡◌, ◌≤◌, length, drop}
 use Rattle.c_tree.specs.Statements.{items_of as trees}
-use Rattle.c_elab_decl.specs.Elaborated.{typed_items}
+use Rattle.c_elab_decl.specs.Statements.{typed_items}
 use Rattle.c_elab_decl.specs.Steps.{items_first}
 use Rattle.c_elab_decl.proofs.stating.+statement.Given as goal
 

@@ -1,52 +1,47 @@
-use Rattle.std.proofs.Common.{◌≡◌, ◌+◌, ◌++◌, List, [], ◌∷◌, length, ap, ◌∙◌, arith}
+use Rattle.std.proofs.Common.{◌≡◌, ◌+◌, ◌++◌, ℕ, List, [], ◌∷◌, length, Bool, true, false, refl, ap, sym, arith}
 use Rattle.std.proofs.lemmas.Result.{err_from_is_err_and}
-use Rattle.c_tree.specs.declared.statement.InitDeclarator.{InitDeclarator}
-use Rattle.c_parse_decl.specs.Reading.{placed_part, view_part, declarator_at, other_at, ended_at, declarators_at}
+use Rattle.c_lexer.specs.declared.token.Mark.TheVariants as marks
+use Rattle.c_tree.specs.declared.declaration.InitDeclarator.{InitDeclarator}
+use Rattle.c_tree.specs.Names.{Scope}
+use Rattle.c_tree.specs.Declarations.{none_declared, declarators_of, with_declarators}
 use Rattle.c_parse_expr.proofs.Loops.{fails_on}
+use Rattle.c_parse_decl.specs.Reading.{next_at, declarator_at, declarators_list, declarators_at}
 use Rattle.c_parse_decl.proofs.Lists.{fails, goes}
-use Rattle.c_parse_decl.proofs.Loops.{ended_fails, none_declares, first_fails, first_goes, declarators_close}
+use Rattle.c_parse_decl.proofs.Loops.{not_ended, init_of, declarators_begin, declarators_close, declarators_push}
 use Rattle.c_parse_decl.proofs.declaring.declarators.Goals as goal
 
+pub declarators-init : goal.declarators-init
+declarators-init c = record {
+  shorter = omega arith;
+  exact = (
+    length c.args.tokens.now + 1,
+    omega arith,
+    declarators_begin c.args.bytes.now c.args.types c.args.levels c.args.names.now c.new-declarators.result.items c.args.tokens.now c.new-declarators.ensures.items,
+  );
+  names = ap (λ (ds : List InitDeclarator). with_declarators c.args.names.now c.args.types (declarators_of ds)) (sym c.new-declarators.ensures.items);
+}
+
 pub returns-in-Some-clause-exact : goal.returns-in-Some-clause-exact
-returns-in-Some-clause-exact c = none_declares c.args.bytes.now c.args.levels c.args.tokens.now c.new-declarators.result.items _ c.new-declarators.ensures.items c.in-Some.ensures.value
-
-pub returns-in_err-first-clause-exact : goal.returns-in_err-first-clause-exact
-returns-in_err-first-clause-exact c =
-    let p = err_from_is_err_and c.from_residual.result c.from_residual.ensures.1 in
-    rw (p.1, p.2) (fails_on c.in_err-first.field-0.0 (declarator_at c.args.bytes.now c.args.levels c.args.tokens.now) (declarators_at c.args.bytes.now c.args.levels c.args.tokens.now)
-    (first_fails c.args.bytes.now c.args.levels c.args.tokens.now c.in_default.ensures.value) c.in_err-first.ensures.exact)
-
-pub others-init : goal.others-init
-others-init c =
-    let items : c.push.new.self.items ≡ c.in_ok-first.first ∷ [] = c.in_ok-push.ensures.items ∙ ap (λ (xs : List InitDeclarator). xs ++ c.in_ok-first.first ∷ []) c.new-declarators.ensures.items in
-    record {
-      shorter = c.in_ok-first.ensures.shorter;
-      exact = (
-        length c.args.tokens.now + 1,
-        omega (arith, c.in_ok-first.ensures.shorter),
-        first_goes c.args.bytes.now c.args.levels c.args.tokens.now c.in_ok-first.behind.now c.in_ok-first.first c.push.new.self.items c.in_default.ensures.value c.in_ok-first.ensures.exact items,
-      );
-    }
-
-pub returns-in-Some-mark_at-clause-exact : goal.returns-in-Some-mark_at-clause-exact
-returns-in-Some-mark_at-clause-exact c =
-    let e = c.others.invariant.exact in
-    declarators_close c.args.bytes.now c.args.levels e.0 c.others.declarators.items c.others.rest.now _ (declarators_at c.args.bytes.now c.args.levels c.args.tokens.now) e.1 c.in-Some-mark_at.ensures.value e.2
+returns-in-Some-clause-exact c =
+    let e = c.declarators.invariant.exact in
+    declarators_close c.args.bytes.now c.args.types c.args.levels e.0 c.declarators.names c.declarators.first c.declarators.declarators.items c.declarators.rest.now _ (declarators_at c.args.bytes.now c.args.names.now c.args.types c.args.levels c.args.tokens.now)
+    e.1 c.in-Some.ensures.value e.2
 
 pub returns-in_err-next-clause-exact : goal.returns-in_err-next-clause-exact
 returns-in_err-next-clause-exact c =
-    let p = err_from_is_err_and c.from_residual-in_err-next.result c.from_residual-in_err-next.ensures.1 in
-    let e = c.others.invariant.exact in
-    let all = declarators_at c.args.bytes.now c.args.levels c.args.tokens.now in
-    rw (p.1, p.2) (fails_on c.in_err-next.field-0.0 (other_at c.args.bytes.now c.args.levels c.others.rest.now) all
-    (fails placed_part view_part ended_at (other_at c.args.bytes.now c.args.levels) e.0 c.others.declarators.items c.others.rest.now all e.1 (ended_fails c.others.rest.now c.in_default-mark_at.ensures.value) e.2)
+    let p = err_from_is_err_and c.from_residual.result c.from_residual.ensures.1 in
+    let e = c.declarators.invariant.exact in
+    let all = declarators_at c.args.bytes.now c.args.names.now c.args.types c.args.levels c.args.tokens.now in
+    rw (p.1, p.2) (fails_on c.in_err-next.field-0.0 (next_at c.declarators.first (declarator_at c.args.bytes.now c.declarators.names c.args.types c.args.levels) c.declarators.rest.now) all
+    (fails (declarators_list c.args.bytes.now c.args.types c.args.levels) init_of e.0 (c.declarators.names, c.declarators.first) c.declarators.declarators.items c.declarators.rest.now all e.1 (not_ended marks.Semicolon none_declared c.declarators.rest.now c.in_default.ensures.value) e.2)
     c.in_err-next.ensures.exact)
 
-pub others-preserved : goal.others-preserved
-others-preserved c =
-    let e = c.others.invariant.exact in
+pub declarators-preserved : goal.declarators-preserved
+declarators-preserved c =
+    let e = c.declarators.invariant.exact in
     record {
-      shorter = omega (arith, c.in_ok-next.ensures.shorter, c.others.invariant.shorter);
-      exact = goes placed_part view_part ended_at (other_at c.args.bytes.now c.args.levels) e.0 c.others.declarators.items c.push-in-others.new.self.items c.in_ok-next.next c.others.rest.now c.in_ok-next.behind.now (declarators_at c.args.bytes.now c.args.levels c.args.tokens.now)
-          e.1 c.in_ok-next.ensures.shorter (ended_fails c.others.rest.now c.in_default-mark_at.ensures.value) e.2 c.in_ok-next.ensures.exact c.in_ok-push-2.ensures.items;
+      shorter = omega (arith, c.in_ok-next.ensures.shorter, c.declarators.invariant.shorter);
+      exact = goes (declarators_list c.args.bytes.now c.args.types c.args.levels) init_of e.0 (c.declarators.names, c.declarators.first) (c.next_initialized.new.names, false) c.declarators.declarators.items c.push.new.self.items c.in_ok-next.next c.declarators.rest.now c.in_ok-next.behind.now (declarators_at c.args.bytes.now c.args.names.now c.args.types c.args.levels c.args.tokens.now)
+          e.1 c.in_ok-next.ensures.shorter (not_ended marks.Semicolon none_declared c.declarators.rest.now c.in_default.ensures.value) e.2 c.in_ok-next.ensures.exact c.in_ok-push.ensures.items (ap (λ (x : Scope). (x, false)) c.in_ok-next.ensures.names);
+      names = declarators_push c.args.names.now c.declarators.names c.next_initialized.new.names c.args.types c.declarators.declarators.items c.push.new.self.items c.in_ok-next.next c.in_ok-push.ensures.items c.declarators.invariant.names c.in_ok-next.ensures.names;
     }

@@ -1,13 +1,16 @@
-use Rattle.std.proofs.Common.{◌≡◌, ◌<◌, ℕ, length}
-use Rattle.c_parse_decl.specs.Reading.{placed_part, view_part, ended_at, other_at, declarators_at, run_at}
-use Rattle.c_parse_decl.proofs.Lists.{in_front}
+use Rattle.std.proofs.Common.{◌≡◌, ◌<◌, ◌≤◌, ℕ, length}
+use Rattle.c_tree.specs.Declarations.{declarators_of, with_declarators}
+use Rattle.c_parse_decl.specs.Reading.{declarators_list, declarators_at}
+use Rattle.c_parse_decl.proofs.Lists.{Left}
+use Rattle.c_parse_decl.proofs.Loops.{init_of}
 use Rattle.c_parse_decl.proofs.declaring.declarators.Given as goal
 
-abbrev pub invariant-others : goal.invariant-others
-invariant-others l = record {
-  shorter : length l.rest < length l.tokens;
-  exact : (m : ℕ) × (length l.rest < m) × (in_front placed_part view_part l.declarators.items (run_at placed_part ended_at (other_at l.bytes l.levels) m l.rest) ≡ declarators_at l.bytes l.levels l.tokens);
+abbrev pub invariant-declarators : goal.invariant-declarators
+invariant-declarators l = record {
+  shorter : length l.rest ≤ length l.tokens;
+  exact : (m : ℕ) × (length l.rest < m) × Left (declarators_list l.bytes l.types l.levels) init_of m (l.names, l.first) l.declarators.items l.rest (declarators_at l.bytes l.fn.names l.types l.levels l.tokens);
+  names : l.names ≡ with_declarators l.fn.names l.types (declarators_of l.declarators.items);
 }
 
-abbrev pub decreases-others : goal.decreases-others
-decreases-others l = length l.rest
+abbrev pub decreases-declarators : goal.decreases-declarators
+decreases-declarators l = length l.rest

@@ -1,6 +1,8 @@
 use Rattle.std.proofs.Common.{◌≡◌, ◌<◌, ◌≤◌, ◌+◌, ◌*◌, ℕ, length}
-use Rattle.c_parse_decl.specs.Reading.{placed, part_of, closed_at, item_at, items_at, statement_at, run_at}
-use Rattle.c_parse_decl.proofs.Lists.{in_front}
+use Rattle.c_parse_decl.specs.Reading.{items_list, items_at, statement_at}
+use Rattle.c_parse_decl.specs.Pieces.{piece_of}
+use Rattle.c_parse_decl.proofs.Lists.{Left}
+use Rattle.c_parse_decl.proofs.Loops.{Extends}
 use Rattle.c_parse_decl.proofs.stating.+statements.Given as goal
 
 abbrev pub decreases-statement : goal.decreases-statement
@@ -27,7 +29,8 @@ decreases-item l = 8 * l.levels + 4
 abbrev pub invariant-items-items : goal.invariant-items-items
 invariant-items-items l = record {
   shorter : length l.rest ≤ length l.tokens;
-  exact : (m : ℕ) × (length l.rest < m) × (in_front placed part_of l.items.items (run_at placed closed_at (item_at l.bytes l.levels (statement_at l.bytes l.levels)) m l.rest) ≡ items_at l.bytes l.levels (statement_at l.bytes l.levels) l.tokens);
+  exact : (m : ℕ) × (length l.rest < m) × Left (items_list l.bytes l.levels (statement_at l.bytes l.levels)) piece_of m l.names l.items.items l.rest (items_at l.bytes l.levels (statement_at l.bytes l.levels) l.fn.names l.tokens);
+  names : Extends l.fn.names l.names;
 }
 
 abbrev pub decreases-items-items : goal.decreases-items-items

@@ -2,4 +2,4 @@ use Rattle.c_parse_expr.proofs.Again.{one_tree}
 use Rattle.c_parse_expr.proofs.place.one_expression.Goals as goal
 
 pub returns : goal.returns
-returns c bytes levels k t u tokens rest others s r = one_tree bytes levels k t u tokens rest others s r
+returns c bytes names levels k t u tokens rest others s r = one_tree bytes names levels k t u tokens rest others s r

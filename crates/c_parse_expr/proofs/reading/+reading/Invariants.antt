@@ -1,23 +1,52 @@
-use Rattle.std.proofs.Common.{◌≡◌, ◌≤◌, ◌<◌, ◌+◌, ◌-◌, ◌*◌, ℕ, length}
-use Rattle.c_tree.specs.Tree.{view, views_of, depth, depth_of}
-use Rattle.c_parse_expr.specs.Reading.{reader, climb, rest_at, arguments_at}
+use Rattle.std.proofs.Common.{◌≡◌, ◌≤◌, ◌<◌, ◌+◌, ◌-◌, ◌*◌, ℕ, length, map, Option}
+use Rattle.c_tree.specs.Tree.{view, views_of, suffixes_of, depth, depth_of, suffixes_depth}
+use Rattle.c_parse_expr.specs.Many.{many_at}
+use Rattle.c_parse_expr.specs.Reading.{reader, climb, rest_at, arguments_at, bracket_at, pair_of}
 use Rattle.c_parse_expr.proofs.Lists.{with_front}
+use Rattle.c_parse_expr.proofs.Rows.{Remains}
 use Rattle.c_parse_expr.proofs.reading.+reading.Given as goal
 
 abbrev pub decreases-read : goal.decreases-read
-decreases-read l = 4 * l.levels
+decreases-read l = 8 * l.levels
 
 abbrev pub decreases-operand : goal.decreases-operand
-decreases-operand l = 4 * l.levels + 3
+decreases-operand l = 8 * l.levels + 7
 
 abbrev pub decreases-prefix_behind : goal.decreases-prefix_behind
-decreases-prefix_behind l = 4 * l.levels + 2
+decreases-prefix_behind l = 8 * l.levels + 6
 
 abbrev pub decreases-suffix_behind : goal.decreases-suffix_behind
-decreases-suffix_behind l = 4 * l.levels + 2
+decreases-suffix_behind l = 8 * l.levels + 6
+
+abbrev pub decreases-group_behind : goal.decreases-group_behind
+decreases-group_behind l = 8 * l.levels + 5
+
+abbrev pub decreases-sizeof_behind : goal.decreases-sizeof_behind
+decreases-sizeof_behind l = 8 * l.levels + 5
+
+abbrev pub decreases-type_name : goal.decreases-type_name
+decreases-type_name l = 8 * l.levels + 4
+
+abbrev pub decreases-declarator : goal.decreases-declarator
+decreases-declarator l = 8 * l.levels
+
+abbrev pub decreases-declarator_behind : goal.decreases-declarator_behind
+decreases-declarator_behind l = 8 * l.levels + 7
+
+abbrev pub decreases-inside : goal.decreases-inside
+decreases-inside l = 8 * l.levels + 6
+
+abbrev pub decreases-unnamed : goal.decreases-unnamed
+decreases-unnamed l = 8 * l.levels + 6
+
+abbrev pub decreases-array_suffixes : goal.decreases-array_suffixes
+decreases-array_suffixes l = 8 * l.levels + 5
+
+abbrev pub decreases-array_suffix : goal.decreases-array_suffix
+decreases-array_suffix l = 8 * l.levels + 4
 
 abbrev pub decreases-arguments : goal.decreases-arguments
-decreases-arguments l = 4 * l.levels + 1
+decreases-arguments l = 8 * l.levels + 1
 
 abbrev pub invariant-read-suffixes : goal.invariant-read-suffixes
 invariant-read-suffixes l = record {
@@ -25,7 +54,7 @@ invariant-read-suffixes l = record {
   low : l.found.height ≤ l.levels;
   some : 0 < l.levels;
   shorter : length l.found.rest.now ≤ length l.tokens;
-  exact : (m : ℕ) × (l.levels < m + l.found.height) × (climb m (reader l.bytes (l.levels - 1)) l.levels l.level (view l.found.tree) l.found.rest.now ≡ reader l.bytes l.levels l.level l.tokens);
+  exact : (m : ℕ) × (l.levels < m + l.found.height) × (climb l.bytes m (reader l.bytes l.names (l.levels - 1)) l.levels l.level (view l.found.tree) l.found.rest.now ≡ reader l.bytes l.names l.levels l.level l.tokens);
 }
 
 abbrev pub decreases-read-suffixes : goal.decreases-read-suffixes
@@ -36,8 +65,19 @@ invariant-arguments-items l = record {
   height : l.height ≡ depth_of (views_of l.items.items);
   low : l.height ≤ l.levels;
   shorter : length l.rest ≤ length l.tokens;
-  exact : (m : ℕ) × (length l.rest < m) × (with_front (views_of l.items.items) (rest_at m (reader l.bytes l.levels) l.rest) ≡ arguments_at (reader l.bytes l.levels) l.tokens);
+  exact : (m : ℕ) × (length l.rest < m) × (with_front (views_of l.items.items) (rest_at m (reader l.bytes l.names l.levels) l.rest) ≡ arguments_at (reader l.bytes l.names l.levels) l.tokens);
 }
 
 abbrev pub decreases-arguments-items : goal.decreases-arguments-items
 decreases-arguments-items l = length l.rest
+
+abbrev pub invariant-array_suffixes-suffixes : goal.invariant-array_suffixes-suffixes
+invariant-array_suffixes-suffixes l = record {
+  height : l.height ≡ suffixes_depth (suffixes_of l.suffixes.items);
+  low : l.height ≤ l.levels;
+  shorter : length l.rest ≤ length l.tokens;
+  exact : (m : ℕ) × (length l.rest < m) × Remains (bracket_at (reader l.bytes l.names l.levels)) m tt (map pair_of l.suffixes.items) l.rest (many_at (bracket_at (reader l.bytes l.names l.levels)) (length l.tokens + 1) tt l.tokens);
+}
+
+abbrev pub decreases-array_suffixes-suffixes : goal.decreases-array_suffixes-suffixes
+decreases-array_suffixes-suffixes l = length l.rest

@@ -1,17 +1,26 @@
-use Rattle.std.proofs.Common.{ap, arith}
-use Rattle.c_tree.specs.declared.statement.InitDeclarator.{InitDeclarator}
-use Rattle.c_tree.specs.Statements.{declarators_depth, view_declarator, none_declared}
-use Rattle.c_tree.proofs.StatementViews.{declarator_within, declarator_more}
+use Rattle.std.proofs.Common.{take, ◌+◌, ap, ◌∙◌, arith}
+use Rattle.c_tree.specs.declared.declaration.InitDeclarator.{InitDeclarator}
+use Rattle.c_tree.proofs.Deepest.{deepest_within, deepest_more, declarators_deepest, of_init_declarator}
 use Rattle.c_tree.proofs.file_levels.declarators_depth.Goals as goal
 
-pub initializer_depth-requires : goal.initializer_depth-requires
-initializer_depth-requires c =
-    let below = declarator_within c.args.declarators.now c.loop-declarator.declarator-index c.declarator-item.result (omega arith) in
-    let e = ap (λ (d : InitDeclarator). declarators_depth (view_declarator d none_declared)) c.declarator-item.is in
-    omega (arith, below, e)
+pub declarator_depth-requires : goal.declarator_depth-requires
+declarator_depth-requires c =
+    let below = deepest_within of_init_declarator c.args.declarators.now c.loop-declarator.declarator-index c.declarator-item.result (omega arith) in
+    let all = declarators_deepest c.args.declarators.now in
+    let e = ap (λ (x : InitDeclarator). of_init_declarator x) c.declarator-item.is in
+    omega (arith, below, all, e)
 
 pub loop-declarator-preserved : goal.loop-declarator-preserved
 loop-declarator-preserved c =
-    let one = declarator_more c.args.declarators.now c.loop-declarator.declarator-index c.declarator-item.result (omega arith) in
-    let e = ap (λ (d : InitDeclarator). declarators_depth (view_declarator d none_declared)) c.declarator-item.is in
-    omega (arith, one, e)
+    let one = deepest_more of_init_declarator c.args.declarators.now c.loop-declarator.declarator-index c.declarator-item.result (omega arith) in
+    let next = declarators_deepest (take (c.loop-declarator.declarator-index + 1) c.args.declarators.now) in
+    let before = declarators_deepest (take c.loop-declarator.declarator-index c.args.declarators.now) in
+    let e = ap (λ (x : InitDeclarator). of_init_declarator x) c.declarator-item.is in
+    omega (arith, one, next, before, e)
+
+pub initializer_depth-requires : goal.initializer_depth-requires
+initializer_depth-requires c =
+    let below = deepest_within of_init_declarator c.args.declarators.now c.loop-declarator.declarator-index c.declarator-item.result (omega arith) in
+    let all = declarators_deepest c.args.declarators.now in
+    let e = ap (λ (x : InitDeclarator). of_init_declarator x) c.declarator-item.is in
+    omega (arith, below, all, e)

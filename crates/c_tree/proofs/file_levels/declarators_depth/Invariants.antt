@@ -1,5 +1,5 @@
 use Rattle.std.proofs.Common.{◌≡◌, take}
-use Rattle.c_tree.specs.Statements.{declarators_depth, declarators_of}
+use Rattle.c_tree.specs.Declarations.{declarators_depth, declarators_of}
 use Rattle.c_tree.proofs.file_levels.declarators_depth.Given as goal
 
 abbrev pub invariant-loop-declarator : goal.invariant-loop-declarator

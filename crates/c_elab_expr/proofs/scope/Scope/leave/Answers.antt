@@ -1,6 +1,5 @@
-use Rattle.std.proofs.Common.{◌≡◌, ◌≤◌, ◌<◌, ◌-◌, ◌+◌, ℕ, List, length, drop, ap, ◌∙◌, arith}
+use Rattle.std.proofs.Common.{◌≡◌, ◌≤◌, ◌<◌, ◌-◌, ◌+◌, ℕ, length, drop, sym, ap, ◌∙◌, arith}
 use Rattle.std.proofs.lemmas.List.{length-drop, drop-drop}
-use Rattle.c_types.specs.declared.integers.IntegerType.{IntegerType}
 use Rattle.c_elab_expr.specs.Scopes.{Environment, Scoped}
 use Rattle.c_elab_expr.proofs.scope.Scope.leave.Goals as goal
 
@@ -14,10 +13,9 @@ one_more start now next kept gone some fewer =
     let left : next.bindings ≡ drop (length start.bindings - length next.bindings) start.bindings =
     ap (λ (s : Scoped). s.bindings) gone ∙ ap (λ (s : Scoped). drop 1 s.bindings) kept
     ∙ drop-drop 1 (length start.bindings - length now.bindings) start.bindings ∙ ap (λ (k : ℕ). drop k start.bindings) count in
-    let same : next.variables ≡ start.variables = ap (λ (s : Scoped). s.variables) gone ∙ ap (λ (s : Scoped). s.variables) kept in
-    let with_bindings : Environment → Scoped = λ env. record { bindings = env; variables = next.variables } in
-    let with_variables : List IntegerType → Scoped = λ vs. record { bindings = drop (length start.bindings - length next.bindings) start.bindings; variables = vs } in
-    (ap with_bindings left ∙ ap with_variables same, omega arith)
+    let others : next ≡ record now { bindings = next.bindings } = gone ∙ ap (λ (env : Environment). record now { bindings = env }) (sym (ap (λ (s : Scoped). s.bindings) gone)) in
+    let same : record now { bindings = next.bindings } ≡ record start { bindings = next.bindings } = ap (λ (s : Scoped). record s { bindings = next.bindings }) kept in
+    (others ∙ same ∙ ap (λ (env : Environment). record start { bindings = env }) left, omega arith)
 
 pub loop-self-preserved : goal.loop-self-preserved
 loop-self-preserved c =

@@ -1,0 +1,291 @@
+//! Tags, and the structs and unions that they are about.
+
+ghost use Rattle.std.specs.Prelude.{◌≡◌, ◌≤◌, ◌<◌, length, option_map, false, Ok, IfOk, OnOk};
+ghost use Rattle.c_tree.specs.Tree.{view_name};
+ghost use Rattle.c_types.specs.Types.{view, views};
+ghost use Rattle.c_types.specs.Layouts.{kind_at, is_completed};
+ghost use Rattle.c_elab_expr.specs.Scopes.{plain, view_named};
+ghost use Rattle.c_elab_expr.specs.Typing.{GivesNode};
+ghost use Rattle.c_elab_decl.specs.Regions.{earlier_tag};
+ghost use Rattle.c_elab_decl.specs.Tags.{kind_of, is_kind, with_record, with_tagged, new_tag, tag_named, forward_tag, new_record, open_tag, opened, reopened, closed_type, closed, enumeration_closed, view_opened, GivesNamed};
+
+use crate::regions::{Region, earlier_tag};
+use c_elab_expr::{Broken, Meaning, QualifiedType, Scope, tag_type};
+use c_tree::{Name, TagKind};
+use c_types::{IntegerType, LayoutError, RecordKind, Ty};
+use std::alloc::{AllocError, Global};
+
+// More structs and unions than this have no memory.
+const RECORDS: usize = 0x7fff_ffff;
+
+/// Which struct or union braces are about: its place, and whether its tag stands for something else in this scope.
+#[derive(Clone, Copy, Debug)]
+pub struct Braces {
+    pub place: u32,
+    pub clashes: bool,
+}
+
+pub fn kind_of(kind: c_tree::RecordKind) -> RecordKind
+    ensures { result ≡ kind_of kind }
+{
+    match kind {
+        c_tree::RecordKind::Struct => RecordKind::Struct,
+        c_tree::RecordKind::Union => RecordKind::Union,
+    }
+}
+
+fn is_kind(a: RecordKind, b: RecordKind) -> bool
+    ensures { result ≡ is_kind a b }
+{
+    match (a, b) {
+        (RecordKind::Struct, RecordKind::Struct) => true,
+        (RecordKind::Struct, RecordKind::Union) => false,
+        (RecordKind::Union, RecordKind::Struct) => false,
+        (RecordKind::Union, RecordKind::Union) => true,
+    }
+}
+
+// The record at a place is a struct or a union.
+fn kind_at(place: u32, scope: &Scope) -> RecordKind
+    ensures { result ≡ kind_at scope.now.records place }
+{
+    let layouts = scope.layouts();
+    if (place as usize) < layouts.len() {
+        layouts.kind(place)
+    } else {
+        RecordKind::Struct
+    }
+}
+
+fn plain(type_: Ty) -> QualifiedType
+    ensures { view_named result ≡ plain (view type_) }
+{
+    QualifiedType {
+        type_,
+        constant: false,
+    }
+}
+
+// One more struct or union, and its place.
+fn add_record(kind: RecordKind, scope: &mut Scope) -> Result<u32, AllocError>
+    ensures place { IfOk result (λ p. p ≡ length scope.old.records.declared) }
+    ensures scope { OnOk result (scope.new ≡ with_record scope.old kind) }
+{
+    if scope.layouts().len() > RECORDS {
+        return Err(AllocError);
+    }
+    scope.declare_record(kind)
+}
+
+// One more struct or union with its tag, and its place.
+fn add_tagged(
+    alloc: Global,
+    kind: RecordKind,
+    name: &[u8],
+    scope: &mut Scope,
+) -> Result<u32, AllocError>
+    ensures place { IfOk result (λ p. p ≡ length scope.old.records.declared) }
+    ensures scope { OnOk result (scope.new ≡ with_tagged scope.old kind name.now) }
+{
+    let place = add_record(kind, scope)?;
+    scope.declare(alloc, name, Meaning::Record { place })?;
+    Ok(place)
+}
+
+// A tag without a declaration in scope.
+fn new_tag(
+    alloc: Global,
+    kind: TagKind,
+    name: &[u8],
+    scope: &mut Scope,
+) -> Result<Result<QualifiedType, Broken>, AllocError>
+    ensures named { IfOk result (λ x. GivesNamed x (new_tag scope.old kind name.now)) }
+    ensures scope { OnOk result (scope.new ≡ (new_tag scope.old kind name.now).1) }
+{
+    match kind {
+        TagKind::Struct => {
+            let place = add_tagged(alloc, RecordKind::Struct, name, scope)?;
+            Ok(Ok(plain(Ty::Record(place))))
+        }
+        TagKind::Union => {
+            let place = add_tagged(alloc, RecordKind::Union, name, scope)?;
+            Ok(Ok(plain(Ty::Record(place))))
+        }
+        TagKind::Enum => Ok(Err(Broken::Rule { rule: 3 })),
+    }
+}
+
+/// What a tag without braces names in a declaration.
+pub fn tag_named(
+    alloc: Global,
+    kind: TagKind,
+    name: &[u8],
+    scope: &mut Scope,
+) -> Result<Result<QualifiedType, Broken>, AllocError>
+    ensures named { IfOk result (λ x. GivesNamed x (tag_named scope.old kind name.now)) }
+    ensures scope { OnOk result (scope.new ≡ (tag_named scope.old kind name.now).1) }
+{
+    match scope.tag(name) {
+        Some(meaning) => Ok(tag_type(kind, meaning, scope)),
+        None => new_tag(alloc, kind, name, scope),
+    }
+}
+
+/// `struct tag;` alone declares the tag in this scope.
+pub fn forward_tag(
+    alloc: Global,
+    kind: TagKind,
+    name: &[u8],
+    region: Region,
+    scope: &mut Scope,
+) -> Result<(), AllocError>
+    requires { region.outer ≤ length scope.old.bindings }
+    ensures { OnOk result (scope.new ≡ forward_tag scope.old kind name.now (earlier_tag region scope.old name.now)) }
+{
+    match earlier_tag(name, region, scope) {
+        Some(_) => Ok(()),
+        None => {
+            let _named = new_tag(alloc, kind, name, scope)?;
+            Ok(())
+        }
+    }
+}
+
+// A struct or union without a tag.
+fn new_record(clashes: bool, kind: RecordKind, scope: &mut Scope) -> Result<Braces, AllocError>
+    ensures { IfOk result (λ b. view_opened b scope.new ≡ new_record clashes scope.old kind) }
+{
+    let place = add_record(kind, scope)?;
+    Ok(Braces { place, clashes })
+}
+
+// The one that this scope has of the tag, or a new one.
+fn open_tag(
+    alloc: Global,
+    kind: RecordKind,
+    name: &[u8],
+    earlier: Option<Meaning>,
+    scope: &mut Scope,
+) -> Result<Braces, AllocError>
+    ensures { IfOk result (λ b. view_opened b scope.new ≡ open_tag scope.old kind name.now earlier) }
+{
+    match earlier {
+        None => {
+            let place = add_tagged(alloc, kind, name, scope)?;
+            Ok(Braces {
+                place,
+                clashes: false,
+            })
+        }
+        Some(Meaning::Record { place }) => {
+            if is_kind(kind_at(place, scope), kind) {
+                Ok(Braces {
+                    place,
+                    clashes: false,
+                })
+            } else {
+                new_record(true, kind, scope)
+            }
+        }
+        Some(_) => new_record(true, kind, scope),
+    }
+}
+
+/// Which struct or union braces with an optional tag are about.
+pub fn opened(
+    alloc: Global,
+    kind: RecordKind,
+    tag: &Option<Name>,
+    region: Region,
+    scope: &mut Scope,
+) -> Result<Braces, AllocError>
+    requires { region.outer ≤ length scope.old.bindings }
+    ensures is { IfOk result (λ b. view_opened b scope.new ≡ opened region scope.old kind (option_map view_name tag.now)) }
+    ensures there { IfOk result (λ b. b.place < length scope.new.records.declared) }
+    ensures grows { OnOk result (length scope.old.records.declared ≤ length scope.new.records.declared) }
+{
+    match tag {
+        None => new_record(false, kind, scope),
+        Some(name) => {
+            let earlier = earlier_tag(&name.bytes, region, scope);
+            open_tag(alloc, kind, &name.bytes, earlier, scope)
+        }
+    }
+}
+
+/// The struct or union that gets the members: where that of the braces is complete already, it is another one.
+pub fn reopened(braces: Braces, kind: RecordKind, scope: &mut Scope) -> Result<Braces, AllocError>
+    requires { braces.place < length scope.old.records.declared }
+    ensures is { IfOk result (λ b. view_opened b scope.new ≡ reopened braces.place braces.clashes kind scope.old) }
+    ensures there { IfOk result (λ b. b.place < length scope.new.records.declared) }
+    ensures incomplete { IfOk result (λ b. is_completed scope.new.records.done b.place ≡ false) }
+    ensures grows { OnOk result (length scope.old.records.declared ≤ length scope.new.records.declared) }
+{
+    if !scope.layouts().is_completed(braces.place) {
+        return Ok(braces);
+    }
+    let another = new_record(true, kind, scope)?;
+    // A new one isn't complete, so that this never comes.
+    if scope.layouts().is_completed(another.place) {
+        return Err(AllocError);
+    }
+    Ok(another)
+}
+
+fn closed_type(braces: Braces) -> Result<QualifiedType, Broken>
+    ensures { GivesNode view_named result (closed_type braces.clashes braces.place (Ok tt)) }
+{
+    if braces.clashes {
+        Err(Broken::Rule { rule: 18 })
+    } else {
+        Ok(plain(Ty::Record(braces.place)))
+    }
+}
+
+/// Completes a struct or union, behind the braces. It is one that isn't complete.
+pub fn closed(
+    alloc: Global,
+    braces: Braces,
+    members: Vec<Ty>,
+    scope: &mut Scope,
+) -> Result<Result<QualifiedType, Broken>, AllocError>
+    requires there { braces.place < length scope.old.records.declared }
+    requires incomplete { is_completed scope.old.records.done braces.place ≡ false }
+    ensures named { IfOk result (λ x. GivesNamed x (closed (view_opened braces scope.old) (views members.items))) }
+    ensures scope { OnOk result (scope.new ≡ (closed (view_opened braces scope.old) (views members.items)).1) }
+    ensures grows { OnOk result (length scope.old.records.declared ≤ length scope.new.records.declared) }
+{
+    if members.is_empty() {
+        return Ok(Err(Broken::Rule { rule: 3 }));
+    }
+    match scope.complete_record(alloc, braces.place, members) {
+        Ok(()) => Ok(closed_type(braces)),
+        Err(LayoutError::Incomplete) => Ok(Err(Broken::Rule { rule: 3 })),
+        Err(LayoutError::TooLarge) => Ok(Err(Broken::Rule { rule: 4 })),
+        Err(LayoutError::NoElements) => Err(AllocError),
+        Err(LayoutError::Memory) => Err(AllocError),
+    }
+}
+
+/// What an enumeration in braces names, behind them.
+pub fn enumeration_closed(
+    alloc: Global,
+    tag: &Option<Name>,
+    region: Region,
+    scope: &mut Scope,
+) -> Result<Result<QualifiedType, Broken>, AllocError>
+    requires { region.outer ≤ length scope.old.bindings }
+    ensures named { IfOk result (λ x. GivesNamed x (enumeration_closed region scope.old (option_map view_name tag.now))) }
+    ensures scope { OnOk result (scope.new ≡ (enumeration_closed region scope.old (option_map view_name tag.now)).1) }
+{
+    match tag {
+        None => Ok(Ok(plain(Ty::Integer(IntegerType::Int)))),
+        Some(name) => match earlier_tag(&name.bytes, region, scope) {
+            Some(_) => Ok(Err(Broken::Rule { rule: 18 })),
+            None => {
+                scope.declare(alloc, &name.bytes, Meaning::Enumeration)?;
+                Ok(Ok(plain(Ty::Integer(IntegerType::Int))))
+            }
+        },
+    }
+}

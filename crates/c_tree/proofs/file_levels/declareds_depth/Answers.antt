@@ -1,0 +1,19 @@
+use Rattle.std.proofs.Common.{take, ◌+◌, ap, ◌∙◌, arith}
+use Rattle.c_tree.specs.declared.expr.Declarator.{Declarator}
+use Rattle.c_tree.proofs.Deepest.{deepest_within, deepest_more, declareds_deepest, of_declarator}
+use Rattle.c_tree.proofs.file_levels.declareds_depth.Goals as goal
+
+pub declarator_depth-requires : goal.declarator_depth-requires
+declarator_depth-requires c =
+    let below = deepest_within of_declarator c.args.declarators.now c.loop-declarator.declarator-index c.declarator-item.result (omega arith) in
+    let all = declareds_deepest c.args.declarators.now in
+    let e = ap (λ (x : Declarator). of_declarator x) c.declarator-item.is in
+    omega (arith, below, all, e)
+
+pub loop-declarator-preserved : goal.loop-declarator-preserved
+loop-declarator-preserved c =
+    let one = deepest_more of_declarator c.args.declarators.now c.loop-declarator.declarator-index c.declarator-item.result (omega arith) in
+    let next = declareds_deepest (take (c.loop-declarator.declarator-index + 1) c.args.declarators.now) in
+    let before = declareds_deepest (take c.loop-declarator.declarator-index c.args.declarators.now) in
+    let e = ap (λ (x : Declarator). of_declarator x) c.declarator-item.is in
+    omega (arith, one, next, before, e)

@@ -1,0 +1,95 @@
+//! Declarations.
+
+use crate::expr::{Declarator, Expr, Name};
+use crate::specifier::TypeSpecifier;
+
+/// A storage class (C11 6.7.1).
+#[derive(Clone, Copy, Debug, PartialEq, Eq)]
+pub enum StorageClass {
+    Typedef,
+    Extern,
+    Static,
+    Auto,
+    Register,
+}
+
+/// A function specifier (C11 6.7.4).
+#[derive(Clone, Copy, Debug, PartialEq, Eq)]
+pub enum FunctionSpecifier {
+    Inline,
+    Noreturn,
+}
+
+/// What has members (C11 6.7.2.1).
+#[derive(Clone, Copy, Debug, PartialEq, Eq)]
+pub enum RecordKind {
+    Struct,
+    Union,
+}
+
+/// A declaration specifier (C11 6.7), with the line of its keyword.
+#[derive(Debug, Drop)]
+#[cycle(specifier)]
+pub enum Specifier {
+    Type(TypeSpecifier),
+    Storage {
+        line: u32,
+        class: StorageClass,
+    },
+    Function {
+        line: u32,
+        specifier: FunctionSpecifier,
+    },
+    /// `struct tag { members }`, with one member declaration at least.
+    Record {
+        line: u32,
+        kind: RecordKind,
+        tag: Option<Name>,
+        members: Vec<MemberDeclaration>,
+    },
+    /// `enum tag { enumerators }`, with one enumerator at least.
+    Enumeration {
+        line: u32,
+        tag: Option<Name>,
+        enumerators: Vec<Enumerator>,
+    },
+}
+
+/// A declaration of members (C11 6.7.2.1); without declarators it is an anonymous structure's or declares a tag alone.
+#[derive(Debug, Drop)]
+#[cycle(specifier)]
+pub struct MemberDeclaration {
+    pub specifiers: Vec<Specifier>,
+    pub declarators: Vec<Declarator>,
+}
+
+/// `name` or `name = value` among enumerators (C11 6.7.2.2), with the line of the name.
+#[derive(Debug, Drop)]
+pub struct Enumerator {
+    pub line: u32,
+    pub name: Name,
+    pub value: Option<Expr>,
+}
+
+/// An initializer (C11 6.7.9).
+#[derive(Debug, Drop)]
+#[cycle(initializer)]
+pub enum Initializer {
+    Value(Expr),
+    /// `{ items }`, with one item at least, with the line of its brace.
+    List { line: u32, items: Vec<Initializer> },
+}
+
+/// A declarator with its initializer (C11 6.7).
+#[derive(Debug, Drop)]
+pub struct InitDeclarator {
+    pub declarator: Declarator,
+    pub initializer: Option<Initializer>,
+}
+
+/// A declaration (C11 6.7): specifiers, one at least, and declarators.
+#[derive(Debug, Drop)]
+pub struct Declaration {
+    pub specifiers: Vec<Specifier>,
+    pub declarators: Vec<InitDeclarator>,
+}
