@@ -30,18 +30,25 @@ fn value_of(alloc: Global, dag: &Dag, valuation: &Valuation, id: Id) -> Result<u
     }
 }
 
+// More units than the formulas of these tests take.
+const AMPLE: u64 = 1_000_000;
+
 // The values of the variables that make a goal true, if there are some; they are checked.
 fn solved(alloc: Global, dag: &Dag, goal: Id) -> Result<Option<Valuation>, Fail> {
     if goal.index < dag.len() && dag.width(goal) == 1 {
         let blasted = blast(alloc, dag, goal)?;
-        if let Answer::Sat(model) = solve(alloc, &blasted.cnf)? {
-            let valuation = lift(alloc, &blasted, &model)?;
-            if value_of(alloc, dag, &valuation, goal)? == 1 {
-                return Ok(Some(valuation));
+        return match solve(alloc, &blasted.cnf, AMPLE)? {
+            Answer::Sat(model) => {
+                let valuation = lift(alloc, &blasted, &model)?;
+                if value_of(alloc, dag, &valuation, goal)? == 1 {
+                    Ok(Some(valuation))
+                } else {
+                    Err("a model that doesn't make the goal true")?
+                }
             }
-            return Err("a model that doesn't make the goal true")?;
-        }
-        return Ok(None);
+            Answer::Unsat(_) => Ok(None),
+            Answer::Spent(_) => Err("a budget that is spent")?,
+        };
     }
     Err("a goal that is no truth value")?
 }

@@ -124,25 +124,44 @@ fn show(alloc: Global, expr: &CoreExpr) -> Result<String, AllocError> {
     }
 }
 
-/// `x`, `u`, `l`, `c` are v0 to v3, of types int, unsigned, long and char; `b` is a _Bool, and `main` a function.
-fn test_scope(alloc: Global) -> Result<Scope, AllocError> {
-    let mut scope = Scope::new(alloc)?;
-    scope.declare(alloc, b"main", Meaning::Function)?;
-    scope.declare_variable(alloc, b"x", IntegerType::Int, false)?;
-    scope.declare_variable(alloc, b"u", IntegerType::UnsignedInt, false)?;
-    scope.declare_variable(alloc, b"l", IntegerType::Long, false)?;
-    scope.declare_variable(alloc, b"c", IntegerType::Char, false)?;
-    scope.declare_variable(alloc, b"b", IntegerType::Bool, false)?;
-    Ok(scope)
-}
-
-/// A struct or union of this tag.
-fn declared_record(
+/// Declares a variable of the function.
+fn add_variable(
     alloc: Global,
     scope: &mut Scope,
-    kind: RecordKind,
-    tag: &[u8],
-) -> Result<u32, Fail> {
+    name: &[u8],
+    type_: IntegerType,
+    constant: bool,
+) -> Result<(), Fail> {
+    if scope.variable_count() > 100 {
+        return Err(Fail::from("too much"));
+    }
+    scope.declare_variable(alloc, name, type_, constant)?;
+    Ok(())
+}
+
+/// Declares the name of a type.
+fn add_type(
+    alloc: Global,
+    scope: &mut Scope,
+    name: &[u8],
+    type_: Ty,
+    constant: bool,
+) -> Result<(), Fail> {
+    if scope.type_count() > 100 {
+        return Err(Fail::from("too much"));
+    }
+    scope.declare_type(alloc, name, QualifiedType { type_, constant })?;
+    Ok(())
+}
+
+/// Declares an enumerator.
+fn add_enumerator(alloc: Global, scope: &mut Scope, name: &[u8], bits: u32) -> Result<(), Fail> {
+    scope.declare(alloc, name, Meaning::Enumerator { bits })?;
+    Ok(())
+}
+
+/// Declares a struct or union of this tag.
+fn add_record(alloc: Global, scope: &mut Scope, kind: RecordKind, tag: &[u8]) -> Result<u32, Fail> {
     if scope.layouts().len() > 100 {
         return Err(Fail::from("too much"));
     }
@@ -153,42 +172,68 @@ fn declared_record(
     Ok(place)
 }
 
-/// The same with `k`, a const int v5; the typedefs `T` (const int), `U` (unsigned char) and `A` (int [3]); the enumerators `E` (5)
-/// and `M` (-1); `struct S` of an int and a char, `union V`, which is incomplete, and `enum N`.
-fn typed_scope(alloc: Global) -> Result<Scope, Fail> {
-    let mut scope = test_scope(alloc)?;
-    if scope.variable_count() > 100 || scope.type_count() > 100 || scope.layouts().len() > 100 {
-        return Err(Fail::from("too much"));
+/// Completes a struct or union with these members.
+fn complete(alloc: Global, scope: &mut Scope, place: u32, members: Vec<Ty>) -> Result<(), Fail> {
+    if (place as usize) < scope.layouts().len() && !scope.layouts().is_completed(place) {
+        scope.complete_record(alloc, place, members)?;
     }
-    scope.declare_variable(alloc, b"k", IntegerType::Int, true)?;
-    let constant = QualifiedType {
-        type_: Ty::Integer(IntegerType::Int),
-        constant: true,
-    };
-    scope.declare_type(alloc, b"T", constant)?;
-    let byte = QualifiedType {
-        type_: Ty::Integer(IntegerType::UnsignedChar),
-        constant: false,
-    };
-    scope.declare_type(alloc, b"U", byte)?;
+    Ok(())
+}
+
+/// The array type of three numbers of type int.
+fn three_ints(alloc: Global, scope: &Scope) -> Result<Ty, Fail> {
     let int = Ty::Integer(IntegerType::Int);
-    let three = QualifiedType {
-        type_: array_type(alloc, int, &[Some(3)], scope.layouts(), 1)?,
-        constant: false,
-    };
-    scope.declare_type(alloc, b"A", three)?;
-    scope.declare(alloc, b"E", Meaning::Enumerator { bits: 5 })?;
-    scope.declare(alloc, b"M", Meaning::Enumerator { bits: 0xffff_ffff })?;
-    let place = declared_record(alloc, &mut scope, RecordKind::Struct, b"S")?;
+    Ok(array_type(alloc, int, &[Some(3)], scope.layouts(), 1)?)
+}
+
+/// `x`, `u`, `l`, `c` are v0 to v3, of types int, unsigned, long and char; `b` is a _Bool, and `main` a function.
+fn test_scope(alloc: Global) -> Result<Scope, Fail> {
+    let mut scope = Scope::new(alloc)?;
+    scope.declare(alloc, b"main", Meaning::Function)?;
+    let variables: [(&[u8], IntegerType); 5] = [
+        (b"x", IntegerType::Int),
+        (b"u", IntegerType::UnsignedInt),
+        (b"l", IntegerType::Long),
+        (b"c", IntegerType::Char),
+        (b"b", IntegerType::Bool),
+    ];
+    for (name, type_) in variables {
+        add_variable(alloc, &mut scope, name, type_, false)?;
+    }
+    Ok(scope)
+}
+
+/// Adds `k`, a const int v5; the typedefs `T` (const int), `U` (unsigned char) and `A` (int [3]); the enumerators `E` (5) and `M`
+/// (-1).
+fn add_names(alloc: Global, scope: &mut Scope) -> Result<(), Fail> {
+    add_variable(alloc, scope, b"k", IntegerType::Int, true)?;
+    add_type(alloc, scope, b"T", Ty::Integer(IntegerType::Int), true)?;
+    let byte = Ty::Integer(IntegerType::UnsignedChar);
+    add_type(alloc, scope, b"U", byte, false)?;
+    let three = three_ints(alloc, scope)?;
+    add_type(alloc, scope, b"A", three, false)?;
+    add_enumerator(alloc, scope, b"E", 5)?;
+    add_enumerator(alloc, scope, b"M", 0xffff_ffff)
+}
+
+/// Adds `struct S` of an int and a char, `union V`, which is incomplete, and `enum N`.
+fn add_tags(alloc: Global, scope: &mut Scope) -> Result<(), Fail> {
+    let place = add_record(alloc, scope, RecordKind::Struct, b"S")?;
     let members = vec![in alloc;
         Ty::Integer(IntegerType::Int),
         Ty::Integer(IntegerType::Char),
     ]?;
-    if (place as usize) < scope.layouts().len() && !scope.layouts().is_completed(place) {
-        scope.complete_record(alloc, place, members)?;
-    }
-    let _place = declared_record(alloc, &mut scope, RecordKind::Union, b"V")?;
+    complete(alloc, scope, place, members)?;
+    let _place = add_record(alloc, scope, RecordKind::Union, b"V")?;
     scope.declare(alloc, b"N", Meaning::Enumeration)?;
+    Ok(())
+}
+
+/// All of these names.
+fn typed_scope(alloc: Global) -> Result<Scope, Fail> {
+    let mut scope = test_scope(alloc)?;
+    add_names(alloc, &mut scope)?;
+    add_tags(alloc, &mut scope)?;
     Ok(scope)
 }
 

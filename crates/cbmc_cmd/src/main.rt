@@ -1,7 +1,7 @@
 //! The program `cbmc`: gives the checker the words of the command line, the files of the system and standard output.
 #![tactic(auto)]
 
-use cbmc_top::{Done, top};
+use cbmc_top::top;
 use outside::{FileSource, StdSink};
 use std::alloc::Global;
 use std::process::ExitCode;
@@ -29,6 +29,6 @@ fn main(rt: HostRuntime) -> ExitCode {
     };
     let mut files = FileSource::new(alloc, &rt);
     let mut out = StdSink::new(&rt);
-    let Done { status } = top(alloc, &words, &mut files, &mut out);
-    ExitCode::from(status)
+    let done = top(alloc, &words, &mut files, &mut out);
+    ExitCode::from(done.status)
 }

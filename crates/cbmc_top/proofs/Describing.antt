@@ -8,10 +8,13 @@ use Rattle.core_tree.specs.declared.functions.Name.{Name}
 use Rattle.core_tree.specs.Trees.{Procedure, view_core}
 use Rattle.core_tree.specs.Ranges.{Limits}
 use Rattle.c_tree.specs.Statements.{Externals, no_more, declared, defines}
-use Rattle.c_elab_expr.specs.Scopes.{Scoped}
+use Rattle.c_elab_expr.specs.Scopes.{Scoped, first_scope}
 use Rattle.c_elab_expr.specs.Nodes.{◌>>=◌}
 use Rattle.c_elab_expr.specs.Typing.{on_line}
-use Rattle.c_elab_decl.specs.Elaborated.{typed_definitions, typed_statement, with_function, undeclared, on_external, main}
+use Rattle.c_elab_decl.specs.Regions.{earlier}
+use Rattle.c_elab_decl.specs.Specifiers.{parts_line}
+use Rattle.c_elab_decl.specs.Statements.{typed_statement}
+use Rattle.c_elab_decl.specs.Files.{in_file, on_external, typed_outside, function_node, with_function, main, outside, typed_externals}
 use Rattle.c_types.specs.declared.integers.IntegerType.{IntegerType}
 use Rattle.core_tree.specs.Trees.{Statement}
 use Rattle.std.proofs.lemmas.Bool.Decides.{nat_tests}
@@ -45,23 +48,25 @@ first_or_later : (t : Scoped) (rest : Externals) (line : ℕ) (vs : List Integer
 first_or_later t rest line vs b fs zero x later h = some_is (sym h)
 first_or_later t rest line vs b fs (suc n) x later h = later n x h
 
-all_main : (s : Scoped) (d : Externals) (functions : List Procedure) → typed_definitions s d ≡ Ok functions → (n : ℕ) (x : List ℕ) → name_in functions n ≡ Some x → x ≡ codes "main"
+all_main : (s : Scoped) (d : Externals) (functions : List Procedure) → typed_externals s d ≡ Ok functions → (n : ℕ) (x : List ℕ) → name_in functions n ≡ Some x → x ≡ codes "main"
 all_main s no_more functions e n x h = let none : [] ≡ functions = ok_is [] functions (Ok []) refl e in let no : None ≡ Some x = subst (λ fs. name_in fs n ≡ Some x) (sym none) h in cc
-all_main s (declared parts ds rest) functions e n x h = cc
+all_main s (declared parts ds rest) functions e n x h =
+    let a = ok_from (on_external (parts_line parts) (typed_outside s parts ds)) (λ t. typed_externals t rest) functions e in
+    all_main a.0 rest functions a.2 n x h
 all_main s (defines line name_line body rest) functions e n x h =
-    let a = ok_from (on_line name_line (undeclared 0 s (codes "main")))
-    (λ fresh. on_external line (typed_statement (with_function s (codes "main")) body) >>= λ y. typed_definitions (record y.1 { variables = [] }) rest >>= λ fs. Ok (main name_line y.1.variables y.0 ∷ fs)) functions e in
-    let b = ok_from (on_external line (typed_statement (with_function s (codes "main")) body)) (λ y. typed_definitions (record y.1 { variables = [] }) rest >>= λ fs. Ok (main name_line y.1.variables y.0 ∷ fs)) functions a.2 in
-    let c = ok_from (typed_definitions (record b.0.1 { variables = [] }) rest) (λ fs. Ok (main name_line b.0.1.variables b.0.0 ∷ fs)) functions b.2 in
+    let a = ok_from (on_line name_line (function_node (earlier in_file s (codes "main"))))
+    (λ new. on_external line (typed_statement (with_function s (codes "main")) body) >>= λ y. typed_externals (outside y.1) rest >>= λ fs. Ok (main name_line y.1.variables y.0 ∷ fs)) functions e in
+    let b = ok_from (on_external line (typed_statement (with_function s (codes "main")) body)) (λ y. typed_externals (outside y.1) rest >>= λ fs. Ok (main name_line y.1.variables y.0 ∷ fs)) functions a.2 in
+    let c = ok_from (typed_externals (outside b.0.1) rest) (λ fs. Ok (main name_line b.0.1.variables b.0.0 ∷ fs)) functions b.2 in
     let whole : (main name_line b.0.1.variables b.0.0 ∷ c.0) ≡ functions = ok_is (main name_line b.0.1.variables b.0.0 ∷ c.0) functions (Ok (main name_line b.0.1.variables b.0.0 ∷ c.0)) refl c.2 in
-    first_or_later (record b.0.1 { variables = [] }) rest name_line b.0.1.variables b.0.0 c.0 n x (all_main (record b.0.1 { variables = [] }) rest c.0 c.1) (subst (λ fs. name_in fs n ≡ Some x) (sym whole) h)
+    first_or_later (outside b.0.1) rest name_line b.0.1.variables b.0.0 c.0 n x (all_main (outside b.0.1) rest c.0 c.1) (subst (λ fs. name_in fs n ≡ Some x) (sym whole) h)
 
 -- The name of the function that a broken check stands in.
 pub named : (bytes : List ℕ) (functions : List Procedure) (limits : Limits) (t : Trace) → IsAccepted bytes functions → IsBroken limits functions t → (name : List ℕ) × (name_in functions t.check.function ≡ Some name) × (is_identifier name ≡ true)
 named bytes functions limits t a r =
     let x = broken_there functions t.inputs t.schedule t.check r in
     let p = a.program in
-    let is_main = all_main (record { bindings = []; variables = [] }) p.tree functions p.typed t.check.function x.0 x.1 in
+    let is_main = all_main first_scope p.tree functions p.typed t.check.function x.0 x.1 in
     (x.0, x.1, ap is_identifier is_main)
 
 pub name_found : (core : List Function) (number : ℕ) (o : Option Name) → o ≡ option_map (λ (f : Function). f.name) (slice_get core number) → name_in (view_core core) number ≡ option_map (λ (n : Name). n.bytes.items) o

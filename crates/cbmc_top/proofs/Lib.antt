@@ -10,6 +10,7 @@ pub mod Rows
 pub mod Results
 pub mod Stages
 pub mod Answering
+pub mod Spent
 pub mod Causes
 pub mod Named
 pub mod Describing

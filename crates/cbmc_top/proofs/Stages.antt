@@ -14,11 +14,14 @@ use Rattle.core_tree.specs.Ranges.{Limits}
 use Rattle.core_tree.specs.declared.refusal.Limit.{Limit}
 use Rattle.core_tree.specs.declared.refusal.Limit.TheVariants.{Tokens}
 use Rattle.c_elab_expr.specs.Typing.{Fault}
-use Rattle.c_elab_decl.specs.Elaborated.{elaborated}
+use Rattle.c_elab_decl.specs.Files.{elaborated}
 use Rattle.c_profile.specs.Rules.{Breach, first_breach}
 use Rattle.goto_unwind.specs.Counts.{passed}
 use Rattle.cbmc_top.specs.Programs.{directive_line, IsFileOf, IsAccepted, IsCheckable}
-use Rattle.cbmc_top.specs.Answers.{Answer, usage, read_fault, limited, refused, successful, failed, refusal, AfterCounts, AtCounts, AtProfile, typing_cause, AtTyping, HasTree, AtTree, extra_line, stops_at, screened, AtTokens, lexing_answer, AtLexing, Decides, AreRuns}
+use Rattle.cbmc_top.specs.Answers.{Answer, usage, read_fault, limited, refused, successful, failed, used_up, turns_of, refusal, IsFailure, AfterCounts, AtCounts, AtProfile, typing_cause, AtTyping, HasTree, AtTree, extra_line, stops_at, screened, AtTokens, lexing_answer, AtLexing, Decides, IsOfSearch}
+use Rattle.cbmc_top.specs.Executions.{IsVerified}
+use Rattle.cbmc_top.specs.Report.{Failure}
+use Rattle.cbmc_top.specs.declared.used.Used.{Used}
 use Rattle.cbmc_top.specs.Stops.{StopsWith, HasNoTyping, IsOutside, IsPassed}
 use Rattle.cbmc_top.specs.declared.stop.Stop.{Stop}
 use Rattle.cbmc_top.specs.declared.stop.Stop.TheVariants as stops
@@ -33,20 +36,20 @@ stop_map stops.Memory P Q f x = tt
 
 -- ---- from a stage to the whole
 
-pub from_tokens : (limits : Limits) (file : List ℕ) (tokens : List Token) (o : Option Answer) (a : Answer) → length file ≤ 1048576 → IsCutInto file (Ok tokens) → screened tokens ≡ o → AtTokens limits file tokens o a → Decides limits file a
-from_tokens limits file tokens o a short cut is on = inr (record { short = short; found = Ok tokens; cut = cut; on = subst (λ x. AtTokens limits file tokens x a) (sym is) on })
+pub from_tokens : (limits : Limits) (budget : ℕ) (file : List ℕ) (tokens : List Token) (o : Option Answer) (a : Answer) → length file ≤ 1048576 → IsCutInto file (Ok tokens) → screened tokens ≡ o → AtTokens limits budget file tokens o a → Decides limits budget file a
+from_tokens limits budget file tokens o a short cut is on = inr (record { short = short; found = Ok tokens; cut = cut; on = subst (λ x. AtTokens limits budget file tokens x a) (sym is) on })
 
-pub from_typing : (limits : Limits) (bytes : List ℕ) (tokens : List Token) (tree : Externals) (r : Result (List Procedure) Fault) (a : Answer) → IsFile bytes tokens tree → elaborated tree ≡ r → AtTyping limits r a → HasTree limits bytes tokens a
-from_typing limits bytes tokens tree r a is_tree is on = record { tree = tree; is_tree = is_tree; on = subst (λ x. AtTyping limits x a) (sym is) on }
+pub from_typing : (limits : Limits) (budget : ℕ) (bytes : List ℕ) (tokens : List Token) (tree : Externals) (r : Result (List Procedure) Fault) (a : Answer) → IsFile bytes tokens tree → elaborated tree ≡ r → AtTyping limits budget r a → HasTree limits budget bytes tokens a
+from_typing limits budget bytes tokens tree r a is_tree is on = record { tree = tree; is_tree = is_tree; on = subst (λ x. AtTyping limits budget x a) (sym is) on }
 
-pub no_typing : (limits : Limits) (bytes : List ℕ) (tokens : List Token) (tree : Externals) (a : Answer) → IsFile bytes tokens tree → HasNoTyping tree a → HasTree limits bytes tokens a
-no_typing limits bytes tokens tree a is_tree x = from_typing limits bytes tokens tree (Err x.0) a is_tree x.1 x.2
+pub no_typing : (limits : Limits) (budget : ℕ) (bytes : List ℕ) (tokens : List Token) (tree : Externals) (a : Answer) → IsFile bytes tokens tree → HasNoTyping tree a → HasTree limits budget bytes tokens a
+no_typing limits budget bytes tokens tree a is_tree x = from_typing limits budget bytes tokens tree (Err x.0) a is_tree x.1 x.2
 
-from_profile : (limits : Limits) (functions : List Procedure) (o : Option Breach) (a : Answer) → first_breach functions ≡ o → AtProfile limits functions o a → AtTyping limits (Ok functions) a
-from_profile limits functions o a is on = subst (λ x. AtProfile limits functions x a) (sym is) on
+from_profile : (limits : Limits) (budget : ℕ) (functions : List Procedure) (o : Option Breach) (a : Answer) → first_breach functions ≡ o → AtProfile limits budget functions o a → AtTyping limits budget (Ok functions) a
+from_profile limits budget functions o a is on = subst (λ x. AtProfile limits budget functions x a) (sym is) on
 
-pub outside : (limits : Limits) (bytes : List ℕ) (tokens : List Token) (tree : Externals) (functions : List Procedure) (a : Answer) → IsFile bytes tokens tree → elaborated tree ≡ Ok functions → IsOutside functions a → HasTree limits bytes tokens a
-outside limits bytes tokens tree functions a is_tree typed x = from_typing limits bytes tokens tree (Ok functions) a is_tree typed (from_profile limits functions (Some x.0) a x.1 x.2)
+pub outside : (limits : Limits) (budget : ℕ) (bytes : List ℕ) (tokens : List Token) (tree : Externals) (functions : List Procedure) (a : Answer) → IsFile bytes tokens tree → elaborated tree ≡ Ok functions → IsOutside functions a → HasTree limits budget bytes tokens a
+outside limits budget bytes tokens tree functions a is_tree typed x = from_typing limits budget bytes tokens tree (Ok functions) a is_tree typed (from_profile limits budget functions (Some x.0) a x.1 x.2)
 
 -- ---- files that are accepted
 
@@ -79,43 +82,43 @@ is_accepted file tokens tree functions short cut fine is_tree typed in_profile =
 fine_tokens : (tokens : List Token) → directive_line tokens ≡ None → length tokens ≤ 200000 → screened tokens ≡ None
 fine_tokens tokens plain few = ap (λ o. stops_at o (extra_line tokens)) plain ∙ ap (λ o. stops_at None o) (there_none tokens 200000 few)
 
-pub accepted_decides : (limits : Limits) (file : List ℕ) (functions : List Procedure) (o : Option Limit) (a : Answer) → IsAccepted file functions → passed functions limits ≡ o → AtCounts limits functions o a → Decides limits file a
-accepted_decides limits file functions o a x is on =
+pub accepted_decides : (limits : Limits) (budget : ℕ) (file : List ℕ) (functions : List Procedure) (o : Option Limit) (a : Answer) → IsAccepted file functions → passed functions limits ≡ o → AtCounts limits budget functions o a → Decides limits budget file a
+accepted_decides limits budget file functions o a x is on =
     let p = x.program in
-    let counts : AtCounts limits functions (passed functions limits) a = subst (λ y. AtCounts limits functions y a) (sym is) on in
-    from_tokens limits file p.tokens None a x.short p.cut (fine_tokens p.tokens p.plain x.few)
-    (inr (from_typing limits (bytes_of file) p.tokens p.tree (Ok functions) a p.is_tree p.typed (from_profile limits functions None a p.in_profile counts)))
+    let counts : AtCounts limits budget functions (passed functions limits) a = subst (λ y. AtCounts limits budget functions y a) (sym is) on in
+    from_tokens limits budget file p.tokens None a x.short p.cut (fine_tokens p.tokens p.plain x.few)
+    (inr (from_typing limits budget (bytes_of file) p.tokens p.tree (Ok functions) a p.is_tree p.typed (from_profile limits budget functions None a p.in_profile counts)))
 
-pub accepted_passed : (limits : Limits) (file : List ℕ) (functions : List Procedure) (a : Answer) → IsAccepted file functions → IsPassed limits functions a → Decides limits file a
-accepted_passed limits file functions a x p = accepted_decides limits file functions (Some p.0) a x p.1 p.2
+pub accepted_passed : (limits : Limits) (budget : ℕ) (file : List ℕ) (functions : List Procedure) (a : Answer) → IsAccepted file functions → IsPassed limits functions a → Decides limits budget file a
+accepted_passed limits budget file functions a x p = accepted_decides limits budget file functions (Some p.0) a x p.1 p.2
 
--- ---- from an answer about runs to the program
+-- ---- from an answer of the search to the program
 
-no_runs : (a b : Answer) → (AreRuns b → ⊥) → a ≡ b → AreRuns a → ⊥
-no_runs a b none e runs = none (subst AreRuns e runs)
+no_search : (a b : Answer) → (IsOfSearch b → ⊥) → a ≡ b → IsOfSearch a → ⊥
+no_search a b none e of_search = none (subst IsOfSearch e of_search)
 
-lexing_no_runs : (e : LexError) (a : Answer) → lexing_answer e ≡ Some a → AreRuns a → ⊥
-lexing_no_runs (errors.BadByte line) a e runs = subst AreRuns (sym (some_is e)) runs
-lexing_no_runs (errors.Unclosed line) a e runs = subst AreRuns (sym (some_is e)) runs
-lexing_no_runs (errors.BadConstant line) a e runs = subst AreRuns (sym (some_is e)) runs
-lexing_no_runs (errors.Foreign line) a e runs = subst AreRuns (sym (some_is e)) runs
-lexing_no_runs errors.Memory a e runs = cc
+lexing_no_search : (e : LexError) (a : Answer) → lexing_answer e ≡ Some a → IsOfSearch a → ⊥
+lexing_no_search (errors.BadByte line) a e of_search = subst IsOfSearch (sym (some_is e)) of_search
+lexing_no_search (errors.Unclosed line) a e of_search = subst IsOfSearch (sym (some_is e)) of_search
+lexing_no_search (errors.BadConstant line) a e of_search = subst IsOfSearch (sym (some_is e)) of_search
+lexing_no_search (errors.Foreign line) a e of_search = subst IsOfSearch (sym (some_is e)) of_search
+lexing_no_search errors.Memory a e of_search = cc
 
-stop_no_runs : (x y : Option ℕ) (s : Answer) → stops_at x y ≡ Some s → AreRuns s → ⊥
-stop_no_runs None None s e runs = cc
-stop_no_runs (Some l) None s e runs = subst AreRuns (sym (some_is e)) runs
-stop_no_runs None (Some m) s e runs = subst AreRuns (sym (some_is e)) runs
-stop_no_runs (Some l) (Some m) s e runs = elim (nat_le l m) as (λ b. cond {A = Option Answer} b (Some (refusal 5 l None)) (Some (limited Tokens)) ≡ Some s → ⊥) [ true ↦ λ h. subst AreRuns (sym (some_is h)) runs | false ↦ λ h. subst AreRuns (sym (some_is h)) runs ] e
+stop_no_search : (x y : Option ℕ) (s : Answer) → stops_at x y ≡ Some s → IsOfSearch s → ⊥
+stop_no_search None None s e of_search = cc
+stop_no_search (Some l) None s e of_search = subst IsOfSearch (sym (some_is e)) of_search
+stop_no_search None (Some m) s e of_search = subst IsOfSearch (sym (some_is e)) of_search
+stop_no_search (Some l) (Some m) s e of_search = elim (nat_le l m) as (λ b. cond {A = Option Answer} b (Some (refusal 5 l None)) (Some (limited Tokens)) ≡ Some s → ⊥) [ true ↦ λ h. subst IsOfSearch (sym (some_is h)) of_search | false ↦ λ h. subst IsOfSearch (sym (some_is h)) of_search ] e
 
 -- what the answer says of the program of the file
-pub record Told (limits : Limits) (file : List ℕ) (answer : Answer) : Type 0 where
+pub record Told (limits : Limits) (budget : ℕ) (file : List ℕ) (answer : Answer) : Type 0 where
   pub functions : List Procedure
   pub program : IsFileOf file functions
-  pub runs : AfterCounts limits functions answer
+  pub after : AfterCounts limits budget functions answer
 
-told_counts : (limits : Limits) (file : List ℕ) (functions : List Procedure) (o : Option Limit) (a : Answer) → AreRuns a → IsFileOf file functions → AtCounts limits functions o a → Told limits file a
-told_counts limits file functions None a runs p on = record { functions = functions; program = p; runs = on }
-told_counts limits file functions (Some l) a runs p on = absurd (no_runs a (limited l) (λ x. x) on runs)
+told_counts : (limits : Limits) (budget : ℕ) (file : List ℕ) (functions : List Procedure) (o : Option Limit) (a : Answer) → IsOfSearch a → IsFileOf file functions → AtCounts limits budget functions o a → Told limits budget file a
+told_counts limits budget file functions None a of_search p on = record { functions = functions; program = p; after = on }
+told_counts limits budget file functions (Some l) a of_search p on = absurd (no_search a (limited l) (λ x. x) on of_search)
 
 -- a file's tokens and tree, as far as they have come
 record HasCome (file : List ℕ) (tokens : List Token) (tree : Externals) : Type 0 where
@@ -123,56 +126,60 @@ record HasCome (file : List ℕ) (tokens : List Token) (tree : Externals) : Type
   plain : directive_line tokens ≡ None
   is_tree : IsFile (bytes_of file) tokens tree
 
-told_profile : (limits : Limits) (file : List ℕ) (tokens : List Token) (tree : Externals) (functions : List Procedure) (o : Option Breach) (a : Answer) → AreRuns a → HasCome file tokens tree → elaborated tree ≡ Ok functions → first_breach functions ≡ o
-    → AtProfile limits functions o a → Told limits file a
-told_profile limits file tokens tree functions None a runs h typed is on =
-    told_counts limits file functions (passed functions limits) a runs (record { tokens = tokens; cut = h.cut; plain = h.plain; tree = tree; is_tree = h.is_tree; typed = typed; in_profile = is }) on
-told_profile limits file tokens tree functions (Some b) a runs h typed is on = absurd (no_runs a (refusal 12 b.line (Some b.rule)) (λ x. x) on runs)
+told_profile : (limits : Limits) (budget : ℕ) (file : List ℕ) (tokens : List Token) (tree : Externals) (functions : List Procedure) (o : Option Breach) (a : Answer) → IsOfSearch a → HasCome file tokens tree → elaborated tree ≡ Ok functions → first_breach functions ≡ o
+    → AtProfile limits budget functions o a → Told limits budget file a
+told_profile limits budget file tokens tree functions None a of_search h typed is on =
+    told_counts limits budget file functions (passed functions limits) a of_search (record { tokens = tokens; cut = h.cut; plain = h.plain; tree = tree; is_tree = h.is_tree; typed = typed; in_profile = is }) on
+told_profile limits budget file tokens tree functions (Some b) a of_search h typed is on = absurd (no_search a (refusal 12 b.line (Some b.rule)) (λ x. x) on of_search)
 
-told_typing : (limits : Limits) (file : List ℕ) (tokens : List Token) (tree : Externals) (r : Result (List Procedure) Fault) (a : Answer) → AreRuns a → HasCome file tokens tree → elaborated tree ≡ r → AtTyping limits r a → Told limits file a
-told_typing limits file tokens tree (Ok functions) a runs h is on = told_profile limits file tokens tree functions (first_breach functions) a runs h is refl on
-told_typing limits file tokens tree (Err f) a runs h is on = absurd (no_runs a (refused (typing_cause f)) (λ x. x) on runs)
+told_typing : (limits : Limits) (budget : ℕ) (file : List ℕ) (tokens : List Token) (tree : Externals) (r : Result (List Procedure) Fault) (a : Answer) → IsOfSearch a → HasCome file tokens tree → elaborated tree ≡ r → AtTyping limits budget r a → Told limits budget file a
+told_typing limits budget file tokens tree (Ok functions) a of_search h is on = told_profile limits budget file tokens tree functions (first_breach functions) a of_search h is refl on
+told_typing limits budget file tokens tree (Err f) a of_search h is on = absurd (no_search a (refused (typing_cause f)) (λ x. x) on of_search)
 
-told_tree : (limits : Limits) (file : List ℕ) (tokens : List Token) (a : Answer) → AreRuns a → IsCutInto file (Ok tokens) → directive_line tokens ≡ None → AtTree limits file tokens a → Told limits file a
-told_tree limits file tokens a runs cut plain (inl n) = absurd (no_runs a (refusal 10 (line_at (last_line_of file) n.rest) None) (λ x. x) n.on runs)
-told_tree limits file tokens a runs cut plain (inr t) = told_typing limits file tokens t.tree (elaborated t.tree) a runs (record { cut = cut; plain = plain; is_tree = t.is_tree }) refl t.on
+told_tree : (limits : Limits) (budget : ℕ) (file : List ℕ) (tokens : List Token) (a : Answer) → IsOfSearch a → IsCutInto file (Ok tokens) → directive_line tokens ≡ None → AtTree limits budget file tokens a → Told limits budget file a
+told_tree limits budget file tokens a of_search cut plain (inl n) = absurd (no_search a (refusal 10 (line_at (last_line_of file) n.rest) None) (λ x. x) n.on of_search)
+told_tree limits budget file tokens a of_search cut plain (inr t) = told_typing limits budget file tokens t.tree (elaborated t.tree) a of_search (record { cut = cut; plain = plain; is_tree = t.is_tree }) refl t.on
 
-told_tokens : (limits : Limits) (file : List ℕ) (tokens : List Token) (o : Option Answer) (a : Answer) → AreRuns a → IsCutInto file (Ok tokens) → screened tokens ≡ o → AtTokens limits file tokens o a → Told limits file a
-told_tokens limits file tokens None a runs cut is on = told_tree limits file tokens a runs cut (nothing_stops (directive_line tokens) (extra_line tokens) is).0 on
-told_tokens limits file tokens (Some s) a runs cut is on = absurd (stop_no_runs (directive_line tokens) (extra_line tokens) s is (subst AreRuns on runs))
+told_tokens : (limits : Limits) (budget : ℕ) (file : List ℕ) (tokens : List Token) (o : Option Answer) (a : Answer) → IsOfSearch a → IsCutInto file (Ok tokens) → screened tokens ≡ o → AtTokens limits budget file tokens o a → Told limits budget file a
+told_tokens limits budget file tokens None a of_search cut is on = told_tree limits budget file tokens a of_search cut (nothing_stops (directive_line tokens) (extra_line tokens) is).0 on
+told_tokens limits budget file tokens (Some s) a of_search cut is on = absurd (stop_no_search (directive_line tokens) (extra_line tokens) s is (subst IsOfSearch on of_search))
 
-told_lexing : (limits : Limits) (file : List ℕ) (found : Result (List Token) LexError) (a : Answer) → AreRuns a → IsCutInto file found → AtLexing limits file found a → Told limits file a
-told_lexing limits file (Ok tokens) a runs cut on = told_tokens limits file tokens (screened tokens) a runs cut refl on
-told_lexing limits file (Err e) a runs cut on = absurd (lexing_no_runs e a on runs)
+told_lexing : (limits : Limits) (budget : ℕ) (file : List ℕ) (found : Result (List Token) LexError) (a : Answer) → IsOfSearch a → IsCutInto file found → AtLexing limits budget file found a → Told limits budget file a
+told_lexing limits budget file (Ok tokens) a of_search cut on = told_tokens limits budget file tokens (screened tokens) a of_search cut refl on
+told_lexing limits budget file (Err e) a of_search cut on = absurd (lexing_no_search e a on of_search)
 
-pub told : (limits : Limits) (file : List ℕ) (a : Answer) → AreRuns a → Decides limits file a → Told limits file a
-told limits file a runs (inl long) = absurd (no_runs a (limited _) (λ x. x) long.1 runs)
-told limits file a runs (inr x) = told_lexing limits file x.found a runs x.cut x.on
+pub told : (limits : Limits) (budget : ℕ) (file : List ℕ) (a : Answer) → IsOfSearch a → Decides limits budget file a → Told limits budget file a
+told limits budget file a of_search (inl long) = absurd (no_search a (limited _) (λ x. x) long.1 of_search)
+told limits budget file a of_search (inr x) = told_lexing limits budget file x.found a of_search x.cut x.on
 
 -- ---- one answer
 
 abbrev pub Same : Answer → Answer → Type 0
-Same a b = (a ≡ b) ⊎ (AreRuns a × AreRuns b)
+Same a b = (a ≡ b) ⊎ (IsOfSearch a × IsOfSearch b)
 
-runs_of : (limits : Limits) (functions : List Procedure) (a : Answer) → AfterCounts limits functions a → AreRuns a
-runs_of limits functions usage x = x
-runs_of limits functions read_fault x = x
-runs_of limits functions (limited l) x = x
-runs_of limits functions (refused c) x = x
-runs_of limits functions successful x = tt
-runs_of limits functions (failed f) x = tt
+search_of : (limits : Limits) (budget : ℕ) (functions : List Procedure) (a : Answer) → AfterCounts limits budget functions a → IsOfSearch a
+search_of limits budget functions usage x = x
+search_of limits budget functions read_fault x = x
+search_of limits budget functions (limited l) x = x
+search_of limits budget functions (refused c) x = x
+search_of limits budget functions (successful used) x = tt
+search_of limits budget functions (failed f) x = tt
+search_of limits budget functions (used_up used) x = tt
 
-both_counts : (limits : Limits) (functions : List Procedure) (o : Option Limit) (a b : Answer) → AtCounts limits functions o a → AtCounts limits functions o b → Same a b
-both_counts limits functions None a b x y = inr (runs_of limits functions a x, runs_of limits functions b y)
-both_counts limits functions (Some l) a b x y = inl (x ∙ sym y)
+both_counts : (limits : Limits) (budget : ℕ) (functions : List Procedure) (o : Option Limit) (a b : Answer) → AtCounts limits budget functions o a → AtCounts limits budget functions o b → Same a b
+both_counts limits budget functions None a b x y = inr (search_of limits budget functions a x, search_of limits budget functions b y)
+both_counts limits budget functions (Some l) a b x y = inl (x ∙ sym y)
 
-both_profile : (limits : Limits) (functions : List Procedure) (o : Option Breach) (a b : Answer) → AtProfile limits functions o a → AtProfile limits functions o b → Same a b
-both_profile limits functions None a b x y = both_counts limits functions (passed functions limits) a b x y
-both_profile limits functions (Some l) a b x y = inl (x ∙ sym y)
+both_profile : (limits : Limits) (budget : ℕ) (functions : List Procedure) (o : Option Breach) (a b : Answer) → AtProfile limits budget functions o a → AtProfile limits budget functions o b → Same a b
+both_profile limits budget functions None a b x y = both_counts limits budget functions (passed functions limits) a b x y
+both_profile limits budget functions (Some l) a b x y = inl (x ∙ sym y)
 
-both_typing : (limits : Limits) (r : Result (List Procedure) Fault) (a b : Answer) → AtTyping limits r a → AtTyping limits r b → Same a b
-both_typing limits (Ok functions) a b x y = both_profile limits functions (first_breach functions) a b x y
-both_typing limits (Err f) a b x y = inl (x ∙ sym y)
+both_typing : (limits : Limits) (budget : ℕ) (r : Result (List Procedure) Fault) (a b : Answer) → AtTyping limits budget r a → AtTyping limits budget r b → Same a b
+both_typing limits budget (Ok functions) a b x y = both_profile limits budget functions (first_breach functions) a b x y
+both_typing limits budget (Err f) a b x y = inl (x ∙ sym y)
+
+safe_breaks : (limits : Limits) (functions : List Procedure) (f : Failure) → IsVerified limits functions → IsFailure limits functions f → ⊥
+safe_breaks limits functions f v x = let fine = v.within f.inputs (turns_of f.rows) in let broken = x.replays.breaks in cc
 
 ok_is : {A B : Type 0} {a b : A} (x : Result A B) → x ≡ Ok a → x ≡ Ok b → a ≡ b
 ok_is x p q = cc
@@ -185,42 +192,48 @@ module _ (one_cut : (file : List ℕ) (a b : Result (List Token) LexError) → I
       let tree : p.tree ≡ q.tree = one_tree (bytes_of file) q.tokens p.tree q.tree (subst (λ ts. IsFile (bytes_of file) ts p.tree) tokens p.is_tree) q.is_tree in
       ok_is (elaborated p.tree) p.typed (ap elaborated tree ∙ q.typed)
 
-  counts_of_tree : (limits : Limits) (file : List ℕ) (functions : List Procedure) (p : IsFileOf file functions) (a : Answer) → AtTree limits file p.tokens a → AtCounts limits functions (passed functions limits) a
-  counts_of_tree limits file functions p a (inl n) = absurd (n.none p.tree p.is_tree)
-  counts_of_tree limits file functions p a (inr t) =
+  pub one_verdict : (limits : Limits) (budget other : ℕ) (file : List ℕ) (used : Used) (f : Failure) → Decides limits budget file (successful used) → Decides limits other file (failed f) → ⊥
+  one_verdict limits budget other file used f x y =
+      let p = told limits budget file (successful used) tt x in
+      let q = told limits other file (failed f) tt y in
+      safe_breaks limits p.functions f p.after.0 (subst (λ fs. IsFailure limits fs f) (one_program file q.functions p.functions q.program p.program) q.after)
+
+  counts_of_tree : (limits : Limits) (budget : ℕ) (file : List ℕ) (functions : List Procedure) (p : IsFileOf file functions) (a : Answer) → AtTree limits budget file p.tokens a → AtCounts limits budget functions (passed functions limits) a
+  counts_of_tree limits budget file functions p a (inl n) = absurd (n.none p.tree p.is_tree)
+  counts_of_tree limits budget file functions p a (inr t) =
       let tree : t.tree ≡ p.tree = one_tree (bytes_of file) p.tokens t.tree p.tree t.is_tree p.is_tree in
-      let typing : AtTyping limits (Ok functions) a = subst (λ r. AtTyping limits r a) (ap elaborated tree ∙ p.typed) t.on in
-      subst (λ o. AtProfile limits functions o a) p.in_profile typing
+      let typing : AtTyping limits budget (Ok functions) a = subst (λ r. AtTyping limits budget r a) (ap elaborated tree ∙ p.typed) t.on in
+      subst (λ o. AtProfile limits budget functions o a) p.in_profile typing
 
-  pub counts_of : (limits : Limits) (file : List ℕ) (functions : List Procedure) (a : Answer) → IsAccepted file functions → Decides limits file a → AtCounts limits functions (passed functions limits) a
-  counts_of limits file functions a x (inl long) = let short = x.short in absurd (omega (arith, long.0, short))
-  counts_of limits file functions a x (inr r) =
+  pub counts_of : (limits : Limits) (budget : ℕ) (file : List ℕ) (functions : List Procedure) (a : Answer) → IsAccepted file functions → Decides limits budget file a → AtCounts limits budget functions (passed functions limits) a
+  counts_of limits budget file functions a x (inl long) = let short = x.short in absurd (omega (arith, long.0, short))
+  counts_of limits budget file functions a x (inr r) =
       let p = x.program in
-      let lexing : AtLexing limits file (Ok p.tokens) a = subst (λ f. AtLexing limits file f a) (one_cut file r.found (Ok p.tokens) r.cut p.cut) r.on in
-      counts_of_tree limits file functions p a (subst (λ o. AtTokens limits file p.tokens o a) (fine_tokens p.tokens p.plain x.few) lexing)
+      let lexing : AtLexing limits budget file (Ok p.tokens) a = subst (λ f. AtLexing limits budget file f a) (one_cut file r.found (Ok p.tokens) r.cut p.cut) r.on in
+      counts_of_tree limits budget file functions p a (subst (λ o. AtTokens limits budget file p.tokens o a) (fine_tokens p.tokens p.plain x.few) lexing)
 
-  pub runs_answer : (limits : Limits) (file : List ℕ) (functions : List Procedure) (a : Answer) → IsCheckable limits file functions → Decides limits file a → AfterCounts limits functions a
-  runs_answer limits file functions a x d = subst (λ o. AtCounts limits functions o a) x.counts (counts_of limits file functions a x.accepted d)
+  pub runs_answer : (limits : Limits) (budget : ℕ) (file : List ℕ) (functions : List Procedure) (a : Answer) → IsCheckable limits file functions → Decides limits budget file a → AfterCounts limits budget functions a
+  runs_answer limits budget file functions a x d = subst (λ o. AtCounts limits budget functions o a) x.counts (counts_of limits budget file functions a x.accepted d)
 
   module _ (one_rest : (bytes : List ℕ) (tokens a b : List Token) → EndsAt bytes tokens a → EndsAt bytes tokens b → a ≡ b) where
-    both_tree : (limits : Limits) (file : List ℕ) (tokens : List Token) (a b : Answer) → AtTree limits file tokens a → AtTree limits file tokens b → Same a b
-    both_tree limits file tokens a b (inl x) (inl y) = inl (x.on ∙ ap (λ rest. refusal 10 (line_at (last_line_of file) rest) None) (one_rest (bytes_of file) tokens x.rest y.rest x.ends y.ends) ∙ sym y.on)
-    both_tree limits file tokens a b (inl x) (inr y) = absurd (x.none y.tree y.is_tree)
-    both_tree limits file tokens a b (inr x) (inl y) = absurd (y.none x.tree x.is_tree)
-    both_tree limits file tokens a b (inr x) (inr y) =
-        both_typing limits (elaborated y.tree) a b (subst (λ t. AtTyping limits (elaborated t) a) (one_tree (bytes_of file) tokens x.tree y.tree x.is_tree y.is_tree) x.on) y.on
+    both_tree : (limits : Limits) (budget : ℕ) (file : List ℕ) (tokens : List Token) (a b : Answer) → AtTree limits budget file tokens a → AtTree limits budget file tokens b → Same a b
+    both_tree limits budget file tokens a b (inl x) (inl y) = inl (x.on ∙ ap (λ rest. refusal 10 (line_at (last_line_of file) rest) None) (one_rest (bytes_of file) tokens x.rest y.rest x.ends y.ends) ∙ sym y.on)
+    both_tree limits budget file tokens a b (inl x) (inr y) = absurd (x.none y.tree y.is_tree)
+    both_tree limits budget file tokens a b (inr x) (inl y) = absurd (y.none x.tree x.is_tree)
+    both_tree limits budget file tokens a b (inr x) (inr y) =
+        both_typing limits budget (elaborated y.tree) a b (subst (λ t. AtTyping limits budget (elaborated t) a) (one_tree (bytes_of file) tokens x.tree y.tree x.is_tree y.is_tree) x.on) y.on
 
-    both_tokens : (limits : Limits) (file : List ℕ) (tokens : List Token) (o : Option Answer) (a b : Answer) → AtTokens limits file tokens o a → AtTokens limits file tokens o b → Same a b
-    both_tokens limits file tokens None a b x y = both_tree limits file tokens a b x y
-    both_tokens limits file tokens (Some s) a b x y = inl (x ∙ sym y)
+    both_tokens : (limits : Limits) (budget : ℕ) (file : List ℕ) (tokens : List Token) (o : Option Answer) (a b : Answer) → AtTokens limits budget file tokens o a → AtTokens limits budget file tokens o b → Same a b
+    both_tokens limits budget file tokens None a b x y = both_tree limits budget file tokens a b x y
+    both_tokens limits budget file tokens (Some s) a b x y = inl (x ∙ sym y)
 
-    both_lexing : (limits : Limits) (file : List ℕ) (found : Result (List Token) LexError) (a b : Answer) → AtLexing limits file found a → AtLexing limits file found b → Same a b
-    both_lexing limits file (Ok tokens) a b x y = both_tokens limits file tokens (screened tokens) a b x y
-    both_lexing limits file (Err e) a b x y = inl (some_is (sym x ∙ y))
+    both_lexing : (limits : Limits) (budget : ℕ) (file : List ℕ) (found : Result (List Token) LexError) (a b : Answer) → AtLexing limits budget file found a → AtLexing limits budget file found b → Same a b
+    both_lexing limits budget file (Ok tokens) a b x y = both_tokens limits budget file tokens (screened tokens) a b x y
+    both_lexing limits budget file (Err e) a b x y = inl (some_is (sym x ∙ y))
 
-    pub one_answer : (limits : Limits) (file : List ℕ) (a b : Answer) → Decides limits file a → Decides limits file b → Same a b
-    one_answer limits file a b (inl x) (inl y) = inl (x.1 ∙ sym y.1)
-    one_answer limits file a b (inl x) (inr y) = let short = y.short in absurd (omega (arith, x.0, short))
-    one_answer limits file a b (inr x) (inl y) = let short = x.short in absurd (omega (arith, y.0, short))
-    one_answer limits file a b (inr x) (inr y) =
-        both_lexing limits file y.found a b (subst (λ f. AtLexing limits file f a) (one_cut file x.found y.found x.cut y.cut) x.on) y.on
+    pub one_answer : (limits : Limits) (budget : ℕ) (file : List ℕ) (a b : Answer) → Decides limits budget file a → Decides limits budget file b → Same a b
+    one_answer limits budget file a b (inl x) (inl y) = inl (x.1 ∙ sym y.1)
+    one_answer limits budget file a b (inl x) (inr y) = let short = y.short in absurd (omega (arith, x.0, short))
+    one_answer limits budget file a b (inr x) (inl y) = let short = x.short in absurd (omega (arith, y.0, short))
+    one_answer limits budget file a b (inr x) (inr y) =
+        both_lexing limits budget file y.found a b (subst (λ f. AtLexing limits budget file f a) (one_cut file x.found y.found x.cut y.cut) x.on) y.on

@@ -16,33 +16,41 @@ use Rattle.core_tree.specs.Ranges.{Limits, Cause}
 use Rattle.core_tree.specs.declared.refusal.Limit.{Limit}
 use Rattle.core_tree.specs.declared.refusal.Limit.TheVariants.{FileBytes, Tokens}
 use Rattle.c_elab_expr.specs.Typing.{Fault}
-use Rattle.c_elab_decl.specs.Elaborated.{elaborated}
+use Rattle.c_elab_decl.specs.Files.{elaborated}
 use Rattle.c_profile.specs.Rules.{Breach, first_breach}
 use Rattle.interleave.specs.Replay.{Replays}
 use Rattle.goto_unwind.specs.Counts.{passed}
 use Rattle.cbmc_top.specs.Programs.{directive_line}
 use Rattle.cbmc_top.specs.Executions.{bounded_world, IsVerified}
-use Rattle.cbmc_top.specs.Report.{Head, Failure, IsTold, line_of, success_text, failure_text, refusal_text, limit_text}
+use Rattle.cbmc_top.specs.Clauses.{IsRefuted, IsUsedUp}
+use Rattle.cbmc_top.specs.declared.used.Used.{Used}
+use Rattle.cbmc_top.specs.Report.{Head, Failure, IsTold, line_of, success_text, failure_text, refusal_text, limit_text, budget_text}
 
 pub data Answer : Type 0 where
   usage : Answer
   read_fault : Answer
   limited : Limit → Answer
   refused : Cause → Answer
-  successful : Answer
+  successful : Used → Answer
   failed : Failure → Answer
+  used_up : Used → Answer
 
 abbrev pub status_of : Answer → ℕ
 status_of usage = 1
 status_of read_fault = 8
 status_of (limited limit) = 7
 status_of (refused cause) = 6
-status_of successful = 0
+status_of (successful used) = 0
 status_of (failed f) = 10
+status_of (used_up used) = 5
 
 -- the bounds of a command without options
 abbrev pub standard_limits : Limits
 standard_limits = record { unwind = 8; set = []; assertions = true; malloc_limit = 256; malloc_may_fail = false }
+
+-- the budget of a command without options
+abbrev pub standard_budget : ℕ
+standard_budget = 1000000
 
 -- the head of a verdict on a file
 abbrev pub head_of : List ℕ → Head
@@ -53,8 +61,19 @@ text_of name usage = line_of (codes "usage: cbmc FILE [OPTIONS]")
 text_of name read_fault = line_of (codes "read fault")
 text_of name (limited limit) = limit_text limit
 text_of name (refused cause) = refusal_text cause.number cause.line cause.rule
-text_of name successful = success_text (head_of name)
+text_of name (successful used) = success_text (head_of name)
 text_of name (failed f) = failure_text (head_of name) f
+text_of name (used_up used) = budget_text standard_budget
+
+-- the clauses that were searched and their log, where the answer rests on them
+abbrev pub spent_of : Answer → Option Used
+spent_of usage = None
+spent_of read_fault = None
+spent_of (limited limit) = None
+spent_of (refused cause) = None
+spent_of (successful used) = Some used
+spent_of (failed f) = None
+spent_of (used_up used) = Some used
 
 -- the turns of the rows, one after another
 abbrev pub turns_of : List (ℕ × ℕ) → List ℕ
@@ -75,28 +94,30 @@ pub record IsFailure (limits : Limits) (functions : List Procedure) (f : Failure
   pub thread : f.thread ≡ check.thread
   pub told : IsTold f
 
--- ---- What a file may be answered: the first of these stages that stops it decides, and after the last of them its runs.
+-- ---- What a file may be answered: the first of these stages that stops it decides, and after the last of them the search of its runs.
 
 abbrev pub refusal : ℕ → ℕ → Option ℕ → Answer
 refusal n l r = refused (record { number = n; line = l; rule = r })
 
-abbrev pub AfterCounts : Limits → List Procedure → Answer → Type 0
-AfterCounts limits functions usage = ⊥
-AfterCounts limits functions read_fault = ⊥
-AfterCounts limits functions (limited limit) = ⊥
-AfterCounts limits functions (refused cause) = ⊥
-AfterCounts limits functions successful = IsVerified limits functions
-AfterCounts limits functions (failed f) = IsFailure limits functions f
+-- the search of its runs
+abbrev pub AfterCounts : Limits → ℕ → List Procedure → Answer → Type 0
+AfterCounts limits budget functions usage = ⊥
+AfterCounts limits budget functions read_fault = ⊥
+AfterCounts limits budget functions (limited limit) = ⊥
+AfterCounts limits budget functions (refused cause) = ⊥
+AfterCounts limits budget functions (successful used) = IsVerified limits functions × IsRefuted limits budget functions used
+AfterCounts limits budget functions (failed f) = IsFailure limits functions f
+AfterCounts limits budget functions (used_up used) = IsUsedUp limits budget functions used
 
 -- a count passes its limit
-abbrev pub AtCounts : Limits → List Procedure → Option Limit → Answer → Type 0
-AtCounts limits functions (Some limit) answer = answer ≡ limited limit
-AtCounts limits functions None answer = AfterCounts limits functions answer
+abbrev pub AtCounts : Limits → ℕ → List Procedure → Option Limit → Answer → Type 0
+AtCounts limits budget functions (Some limit) answer = answer ≡ limited limit
+AtCounts limits budget functions None answer = AfterCounts limits budget functions answer
 
 -- a rule of the profile is broken
-abbrev pub AtProfile : Limits → List Procedure → Option Breach → Answer → Type 0
-AtProfile limits functions (Some b) answer = answer ≡ refusal 12 b.line (Some b.rule)
-AtProfile limits functions None answer = AtCounts limits functions (passed functions limits) answer
+abbrev pub AtProfile : Limits → ℕ → List Procedure → Option Breach → Answer → Type 0
+AtProfile limits budget functions (Some b) answer = answer ≡ refusal 12 b.line (Some b.rule)
+AtProfile limits budget functions None answer = AtCounts limits budget functions (passed functions limits) answer
 
 -- The cause of a refusal by typing. A form that has no typing yet, told as rule 0, is refused as no syntax, on the line of its
 -- external declaration.
@@ -104,9 +125,9 @@ abbrev pub typing_cause : Fault → Cause
 typing_cause f = if f.rule == 0 then record { number = 10; line = f.line; rule = None } else record { number = 11; line = f.line; rule = Some f.rule }
 
 -- a rule of typing is broken
-abbrev pub AtTyping : Limits → Result (List Procedure) Fault → Answer → Type 0
-AtTyping limits (Err f) answer = answer ≡ refused (typing_cause f)
-AtTyping limits (Ok functions) answer = AtProfile limits functions (first_breach functions) answer
+abbrev pub AtTyping : Limits → ℕ → Result (List Procedure) Fault → Answer → Type 0
+AtTyping limits budget (Err f) answer = answer ≡ refused (typing_cause f)
+AtTyping limits budget (Ok functions) answer = AtProfile limits budget functions (first_breach functions) answer
 
 -- the tokens are no file: the first external declaration that has no tree stands at the rest
 pub record HasNoTree (bytes : List ℕ) (last_line : ℕ) (tokens : List Token) (answer : Answer) : Type 0 where
@@ -115,13 +136,13 @@ pub record HasNoTree (bytes : List ℕ) (last_line : ℕ) (tokens : List Token) 
   pub ends : EndsAt bytes tokens rest
   pub on : answer ≡ refusal 10 (line_at last_line rest) None
 
-pub record HasTree (limits : Limits) (bytes : List ℕ) (tokens : List Token) (answer : Answer) : Type 0 where
+pub record HasTree (limits : Limits) (budget : ℕ) (bytes : List ℕ) (tokens : List Token) (answer : Answer) : Type 0 where
   pub tree : Externals
   pub is_tree : IsFile bytes tokens tree
-  pub on : AtTyping limits (elaborated tree) answer
+  pub on : AtTyping limits budget (elaborated tree) answer
 
-abbrev pub AtTree : Limits → List ℕ → List Token → Answer → Type 0
-AtTree limits file tokens answer = HasNoTree (bytes_of file) (last_line_of file) tokens answer ⊎ HasTree limits (bytes_of file) tokens answer
+abbrev pub AtTree : Limits → ℕ → List ℕ → List Token → Answer → Type 0
+AtTree limits budget file tokens answer = HasNoTree (bytes_of file) (last_line_of file) tokens answer ⊎ HasTree limits budget (bytes_of file) tokens answer
 
 -- the line of the 200,001st token
 abbrev pub extra_line : List Token → Option ℕ
@@ -138,9 +159,9 @@ abbrev pub screened : List Token → Option Answer
 screened tokens = stops_at (directive_line tokens) (extra_line tokens)
 
 -- there is a directive, or a token too many
-abbrev pub AtTokens : Limits → List ℕ → List Token → Option Answer → Answer → Type 0
-AtTokens limits file tokens (Some stop) answer = answer ≡ stop
-AtTokens limits file tokens None answer = AtTree limits file tokens answer
+abbrev pub AtTokens : Limits → ℕ → List ℕ → List Token → Option Answer → Answer → Type 0
+AtTokens limits budget file tokens (Some stop) answer = answer ≡ stop
+AtTokens limits budget file tokens None answer = AtTree limits budget file tokens answer
 
 abbrev pub lexing_answer : LexError → Option Answer
 lexing_answer (errors.BadByte line) = Some (refusal 1 line None)
@@ -150,22 +171,23 @@ lexing_answer (errors.Foreign line) = Some (refusal 4 line None)
 lexing_answer errors.Memory = None
 
 -- the file has no cutting into tokens
-abbrev pub AtLexing : Limits → List ℕ → Result (List Token) LexError → Answer → Type 0
-AtLexing limits file (Err error) answer = lexing_answer error ≡ Some answer
-AtLexing limits file (Ok tokens) answer = AtTokens limits file tokens (screened tokens) answer
+abbrev pub AtLexing : Limits → ℕ → List ℕ → Result (List Token) LexError → Answer → Type 0
+AtLexing limits budget file (Err error) answer = lexing_answer error ≡ Some answer
+AtLexing limits budget file (Ok tokens) answer = AtTokens limits budget file tokens (screened tokens) answer
 
 -- the file is too long
 abbrev pub IsTooLong : List ℕ → Answer → Type 0
 IsTooLong file answer = (1048576 < length file) × (answer ≡ limited FileBytes)
 
-pub record IsReadFrom (limits : Limits) (file : List ℕ) (answer : Answer) : Type 0 where
+pub record IsReadFrom (limits : Limits) (budget : ℕ) (file : List ℕ) (answer : Answer) : Type 0 where
   pub short : length file ≤ 1048576
   pub found : Result (List Token) LexError
   pub cut : IsCutInto file found
-  pub on : AtLexing limits file found answer
+  pub on : AtLexing limits budget file found answer
 
-abbrev pub Decides : Limits → List ℕ → Answer → Type 0
-Decides limits file answer = IsTooLong file answer ⊎ IsReadFrom limits file answer
+-- the answer is one of a file under these bounds and this budget
+abbrev pub Decides : Limits → ℕ → List ℕ → Answer → Type 0
+Decides limits budget file answer = IsTooLong file answer ⊎ IsReadFrom limits budget file answer
 
 -- ---- commands
 
@@ -175,14 +197,16 @@ Allows None bytes rose usage = Unit {0}
 Allows None bytes rose read_fault = ⊥
 Allows None bytes rose (limited limit) = ⊥
 Allows None bytes rose (refused cause) = ⊥
-Allows None bytes rose successful = ⊥
+Allows None bytes rose (successful used) = ⊥
 Allows None bytes rose (failed f) = ⊥
+Allows None bytes rose (used_up used) = ⊥
 Allows (Some name) bytes rose usage = ⊥
 Allows (Some name) bytes rose read_fault = rose name
-Allows (Some name) bytes rose (limited limit) = Decides standard_limits bytes (limited limit)
-Allows (Some name) bytes rose (refused cause) = Decides standard_limits bytes (refused cause)
-Allows (Some name) bytes rose successful = Decides standard_limits bytes successful
-Allows (Some name) bytes rose (failed f) = Decides standard_limits bytes (failed f)
+Allows (Some name) bytes rose (limited limit) = Decides standard_limits standard_budget bytes (limited limit)
+Allows (Some name) bytes rose (refused cause) = Decides standard_limits standard_budget bytes (refused cause)
+Allows (Some name) bytes rose (successful used) = Decides standard_limits standard_budget bytes (successful used)
+Allows (Some name) bytes rose (failed f) = Decides standard_limits standard_budget bytes (failed f)
+Allows (Some name) bytes rose (used_up used) = Decides standard_limits standard_budget bytes (used_up used)
 
 -- an answer that is allowed for the bytes that the source tells, or for some bytes, where it tells none
 pub record Answered (command : Option (List ℕ)) (holds : List ℕ → Option (List ℕ)) (rose : List ℕ → Type 0) (answer : Answer) : Type 0 where
@@ -199,21 +223,23 @@ name_of (Some name) = name
 abbrev pub TookPart : Option (List ℕ) → Option (List ℕ) → List ℕ → Type 0
 TookPart before now text = (part : List ℕ) × (rest : List ℕ) × (text ≡ part ++ rest) × (0 < length rest) × (now ≡ appended before part)
 
--- a status and a text of an allowed answer
-pub record Reported (command : Option (List ℕ)) (holds : List ℕ → Option (List ℕ)) (rose : List ℕ → Type 0) (status : ℕ) (text : List ℕ) : Type 0 where
+-- the status and the text of an allowed answer, and what was searched for it
+pub record Reported (command : Option (List ℕ)) (holds : List ℕ → Option (List ℕ)) (rose : List ℕ → Type 0) (status : ℕ) (text : List ℕ) (spent : Option Used) : Type 0 where
   pub answer : Answer
   pub answered : Answered command holds rose answer
   pub status_is : status ≡ status_of answer
   pub text_is : text ≡ text_of (name_of command) answer
+  pub spent_is : spent ≡ spent_of answer
 
--- the answer tells what the runs of a program do
-abbrev pub AreRuns : Answer → Type 0
-AreRuns usage = ⊥
-AreRuns read_fault = ⊥
-AreRuns (limited limit) = ⊥
-AreRuns (refused cause) = ⊥
-AreRuns successful = Unit {0}
-AreRuns (failed f) = Unit {0}
+-- the answer comes of the search of a program's runs
+abbrev pub IsOfSearch : Answer → Type 0
+IsOfSearch usage = ⊥
+IsOfSearch read_fault = ⊥
+IsOfSearch (limited limit) = ⊥
+IsOfSearch (refused cause) = ⊥
+IsOfSearch (successful used) = Unit {0}
+IsOfSearch (failed f) = Unit {0}
+IsOfSearch (used_up used) = Unit {0}
 
 abbrev pub IsOneOf : List ℕ → ℕ → Type 0
 IsOneOf [] n = ⊥

@@ -1,6 +1,7 @@
 pub mod Identifiers
 pub mod Programs
 pub mod Executions
+pub mod Clauses
 pub mod FileNames
 pub mod Command
 pub mod Report

@@ -8,7 +8,7 @@ use Rattle.c_tree.specs.Statements.{Externals}
 use Rattle.c_tree.specs.Files.{IsFile}
 use Rattle.core_tree.specs.Trees.{Procedure}
 use Rattle.core_tree.specs.Ranges.{Limits}
-use Rattle.c_elab_decl.specs.Elaborated.{elaborated}
+use Rattle.c_elab_decl.specs.Files.{elaborated}
 use Rattle.c_profile.specs.Rules.{first_breach}
 use Rattle.goto_unwind.specs.Counts.{passed}
 

@@ -107,6 +107,9 @@ limit_value ObjectBytes = 65536
 abbrev pub limit_text : Limit → List ℕ
 limit_text limit = codes "limit " ++ (limit_name limit ++ (32 ∷ (decimal (limit_value limit) ++ 10 ∷ [])))
 
+abbrev pub budget_text : ℕ → List ℕ
+budget_text n = codes "budget " ++ (decimal n ++ 10 ∷ [])
+
 -- ---- what a text is one of
 
 pub record IsHead (h : Head) : Type 0 where

@@ -5,7 +5,7 @@ use Rattle.core_tree.specs.Ranges.{Limits}
 use Rattle.core_tree.specs.declared.refusal.Limit.{Limit}
 use Rattle.c_tree.specs.Statements.{Externals}
 use Rattle.c_elab_expr.specs.Typing.{Fault}
-use Rattle.c_elab_decl.specs.Elaborated.{elaborated}
+use Rattle.c_elab_decl.specs.Files.{elaborated}
 use Rattle.c_profile.specs.Rules.{Breach, first_breach}
 use Rattle.goto_unwind.specs.Counts.{passed}
 use Rattle.cbmc_top.specs.Answers.{Answer, limited, refused, refusal, typing_cause}

@@ -1,6 +1,14 @@
 -- What the findings and verdicts of the code say.
-use Rattle.std.specs.Prelude.{◌≡◌, ℕ, nat_lt, List, length, map, string_bytes, Option, Some, None}
+use Rattle.std.specs.Prelude.{◌≡◌, ℕ, ◌≤◌, nat_lt, List, length, map, string_bytes}
 use Rattle.std.specs.List.{filter}
+use Rattle.sat_form.specs.Satisfaction.{Literal, Form}
+use Rattle.sat_form.specs.Refutation.{IsRefutation}
+use Rattle.sat_form.specs.Budget.{IsSpent}
+use Rattle.word_dag.specs.declared.nodes.Id.{Id}
+use Rattle.word_dag.specs.declared.nodes.Node.{Node}
+use Rattle.word_dag.specs.Meaning.{value, valuation_of}
+use Rattle.bit_blast.specs.Steps.{IsBlasted}
+use Rattle.cdcl_core.specs.Answers.{unit_count}
 use Rattle.core_tree.specs.Trees.{Procedure}
 use Rattle.core_tree.specs.Ranges.{Limits}
 use Rattle.interleave.specs.Inputs.{InputLists}
@@ -10,12 +18,17 @@ use Rattle.c_interp.specs.Source.{source_world}
 use Rattle.cbmc_top.specs.Programs.{IsFileOf}
 use Rattle.cbmc_top.specs.Executions.{bounded_world, IsVerified}
 use Rattle.cbmc_top.specs.Report.{Failure}
-use Rattle.cbmc_top.specs.Answers.{Answer, limited, refused, successful, failed, Decides}
+use Rattle.cbmc_top.specs.Clauses.{IsRefuted, IsUsedUp}
+use Rattle.cbmc_top.specs.Answers.{Answer, limited, refused, successful, failed, used_up, Decides}
 use Rattle.cbmc_top.specs.declared.stop.Stop.{Stop}
 use Rattle.cbmc_top.specs.declared.stop.Stop.TheVariants as stops
 use Rattle.cbmc_top.specs.declared.failing.Drawn.{Drawn}
 use Rattle.cbmc_top.specs.declared.failing.Row.{Row}
 use Rattle.cbmc_top.specs.declared.failing.Failing.{Failing}
+use Rattle.cbmc_top.specs.declared.searching.Solved.{Solved}
+use Rattle.cbmc_top.specs.declared.searching.Solved.TheVariants as solutions
+use Rattle.cbmc_top.specs.declared.searching.Searched.{Searched}
+use Rattle.cbmc_top.specs.declared.searching.Searched.TheVariants as searches
 use Rattle.cbmc_top.specs.declared.finding.Finding.{Finding}
 use Rattle.cbmc_top.specs.declared.finding.Finding.TheVariants as findings
 use Rattle.cbmc_top.specs.declared.verdict.Verdict.{Verdict}
@@ -42,10 +55,11 @@ failure_of f = record {
 }
 
 abbrev pub answer_of : Finding → Answer
-answer_of findings.Successful = successful
+answer_of (findings.Successful used) = successful used
 answer_of (findings.Failed f) = failed (failure_of f)
 answer_of (findings.Refused r) = refused r
 answer_of (findings.Limited limit) = limited limit
+answer_of (findings.Budget used) = used_up used
 
 -- the finding is the stop
 abbrev pub IsStop : Stop → Finding → Type 0
@@ -53,10 +67,25 @@ IsStop (stops.Refused r) f = f ≡ findings.Refused r
 IsStop (stops.Limited l) f = f ≡ findings.Limited l
 IsStop stops.Memory f = ⊥
 
--- what a search of a program's runs found: none that breaks a check, or one
-abbrev pub IsSearched : List Procedure → Option Trace → Type 0
-IsSearched functions None = IsSafe (source_world functions)
-IsSearched functions (Some t) = Replays (source_world functions) t.inputs t.schedule t.check
+-- the form is that of the goal
+abbrev pub HasForm : List Node → Id → Form → Type 0
+HasForm nodes goal form = (variables : List (List Literal)) × IsBlasted nodes goal.index variables form
+
+-- what a search for values that make a goal true came to: such values; a refutation of the goal's clauses, and then there
+-- are none; or a log that has spent the budget
+abbrev pub IsSolved : List Node → Id → ℕ → Solved → Type 0
+IsSolved nodes goal budget (solutions.Values v) = value (valuation_of v) nodes goal ≡ 1
+IsSolved nodes goal budget (solutions.Refuted used) =
+    ((v : ℕ → ℕ) → value v nodes goal ≡ 1 → ⊥) × HasForm nodes goal used.form × IsRefutation used.form.clauses used.log
+    × (unit_count used.log ≤ budget)
+IsSolved nodes goal budget (solutions.Budget used) = HasForm nodes goal used.form × IsSpent used.form.clauses used.log budget
+
+-- what a search of a program's runs found: none that breaks a check, with the refutation of its clauses; a run that breaks
+-- one; or a log that has spent the budget
+abbrev pub IsSearched : Limits → ℕ → List Procedure → Searched → Type 0
+IsSearched limits budget functions (searches.Refuted used) = IsSafe (source_world functions) × IsRefuted limits budget functions used
+IsSearched limits budget functions (searches.Broken t) = Replays (source_world functions) t.inputs t.schedule t.check
+IsSearched limits budget functions (searches.Budget used) = IsUsedUp limits budget functions used
 
 -- the run of a trace breaks its check
 abbrev pub IsBroken : Limits → List Procedure → Trace → Type 0
@@ -64,14 +93,17 @@ IsBroken limits functions t = Replays (bounded_world limits functions) t.inputs 
 
 -- the run of a trace that was found breaks its check
 abbrev pub IsTraced : Limits → List ℕ → Finding → Type 0
-IsTraced limits file findings.Successful = Unit {0}
+IsTraced limits file (findings.Successful used) = Unit {0}
 IsTraced limits file (findings.Failed f) = (functions : List Procedure) × IsFileOf file functions × IsBroken limits functions f.trace
 IsTraced limits file (findings.Refused r) = Unit {0}
 IsTraced limits file (findings.Limited limit) = Unit {0}
+IsTraced limits file (findings.Budget used) = Unit {0}
 
 -- what is said of a file
-abbrev pub IsVerdict : Limits → List ℕ → Verdict → Type 0
-IsVerdict limits file verdicts.Successful = (functions : List Procedure) × IsFileOf file functions × IsVerified limits functions
-IsVerdict limits file (verdicts.Failed t) = (functions : List Procedure) × IsFileOf file functions × IsBroken limits functions t
-IsVerdict limits file (verdicts.Refused r) = Decides limits file (refused r)
-IsVerdict limits file (verdicts.Limited limit) = Decides limits file (limited limit)
+abbrev pub IsVerdict : Limits → ℕ → List ℕ → Verdict → Type 0
+IsVerdict limits budget file (verdicts.Successful used) =
+    (functions : List Procedure) × IsFileOf file functions × IsVerified limits functions × IsRefuted limits budget functions used
+IsVerdict limits budget file (verdicts.Failed t) = (functions : List Procedure) × IsFileOf file functions × IsBroken limits functions t
+IsVerdict limits budget file (verdicts.Refused r) = Decides limits budget file (refused r)
+IsVerdict limits budget file (verdicts.Limited limit) = Decides limits budget file (limited limit)
+IsVerdict limits budget file (verdicts.Budget used) = (functions : List Procedure) × IsFileOf file functions × IsUsedUp limits budget functions used

@@ -1,12 +1,12 @@
 //! From the bytes of a file to its program.
 
-ghost use Rattle.std.specs.Prelude.{◌≡◌, ◌≤◌, ◌<◌, length, Ok, Some, None, IfOk, IfErr};
+ghost use Rattle.std.specs.Prelude.{◌≡◌, ℕ, ◌≤◌, ◌<◌, length, Ok, Some, None, IfOk, IfErr};
 ghost use Rattle.c_lexer.specs.Cutting.{IsCutInto, bytes_of, last_line_of};
 ghost use Rattle.c_tree.specs.Statements.{view_file};
 ghost use Rattle.c_tree.specs.Files.{IsFile};
 ghost use Rattle.core_tree.specs.Trees.{view_core};
 ghost use Rattle.core_tree.specs.Ranges.{Limits};
-ghost use Rattle.c_elab_decl.specs.Elaborated.{elaborated};
+ghost use Rattle.c_elab_decl.specs.Files.{elaborated};
 ghost use Rattle.c_profile.specs.Rules.{first_breach};
 ghost use Rattle.cbmc_top.specs.Programs.{directive_line, IsAccepted};
 ghost use Rattle.cbmc_top.specs.Answers.{Decides, HasNoTree, AtLexing, screened, extra_line, lexing_answer, typing_cause};
@@ -93,7 +93,7 @@ fn tokens_of(alloc: Global, file: &[u8]) -> Result<Tokens, Stop>
     ensures bytes { IfOk result (λ t. t.bytes.items ≡ bytes_of file.now) }
     ensures last_line { IfOk result (λ t. t.last_line ≡ last_line_of file.now) }
     ensures fine { IfOk result (λ t. screened t.tokens.items ≡ None) }
-    ensures stop { IfErr result (λ s. (limits : Limits) → StopsWith s (Decides limits file.now)) }
+    ensures stop { IfErr result (λ s. (limits : Limits) (budget : ℕ) → StopsWith s (Decides limits budget file.now)) }
 {
     match lex(alloc, file) {
         Ok(tokens) => {
@@ -155,7 +155,7 @@ fn in_profile(core: Core) -> Result<Admitted, Stop>
 /// The program of a file, or the first thing that stops it: its size, its tokens, its tree, its typing, the profile.
 pub fn accept(alloc: Global, file: &[u8]) -> Result<Admitted, Stop>
     ensures found { IfOk result (λ f. IsAccepted file.now (view_core f)) }
-    ensures stop { IfErr result (λ s. (limits : Limits) → StopsWith s (Decides limits file.now)) }
+    ensures stop { IfErr result (λ s. (limits : Limits) (budget : ℕ) → StopsWith s (Decides limits budget file.now)) }
 {
     if file.len() > FILE_BYTES {
         return Err(Stop::Limited(Limit::FileBytes));

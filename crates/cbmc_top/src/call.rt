@@ -1,6 +1,6 @@
 //! The top call: words of the command line in, the answer and its status out.
 
-ghost use Rattle.std.specs.Prelude.{◌≡◌, ◌≢◌, ℕ, List, [], ◌∷◌, ◌+◌, ◌<◌, ◌≤◌, ◌++◌, ◌⊎◌, length, take, map, string_bytes, vec_len, Option, Some, None, IfOk, IfSome, IsErrOf, OnOk, OnErr};
+ghost use Rattle.std.specs.Prelude.{◌≡◌, ◌≢◌, ℕ, List, [], ◌∷◌, ◌+◌, ◌<◌, ◌≤◌, ◌++◌, ◌⊎◌, length, take, map, string_bytes, vec_len, Option, Some, None, IfOk, IfSome, IsErrOf, OnOk, OnErr, IsSome, ◌↔◌};
 ghost use Rattle.outside.specs.Count.{Rose, HasCause};
 ghost use Rattle.outside.specs.Sink.{appended};
 ghost use Rattle.core_tree.specs.Trees.{Procedure};
@@ -8,9 +8,10 @@ ghost use Rattle.core_tree.specs.Ranges.{Cause};
 ghost use Rattle.core_tree.specs.declared.refusal.Limit.{Limit};
 ghost use Rattle.cbmc_top.specs.Programs.{IsFileOf, IsCheckable};
 ghost use Rattle.cbmc_top.specs.Executions.{IsVerified};
-ghost use Rattle.cbmc_top.specs.Report.{Failure, failure_text, refusal_text, limit_text};
+ghost use Rattle.cbmc_top.specs.Clauses.{IsRefuted, IsUsedUp};
+ghost use Rattle.cbmc_top.specs.Report.{Failure, failure_text, refusal_text, limit_text, budget_text};
 ghost use Rattle.cbmc_top.specs.Command.{command_of};
-ghost use Rattle.cbmc_top.specs.Answers.{Answer, Answered, Decides, IsFailure, IsOneOf, Reported, TookPart, head_of, limited, name_of, refused, standard_limits, status_of, text_of};
+ghost use Rattle.cbmc_top.specs.Answers.{Answer, Answered, Decides, IsFailure, IsOneOf, Reported, TookPart, head_of, limited, name_of, refused, spent_of, standard_budget, standard_limits, status_of, text_of};
 ghost use Rattle.cbmc_top.specs.Verdicts.{answer_of};
 ghost use Rattle.cbmc_top.specs.Replies.{reply_of};
 ghost use Rattle.cbmc_top.specs.Calls.{WasRead, HasReadMore};
@@ -18,15 +19,17 @@ ghost use Rattle.cbmc_top.specs.Calls.{WasRead, HasReadMore};
 use crate::finding::{Finding, examine};
 use crate::laws::{one_answer, runs_answer};
 use crate::options::command;
-use crate::report::{failure, limit, refusal, success};
+use crate::report::{failure, limit, refusal, success, used_up};
+use crate::used::Used;
 use core_tree::Bounds;
 use outside::{Failed, ReadError, Sink, Source};
 use std::alloc::{AllocError, Global};
 
-/// How a call ended: its exit status.
-#[derive(Clone, Copy, Debug, PartialEq, Eq)]
+/// How a call ended: its exit status, and where the status is 0 or 5 the clauses that were searched with their log.
+#[derive(Drop)]
 pub struct Done {
     pub status: u8,
+    pub spent: Option<Used>,
 }
 
 /// An answer with the text that says it.
@@ -34,7 +37,11 @@ pub struct Done {
 struct Report {
     status: u8,
     text: String,
+    spent: Option<Used>,
 }
+
+/// The greatest number of conflicts of a command without options.
+const BUDGET: u32 = 1_000_000;
 
 /// How many bytes of a file are read at the most: one more than the limit.
 const READ_AT_MOST: usize = 1_048_577;
@@ -127,7 +134,7 @@ fn reply_to<S: Source>(alloc: Global, name: &str, files: &mut S) -> Result<Reply
     match read_file(alloc, files, name) {
         Ok(bytes) => {
             let bounds = standard_bounds(alloc);
-            let finding = examine(alloc, &bytes, &bounds)?;
+            let finding = examine(alloc, &bytes, &bounds, BUDGET)?;
             Ok(Reply::Checked(finding))
         }
         Err(ReadError::Failed) => Ok(Reply::ReadFault),
@@ -135,45 +142,70 @@ fn reply_to<S: Source>(alloc: Global, name: &str, files: &mut S) -> Result<Reply
     }
 }
 
+/// An answer that rests on no log.
+fn plain(status: u8, text: String) -> Report
+    ensures { result ≡ record { status = status; text = text; spent = None } }
+{
+    Report {
+        status,
+        text,
+        spent: None,
+    }
+}
+
 /// The text of an answer, with its status.
-fn report_reply(alloc: Global, name: &str, reply: &Reply) -> Result<Report, AllocError>
-    ensures status { IfOk result (λ r. r.status ≡ status_of (reply_of reply.now)) }
-    ensures text { IfOk result (λ r. string_bytes r.text ≡ text_of name.now (reply_of reply.now)) }
+fn report_reply(alloc: Global, name: &str, reply: Reply) -> Result<Report, AllocError>
+    ensures status { IfOk result (λ r. r.status ≡ status_of (reply_of reply)) }
+    ensures text { IfOk result (λ r. string_bytes r.text ≡ text_of name.now (reply_of reply)) }
+    ensures spent { IfOk result (λ r. r.spent ≡ spent_of (reply_of reply)) }
 {
     match reply {
         Reply::Usage => {
             let text = String::from_str(alloc, "usage: cbmc FILE [OPTIONS]\n")?;
-            Ok(Report { status: 1, text })
+            Ok(plain(1, text))
         }
         Reply::ReadFault => {
             let text = String::from_str(alloc, "read fault\n")?;
-            Ok(Report { status: 8, text })
+            Ok(plain(8, text))
         }
         Reply::Checked(finding) => report_finding(alloc, name, finding),
     }
 }
 
 /// The text of what was found, with its status.
-fn report_finding(alloc: Global, name: &str, finding: &Finding) -> Result<Report, AllocError>
-    ensures status { IfOk result (λ r. r.status ≡ status_of (answer_of finding.now)) }
-    ensures text { IfOk result (λ r. string_bytes r.text ≡ text_of name.now (answer_of finding.now)) }
+fn report_finding(alloc: Global, name: &str, finding: Finding) -> Result<Report, AllocError>
+    ensures status { IfOk result (λ r. r.status ≡ status_of (answer_of finding)) }
+    ensures text { IfOk result (λ r. string_bytes r.text ≡ text_of name.now (answer_of finding)) }
+    ensures spent { IfOk result (λ r. r.spent ≡ spent_of (answer_of finding)) }
 {
     match finding {
-        Finding::Successful => {
+        Finding::Successful(used) => {
             let text = success(alloc, name)?;
-            Ok(Report { status: 0, text })
+            Ok(Report {
+                status: 0,
+                text,
+                spent: Some(used),
+            })
         }
         Finding::Failed(failing) => {
-            let text = failure(alloc, name, failing)?;
-            Ok(Report { status: 10, text })
+            let text = failure(alloc, name, &failing)?;
+            Ok(plain(10, text))
         }
         Finding::Refused(refused) => {
-            let text = refusal(alloc, *refused)?;
-            Ok(Report { status: 6, text })
+            let text = refusal(alloc, refused)?;
+            Ok(plain(6, text))
         }
         Finding::Limited(limited) => {
-            let text = limit(alloc, *limited)?;
-            Ok(Report { status: 7, text })
+            let text = limit(alloc, limited)?;
+            Ok(plain(7, text))
+        }
+        Finding::Budget(used) => {
+            let text = used_up(alloc, BUDGET)?;
+            Ok(Report {
+                status: 5,
+                text,
+                spent: Some(used),
+            })
         }
     }
 }
@@ -206,37 +238,57 @@ fn answer_words<S: Source>(
     ensures held { (other : List ℕ) → S.holds files.new other ≡ S.holds files.old other }
     ensures later { (other : List ℕ) → S.faults files.old other ≤ S.faults files.new other }
     ensures others { (other : List ℕ) → command_of (map string_bytes words.now) ≢ Some other → S.faults files.new other ≡ S.faults files.old other }
-    ensures answered { IfOk result (λ r. Reported (command_of (map string_bytes words.now)) (S.holds files.old) (λ n. Rose (S.faults files.old n) (S.faults files.new n)) r.status (string_bytes r.text)) }
+    ensures answered { IfOk result (λ r. Reported (command_of (map string_bytes words.now)) (S.holds files.old) (λ n. Rose (S.faults files.old n) (S.faults files.new n)) r.status (string_bytes r.text) r.spent) }
 {
     match command(words) {
-        None => report_reply(alloc, "", &Reply::Usage),
+        None => report_reply(alloc, "", Reply::Usage),
         Some(name) => {
             let reply = reply_to(alloc, name, files)?;
-            report_reply(alloc, name, &reply)
+            report_reply(alloc, name, reply)
         }
+    }
+}
+
+/// The end of a call that gave no answer.
+fn without_log(status: u8) -> Done
+    ensures { result ≡ record { status = status; spent = None } }
+{
+    Done {
+        status,
+        spent: None,
     }
 }
 
 /// Checks the file that the words of a command line name, and writes the answer.
 ///
 /// `words` begins with the program's name. The status is 0 where no run breaks a check, 10 where the text tells a run
-/// that breaks one, 1 where the words are no command, 6 where the file is refused, 7 where a limit is passed, 8 where
+/// that breaks one, 5 where the budget was used up, 1 where the words are no command, 6 where the file is refused, 7 where a limit is passed, 8 where
 /// reading the file failed, 9 where writing failed, and 12 where there was no memory.
 pub fn top<S: Source, K: Sink>(alloc: Global, words: &[String], files: &mut S, out: &mut K) -> Done
     // A success is sound: no inputs and no schedule break a check of the file's program within the unwinding, and with
-    // unwinding assertions none at all.
+    // unwinding assertions none at all. It comes with a refutation of the file's clauses within the budget.
     ensures success { result.status ≡ 0 → (name bytes : List ℕ) → command_of (map string_bytes words.now) ≡ Some name → S.holds files.old name ≡ Some bytes
-        → (functions : List Procedure) × IsFileOf bytes functions × IsVerified standard_limits functions }
+        → (functions : List Procedure) × (used : Used) × IsFileOf bytes functions × IsVerified standard_limits functions × (result.spent ≡ Some used) × IsRefuted standard_limits standard_budget functions used }
 
     // A failure replays: its text tells inputs and a schedule on which the run breaks exactly the check that it tells.
     ensures failure { result.status ≡ 10 → (name bytes : List ℕ) → command_of (map string_bytes words.now) ≡ Some name → S.holds files.old name ≡ Some bytes
         → (functions : List Procedure) × (f : Failure) × IsFileOf bytes functions × IsFailure standard_limits functions f × (K.taken out.new ≡ appended (K.taken out.old) (failure_text (head_of name) f)) }
 
-    // It is complete: a file in the profile of which no count passes its limit gets one of the two, where no fault was counted.
+    // It is complete: a file in the profile of which no count passes its limit gets one of the two, where no fault was counted
+    // and the budget wasn't used up.
     ensures complete { (name bytes : List ℕ) (functions : List Procedure) → command_of (map string_bytes words.now) ≡ Some name → S.holds files.old name ≡ Some bytes
         → IsCheckable standard_limits bytes functions
         → (Rose (S.faults files.old name) (S.faults files.new name) → ⊥) → (Rose (K.faults out.old) (K.faults out.new) → ⊥)
-        → IsOneOf (0 ∷ 10 ∷ 12 ∷ []) result.status }
+        → IsOneOf (0 ∷ 5 ∷ 10 ∷ 12 ∷ []) result.status }
+
+    // The budget is used up exactly where `spent` holds the file's clauses and a log that has spent it, beside faults and want of
+    // memory.
+    ensures budget_used { result.status ≡ 5 → (name bytes : List ℕ) → command_of (map string_bytes words.now) ≡ Some name → S.holds files.old name ≡ Some bytes
+        → (functions : List Procedure) × (used : Used) × IsFileOf bytes functions × (result.spent ≡ Some used) × IsUsedUp standard_limits standard_budget functions used × (K.taken out.new ≡ appended (K.taken out.old) (budget_text standard_budget)) }
+    ensures budget_only { (functions : List Procedure) (used : Used) → result.spent ≡ Some used → IsUsedUp standard_limits standard_budget functions used → result.status ≡ 5 }
+
+    // Clauses and a log are given exactly with a success and where the budget is used up.
+    ensures spent { IsSome result.spent ↔ IsOneOf (0 ∷ 5 ∷ []) result.status }
 
     // A usage error comes exactly where the words are no command, beside a write fault and want of memory.
     ensures usage { result.status ≡ 1 → command_of (map string_bytes words.now) ≡ None }
@@ -245,22 +297,22 @@ pub fn top<S: Source, K: Sink>(alloc: Global, words: &[String], files: &mut S, o
     // A passed limit comes exactly where a count of the file passes its limit and no refusal precedes it, beside faults and want
     // of memory.
     ensures limited { result.status ≡ 7 → (name bytes : List ℕ) → command_of (map string_bytes words.now) ≡ Some name → S.holds files.old name ≡ Some bytes
-        → (limit : Limit) × Decides standard_limits bytes (limited limit) × (K.taken out.new ≡ appended (K.taken out.old) (limit_text limit)) }
+        → (limit : Limit) × Decides standard_limits standard_budget bytes (limited limit) × (K.taken out.new ≡ appended (K.taken out.old) (limit_text limit)) }
     ensures limited_only { (name bytes : List ℕ) (limit : Limit) → command_of (map string_bytes words.now) ≡ Some name → S.holds files.old name ≡ Some bytes
-        → Decides standard_limits bytes (limited limit) → (Rose (S.faults files.old name) (S.faults files.new name) → ⊥) → IsOneOf (7 ∷ 9 ∷ 12 ∷ []) result.status }
+        → Decides standard_limits standard_budget bytes (limited limit) → (Rose (S.faults files.old name) (S.faults files.new name) → ⊥) → IsOneOf (7 ∷ 9 ∷ 12 ∷ []) result.status }
 
     // A refusal comes exactly where it holds of the file and nothing precedes it, beside faults and want of memory.
     ensures refused { result.status ≡ 6 → (name bytes : List ℕ) → command_of (map string_bytes words.now) ≡ Some name → S.holds files.old name ≡ Some bytes
-        → (cause : Cause) × Decides standard_limits bytes (refused cause) × (K.taken out.new ≡ appended (K.taken out.old) (refusal_text cause.number cause.line cause.rule)) }
+        → (cause : Cause) × Decides standard_limits standard_budget bytes (refused cause) × (K.taken out.new ≡ appended (K.taken out.old) (refusal_text cause.number cause.line cause.rule)) }
     ensures refused_only { (name bytes : List ℕ) (cause : Cause) → command_of (map string_bytes words.now) ≡ Some name → S.holds files.old name ≡ Some bytes
-        → Decides standard_limits bytes (refused cause) → (Rose (S.faults files.old name) (S.faults files.new name) → ⊥) → IsOneOf (6 ∷ 9 ∷ 12 ∷ []) result.status }
+        → Decides standard_limits standard_budget bytes (refused cause) → (Rose (S.faults files.old name) (S.faults files.new name) → ⊥) → IsOneOf (6 ∷ 9 ∷ 12 ∷ []) result.status }
 
     // A read fault comes only for a FILE, and only where its count rose.
     ensures read_fault { result.status ≡ 8 → (name : List ℕ) × (command_of (map string_bytes words.now) ≡ Some name) × Rose (S.faults files.old name) (S.faults files.new name) }
 
     // Each answer is one that is allowed for the words and the bytes, and its whole text was taken.
     ensures whole { result.status ≢ 9 → result.status ≢ 12 → (a : Answer) × Answered (command_of (map string_bytes words.now)) (S.holds files.old) (λ n. Rose (S.faults files.old n) (S.faults files.new n)) a
-        × (result.status ≡ status_of a) × (K.taken out.new ≡ appended (K.taken out.old) (text_of (name_of (command_of (map string_bytes words.now))) a)) }
+        × (result.status ≡ status_of a) × (result.spent ≡ spent_of a) × (K.taken out.new ≡ appended (K.taken out.old) (text_of (name_of (command_of (map string_bytes words.now))) a)) }
     ensures write_fault { result.status ≡ 9 → Rose (K.faults out.old) (K.faults out.new) × ((a : Answer) × Answered (command_of (map string_bytes words.now)) (S.holds files.old) (λ n. Rose (S.faults files.old n) (S.faults files.new n)) a
         × TookPart (K.taken out.old) (K.taken out.new) (text_of (name_of (command_of (map string_bytes words.now))) a)) }
     ensures memory { result.status ≡ 12 → K.taken out.new ≡ K.taken out.old }
@@ -275,12 +327,13 @@ pub fn top<S: Source, K: Sink>(alloc: Global, words: &[String], files: &mut S, o
     runs_answer();
     let report = match answer_words(alloc, words, files) {
         Ok(report) => report,
-        Err(_) => return Done { status: 12 },
+        Err(_) => return without_log(12),
     };
     match write_all(out, report.text.as_bytes()) {
         Ok(()) => Done {
             status: report.status,
+            spent: report.spent,
         },
-        Err(_) => Done { status: 9 },
+        Err(_) => without_log(9),
     }
 }

@@ -1,40 +1,49 @@
 //! What is found of the bytes of a file.
 
-ghost use Rattle.std.specs.Prelude.{IfOk, IfErr};
+ghost use Rattle.std.specs.Prelude.{◌≤◌, IfOk, IfErr};
 ghost use Rattle.cbmc_top.specs.Answers.{Decides};
 ghost use Rattle.cbmc_top.specs.Stops.{StopsWith};
 ghost use Rattle.cbmc_top.specs.Verdicts.{answer_of, IsStop, IsTraced};
 
 use crate::accepting::accept;
 use crate::failing::{Failing, described};
-use crate::searching::search;
+use crate::searching::{Searched, search};
 use crate::stop::Stop;
+use crate::used::Used;
 use core_tree::{Bounds, Limit, Refusal};
 use std::alloc::{AllocError, Global};
 
 /// What is found of a file.
 #[derive(Drop)]
 pub enum Finding {
-    /// No run breaks a check.
-    Successful,
+    /// No run breaks a check: the clauses of the file, and a refutation of them.
+    Successful(Used),
     /// A run that breaks a check.
     Failed(Failing),
     /// Why the file is not checked.
     Refused(Refusal),
     /// The quantity that passes its limit.
     Limited(Limit),
+    /// The clauses of the file, and a log that has used up the budget.
+    Budget(Used),
 }
 
 /// The program of the file, and what its runs do.
-fn checked(alloc: Global, file: &[u8], bounds: &Bounds) -> Result<Finding, Stop>
-    ensures found { IfOk result (λ f. Decides bounds.now file.now (answer_of f)) }
+fn checked(alloc: Global, file: &[u8], bounds: &Bounds, budget: u32) -> Result<Finding, Stop>
+    requires { 1 ≤ budget }
+    ensures found { IfOk result (λ f. Decides bounds.now budget file.now (answer_of f)) }
     ensures traced { IfOk result (λ f. IsTraced bounds.now file.now f) }
-    ensures stop { IfErr result (λ s. StopsWith s (Decides bounds.now file.now)) }
+    ensures stop { IfErr result (λ s. StopsWith s (Decides bounds.now budget file.now)) }
 {
     let program = accept(alloc, file)?;
-    match search(alloc, &program, bounds)? {
-        None => Ok(Finding::Successful),
-        Some(trace) => Ok(Finding::Failed(described(alloc, &program, bounds, trace)?)),
+    let searched = search(alloc, &program, bounds, budget)?;
+    match searched {
+        Searched::Refuted(used) => Ok(Finding::Successful(used)),
+        Searched::Broken(trace) => {
+            let failing = described(alloc, &program, bounds, trace)?;
+            Ok(Finding::Failed(failing))
+        }
+        Searched::Budget(used) => Ok(Finding::Budget(used)),
     }
 }
 
@@ -49,12 +58,19 @@ fn stopped(stop: Stop) -> Result<Finding, AllocError>
     }
 }
 
-/// What is found of the bytes of a file: its size, its tokens, its tree, its typing, the profile, its counts, its runs.
-pub fn examine(alloc: Global, file: &[u8], bounds: &Bounds) -> Result<Finding, AllocError>
-    ensures found { IfOk result (λ f. Decides bounds.now file.now (answer_of f)) }
+/// What is found of the bytes of a file: its size, its tokens, its tree, its typing, the profile, its counts, the search of its
+/// runs.
+pub fn examine(
+    alloc: Global,
+    file: &[u8],
+    bounds: &Bounds,
+    budget: u32,
+) -> Result<Finding, AllocError>
+    requires { 1 ≤ budget }
+    ensures found { IfOk result (λ f. Decides bounds.now budget file.now (answer_of f)) }
     ensures traced { IfOk result (λ f. IsTraced bounds.now file.now f) }
 {
-    match checked(alloc, file, bounds) {
+    match checked(alloc, file, bounds, budget) {
         Ok(finding) => Ok(finding),
         Err(stop) => stopped(stop),
     }

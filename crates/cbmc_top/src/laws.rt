@@ -5,7 +5,8 @@ ghost use Rattle.core_tree.specs.Trees.{Procedure};
 ghost use Rattle.core_tree.specs.Ranges.{Limits};
 ghost use Rattle.cbmc_top.specs.Programs.{IsFileOf, IsCheckable};
 ghost use Rattle.cbmc_top.specs.Report.{Head, Failure, IsHead, IsTold, failure_text};
-ghost use Rattle.cbmc_top.specs.Answers.{Answer, AfterCounts, AreRuns, Decides};
+ghost use Rattle.cbmc_top.specs.Answers.{Answer, successful, failed, AfterCounts, IsOfSearch, Decides};
+ghost use Rattle.cbmc_top.specs.declared.used.Used.{Used};
 
 use c_lexer::one_cutting;
 use c_parse_decl::{one_file, one_place};
@@ -18,18 +19,28 @@ pub fn one_program()
     one_file();
 }
 
-/// What stops a file is determined by its bytes, and where nothing does its runs alone are told.
+/// What stops a file is determined by its bytes, and where nothing does the search of its runs alone answers. Whether that
+/// is by what the runs do or by a budget that is used up isn't determined: both may be allowed.
 pub fn one_answer()
-    ensures { (limits : Limits) (bytes : List ℕ) (a b : Answer) → Decides limits bytes a → Decides limits bytes b → (a ≡ b) ⊎ (AreRuns a × AreRuns b) }
+    ensures { (limits : Limits) (budget : ℕ) (bytes : List ℕ) (a b : Answer) → Decides limits budget bytes a → Decides limits budget bytes b → (a ≡ b) ⊎ (IsOfSearch a × IsOfSearch b) }
 {
     one_cutting();
     one_file();
     one_place();
 }
 
-/// A file in the profile of which no count passes its limit is answered by what its runs do.
+/// A success and a failure exclude one another, also under two budgets.
+pub fn one_verdict()
+    ensures { (limits : Limits) (budget other : ℕ) (bytes : List ℕ) (used : Used) (f : Failure) → Decides limits budget bytes (successful used) → Decides limits other bytes (failed f) → ⊥ }
+{
+    one_cutting();
+    one_file();
+}
+
+/// A file in the profile of which no count passes its limit is answered by the search of its runs: by what they do, or by
+/// a log that has used up the budget.
 pub fn runs_answer()
-    ensures { (limits : Limits) (bytes : List ℕ) (functions : List Procedure) (a : Answer) → IsCheckable limits bytes functions → Decides limits bytes a → AfterCounts limits functions a }
+    ensures { (limits : Limits) (budget : ℕ) (bytes : List ℕ) (functions : List Procedure) (a : Answer) → IsCheckable limits bytes functions → Decides limits budget bytes a → AfterCounts limits budget functions a }
 {
     one_cutting();
     one_file();

@@ -1,6 +1,6 @@
 //! What a command asks for, and what it may be refused.
 
-ghost use Rattle.std.specs.Prelude.{◌≡◌, string_bytes, map, option_map};
+ghost use Rattle.std.specs.Prelude.{◌≡◌, ◌≤◌, string_bytes, map, option_map};
 ghost use Rattle.cbmc_top.specs.FileNames.{is_name_byte, all_name_bytes};
 ghost use Rattle.cbmc_top.specs.Command.{is_file, command_of};
 
@@ -29,6 +29,7 @@ pub struct Options {
     /// The greatest number of conflicts: 1 to 1,000,000,000.
     pub budget: u32,
     pub task: Task,
+    pub ghost budgeted: { (1 ≤ budget) × (budget ≤ 1000000000) },
 }
 
 fn is_no_control(byte: u8) -> bool

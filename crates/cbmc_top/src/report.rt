@@ -2,7 +2,7 @@
 
 ghost use Rattle.std.specs.Prelude.{◌≡◌, ◌++◌, map, IfOk, OnOk, string_bytes};
 ghost use Rattle.std.specs.List.{flat_map};
-ghost use Rattle.cbmc_top.specs.Report.{head_text, success_text, failure_text, violated_line, class_name, spaced_words, inputs_line, spaced_row, schedule_line, refusal_name, refusal_text, limit_name, limit_value, limit_text};
+ghost use Rattle.cbmc_top.specs.Report.{head_text, success_text, failure_text, violated_line, class_name, spaced_words, inputs_line, spaced_row, schedule_line, refusal_name, refusal_text, limit_name, limit_value, limit_text, budget_text};
 ghost use Rattle.cbmc_top.specs.Answers.{head_of};
 ghost use Rattle.cbmc_top.specs.Verdicts.{entry_of, row_of, failure_of};
 
@@ -206,4 +206,11 @@ pub fn limit(alloc: Global, limited: Limit) -> Result<String, AllocError>
     let name = name_of_limit(limited);
     let value = value_of_limit(limited);
     format!(in alloc; "limit {name} {value}\n")
+}
+
+/// The text of a budget that is used up.
+pub fn used_up(alloc: Global, budget: u32) -> Result<String, AllocError>
+    ensures { IfOk result (λ text. string_bytes text ≡ budget_text budget) }
+{
+    format!(in alloc; "budget {budget}\n")
 }

@@ -1,8 +1,8 @@
 //! From a program to what its runs do.
 
-ghost use Rattle.std.specs.Prelude.{◌≡◌, ℕ, [], None, IfOk, IfErr, MatchOption};
+ghost use Rattle.std.specs.Prelude.{◌≡◌, ◌≤◌, [], None, IfOk, IfErr};
 ghost use Rattle.actions.specs.Behaviour.{Thread};
-ghost use Rattle.word_dag.specs.Meaning.{width, value, valuation_of};
+ghost use Rattle.word_dag.specs.Meaning.{width};
 ghost use Rattle.word_dag.specs.Growth.{Within};
 ghost use Rattle.core_tree.specs.Trees.{view_core};
 ghost use Rattle.c_interp.specs.Source.{source_thread};
@@ -11,9 +11,10 @@ ghost use Rattle.goto_prog.specs.Flat.{plain_thread};
 ghost use Rattle.goto_unwind.specs.Counts.{passed};
 ghost use Rattle.mem_seq.specs.Formulas.{IsFormula, FormulaIn};
 ghost use Rattle.cbmc_top.specs.Stops.{StopsWith, IsPassed};
-ghost use Rattle.cbmc_top.specs.Verdicts.{IsSearched};
+ghost use Rattle.cbmc_top.specs.Verdicts.{IsSolved, IsSearched};
 
 use crate::stop::Stop;
+use crate::used::Used;
 use bit_blast::{blast, lift};
 use c_profile::Admitted;
 use cdcl_core::{Answer, solve};
@@ -25,9 +26,33 @@ use goto_unwind::{UnwindError, unwind};
 use guarded_ssa::threads;
 use interleave::Trace;
 use mem_seq::{Formula, Sets, sequential};
+use refutation_check::Checker;
+use sat_form::no_model;
 use std::alloc::{AllocError, Global};
 use trace_build::build;
 use word_dag::{Dag, Id, Valuation};
+
+/// What a search for values that make a goal true came to.
+#[derive(Drop)]
+enum Solved {
+    /// These values do.
+    Values(Valuation),
+    /// None do: the clauses of the goal, and a refutation of them.
+    Refuted(Used),
+    /// The clauses of the goal, and a log that has used up the budget.
+    Budget(Used),
+}
+
+/// What a search of a program's runs came to.
+#[derive(Drop)]
+pub enum Searched {
+    /// No run within the bounds breaks a check: the clauses of the program, and a refutation of them.
+    Refuted(Used),
+    /// A run that breaks a check.
+    Broken(Trace),
+    /// The clauses of the program, and a log that has used up the budget.
+    Budget(Used),
+}
 
 /// The code of a program with explicit checks and without loops and calls, or the count that passes its limit.
 fn unrolled_code(alloc: Global, file: &Admitted, bounds: &Bounds) -> Result<Unrolled, Stop>
@@ -53,30 +78,59 @@ fn formula_of(alloc: Global, dag: &mut Dag, unrolled: &Unrolled) -> Result<Formu
     sequential(alloc, dag, &forms[0], &Sets {})
 }
 
-/// Values of the variables that make a goal true, if there are any.
-fn values_for(alloc: Global, dag: &Dag, goal: Id) -> Result<Option<Valuation>, AllocError>
+/// Values of the variables that make a goal true, if there are any. A refutation counts only once its checker accepted it,
+/// whose memory is taken before the search, so that no want of memory comes in between.
+fn values_for(alloc: Global, dag: &Dag, goal: Id, budget: u32) -> Result<Solved, AllocError>
     requires there { Within dag.now goal }
     requires bit { width dag.now goal ≡ 1 }
-    ensures { IfOk result (λ found. MatchOption found ((v : ℕ → ℕ) → value v dag.now goal ≡ 1 → ⊥) (λ v. value (valuation_of v) dag.now goal ≡ 1)) }
+    requires budget { 1 ≤ budget }
+    ensures { IfOk result (IsSolved dag.now goal budget) }
 {
+    no_model();
     let blasted = blast(alloc, dag, goal)?;
-    match solve(alloc, &blasted.cnf)? {
-        Answer::Unsat => Ok(None),
-        Answer::Sat(model) => Ok(Some(lift(alloc, &blasted, &model)?)),
+    // A clause that is learned has no variable twice.
+    let variables = blasted.cnf.variables();
+    let mut checker = Checker::new(alloc, variables, variables as usize)?;
+    let answer = solve(alloc, &blasted.cnf, budget as u64)?;
+    match answer {
+        Answer::Sat(model) => Ok(Solved::Values(lift(alloc, &blasted, &model)?)),
+        Answer::Unsat(log) => {
+            if !checker.check(&blasted.cnf, &log) {
+                unreachable!()
+            }
+            let form = blasted.cnf;
+            Ok(Solved::Refuted(Used { form, log }))
+        }
+        Answer::Spent(log) => {
+            let form = blasted.cnf;
+            Ok(Solved::Budget(Used { form, log }))
+        }
     }
 }
 
-/// A run of the program within the bounds that breaks a check, if there is one; or the count that passes its limit.
-pub fn search(alloc: Global, file: &Admitted, bounds: &Bounds) -> Result<Option<Trace>, Stop>
+/// A run of the program within the bounds that breaks a check, or a refutation, if one of the two is found within the
+/// budget; or the count that passes its limit.
+pub fn search(
+    alloc: Global,
+    file: &Admitted,
+    bounds: &Bounds,
+    budget: u32,
+) -> Result<Searched, Stop>
+    requires { 1 ≤ budget }
     ensures counts { IfOk result (λ _. passed (view_core file.now) bounds.now ≡ None) }
-    ensures found { IfOk result (λ found. IsSearched (view_core file.now) found) }
+    ensures found { IfOk result (IsSearched bounds.now budget (view_core file.now)) }
     ensures stop { IfErr result (λ s. StopsWith s (IsPassed bounds.now (view_core file.now))) }
 {
     let unrolled = unrolled_code(alloc, file, bounds)?;
     let mut dag = Dag::new(alloc);
     let formula = formula_of(alloc, &mut dag, &unrolled)?;
-    match values_for(alloc, &dag, formula.goal)? {
-        None => Ok(None),
-        Some(values) => Ok(Some(build(alloc, file, bounds, &dag, &formula, &values)?)),
+    let solved = values_for(alloc, &dag, formula.goal, budget)?;
+    match solved {
+        Solved::Refuted(used) => Ok(Searched::Refuted(used)),
+        Solved::Values(values) => {
+            let trace = build(alloc, file, bounds, &dag, &formula, &values)?;
+            Ok(Searched::Broken(trace))
+        }
+        Solved::Budget(used) => Ok(Searched::Budget(used)),
     }
 }

@@ -1,13 +1,15 @@
 //! Worked examples, through the top call.
 
-ghost use Rattle.std.specs.Prelude.{◌≡◌, IfOk};
+ghost use Rattle.std.specs.Prelude.{◌≡◌, ◌≤◌, IfOk};
 
+use crate::report::used_up;
 use crate::{
-    Job, Options, Task, Verdict, check_bytes, one_answer, one_program, one_reading, runs_answer,
-    top,
+    Job, Options, Task, Used, Verdict, check_bytes, one_answer, one_program, one_reading,
+    one_verdict, runs_answer, top,
 };
 use core_tree::{Bounds, Refusal};
 use outside::{HeldFile, MemSink, MemSource, SureSink, SureSource};
+use refutation_check::Checker;
 use std::alloc::{AllocError, Global};
 use std::test::Fail;
 
@@ -20,6 +22,10 @@ const SAFE: &str = "file a.c unwind 8\nVERIFICATION SUCCESSFUL\n";
 const SYNTAX: &str = "refused 10 Syntax line 1\n";
 
 const SEVEN: &str = "int main(void){int x=nondet_int();assert(x!=7);return 0;}";
+
+/// Five numbers below 4 that differ: there are none.
+const FIVE: &str =
+    "int main(void){int a=nondet_int()&3,b=nondet_int()&3,c=nondet_int()&3,d=nondet_int()&3,e=nondet_int()&3;__CPROVER_assume(a!=b&&a!=c&&a!=d&&a!=e&&b!=c&&b!=d&&b!=e&&c!=d&&c!=e&&d!=e);assert(0);return 0;}";
 
 const SEVEN_BREAKS: &str =
     "file a.c unwind 8\nviolated assertion line 1 function main thread 0\ninputs 0: 7\nschedule 0x2\nVERIFICATION FAILED\n";
@@ -72,7 +78,7 @@ fn outcome(
 }
 
 /// Files with their answers.
-static FILES: [(&str, u8, &str); 38] = [
+static FILES: [(&str, u8, &str); 46] = [
     (SEVEN, 10, SEVEN_BREAKS),
     (
         "int main(void){int x=nondet_int();if(x>0)x=x+1;return 0;}",
@@ -187,6 +193,46 @@ static FILES: [(&str, u8, &str); 38] = [
     ),
     (
         "int main(void){\n1=2;return x;}",
+        6,
+        "refused 11 Typing line 2 rule 9\n",
+    ),
+    (
+        "struct S{char a;long b;short c;};int main(void){assert(sizeof(struct S)==24);return 0;}",
+        0,
+        SAFE,
+    ),
+    (
+        "int main(void){unsigned char (c)=200;c=c+100;assert(c==44);return 0;}",
+        0,
+        SAFE,
+    ),
+    (
+        "int main(void){unsigned n=nondet_uint();__CPROVER_assume(n<32);assert((1u<<n)>>n==1u);return 0;}",
+        0,
+        SAFE,
+    ),
+    (
+        "int main(void){unsigned char x=nondet_uchar();assert(!(x*x==49&&100/x==14));return 0;}",
+        10,
+        SEVEN_BREAKS,
+    ),
+    (
+        "typedef int T;int main(void){T x=1;{int T=2;x=x*T;}assert(x==2);return 0;}",
+        0,
+        SAFE,
+    ),
+    (
+        "enum{A=3,B};int main(void){_Bool b=B;signed char c=(char)200;assert(b==1&&c==-56);return A-3;}",
+        0,
+        SAFE,
+    ),
+    (
+        "int main(void){struct S s;return 0;}",
+        6,
+        "refused 11 Typing line 1 rule 3\n",
+    ),
+    (
+        "int main(void){const int x=1;\nx=2;return 0;}",
         6,
         "refused 11 Typing line 2 rule 9\n",
     ),
@@ -370,14 +416,16 @@ fn faults_of_tokens_come_first(rt: HostRuntime) -> Result<(), Fail> {
     Ok(())
 }
 
-/// The options of a command without options, on a file `a.c`.
-fn plain_options(alloc: Global) -> Result<Options, AllocError>
+/// The options of a command on a file `a.c` with this budget.
+fn plain_options(alloc: Global, budget: u32) -> Result<Options, AllocError>
+    requires some { 1 ≤ budget }
+    requires most { budget ≤ 1000000000 }
     ensures { IfOk result (λ o. o.task.job ≡ Job.Check) }
 {
     Ok(Options {
         name: String::from_str(alloc, "a.c")?,
         bounds: Bounds::new(8, Vec::new(alloc), true, 256, false),
-        budget: 1,
+        budget,
         task: Task {
             job: Job::Check,
             generate: None,
@@ -389,7 +437,7 @@ fn plain_options(alloc: Global) -> Result<Options, AllocError>
 #[test]
 fn bytes_are_checked(rt: HostRuntime) -> Result<(), Fail> {
     let alloc = rt.alloc();
-    let options = plain_options(alloc)?;
+    let options = plain_options(alloc, 1)?;
     match check_bytes(alloc, SEVEN.as_bytes(), &options)? {
         Verdict::Failed(trace) => {
             assert_eq!(rt; trace.inputs.words(0), [7].as_slice());
@@ -404,7 +452,37 @@ fn bytes_are_checked(rt: HostRuntime) -> Result<(), Fail> {
     }
     one_program();
     one_answer();
+    one_verdict();
     runs_answer();
     one_reading();
+    Ok(())
+}
+
+/// Whether the log is accepted as a refutation of the clauses.
+fn is_refuted(alloc: Global, used: &Used) -> Result<bool, AllocError> {
+    let variables = used.form.variables();
+    let mut checker = Checker::new(alloc, variables, variables as usize)?;
+    Ok(used.log.is_within(variables) && checker.check(&used.form, &used.log))
+}
+
+/// One conflict doesn't refute the clauses of five numbers below 4 that differ; a million do.
+#[test]
+fn budgets_are_used_up(rt: HostRuntime) -> Result<(), Fail> {
+    let alloc = rt.alloc();
+    let one = plain_options(alloc, 1)?;
+    match check_bytes(alloc, FIVE.as_bytes(), &one)? {
+        Verdict::Budget(used) => {
+            assert_eq!(rt; used.log.entries().len(), 1);
+            assert!(rt; !is_refuted(alloc, &used)?);
+        }
+        _ => assert!(rt; false),
+    }
+    let most = plain_options(alloc, 1_000_000)?;
+    match check_bytes(alloc, FIVE.as_bytes(), &most)? {
+        Verdict::Successful(used) => assert!(rt; is_refuted(alloc, &used)?),
+        _ => assert!(rt; false),
+    }
+    let text = used_up(alloc, 1_000_000)?;
+    assert_eq!(rt; text.as_str(), "budget 1000000\n");
     Ok(())
 }

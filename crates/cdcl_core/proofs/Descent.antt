@@ -1,12 +1,11 @@
--- What is left of a search falls with each step, and where the search turns round.
-use Rattle.std.proofs.Common.{◌≡◌, ℕ, ◌+◌, ◌-◌, ◌*◌, ◌^◌, ◌<◌, ◌≤◌, Bool, true, false, List, [], ◌∷◌, length, Some, None, ap, ◌∙◌, subst, inl, inr, zero, suc, arith}
+-- What is left of a search falls with each step.
+use Rattle.std.proofs.Common.{◌≡◌, ℕ, ◌+◌, ◌-◌, ◌*◌, ◌^◌, ◌<◌, ◌≤◌, Bool, true, false, List, [], ◌∷◌, length, ap, ◌∙◌, subst, inl, inr, zero, suc, arith}
 use Rattle.std.specs.Prelude.{nat_lt, if◌then◌else◌}
 use Rattle.std.proofs.Math.Nat.{pow-succ', mul-le-mul_left}
 use Rattle.std.proofs.lemmas.Bool.{cases_lt}
-use Rattle.sat_form.specs.Satisfaction.{inverse_of}
 use Rattle.cdcl_core.specs.declared.trail.Step.{Step}
 use Rattle.cdcl_core.specs.Steps.{oldest}
-use Rattle.cdcl_core.specs.Soundness.{digits_of, remaining, turned}
+use Rattle.cdcl_core.specs.Going.{digits_of, remaining}
 
 -- a place fewer is a third of the places
 one_place : (n m : ℕ) → m < n → 3 ^ (n - m) ≡ 3 * 3 ^ (n - suc m)
@@ -67,24 +66,3 @@ remaining-cut n k steps older d s is decides follows =
     let same : remaining n (s ∷ older) ≡ (3 * digits_of older + 0 + 1) * P = ap (λ (x : Bool). (3 * digits_of older + (if x then 1 else 0) + 1) * P) follows in
     let positive : 0 < 3 ^ (n - length steps) = is_positive (n - length steps) in
     omega (arith, most, one, same, positive)
-
-turned-least : (n : ℕ) (steps after : List Step) → turned steps ≡ Some after → remaining n after ≤ least n steps
-turned-least n [] after is = cc
-turned-least n (s ∷ older) after is =
-    let P : ℕ = 3 ^ (n - suc (length older)) in
-    elim s.decision as (λ d.
-    (if d then Some (record { literal = inverse_of s.literal; decision = false; reason = None } ∷ older) else turned older) ≡ Some after →
-    remaining n after ≤ (3 * digits_of older + (if d then 1 else 0)) * P) [
-      | true ↦ λ is. let here : record { literal = inverse_of s.literal; decision = false; reason = None } ∷ older ≡ after = cc in
-          subst (λ (x : List Step). remaining n x ≤ (3 * digits_of older + 1) * P) here (omega arith)
-      | false ↦ λ is. let before : remaining n after ≤ least n older = turned-least n older after is in
-          let third : digits_of older * 3 ^ (n - length older) ≤ digits_of older * (3 * P) = mul-le-mul_left (digits_of older) (at_most_third n (length older)) in
-          omega (arith, before, third)
-    ] is
-
--- turning round
-pub remaining-turned : (n : ℕ) (steps after : List Step) → turned steps ≡ Some after → remaining n after < remaining n steps
-remaining-turned n steps after is =
-    let most : remaining n after ≤ least n steps = turned-least n steps after is in
-    let positive : 0 < 3 ^ (n - length steps) = is_positive (n - length steps) in
-    omega (arith, most, positive)

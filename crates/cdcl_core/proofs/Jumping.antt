@@ -1,101 +1,110 @@
--- A search that has gone back with a learned clause, or turned round.
-use Rattle.std.proofs.Common.{◌≡◌, ℕ, ◌*◌, ◌<◌, Bool, false, List, [], ◌∷◌, ◌++◌, Vec, Global, length, Some, sym, ap, ◌∙◌, subst}
-use Rattle.sat_form.specs.declared.clauses.Clause.{Clause}
-use Rattle.sat_form.specs.Satisfaction.{Literal, Form, Satisfies, IsWithin, AreWithin}
-use Rattle.sat_form.proofs.Truth.{Satisfies-push, Satisfies-front, clause_value-last}
-use Rattle.sat_form.proofs.Within.{AreWithin-push}
+-- Where a search goes back to, and what holds there.
+use Rattle.std.proofs.Common.{◌≡◌, ◌≢◌, ℕ, ◌+◌, ◌<◌, ◌≤◌, inl, inr, false, List, [], ◌∷◌, ◌++◌, length, get_or, take, Some, None, refl, sym, ap, ◌∙◌, subst, arith}
+use Rattle.std.specs.Prelude.{Contains}
+use Rattle.std.proofs.lemmas.Bool.{cases_lt}
+use Rattle.std.proofs.lemmas.List.{get_or_default, get_or-take, length-take-le, length-append}
+use Rattle.std.proofs.Math.Seq.{get_or-append_seam}
+use Rattle.sat_form.specs.Satisfaction.{Literal}
 use Rattle.cdcl_core.specs.declared.trail.Step.{Step}
-use Rattle.cdcl_core.specs.declared.analysis.Analysis.{Analysis}
-use Rattle.cdcl_core.specs.declared.search.Search.{Search}
-use Rattle.cdcl_core.specs.Steps.{Course, oldest, HasDecisionAt}
-use Rattle.cdcl_core.specs.Soundness.{IsSound, IsExcluded, IsLeft, remaining, turned}
-use Rattle.cdcl_core.specs.Learning.{IsImplied, AreTouched}
-use Rattle.cdcl_core.specs.Answers.{IsWhole, IsReady}
-use Rattle.cdcl_core.proofs.Descent.{remaining-cut, remaining-turned}
-use Rattle.cdcl_core.proofs.Models.{IsSound-oldest, IsSound-more, IsSound-turned}
+use Rattle.cdcl_core.specs.Steps.{known_truth, oldest, decision_places, AreFresh}
+use Rattle.cdcl_core.specs.Learning.{IsLearned}
+use Rattle.cdcl_core.specs.Watched.{AreFalseBeside, AreOpen}
+use Rattle.cdcl_core.specs.Jumps.{IsNewest, IsFirstFrom}
+use Rattle.cdcl_core.proofs.Watching.{known_truth-between, oldest-oldest}
+use Rattle.cdcl_core.proofs.Settling.{at_most_last, places-cut}
 
--- what is known after a jump
-pub record HasJumped (old new : Search) (c : List Literal) (s : Step) (count : ℕ) : Type 0 where
-  pub trail : new.trail ≡ record { variables = old.trail.variables; steps = s ∷ oldest count old.trail.steps }
-  pub clauses : new.clauses.items ≡ old.clauses.items ++ c ∷ []
-  pub lists : length new.occurrences.lists.items ≡ length old.occurrences.lists.items
-  pub analysis : new.analysis ≡ old.analysis
+-- one more literal of a clause: the steps that make it false, and those that make the others false
+pub others_more :
+    (n : ℕ) (steps : List Step) (items : List Literal) (i : ℕ) (item l : Literal) (kept height next : ℕ) → AreFresh n steps → kept ≤ next → height ≤ next →
+    i < length items → item ≡ get_or items i item → (item ≢ l → known_truth (oldest height steps) item ≡ Some false) →
+    ((k : ℕ) (m : Literal) → k < i → get_or items k m ≡ m → m ≢ l → known_truth (oldest kept steps) m ≡ Some false) →
+    (k : ℕ) (m : Literal) → k < i + 1 → get_or items k m ≡ m → m ≢ l → known_truth (oldest next steps) m ≡ Some false
+others_more n steps items i item l kept height next fresh first second within read here before k m less is other =
+    elim (cases_lt k i) [
+      | inl earlier ↦ known_truth-between n kept next steps m false fresh first (before k m earlier is other)
+      | inr last ↦
+          let place : k ≡ i = omega arith in
+          let same : item ≡ m = read ∙ get_or_default items i item m within ∙ ap (λ j. get_or items j m) (sym place) ∙ is in
+          subst (λ (x : Literal). known_truth (oldest next steps) x ≡ Some false) same
+          (known_truth-between n height next steps item false fresh second (here (λ e. other (sym same ∙ e))))
+    ]
 
-pub IsReady-jumped :
-    (form : Form) (old new : Search) (c : List Literal) (s : Step) (count : ℕ) → HasJumped old new c s count →
-    IsWithin old.trail.variables c → IsImplied old.clauses.items c → IsLeft old.trail.variables (oldest count old.trail.steps) c (Some s.literal) →
-    IsReady form old → IsReady form new
-IsReady-jumped form old new c s count jumped within implied left ready =
-    let cs : List (List Literal) = old.clauses.items in
-    let same : new.trail.variables ≡ old.trail.variables = ap (λ (x : Course). x.variables) jumped.trail in
-    let steps : new.trail.steps ≡ s ∷ oldest count old.trail.steps = ap (λ (x : Course). x.steps) jumped.trail in
-    let all_within : AreWithin old.trail.variables (cs ++ c ∷ []) = AreWithin-push old.trail.variables cs c ready.whole.within within in
-    let follows : (a : ℕ → Bool) → Satisfies a form.clauses → Satisfies a (cs ++ c ∷ []) =
-    λ a all. Satisfies-push a cs c (ready.implied a all) (implied a (ready.implied a all)) in
-    let sound : IsSound (cs ++ c ∷ []) (s ∷ oldest count old.trail.steps) = (
-      λ _ a all agrees. sym (left.2 a agrees) ∙ clause_value-last a cs c all,
-      IsSound-more cs c (oldest count old.trail.steps) (IsSound-oldest cs count old.trail.steps ready.sound),
-    ) in
-    record {
-      whole = record {
-        within = subst (λ n. AreWithin n new.clauses.items) (sym same) (subst (AreWithin old.trail.variables) (sym jumped.clauses) all_within);
-        lists = jumped.lists ∙ ready.whole.lists ∙ ap (λ n. 2 * n) (sym same);
-        marked = ap (λ (x : Analysis). length x.marked.items) jumped.analysis ∙ ready.whole.marked ∙ sym same;
-        touched = subst (λ (x : Analysis). AreTouched x.marked.items x.touched.items) (sym jumped.analysis) ready.whole.touched;
-      };
-      variables = same ∙ ready.variables;
-      within = ready.within;
-      implied = λ a all. subst (Satisfies a) (sym jumped.clauses) (follows a all);
-      included = λ a all. ready.included a (Satisfies-front a cs (c ∷ []) (subst (Satisfies a) jumped.clauses all));
-      sound = subst (IsSound new.clauses.items) (sym steps) (subst (λ x. IsSound x (s ∷ oldest count old.trail.steps)) (sym jumped.clauses) sound);
-    }
+-- what is known of the decision before which a search goes back
+pub record IsJump (n : ℕ) (cs : List (List Literal)) (steps : List Step) (places : List ℕ) (c : List Literal) (l : Literal) (hints : List ℕ) (beside : Literal) (kept : ℕ) : Type 0 where
+  pub fresh : AreFresh n steps
+  pub places_are : places ≡ decision_places steps
+  pub learned : IsLearned n cs steps c l hints
+  pub newest : IsNewest steps c l beside kept
 
-pub remaining-jumped :
-    (old new : Search) (c : List Literal) (s : Step) (count : ℕ) → HasJumped old new c s count → s.decision ≡ false → HasDecisionAt count old.trail.steps →
-    remaining new.trail.variables new.trail.steps < remaining old.trail.variables old.trail.steps
-remaining-jumped old new c s count jumped follows decided =
-    subst (λ (x : Course). remaining x.variables x.steps < remaining old.trail.variables old.trail.steps) (sym jumped.trail)
-    (remaining-cut old.trail.variables count old.trail.steps (oldest count old.trail.steps) decided.0 s decided.2 decided.1 follows)
+kept_most : (n : ℕ) (cs : List (List Literal)) (steps : List Step) (places : List ℕ) (c : List Literal) (l : Literal) (hints : List ℕ) (beside : Literal) (kept : ℕ) →
+    (j : IsJump n cs steps places c l hints beside kept) → kept ≤ j.learned.newest
+kept_most n cs steps places c l hints beside kept j =
+    elim (cases_lt j.learned.newest kept) [
+      | inl less ↦
+          let other : beside ≢ l = j.newest.apart j.learned.newest less in
+          absurd (j.newest.open_ j.learned.newest less (j.learned.others beside (j.newest.stands other) other))
+      | inr most ↦ most
+    ]
 
--- a search that has turned round at a dead end
-pub IsReady-turned :
-    (form : Form) (old new : Search) → IsWhole new → new.clauses ≡ old.clauses → new.trail.variables ≡ old.trail.variables →
-    turned old.trail.steps ≡ Some new.trail.steps → IsExcluded old.clauses.items old.trail.steps → IsReady form old → IsReady form new
-IsReady-turned form old new whole clauses variables is excluded ready =
-    record {
-      whole = whole;
-      variables = variables ∙ ready.variables;
-      within = ready.within;
-      implied = λ a all. subst (λ (x : Vec Clause Global). Satisfies a x.items) (sym clauses) (ready.implied a all);
-      included = λ a all. ready.included a (subst (λ (x : Vec Clause Global). Satisfies a x.items) clauses all);
-      sound = subst (λ (x : Vec Clause Global). IsSound x.items new.trail.steps) (sym clauses)
-          (IsSound-turned old.clauses.items old.trail.steps new.trail.steps ready.sound excluded is);
-    }
+pub place_from : (n : ℕ) (cs : List (List Literal)) (steps : List Step) (places : List ℕ) (c : List Literal) (l : Literal) (hints : List ℕ) (beside : Literal) (kept : ℕ) →
+    IsJump n cs steps places c l hints beside kept → (k : ℕ) × (k < length places) × (kept ≤ get_or places k 0)
+place_from n cs steps places c l hints beside kept j =
+    let front : List ℕ = j.learned.last.0 in
+    let q : ℕ = j.learned.newest in
+    let is : places ≡ front ++ q ∷ [] = j.places_are ∙ j.learned.last.1 in
+    let here : get_or places (length front) 0 ≡ q = ap (λ ns. get_or ns (length front) 0) is ∙ get_or-append_seam front q [] 0 in (
+      length front,
+      omega (arith, ap length is, length-append front (q ∷ [])),
+      omega (arith, here, kept_most n cs steps places c l hints beside kept j),
+    )
 
-pub remaining-turned_search :
-    (old new : Search) → new.trail.variables ≡ old.trail.variables → turned old.trail.steps ≡ Some new.trail.steps →
-    remaining new.trail.variables new.trail.steps < remaining old.trail.variables old.trail.steps
-remaining-turned_search old new variables is =
-    subst (λ n. remaining n new.trail.steps < remaining old.trail.variables old.trail.steps) (sym variables)
-    (remaining-turned old.trail.variables old.trail.steps new.trail.steps is)
+pub place_stands : (n : ℕ) (cs : List (List Literal)) (steps : List Step) (places : List ℕ) (c : List Literal) (l : Literal) (hints : List ℕ) (beside : Literal) (kept index : ℕ) →
+    IsJump n cs steps places c l hints beside kept → IsFirstFrom places kept index → Contains (decision_places steps) (get_or places index 0)
+place_stands n cs steps places c l hints beside kept index j first =
+    subst (λ ns. Contains ns (get_or places index 0)) j.places_are (index, first.within, get_or_default places index (get_or places index 0) 0 first.within)
 
--- a search whose variables wait in another order
-pub IsWhole-reordered : (old new : Search) → new ≡ record old { order = new.order } → IsWhole old → IsWhole new
-IsWhole-reordered old new is whole =
-    subst IsWhole (sym is) (record { within = whole.within; lists = whole.lists; marked = whole.marked; touched = whole.touched })
+open_before : (n k q : ℕ) (steps : List Step) (l : Literal) → AreFresh n steps → k ≤ q → known_truth (oldest q steps) l ≡ None → known_truth (oldest k steps) l ≡ None
+open_before n k q steps l fresh less none =
+    elim (known_truth (oldest k steps) l) as (λ o. known_truth (oldest k steps) l ≡ o → known_truth (oldest k steps) l ≡ None) [
+      | None ↦ λ is. is
+      | Some b ↦ λ is. let both : Some b ≡ None = sym (known_truth-between n k q steps l b fresh less is) ∙ none in cc
+    ] refl
 
-pub IsReady-reordered : (form : Form) (old new : Search) → new ≡ record old { order = new.order } → IsReady form old → IsReady form new
-IsReady-reordered form old new is ready =
-    subst (IsReady form) (sym is)
+-- the literal has no value there
+pub jump_open : (n : ℕ) (cs : List (List Literal)) (steps : List Step) (places : List ℕ) (c : List Literal) (l : Literal) (hints : List ℕ) (beside : Literal) (kept index : ℕ) →
+    IsJump n cs steps places c l hints beside kept → IsFirstFrom places kept index → known_truth (oldest (get_or places index 0) steps) l ≡ None
+jump_open n cs steps places c l hints beside kept index j first =
+    open_before n (get_or places index 0) j.learned.newest steps l j.fresh
+    (at_most_last steps j.learned.newest (get_or places index 0) j.learned.last (place_stands n cs steps places c l hints beside kept index j first)) j.learned.open_
+
+-- each other one is false
+pub jump_others : (n : ℕ) (cs : List (List Literal)) (steps : List Step) (places : List ℕ) (c : List Literal) (l : Literal) (hints : List ℕ) (beside : Literal) (kept index : ℕ) →
+    IsJump n cs steps places c l hints beside kept → IsFirstFrom places kept index → AreFalseBeside (oldest (get_or places index 0) steps) c l
+jump_others n cs steps places c l hints beside kept index j first = λ m at other.
+    known_truth-between n kept (get_or places index 0) steps m false j.fresh first.from (j.newest.others m at other)
+
+-- before each older decision the two watched literals are open
+pub jump_quiet : (n : ℕ) (cs : List (List Literal)) (steps : List Step) (places : List ℕ) (c : List Literal) (l : Literal) (hints : List ℕ) (beside : Literal) (kept index : ℕ) →
+    IsJump n cs steps places c l hints beside kept → IsFirstFrom places kept index →
+    (d : ℕ) → Contains (decision_places (oldest (get_or places index 0) steps)) d → AreOpen (oldest d (oldest (get_or places index 0) steps)) c (record { first = l; second = beside })
+jump_quiet n cs steps places c l hints beside kept index j first d at =
+    let count : ℕ = get_or places index 0 in
+    let inside : index < length (decision_places steps) = subst (λ ns. index < length ns) j.places_are first.within in
+    let same : decision_places (oldest count steps) ≡ take index places =
+    ap (λ ns. decision_places (oldest (get_or ns index 0) steps)) j.places_are ∙ places-cut steps index inside ∙ ap (take index) (sym j.places_are) in
+    let front : Contains (take index places) d = subst (λ ns. Contains ns d) same at in
+    let early : front.0 < index = omega (arith, front.1, length-take-le index places (omega (arith, first.within))) in
+    let read : get_or places front.0 0 ≡ d =
+    get_or_default places front.0 0 d (omega (arith, early, first.within)) ∙ sym (get_or-take index places front.0 d early) ∙ front.2 in
+    let less : d < kept = omega (arith, first.before front.0 early, read) in
+    let most : d ≤ j.learned.newest = omega (arith, less, kept_most n cs steps places c l hints beside kept j) in
+    let other : beside ≢ l = j.newest.apart d less in
+    let none : known_truth (oldest d steps) l ≡ None = open_before n d j.learned.newest steps l j.fresh most j.learned.open_ in
+    subst (λ (x : List Step). AreOpen x c (record { first = l; second = beside })) (sym (oldest-oldest d count steps (omega (arith, less, first.from))))
     (record {
-      whole = record { within = ready.whole.within; lists = ready.whole.lists; marked = ready.whole.marked; touched = ready.whole.touched };
-      variables = ready.variables;
-      within = ready.within;
-      implied = ready.implied;
-      included = ready.included;
-      sound = ready.sound;
+      apart = λ e. other (sym e);
+      first = j.learned.stands;
+      second = j.newest.stands other;
+      first_open = λ is. let both : None ≡ Some false = sym none ∙ is in cc;
+      second_open = j.newest.open_ d less;
     })
-
-pub remaining-reordered :
-    (old new : Search) (k : ℕ) → new ≡ record old { order = new.order } → k < remaining new.trail.variables new.trail.steps → k < remaining old.trail.variables old.trail.steps
-remaining-reordered old new k is falls = subst (λ (x : Search). k < remaining x.trail.variables x.trail.steps) is falls

@@ -1,5 +1,5 @@
 -- What a trail's marks tell of its steps.
-use Rattle.std.proofs.Common.{◌≡◌, ℕ, ◌<◌, ◌≤◌, Bool, true, false, not, List, length, get_or, Option, Some, None, refl, sym, ap, ◌∙◌, subst, arith}
+use Rattle.std.proofs.Common.{◌≡◌, ℕ, ◌+◌, ◌<◌, ◌≤◌, Bool, true, false, not, List, length, get_or, Option, Some, None, refl, sym, ap, ◌∙◌, subst, arith}
 use Rattle.std.specs.Bool.{beq}
 use Rattle.std.proofs.lemmas.List.{get_or_default}
 use Rattle.std.proofs.lemmas.Bool.{lt-ltb, le-ltb, not-false, true≢false}
@@ -9,7 +9,7 @@ use Rattle.cdcl_core.specs.declared.trail.Mark.{Mark}
 use Rattle.cdcl_core.specs.declared.trail.Trail.TheInside.{Inside}
 use Rattle.cdcl_core.specs.Steps.{Course, known_value, known_place, known_truth, oldest, AreFresh}
 use Rattle.cdcl_core.specs.Marks.{course_of, mark_of, IsMarked}
-use Rattle.cdcl_core.proofs.Courses.{known_value-mark_of, known_place-mark_of, known_value-oldest, value_before}
+use Rattle.cdcl_core.proofs.Courses.{known_value-mark_of, known_place-mark_of, known_value-oldest, value_before, place-below}
 
 same_default : (xs : List (Option Mark)) (k : ℕ) (d e : Option Mark) → k < length xs → get_or xs k d ≡ get_or xs k e
 same_default xs k d e within = get_or_default xs k d e within
@@ -83,16 +83,7 @@ same_truth true false = refl
 same_truth false true = refl
 same_truth false false = refl
 
--- the truth that a mark tells, or does not
-pub truth_told : (m : Mark) (negated : Bool) (k : ℕ) → m.place < k → Some (not (beq m.value negated)) ≡ option_map (λ b. if negated then not b else b) (value_before k (Some m))
-truth_told m negated k before =
-    ap Some (same_truth m.value negated)
-    ∙ sym (ap (λ t. option_map (λ b. if negated then not b else b) (if t then Some m.value else None)) (lt-ltb m.place k before))
-
-pub no_truth_told : (m : Mark) (negated : Bool) (k : ℕ) → k ≤ m.place → None ≡ option_map (λ b. if negated then not b else b) (value_before k (Some m))
-no_truth_told m negated k after =
-    sym (ap (λ t. option_map (λ b. if negated then not b else b) (if t then Some m.value else None)) (le-ltb m.place k after))
-
+-- what the oldest steps tell of a literal whose variable has a mark
 pub known_truth-told :
     (t : Inside) (x : Course) (l : Literal) (v k : ℕ) (m o : Option Mark) → IsMarked t → course_of t ≡ x → l.variable < x.variables → v ≡ l.variable →
     m ≡ get_or t.marks.items v m → m ≡ o → known_truth (oldest k x.steps) l ≡ option_map (λ b. if l.negated then not b else b) (value_before k o)
@@ -112,3 +103,40 @@ pub known_place-told :
     known_place x.steps v ≡ option_map (λ (k : Mark). k.place) o
 known_place-told t x v m o marked is within read found =
     known_place-mark_of x.steps v ∙ ap (option_map (λ (k : Mark). k.place)) (sym (mark_of-read t x v m marked is within read)) ∙ ap (option_map (λ (k : Mark). k.place)) found
+
+-- the truth that a mark tells, of all steps
+pub known_truth-now :
+    (t : Inside) (x : Course) (l : Literal) (v : ℕ) (m o : Option Mark) → IsMarked t → course_of t ≡ x → l.variable < x.variables → v ≡ l.variable →
+    m ≡ get_or t.marks.items v m → m ≡ o →
+    option_map (λ b. if l.negated then not b else b) (option_map (λ (k : Mark). k.value) o) ≡ known_truth x.steps l
+known_truth-now t x l v m o marked is within same read found =
+    sym (ap (option_map (λ b. if l.negated then not b else b)) (known_value-told t x l.variable m o marked is within (read ∙ ap (λ w. get_or t.marks.items w m) same) found))
+
+pub some_truth : (value n negated : Bool) → n ≡ negated → not (beq value n) ≡ (if negated then not value else value)
+some_truth value n negated same = ap (λ b. not (beq value b)) same ∙ same_truth value negated
+
+-- a mark's place is that of a step
+pub place-marked : (t : Inside) (x : Course) (v : ℕ) (m : Option Mark) (k : Mark) → IsMarked t → course_of t ≡ x → v < x.variables → m ≡ get_or t.marks.items v m → m ≡ Some k → k.place < length x.steps
+place-marked t x v m k marked is within read found =
+    place-below x.steps v k (sym (mark_of-read t x v m marked is within read) ∙ found)
+
+-- the steps up to a mark's place, and those before it
+told_up_to : (g : Bool → Bool) (m : Mark) → option_map g (value_before (m.place + 1) (Some m)) ≡ option_map g (Some m.value)
+told_up_to g m = ap (λ t. option_map g (if t then Some m.value else None)) (lt-ltb m.place (m.place + 1) (omega arith))
+
+untold_before : (g : Bool → Bool) (m : Mark) (k : ℕ) → k < m.place + 1 → option_map g (value_before k (Some m)) ≡ None
+untold_before g m k before = ap (λ t. option_map g (if t then Some m.value else None)) (le-ltb m.place k (omega arith))
+
+pub height-told :
+    (t : Inside) (x : Course) (l : Literal) (v : ℕ) (o : Option Mark) (m : Mark) → IsMarked t → course_of t ≡ x → l.variable < x.variables → v ≡ l.variable → o ≡ get_or t.marks.items v o → o ≡ Some m →
+    known_truth (oldest (m.place + 1) x.steps) l ≡ known_truth x.steps l
+height-told t x l v o m marked is within same read found =
+    known_truth-told t x l v (m.place + 1) o (Some m) marked is within same read found
+    ∙ told_up_to (λ b. if l.negated then not b else b) m
+    ∙ known_truth-now t x l v o (Some m) marked is within same read found
+
+pub height-before :
+    (t : Inside) (x : Course) (l : Literal) (v k : ℕ) (o : Option Mark) (m : Mark) → IsMarked t → course_of t ≡ x → l.variable < x.variables → v ≡ l.variable → o ≡ get_or t.marks.items v o → o ≡ Some m →
+    k < m.place + 1 → known_truth (oldest k x.steps) l ≡ None
+height-before t x l v k o m marked is within same read found before =
+    known_truth-told t x l v k o (Some m) marked is within same read found ∙ untold_before (λ b. if l.negated then not b else b) m k before

@@ -1,35 +1,82 @@
 -- What a search for a model knows, and what it may answer.
-use Rattle.std.specs.Prelude.{◌≡◌, ℕ, ◌*◌, ◌<◌, Bool, Option, Some, None, length}
-use Rattle.sat_form.specs.Satisfaction.{Form, Satisfies, assignment_of, AreWithin}
-use Rattle.cdcl_core.specs.Soundness.{IsSound, remaining}
-use Rattle.cdcl_core.specs.Learning.{AreTouched}
+use Rattle.std.specs.Prelude.{◌≡◌, ℕ, ◌<◌, ◌≤◌, Bool, true, false, List, [], ◌∷◌, Option, Some, None, length, count_by, slice_get, IsSomeAnd}
+use Rattle.sat_form.specs.Satisfaction.{Literal, Form, Satisfies, assignment_of}
+use Rattle.sat_form.specs.Databases.{added_clauses, deleted_numbers, numbered_clauses, AreEntriesWithin}
+use Rattle.sat_form.specs.Refutation.{IsRefutation}
+use Rattle.sat_form.specs.Budget.{AreAllowed, IsSpent}
+use Rattle.sat_form.specs.declared.logs.Entry.{Entry}
+use Rattle.cdcl_core.specs.Steps.{oldest, decision_places}
+use Rattle.cdcl_core.specs.Settled.{AreFalse}
+use Rattle.cdcl_core.specs.Learning.{IsClear}
+use Rattle.cdcl_core.specs.Watched.{AreWatched, IsHeld}
+use Rattle.cdcl_core.specs.Going.{remaining}
 use Rattle.cdcl_core.specs.declared.search.Search.{Search}
 use Rattle.cdcl_core.specs.declared.search.Answer.{Answer}
-use Rattle.cdcl_core.specs.declared.search.Answer.TheVariants.{Sat, Unsat}
+use Rattle.cdcl_core.specs.declared.search.Answer.TheVariants.{Sat, Unsat, Spent}
 
--- a model of the form over its variables, or that no assignment satisfies it
-abbrev pub IsAnswer : Form → Answer → Type 0
-IsAnswer form (Sat model) = (length model ≡ form.variables) × Satisfies (assignment_of model) form.clauses
-IsAnswer form Unsat = (a : ℕ → Bool) → Satisfies a form.clauses → ⊥
+-- whether the clause has a literal
+abbrev pub has_literal : List Literal → Bool
+has_literal [] = false
+has_literal (l ∷ ls) = true
 
--- the parts of a search fit together
-pub record IsWhole (s : Search) : Type 0 where
-  pub within : AreWithin s.trail.variables s.clauses.items
-  pub lists : length s.occurrences.lists.items ≡ 2 * s.trail.variables
-  pub marked : length s.analysis.marked.items ≡ s.trail.variables
-  pub touched : AreTouched s.analysis.marked.items s.analysis.touched.items
+-- how many clauses the log adds that aren't empty
+abbrev pub unit_count : List Entry → ℕ
+unit_count log = count_by has_literal (added_clauses log)
 
--- the search is one for a model of the form: its clauses have the same models, and what it took without choice follows
-pub record IsReady (form : Form) (s : Search) : Type 0 where
-  pub whole : IsWhole s
+-- a model of the form over its variables; a refutation of at most n units; or a log that has spent a budget of n units
+abbrev pub IsAnswer : Form → ℕ → Answer → Type 0
+IsAnswer form n (Sat model) = (length model ≡ form.variables) × Satisfies (assignment_of model) form.clauses
+IsAnswer form n (Unsat log) =
+    IsRefutation form.clauses log × (unit_count log ≤ n) × AreEntriesWithin form.variables log
+IsAnswer form n (Spent log) = IsSpent form.clauses log n × AreEntriesWithin form.variables log
+
+-- the clauses are those of the form and of the log, which has only units, at most n
+pub record IsLogged (form : Form) (n : ℕ) (clauses : List (List Literal)) (log : List Entry) : Type 0 where
+  pub numbered : clauses ≡ numbered_clauses form.clauses log
+  pub live : deleted_numbers log ≡ []
+  pub allowed : AreAllowed form.clauses log
+  pub within : AreEntriesWithin form.variables log
+  pub count : length log ≤ n
+
+-- what a search keeps
+pub record IsKept (s : Search) : Type 0 where
+  pub held : IsHeld s.clauses.items s.trail s.watches
+  pub clear : IsClear s.trail.variables s.analysis
+  pub places : s.decisions.items ≡ decision_places s.trail.steps
+
+-- the search is one for a model of the form
+pub record IsReady (form : Form) (n : ℕ) (s : Search) : Type 0 where
+  pub kept : IsKept s
   pub variables : s.trail.variables ≡ form.variables
-  pub within : AreWithin form.variables form.clauses
-  pub implied : (a : ℕ → Bool) → Satisfies a form.clauses → Satisfies a s.clauses.items
-  pub included : (a : ℕ → Bool) → Satisfies a s.clauses.items → Satisfies a form.clauses
-  pub sound : IsSound s.clauses.items s.trail.steps
+  pub logged : IsLogged form n s.clauses.items s.log
+
+-- the clause of this number is false
+abbrev pub IsConflict : Search → ℕ → Type 0
+IsConflict s number = IsSomeAnd (slice_get s.clauses.items number) (AreFalse s.trail.steps)
+
+-- each clause is watched, as far as the steps were propagated
+pub record IsWatching (s : Search) : Type 0 where
+  pub most : s.propagated ≤ length s.trail.steps
+  pub watched : AreWatched (oldest s.propagated s.trail.steps) s.trail.steps s.clauses.items s.watches.pairs.items
+
+-- each step was propagated, and each clause is watched
+pub record IsPropagated (s : Search) : Type 0 where
+  pub all : s.propagated ≡ length s.trail.steps
+  pub watched : AreWatched s.trail.steps s.trail.steps s.clauses.items s.watches.pairs.items
+
+-- a conflict, or none as far as the steps were propagated
+abbrev pub IsAt : Search → Option ℕ → Type 0
+IsAt s None = IsWatching s
+IsAt s (Some number) = IsConflict s number
+
+-- a conflict, or none where each step was propagated
+abbrev pub IsDone : Search → Option ℕ → Type 0
+IsDone s None = IsPropagated s
+IsDone s (Some number) = IsConflict s number
 
 -- a search has come to an answer, or less of it is left
-abbrev pub HasAdvanced : Form → Search → Search → Option Answer → Type 0
-HasAdvanced form old new (Some answer) = IsAnswer form answer
-HasAdvanced form old new None =
-    IsReady form new × (remaining new.trail.variables new.trail.steps < remaining old.trail.variables old.trail.steps)
+abbrev pub HasAdvanced : Form → ℕ → Search → Search → Option Answer → Type 0
+HasAdvanced form n old new (Some answer) = IsAnswer form n answer
+HasAdvanced form n old new None =
+    IsReady form n new × IsWatching new
+    × (remaining new.trail.variables new.trail.steps < remaining old.trail.variables old.trail.steps)

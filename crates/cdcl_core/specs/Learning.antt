@@ -1,44 +1,50 @@
 -- What a search learns from a conflict.
-use Rattle.std.specs.Prelude.{◌≡◌, ℕ, Bool, true, false, not, List, Option, Some, None, length, slice_index_or, Contains}
-use Rattle.sat_form.specs.Satisfaction.{Literal, literal_value, clause_value, Satisfies}
+use Rattle.std.specs.Prelude.{◌≡◌, ◌≢◌, ℕ, ◌≤◌, Bool, true, false, List, [], ◌∷◌, ◌++◌, Some, None, length, slice_get, slice_index_or, Contains}
+use Rattle.std.specs.List.{filter_map}
+use Rattle.sat_form.specs.Satisfaction.{Literal, IsWithin}
+use Rattle.sat_form.specs.Propagation.{Follows}
+use Rattle.sat_form.specs.Databases.{numbered_clauses, deleted_numbers}
+use Rattle.sat_form.specs.Budget.{IsUnit, IsConflictBy}
+use Rattle.sat_form.specs.declared.logs.Entry.{Entry}
 use Rattle.cdcl_core.specs.declared.trail.Step.{Step}
-use Rattle.cdcl_core.specs.Steps.{known_value}
-
--- the literals are a clause that each model of the clauses makes true
-abbrev pub IsImplied : List (List Literal) → List Literal → Type 0
-IsImplied clauses literals = (a : ℕ → Bool) → Satisfies a clauses → clause_value a literals ≡ true
-
--- the assignment gives a marked variable another value than the steps do
-abbrev pub Differs : (ℕ → Bool) → List Step → List Bool → Type 0
-Differs a steps marked =
-    (v : ℕ) × (slice_index_or marked v false ≡ true) × (known_value steps v ≡ Some (not (a v)))
-
--- each model of the clauses gives a marked variable another value than the steps do
-abbrev pub AreBlocking : List (List Literal) → List Step → List Bool → Type 0
-AreBlocking clauses steps marked = (a : ℕ → Bool) → Satisfies a clauses → Differs a steps marked
-
--- the assignment gives this variable, if there is one, another value than the steps do
-abbrev pub DiffersAt : (ℕ → Bool) → List Step → Option ℕ → Type 0
-DiffersAt a steps None = Unit {0}
-DiffersAt a steps (Some v) = known_value steps v ≡ Some (not (a v))
-
--- an assignment that makes the clause true, and gives the excepted variable another value than the steps, gives one to
--- a marked variable
-abbrev pub Explains : List Step → List Literal → Option ℕ → List Bool → Type 0
-Explains steps clause except marked =
-    (a : ℕ → Bool) → clause_value a clause ≡ true → DiffersAt a steps except → Differs a steps marked
-
--- the same of one literal
-abbrev pub ExplainsLiteral : List Step → Literal → Option ℕ → List Bool → Type 0
-ExplainsLiteral steps l except marked =
-    (a : ℕ → Bool) → literal_value a l ≡ true → DiffersAt a steps except → Differs a steps marked
+use Rattle.cdcl_core.specs.declared.analysis.Analysis.{Analysis}
+use Rattle.cdcl_core.specs.declared.analysis.Lesson.{Lesson}
+use Rattle.cdcl_core.specs.declared.analysis.Lesson.TheVariants.{Learned, Refuted}
+use Rattle.cdcl_core.specs.Steps.{known_truth, oldest, decision_places}
+use Rattle.cdcl_core.specs.Settled.{AreFalse}
 
 -- each marked variable was touched
 abbrev pub AreTouched : List Bool → List ℕ → Type 0
 AreTouched marked touched = (v : ℕ) → slice_index_or marked v false ≡ true → Contains touched v
 
--- more variables are marked
-pub record MarksMore (marked : List Bool) (touched : List ℕ) (marked' : List Bool) (touched' : List ℕ) : Type 0 where
-  pub same_length : length marked' ≡ length marked
-  pub kept : (v : ℕ) → slice_index_or marked v false ≡ true → slice_index_or marked' v false ≡ true
-  pub still_touched : AreTouched marked touched → AreTouched marked' touched'
+-- the analysis is ready for a clause over n variables
+pub record IsClear (n : ℕ) (a : Analysis) : Type 0 where
+  pub size : length a.marked.items ≡ n
+  pub touched : AreTouched a.marked.items a.touched.items
+
+-- the number is the last of these
+abbrev pub IsLast : List ℕ → ℕ → Type 0
+IsLast numbers n = (front : List ℕ) × (numbers ≡ front ++ n ∷ [])
+
+-- the clauses of these numbers, in order
+abbrev pub clauses_at : List (List Literal) → List ℕ → List (List Literal)
+clauses_at clauses numbers = filter_map (slice_get clauses) numbers
+
+-- the clause is a unit behind each log that leaves these clauses, and it asserts l where the newest decision is taken back
+pub record IsLearned (n : ℕ) (clauses : List (List Literal)) (steps : List Step) (c : List Literal) (l : Literal) (hints : List ℕ) : Type 0 where
+  pub within : IsWithin n c
+  pub short : length c ≤ n
+  pub unit : (form : List (List Literal)) (log : List Entry) → numbered_clauses form log ≡ clauses → deleted_numbers log ≡ [] → IsUnit form log c hints
+  pub newest : ℕ
+  pub last : IsLast (decision_places steps) newest
+  pub stands : Contains c l
+  pub open_ : known_truth (oldest newest steps) l ≡ None
+  pub others : (m : Literal) → Contains c m → m ≢ l → known_truth (oldest newest steps) m ≡ Some false
+  pub false_ : AreFalse steps c
+
+-- what follows from a conflict: a clause, or, where no step is a decision, that clauses of these numbers come to a conflict
+-- by themselves
+abbrev pub IsLesson : ℕ → List (List Literal) → List Step → Lesson → Type 0
+IsLesson n clauses steps (Learned c l hints) = IsLearned n clauses steps c l hints
+IsLesson n clauses steps (Refuted hints) =
+    (decision_places steps ≡ []) × Follows clauses [] × ((given : List Literal) × IsConflictBy [] (clauses_at clauses hints) given)

@@ -1,5 +1,11 @@
 pub mod Steps
 pub mod Marks
-pub mod Soundness
+pub mod Settled
 pub mod Learning
+pub mod Cuts
+pub mod Lists
+pub mod Watched
+pub mod Readings
+pub mod Going
+pub mod Jumps
 pub mod Answers

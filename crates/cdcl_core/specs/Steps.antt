@@ -1,7 +1,6 @@
 -- The steps of a search for a model, the newest first, and what they say of the assignments that agree with them.
-use Rattle.std.specs.Prelude.{◌≡◌, ℕ, suc, ◌<◌, Bool, true, not, List, [], ◌∷◌, length, Option, Some, None, IsTrue, nat_eq, nat_lt, if◌then◌else◌, option_map}
-use Rattle.std.specs.List.{list_all}
-use Rattle.sat_form.specs.Satisfaction.{Literal, literal_value}
+use Rattle.std.specs.Prelude.{◌≡◌, ℕ, suc, ◌<◌, Bool, true, not, List, [], ◌∷◌, ◌++◌, length, Option, Some, None, nat_eq, nat_lt, if◌then◌else◌, option_map}
+use Rattle.sat_form.specs.Satisfaction.{Literal}
 use Rattle.cdcl_core.specs.declared.trail.Step.{Step}
 
 -- where a search stands: how many variables the form has, and the steps
@@ -41,6 +40,7 @@ abbrev pub AreFresh : ℕ → List Step → Type 0
 AreFresh n [] = Unit {0}
 AreFresh n (s ∷ older) = (s.literal.variable < n) × (known_value older s.literal.variable ≡ None) × AreFresh n older
 
--- the assignment makes each step's literal true
-abbrev pub Agrees : (ℕ → Bool) → List Step → Type 0
-Agrees a steps = IsTrue (list_all (λ s. literal_value a s.literal) steps)
+-- the places of the decisions, the oldest first
+abbrev pub decision_places : List Step → List ℕ
+decision_places [] = []
+decision_places (s ∷ older) = if s.decision then decision_places older ++ length older ∷ [] else decision_places older

@@ -1,13 +1,14 @@
-//! A complete search for a model of a form: unit propagation over a trail of steps, and clauses learned
-//! from conflicts, by which it goes back.
+//! A complete search for a model of a form: unit propagation over a trail of steps, by two watched
+//! literals of each clause, and clauses learned from conflicts, which are kept in a log.
 #![tactic(auto)]
 
 mod analysis;
-mod occurrences;
+mod lists;
 mod order;
 mod propagation;
 mod search;
 mod trail;
+mod watches;
 
 pub use search::{Answer, solve};
 

@@ -1,87 +1,53 @@
-ghost use Rattle.std.specs.Prelude.{◌≡◌, ◌<◌, ◌≤◌, IsSome, IfOk, length};
-ghost use Rattle.sat_form.specs.Satisfaction.{IsWithin, AreWithin};
-ghost use Rattle.cdcl_core.specs.Steps.{oldest};
-ghost use Rattle.cdcl_core.specs.Soundness.{IsExcluded, GoesOn, IsStatus};
+ghost use Rattle.std.specs.Prelude.{◌≢◌, ◌<◌, IfSome, IfNone, Contains};
+ghost use Rattle.sat_form.specs.Satisfaction.{IsWithin};
+ghost use Rattle.cdcl_core.specs.Watched.{IsNotFalse, AreFalseBeside};
+ghost use Rattle.cdcl_core.specs.Readings.{IsReading};
 
 use crate::trail::Trail;
 use sat_form::{Clause, Lit};
-use std::alloc::AllocError;
 
-/// What a clause says under the values of some steps.
+/// What a clause says beside one of its literals.
 #[derive(Drop)]
-pub enum Status {
-    /// A literal is true, or at least two have no value.
-    Quiet,
-    /// This literal has no value, and each other is false.
-    Single(Lit),
+pub enum Reading {
+    /// That literal is true.
+    True,
+    /// This other literal is not false.
+    Open(Lit),
+    /// That literal has no value, and each other is false.
+    Single,
     /// Each literal is false.
-    Conflict,
+    False,
 }
 
-/// What the clause says under the values that the oldest `count` steps give.
-pub fn status_of(trail: &Trail, clause: &Clause, count: usize) -> Status
+/// What the clause says beside this literal.
+pub fn read_beside(trail: &Trail, clause: &Clause, literal: Lit) -> Reading
+    requires within { IsWithin trail.now.variables clause.now }
+    requires literal { literal.variable < trail.now.variables }
+    ensures { IsReading trail.now.steps clause.now literal result }
+{
+    let value = trail.value_of(literal);
+    if value == Some(true) {
+        return Reading::True;
+    }
+    match open_beside(trail, clause, literal) {
+        Some(other) => Reading::Open(other),
+        None if value.is_none() => Reading::Single,
+        None => Reading::False,
+    }
+}
+
+/// A literal of the clause that is not false, beside this one.
+fn open_beside(trail: &Trail, clause: &Clause, literal: Lit) -> Option<Lit>
     requires { IsWithin trail.now.variables clause.now }
-    ensures { IsStatus trail.now.variables (oldest count trail.now.steps) clause.now result }
+    ensures stands { IfSome result (Contains clause.now) }
+    ensures other { IfSome result (λ m. m ≢ literal) }
+    ensures open_ { IfSome result (IsNotFalse trail.now.steps) }
+    ensures none { IfNone result (AreFalseBeside trail.now.steps clause.now literal) }
 {
-    let mut open = None;
-    for literal in clause.literals() {
-        match trail.truth(*literal, count) {
-            Some(true) => return Status::Quiet,
-            Some(false) => {}
-            None => {
-                if open.is_some() {
-                    return Status::Quiet;
-                }
-                open = Some(*literal);
-            }
+    for other in clause.literals() {
+        if *other != literal && trail.value_of(*other) != Some(false) {
+            return Some(*other);
         }
     }
-    match open {
-        Some(literal) => Status::Single(literal),
-        None => Status::Conflict,
-    }
-}
-
-/// Adds the literal that one clause leaves, if it leaves just one. Gives the clause's place if it
-/// leaves none.
-pub fn visit(
-    trail: &mut Trail,
-    clauses: &[Clause],
-    place: usize,
-) -> Result<Option<usize>, AllocError>
-    requires place { place < length clauses.now }
-    requires within { AreWithin trail.old.variables clauses.now }
-    ensures on { IfOk result (λ _. GoesOn clauses.now trail.old trail.new) }
-    ensures conflict { IfOk result (λ conflict. IsSome conflict → IsExcluded clauses.now trail.new.steps) }
-{
-    let count = trail.len();
-    match status_of(trail, &clauses[place], count) {
-        Status::Quiet => Ok(None),
-        Status::Conflict => Ok(Some(place)),
-        Status::Single(literal) => {
-            trail.push(literal, false, Some(place))?;
-            Ok(None)
-        }
-    }
-}
-
-/// Visits the clauses at these places up to the first that leaves no literal, and gives its place.
-pub fn visit_all(
-    trail: &mut Trail,
-    clauses: &[Clause],
-    places: &[usize],
-) -> Result<Option<usize>, AllocError>
-    requires { AreWithin trail.old.variables clauses.now }
-    ensures on { IfOk result (λ _. GoesOn clauses.now trail.old trail.new) }
-    ensures conflict { IfOk result (λ conflict. IsSome conflict → IsExcluded clauses.now trail.new.steps) }
-{
-    for place in places {
-        if *place < clauses.len() {
-            let conflict = visit(trail, clauses, *place)?;
-            if conflict.is_some() {
-                return Ok(conflict);
-            }
-        }
-    }
-    Ok(None)
+    None
 }

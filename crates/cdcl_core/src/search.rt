@@ -1,86 +1,150 @@
-ghost use Rattle.std.specs.Prelude.{◌≡◌, ℕ, ◌*◌, ◌^◌, ◌<◌, ◌≤◌, length, IsTrue, IsFalse, IsSome, IfOk, OnOk, IfNone, IfSome, Some, None, MatchBool};
-ghost use Rattle.sat_form.specs.Satisfaction.{Form, IsWithin, AreWithin};
-ghost use Rattle.cdcl_core.specs.Steps.{known_value};
-ghost use Rattle.cdcl_core.specs.Soundness.{IsExcluded, IsSound, GoesOn, remaining, turned};
-ghost use Rattle.cdcl_core.specs.Learning.{IsImplied};
-ghost use Rattle.cdcl_core.specs.Answers.{IsAnswer, IsWhole, IsReady, HasAdvanced};
+ghost use Rattle.std.specs.Prelude.{◌≡◌, ◌≢◌, ℕ, ◌^◌, ◌<◌, ◌≤◌, false, [], ◌∷◌, ◌++◌, length, take, IsTrue, IsFalse, IsSome, IfOk, OnOk, IfNone, IfSome, Some, None, Contains, List, slice_get, slice_index};
+ghost use Rattle.sat_form.specs.Satisfaction.{Form, Literal, IsWithin};
+ghost use Rattle.cdcl_core.specs.Steps.{known_value, known_truth, oldest, decision_places};
+ghost use Rattle.cdcl_core.specs.Settled.{AreFalse};
+ghost use Rattle.cdcl_core.specs.Learning.{IsLearned};
+ghost use Rattle.cdcl_core.specs.Watched.{AreFalseBeside, HasTrue, AreOpen, IsWatched, AreWatched, AreSingle, IsHeld};
+ghost use Rattle.cdcl_core.specs.Going.{GoesOn, remaining};
+ghost use Rattle.cdcl_core.specs.Answers.{IsAnswer, IsKept, IsReady, IsConflict, IsWatching, IsPropagated, IsAt, IsDone, HasAdvanced};
+ghost use Rattle.cdcl_core.specs.Jumps.{IsNewest, IsFirstFrom};
 
-use crate::analysis::Analysis;
-use crate::occurrences::{Occurrences, enter};
+use crate::analysis::{Analysis, Lesson};
 use crate::order::Order;
-use crate::propagation::{Status, status_of, visit, visit_all};
 use crate::trail::Trail;
-use sat_form::{Assignment, Clause, Cnf, Lit, is_model};
+use crate::watches::{Pair, Watches};
+use sat_form::{Assignment, Clause, Cnf, Hints, Lit, Log};
 use std::alloc::{AllocError, Global};
+use std::mem::replace;
 
 /// Whether a form has a model.
 #[derive(Drop)]
 pub enum Answer {
     /// This assignment satisfies the form.
     Sat(Assignment),
-    /// No assignment does.
-    Unsat,
+    /// No assignment does: the log refutes the form.
+    Unsat(Log),
+    /// The budget is spent: the log has as many units as it allows.
+    Spent(Log),
 }
 
 /// A search for a model.
 #[derive(Drop)]
 struct Search {
     trail: Trail,
-    /// The form's clauses, and then those that were learned.
+    /// The form's clauses, and then those that were learned, by their numbers.
     clauses: Vec<Clause>,
-    occurrences: Occurrences,
+    watches: Watches,
     analysis: Analysis,
     order: Order,
     /// The places of the decisions among the steps.
     decisions: Vec<usize>,
     /// How many steps were propagated.
     propagated: usize,
+    /// The learned clauses.
+    log: Log,
 }
 
 impl Search {
+    ghost use Rattle.cdcl_core.specs.declared.watches.Pair.{Pair};
+
     fn new(alloc: Global, cnf: &Cnf) -> Result<Self, AllocError>
-        ensures { IfOk result (IsReady cnf.now) }
+        ensures ready { IfOk result (λ s. (budget : ℕ) → IsReady cnf.now budget s) }
+        ensures single { IfOk result (λ s. AreSingle s.clauses.items s.watches.pairs.items) }
+        ensures propagated { IfOk result (λ s. s.propagated ≡ 0) }
+        ensures start { IfOk result (λ s. s.trail.steps ≡ []) }
     {
         let variables = cnf.variables();
         Ok(Search {
             trail: Trail::new(alloc, variables)?,
             clauses: copied(alloc, cnf.clauses())?,
-            occurrences: Occurrences::new(alloc, cnf)?,
+            watches: Watches::new(alloc, variables, cnf.clauses())?,
             analysis: Analysis::new(alloc, variables)?,
             order: Order::new(alloc, variables)?,
             decisions: Vec::new(alloc),
             propagated: 0,
+            log: Log::new(alloc),
         })
     }
 
-    /// Visits each clause once, and gives the place of one that leaves no literal.
+    /// Takes the literal of each clause that has only one, and gives the number of a clause whose
+    /// literals are all false.
     fn begin(&mut self) -> Result<Option<usize>, AllocError>
-        requires { AreWithin self.old.trail.variables self.old.clauses.items }
+        requires held { IsHeld self.old.clauses.items self.old.trail self.old.watches }
+        requires single { AreSingle self.old.clauses.items self.old.watches.pairs.items }
+        requires propagated { self.old.propagated ≡ 0 }
         ensures same { OnOk result (self.new ≡ record self.old { trail = self.new.trail }) }
-        ensures on { IfOk result (λ _. GoesOn self.old.clauses.items self.old.trail self.new.trail) }
-        ensures conflict { IfOk result (λ conflict. IsSome conflict → IsExcluded self.old.clauses.items self.new.trail.steps) }
+        ensures held { OnOk result (IsHeld self.old.clauses.items self.new.trail self.old.watches) }
+        ensures on { OnOk result (GoesOn self.old.trail self.new.trail) }
+        ensures at { IfOk result (IsAt self.new) }
     {
-        for place in 0..self.clauses.len() {
-            let conflict = visit(&mut self.trail, &self.clauses, place)?;
-            if conflict.is_some() {
-                return Ok(conflict);
+        for number in 0..self.clauses.len() {
+            if !self.settle(number)? {
+                return Ok(Some(number));
             }
         }
         Ok(None)
     }
 
-    /// Propagates each step that is not propagated yet, and gives the place of a clause that leaves no
-    /// literal.
+    /// Takes the literal of a clause, if it has only one. Says whether the clause has one that is not false.
+    fn settle(&mut self, number: usize) -> Result<bool, AllocError>
+        requires number { number < length self.old.clauses.items }
+        requires held { IsHeld self.old.clauses.items self.old.trail self.old.watches }
+        requires single { AreSingle self.old.clauses.items self.old.watches.pairs.items }
+        ensures same { OnOk result (self.new ≡ record self.old { trail = self.new.trail }) }
+        ensures held { OnOk result (IsHeld self.old.clauses.items self.new.trail self.old.watches) }
+        ensures on { OnOk result (GoesOn self.old.trail self.new.trail) }
+        ensures watched { IfOk result (λ b. IsTrue b → (c : List Literal) (p : Pair) → slice_get self.old.clauses.items number ≡ Some c → slice_get self.old.watches.pairs.items number ≡ Some p → IsWatched [] self.new.trail.steps c p) }
+        ensures false_ { IfOk result (λ b. IsFalse b → IsConflict self.new number) }
+    {
+        if !self.watches.is_single(number) {
+            return Ok(true);
+        }
+        let kept = self.take(number)?;
+        Ok(kept)
+    }
+
+    /// Takes the literal of a clause that has only one, and says whether it is not false.
+    fn take(&mut self, number: usize) -> Result<bool, AllocError>
+        requires number { number < length self.old.clauses.items }
+        requires held { IsHeld self.old.clauses.items self.old.trail self.old.watches }
+        requires single { (c : List Literal) → slice_get self.old.clauses.items number ≡ Some c → (l m : Literal) → Contains c l → Contains c m → m ≡ l }
+        ensures same { OnOk result (self.new ≡ record self.old { trail = self.new.trail }) }
+        ensures held { OnOk result (IsHeld self.old.clauses.items self.new.trail self.old.watches) }
+        ensures on { OnOk result (GoesOn self.old.trail self.new.trail) }
+        ensures true_ { IfOk result (λ b. IsTrue b → (c : List Literal) → slice_get self.old.clauses.items number ≡ Some c → HasTrue self.new.trail.steps c) }
+        ensures false_ { IfOk result (λ b. IsFalse b → (c : List Literal) → slice_get self.old.clauses.items number ≡ Some c → AreFalse self.new.trail.steps c) }
+    {
+        let Some(literal) = self.clauses[number].literals().first().copied() else {
+            return Ok(false);
+        };
+        match self.trail.value_of(literal) {
+            Some(value) => Ok(value),
+            None => {
+                self.trail.push(literal, false, Some(number))?;
+                Ok(true)
+            }
+        }
+    }
+
+    /// Propagates each step that is not propagated yet, and gives the number of a clause whose literals are
+    /// all false.
     fn propagate(&mut self) -> Result<Option<usize>, AllocError>
-        requires { IsWhole self.old }
-        ensures same { OnOk result (self.new ≡ record self.old { trail = self.new.trail; propagated = self.new.propagated }) }
-        ensures on { IfOk result (λ _. GoesOn self.old.clauses.items self.old.trail self.new.trail) }
-        ensures conflict { IfOk result (λ conflict. IsSome conflict → IsExcluded self.old.clauses.items self.new.trail.steps) }
+        requires held { IsHeld self.old.clauses.items self.old.trail self.old.watches }
+        requires watching { IsWatching self.old }
+        ensures same { OnOk result (self.new ≡ record self.old { trail = self.new.trail; watches = self.new.watches; propagated = self.new.propagated }) }
+        ensures held { OnOk result (IsHeld self.old.clauses.items self.new.trail self.new.watches) }
+        ensures on { OnOk result (GoesOn self.old.trail self.new.trail) }
+        ensures done { IfOk result (IsDone self.new) }
     {
         while let Some(step) = self.trail.step_at(self.propagated) {
+            let place = self.propagated;
             self.propagated += 1;
-            let places = self.occurrences.of(step.literal.inverse());
-            let conflict = visit_all(&mut self.trail, &self.clauses, places)?;
+            let conflict = self.watches.visit(
+                &mut self.trail,
+                &self.clauses,
+                step.literal.inverse(),
+                place,
+            )?;
             if conflict.is_some() {
                 return Ok(conflict);
             }
@@ -88,30 +152,43 @@ impl Search {
         Ok(None)
     }
 
-    /// Goes on where each step is propagated: answers, decides a variable, or goes back where the steps
-    /// are at a dead end.
+    /// Propagates each step, unless there is a conflict.
+    fn pursue(&mut self, conflict: Option<usize>) -> Result<Option<usize>, AllocError>
+        requires kept { IsKept self.old }
+        requires at { IsAt self.old conflict }
+        ensures kept { OnOk result (IsKept self.new) }
+        ensures ready { OnOk result ((form : Form) (n : ℕ) → IsReady form n self.old → IsReady form n self.new) }
+        ensures done { IfOk result (IsDone self.new) }
+        ensures remaining { OnOk result (remaining self.new.trail.variables self.new.trail.steps ≤ remaining self.old.trail.variables self.old.trail.steps) }
+    {
+        if conflict.is_some() {
+            return Ok(conflict);
+        }
+        let found = self.propagate()?;
+        Ok(found)
+    }
+
+    /// Goes on where each step is propagated: answers, decides a variable, or learns from a conflict.
     fn advance(
         &mut self,
         alloc: Global,
-        cnf: &Cnf,
+        budget: u64,
         conflict: Option<usize>,
     ) -> Result<Option<Answer>, AllocError>
-        requires ready { IsReady cnf.now self.old }
-        requires conflict { IsSome conflict → IsExcluded self.old.clauses.items self.old.trail.steps }
-        ensures { IfOk result (HasAdvanced cnf.now self.old self.new) }
+        requires kept { IsKept self.old }
+        requires done { IsDone self.old conflict }
+        requires budget { 1 ≤ budget }
+        ensures { IfOk result (λ answer. (form : Form) → IsReady form budget self.old → HasAdvanced form budget self.old self.new answer) }
     {
-        if let Some(place) = conflict {
-            if self.learn(alloc, place)? {
-                return Ok(None);
-            }
-            return self.retreat(cnf);
+        if let Some(number) = conflict {
+            return self.resolve(alloc, budget, number);
         }
         match self.open_variable() {
             Some(variable) => {
                 self.decide(variable)?;
                 Ok(None)
             }
-            None => self.conclude(alloc, cnf),
+            None => Ok(Some(Answer::Sat(self.trail.assignment(alloc)?))),
         }
     }
 
@@ -128,24 +205,15 @@ impl Search {
         }
     }
 
-    /// Lets the variables of the steps from a place on wait to be decided again.
-    fn offer_from(&mut self, count: usize) -> Result<(), AllocError>
-        ensures { OnOk result (self.new ≡ record self.old { order = self.new.order }) }
-    {
-        for place in count..self.trail.len() {
-            if let Some(step) = self.trail.step_at(place) {
-                self.order.offer(step.literal.variable() as usize)?;
-            }
-        }
-        Ok(())
-    }
-
     /// Takes the variable as false, by choice.
     fn decide(&mut self, variable: usize) -> Result<(), AllocError>
+        requires kept { IsKept self.old }
+        requires propagated { IsPropagated self.old }
         requires within { variable < self.old.trail.variables }
         requires open_ { known_value self.old.trail.steps variable ≡ None }
         requires limit { variable < 2 ^ 31 }
-        ensures ready { OnOk result ((form : Form) → IsReady form self.old → IsReady form self.new) }
+        ensures ready { OnOk result ((form : Form) (n : ℕ) → IsReady form n self.old → IsReady form n self.new) }
+        ensures watching { OnOk result (IsWatching self.new) }
         ensures falls { OnOk result (remaining self.new.trail.variables self.new.trail.steps < remaining self.old.trail.variables self.old.trail.steps) }
     {
         self.decisions.push(self.trail.len())?;
@@ -154,149 +222,164 @@ impl Search {
         Ok(())
     }
 
-    /// Answers where each variable has a value: that these are a model, or else that the steps are at
-    /// a dead end.
-    fn conclude(&mut self, alloc: Global, cnf: &Cnf) -> Result<Option<Answer>, AllocError>
-        requires ready { IsReady cnf.now self.old }
-        requires full { (v : ℕ) → v < self.old.trail.variables → IsSome (known_value self.old.trail.steps v) }
-        ensures { IfOk result (HasAdvanced cnf.now self.old self.new) }
+    /// Whether a decision stands and the log has as many units as the budget.
+    fn is_spent(&self, budget: u64) -> bool
+        ensures spent { IsTrue result → (0 < length self.now.decisions.items) × (budget ≤ length self.now.log) }
+        ensures room { IsFalse result → 0 < length self.now.decisions.items → length self.now.log < budget }
     {
-        let assignment = self.trail.assignment(alloc)?;
-        if is_model(cnf, &assignment) {
-            return Ok(Some(Answer::Sat(assignment)));
-        }
-        self.retreat(cnf)
+        !self.decisions.is_empty() && self.log.entries().len() as u64 >= budget
     }
 
-    /// Turns the newest decision round at a dead end, or answers that there is no model.
-    fn retreat(&mut self, cnf: &Cnf) -> Result<Option<Answer>, AllocError>
-        requires ready { IsReady cnf.now self.old }
-        requires excluded { IsExcluded self.old.clauses.items self.old.trail.steps }
-        ensures { IfOk result (HasAdvanced cnf.now self.old self.new) }
+    /// Learns from a conflict of the clause with this number, or answers: that there is no model, or
+    /// that the budget is spent.
+    fn resolve(
+        &mut self,
+        alloc: Global,
+        budget: u64,
+        number: usize,
+    ) -> Result<Option<Answer>, AllocError>
+        requires kept { IsKept self.old }
+        requires conflict { IsConflict self.old number }
+        requires budget { 1 ≤ budget }
+        ensures { IfOk result (λ answer. (form : Form) → IsReady form budget self.old → HasAdvanced form budget self.old self.new answer) }
     {
-        if self.turn()? {
-            return Ok(None);
+        if self.is_spent(budget) {
+            return Ok(Some(Answer::Spent(replace(&mut self.log, Log::new(alloc)))));
         }
-        Ok(Some(Answer::Unsat))
-    }
-
-    /// Takes steps back to the newest decision and turns that round, or says that there is none.
-    fn turn(&mut self) -> Result<bool, AllocError>
-        ensures whole { OnOk result (IsWhole self.old → IsWhole self.new) }
-        ensures clauses { OnOk result (self.new.clauses ≡ self.old.clauses) }
-        ensures variables { OnOk result (self.new.trail.variables ≡ self.old.trail.variables) }
-        ensures turned { IfOk result (λ some. MatchBool some (turned self.old.trail.steps ≡ Some self.new.trail.steps) (turned self.old.trail.steps ≡ None)) }
-    {
-        while let Some(step) = self.trail.pop() {
-            self.order.offer(step.literal.variable() as usize)?;
-            if step.decision {
-                let count = self.trail.len();
-                self.forget_decisions(count);
-                self.trail.push(step.literal.inverse(), false, None)?;
-                return Ok(true);
-            }
-        }
-        Ok(false)
-    }
-
-    /// Learns a clause from the one at a place, whose literals are all false, and goes back to where
-    /// it leaves one literal. Says whether it did.
-    fn learn(&mut self, alloc: Global, conflict: usize) -> Result<bool, AllocError>
-        requires { IsWhole self.old }
-        ensures ready { OnOk result ((form : Form) → IsReady form self.old → IsReady form self.new) }
-        ensures falls { IfOk result (λ done. IsTrue done → remaining self.new.trail.variables self.new.trail.steps < remaining self.old.trail.variables self.old.trail.steps) }
-        ensures steps { IfOk result (λ done. IsFalse done → self.new.trail ≡ self.old.trail) }
-        ensures clauses { IfOk result (λ done. IsFalse done → self.new.clauses ≡ self.old.clauses) }
-    {
-        let start = match self.decisions.last() {
-            Some(start) => *start,
-            None => return Ok(false),
-        };
-        let learned = self
+        let lesson = self
             .analysis
-            .learned(alloc, &self.trail, &self.clauses, conflict, start)?;
+            .lesson(alloc, &self.trail, &self.clauses, number, &self.decisions)?;
+        match lesson {
+            Lesson::Refuted(hints) => {
+                self.log.add(Clause::new(alloc), hints)?;
+                Ok(Some(Answer::Unsat(replace(&mut self.log, Log::new(alloc)))))
+            }
+            Lesson::Learned(clause, literal, hints) => {
+                self.learn(alloc, clause, literal, hints)?;
+                Ok(None)
+            }
+        }
+    }
+
+    /// Learns a clause and goes back to the oldest decision before which it leaves one literal.
+    fn learn(
+        &mut self,
+        alloc: Global,
+        clause: Clause,
+        literal: Lit,
+        hints: Hints,
+    ) -> Result<(), AllocError>
+        requires kept { IsKept self.old }
+        requires learned { IsLearned self.old.trail.variables self.old.clauses.items self.old.trail.steps clause literal hints }
+        ensures ready { OnOk result ((form : Form) (n : ℕ) → length self.old.log < n → IsReady form n self.old → IsReady form n self.new) }
+        ensures watching { OnOk result (IsWatching self.new) }
+        ensures falls { OnOk result (remaining self.new.trail.variables self.new.trail.steps < remaining self.old.trail.variables self.old.trail.steps) }
+    {
+        let (beside, kept) = self.newest_beside(&clause, literal);
+        let index = first_from(&self.decisions, kept);
+        self.release(index)?;
         self.order.raise_all(self.analysis.touched());
-        match learned {
-            Some(clause) => {
-                let count = self.jump_place(&clause, start);
-                self.offer_from(count)?;
-                let done = self.jump(clause, count)?;
-                Ok(done)
-            }
-            None => Ok(false),
-        }
+        self.log
+            .add(Clause::from_slice(alloc, clause.literals())?, hints)?;
+        let pair = Pair {
+            first: literal,
+            second: beside,
+        };
+        self.assert_clause(clause, pair)?;
+        Ok(())
     }
 
-    /// Adds a clause that follows, and goes back to the oldest `count` steps, where it leaves one literal.
-    /// Says whether it did.
-    fn jump(&mut self, clause: Clause, count: usize) -> Result<bool, AllocError>
-        requires whole { IsWhole self.old }
-        requires within { IsWithin self.old.trail.variables clause }
-        requires implied { IsImplied self.old.clauses.items clause }
-        ensures ready { OnOk result ((form : Form) → IsReady form self.old → IsReady form self.new) }
-        ensures falls { IfOk result (λ done. IsTrue done → remaining self.new.trail.variables self.new.trail.steps < remaining self.old.trail.variables self.old.trail.steps) }
-        ensures steps { IfOk result (λ done. IsFalse done → self.new.trail ≡ self.old.trail) }
-        ensures clauses { IfOk result (λ done. IsFalse done → self.new.clauses ≡ self.old.clauses) }
+    /// Takes back the steps from one of the decisions on.
+    fn release(&mut self, index: usize) -> Result<(), AllocError>
+        requires { index < length self.old.decisions.items }
+        ensures same { OnOk result (self.new ≡ record self.old { trail = self.new.trail; order = self.new.order; decisions = self.new.decisions; propagated = slice_index self.old.decisions.items index }) }
+        ensures trail { OnOk result (self.new.trail ≡ record self.old.trail { steps = oldest (slice_index self.old.decisions.items index) self.old.trail.steps }) }
+        ensures decisions { OnOk result (self.new.decisions.items ≡ take index self.old.decisions.items) }
     {
-        if !self.trail.is_decision(count) {
-            return Ok(false);
-        }
-        match status_of(&self.trail, &clause, count) {
-            Status::Single(literal) => {
-                let place = self.clauses.len();
-                enter(
-                    &mut self.occurrences.lists,
-                    place,
-                    &clause,
-                    self.trail.variables(),
-                )?;
-                self.clauses.push(clause)?;
-                self.trail.cut(count);
-                self.trail.push(literal, false, Some(place))?;
-                self.forget_decisions(count);
-                Ok(true)
-            }
-            _ => Ok(false),
-        }
-    }
-
-    /// The place of the oldest decision after all steps that the clause's literals have values from, but
-    /// for those from `start` on.
-    fn jump_place(&self, clause: &Clause, start: usize) -> usize
-        requires { IsWithin self.now.trail.variables clause.now }
-    {
-        let mut kept = 0;
-        for literal in clause.literals() {
-            if let Some(place) = self.trail.place_of(literal.variable() as usize) {
-                if place < start && kept <= place {
-                    kept = place + 1;
-                }
+        let count = self.decisions[index];
+        for place in count..self.trail.len() {
+            if let Some(step) = self.trail.step_at(place) {
+                self.order.offer(step.literal.variable() as usize)?;
             }
         }
-        oldest_from(&self.decisions, kept, start)
-    }
-
-    /// Forgets the decisions from a place on, and that later steps were propagated.
-    fn forget_decisions(&mut self, count: usize)
-        ensures { self.new ≡ record self.old { decisions = self.new.decisions; propagated = self.new.propagated } }
-    {
+        self.trail.cut(count);
         self.propagated = count;
-        while self.decisions.last().is_some_and(|place| *place >= count) {
-            let _ = self.decisions.pop();
+        self.decisions.truncate(index);
+        Ok(())
+    }
+
+    /// Adds a clause that leaves the first of these two of its literals, and takes that.
+    fn assert_clause(&mut self, clause: Clause, pair: Pair) -> Result<(), AllocError>
+        requires held { IsHeld self.old.clauses.items self.old.trail self.old.watches }
+        requires within { IsWithin self.old.trail.variables clause }
+        requires first { Contains clause pair.first }
+        requires second { pair.first ≢ pair.second → Contains clause pair.second }
+        requires open_ { known_truth self.old.trail.steps pair.first ≡ None }
+        requires others { AreFalseBeside self.old.trail.steps clause pair.first }
+        requires quiet { (d : ℕ) → Contains (decision_places self.old.trail.steps) d → AreOpen (oldest d self.old.trail.steps) clause pair }
+        requires watched { AreWatched self.old.trail.steps self.old.trail.steps self.old.clauses.items self.old.watches.pairs.items }
+        ensures same { OnOk result (self.new ≡ record self.old { trail = self.new.trail; clauses = self.new.clauses; watches = self.new.watches }) }
+        ensures clauses { OnOk result (self.new.clauses.items ≡ self.old.clauses.items ++ clause ∷ []) }
+        ensures trail { OnOk result (self.new.trail ≡ record self.old.trail { steps = record { literal = pair.first; decision = false; reason = Some (length self.old.clauses.items) } ∷ self.old.trail.steps }) }
+        ensures held { OnOk result (IsHeld self.new.clauses.items self.new.trail self.new.watches) }
+        ensures watched { OnOk result (AreWatched self.old.trail.steps self.new.trail.steps self.new.clauses.items self.new.watches.pairs.items) }
+    {
+        let literal = pair.first;
+        let number = self.clauses.len();
+        self.watches.enter(pair)?;
+        self.clauses.push(clause)?;
+        self.trail.push(literal, false, Some(number))?;
+        Ok(())
+    }
+
+    /// The literal of the clause, beside this one, that got its value last, and one more than the place
+    /// of that step; or this one and 0.
+    fn newest_beside(&self, clause: &Clause, literal: Lit) -> (Lit, usize)
+        requires held { IsHeld self.now.clauses.items self.now.trail self.now.watches }
+        requires within { IsWithin self.now.trail.variables clause.now }
+        requires false_ { AreFalse self.now.trail.steps clause.now }
+        ensures { IsNewest self.now.trail.steps clause.now literal result.0 result.1 }
+    {
+        let mut newest = literal;
+        let mut kept = 0;
+        for other in clause.literals() {
+            let height = self.height(*other, literal);
+            if kept < height {
+                newest = *other;
+                kept = height;
+            }
+        }
+        (newest, kept)
+    }
+
+    /// How many of the oldest steps make a literal false; 0 of `except`.
+    fn height(&self, literal: Lit, except: Lit) -> usize
+        requires held { IsHeld self.now.clauses.items self.now.trail self.now.watches }
+        requires within { literal.variable < self.now.trail.variables }
+        requires false_ { known_truth self.now.trail.steps literal ≡ Some false }
+        ensures except { literal ≡ except → result ≡ 0 }
+        ensures false_ { literal ≢ except → known_truth (oldest result self.now.trail.steps) literal ≡ Some false }
+        ensures before { (k : ℕ) → k < result → known_truth (oldest k self.now.trail.steps) literal ≡ None }
+    {
+        if literal == except {
+            0
+        } else {
+            self.trail.height(literal)
         }
     }
 }
 
-/// The first of the places that are at least `kept`, or else `start`.
-fn oldest_from(places: &[usize], kept: usize, start: usize) -> usize {
-    let mut oldest = start;
-    for place in places.iter().rev() {
-        if *place < kept {
-            break;
+/// The index of the first of the places that is at least `kept`.
+fn first_from(places: &[usize], kept: usize) -> usize
+    requires { (j : ℕ) × (j < length places.now) × (kept ≤ slice_index places.now j) }
+    ensures { IsFirstFrom places.now kept result }
+{
+    for (index, place) in places.iter().enumerate() {
+        if kept <= *place {
+            return index;
         }
-        oldest = *place;
     }
-    oldest
+    unreachable!()
 }
 
 /// The same clauses.
@@ -310,17 +393,17 @@ fn copied(alloc: Global, clauses: &[Clause]) -> Result<Vec<Clause>, AllocError>
     Ok(copies)
 }
 
-/// A model of the form, or that it has none.
-pub fn solve(alloc: Global, cnf: &Cnf) -> Result<Answer, AllocError>
-    ensures { IfOk result (IsAnswer cnf.now) }
+/// A model of the form; a refutation of it with at most `budget` learned clauses; or as many learned
+/// clauses, each a unit of the budget, where these did not decide it.
+pub fn solve(alloc: Global, cnf: &Cnf, budget: u64) -> Result<Answer, AllocError>
+    requires { 1 ≤ budget }
+    ensures { IfOk result (IsAnswer cnf.now budget) }
 {
     let mut search = Search::new(alloc, cnf)?;
     let mut conflict = search.begin()?;
     loop {
-        if conflict.is_none() {
-            conflict = search.propagate()?;
-        }
-        if let Some(answer) = search.advance(alloc, cnf, conflict)? {
+        conflict = search.pursue(conflict)?;
+        if let Some(answer) = search.advance(alloc, budget, conflict)? {
             return Ok(answer);
         }
         conflict = None;

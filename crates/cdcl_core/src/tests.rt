@@ -7,7 +7,8 @@ use gate_arith::{
     divider, equal, exclusive, left_shift_fits, less, multiplier, negation, product_fits, shifter,
     sum_fits,
 };
-use sat_form::{Assignment, Clause, Cnf, Lit, is_model, is_within};
+use refutation_check::Checker;
+use sat_form::{Assignment, Clause, Cnf, Entry, Hints, Lit, Log, is_model, is_within};
 use std::alloc::{AllocError, Global};
 use std::test::Fail;
 
@@ -63,13 +64,114 @@ fn form_of(alloc: Global, clauses: &[Vec<(u32, bool)>]) -> Result<Cnf, Fail> {
     Ok(cnf)
 }
 
+// More units than the forms of these tests take.
+const AMPLE: u64 = 1_000_000;
+
+// Whether the form has a model; where it has none, the checker accepts the log, and not without its last entry.
 fn fits(alloc: Global, cnf: &Cnf) -> Result<bool, Fail> {
-    match solve(alloc, cnf)? {
+    match solve(alloc, cnf, AMPLE)? {
         Answer::Sat(model) => Ok(
             model.values().len() == cnf.variables() as usize && is_model(cnf, &model),
         ),
-        Answer::Unsat => Ok(false),
+        Answer::Unsat(log) => {
+            if !accepts(alloc, cnf, &log)? {
+                return Err("a log that is no refutation")?;
+            }
+            if accepts(alloc, cnf, &without_last(alloc, &log)?)? {
+                return Err("a log without the empty clause that is accepted")?;
+            }
+            Ok(false)
+        }
+        Answer::Spent(_) => Err("a budget that is spent")?,
     }
+}
+
+// Whether the checker accepts the log.
+fn accepts(alloc: Global, cnf: &Cnf, log: &Log) -> Result<bool, Fail> {
+    let mut checker = Checker::new(alloc, cnf.variables(), cnf.variables() as usize)?;
+    if cnf.variables() <= checker.variables() && log.is_within(checker.variables()) {
+        return Ok(checker.check(cnf, log));
+    }
+    Err("a log of other variables")?
+}
+
+// The log without its last entry.
+fn without_last(alloc: Global, log: &Log) -> Result<Log, Fail> {
+    let mut shorter = Log::new(alloc);
+    for entry in log
+        .entries()
+        .iter()
+        .take(log.entries().len().saturating_sub(1))
+    {
+        match entry {
+            Entry::Added(clause, hints) => {
+                let mut numbers = Vec::new(alloc);
+                numbers.extend_from_slice(hints.numbers())?;
+                shorter.add(
+                    Clause::from_slice(alloc, clause.literals())?,
+                    Hints::from_numbers(numbers),
+                )?;
+            }
+            Entry::Deleted(number) => shorter.delete(*number)?,
+        }
+    }
+    Ok(shorter)
+}
+
+#[test]
+fn five_pigeons_in_four_holes(rt: HostRuntime) -> Result<(), Fail> {
+    let alloc = rt.alloc();
+    let cnf = pigeons(alloc, 5, 4)?;
+    match solve(alloc, &cnf, 1)? {
+        Answer::Spent(log) => match log.entries() {
+            [Entry::Added(clause, hints)] => {
+                assert!(rt; !clause.literals().is_empty() && !hints.numbers().is_empty())
+            }
+            _ => assert!(rt; false, "a log of another length"),
+        },
+        _ => assert!(rt; false, "a budget that is not spent"),
+    }
+    assert_eq!(rt; fits(alloc, &cnf)?, false);
+    Ok(())
+}
+
+// The next of a row of numbers that look random.
+fn next_random(state: u32) -> u32 {
+    let a = state ^ (state << 13);
+    let b = a ^ (a >> 17);
+    b ^ (b << 5)
+}
+
+// Whether one of the assignments to three variables satisfies the form.
+fn has_model(alloc: Global, cnf: &Cnf) -> Result<bool, Fail> {
+    for bits in 0u32..8 {
+        let values = vec![in alloc; bits & 1 == 1, bits & 2 == 2, bits & 4 == 4]?;
+        if is_model(cnf, &Assignment::from_values(values)) {
+            return Ok(true);
+        }
+    }
+    Ok(false)
+}
+
+#[test]
+fn random_small_forms(rt: HostRuntime) -> Result<(), Fail> {
+    let alloc = rt.alloc();
+    let mut state = 2_463_534_242;
+    for _ in 0..2_000 {
+        let mut clauses = Vec::new(alloc);
+        for _ in 0..3 + state % 7 {
+            let mut clause = Vec::new(alloc);
+            state = next_random(state);
+            for _ in 0..1 + state % 3 {
+                state = next_random(state);
+                clause.push((state >> 7, state >> 29 & 1 == 1))?;
+            }
+            clauses.push(clause)?;
+        }
+        let cnf = form_of(alloc, &clauses)?;
+        assert_eq!(rt; fits(alloc, &cnf)?, has_model(alloc, &cnf)?);
+    }
+    Ok(())
 }
 
 #[test]
@@ -356,14 +458,14 @@ fn only_number(
     let result = built(alloc, cnf, operation, a, b)?;
     fix(alloc, cnf, a, x)?;
     fix(alloc, cnf, b, y)?;
-    let Answer::Sat(model) = solve(alloc, cnf)? else {
+    let Answer::Sat(model) = solve(alloc, cnf, AMPLE)? else {
         return Ok(None);
     };
     let number = number_of(&model, &result);
     exclude(alloc, cnf, &result, number)?;
-    match solve(alloc, cnf)? {
-        Answer::Sat(_) => Ok(None),
-        Answer::Unsat => Ok(Some(number)),
+    match solve(alloc, cnf, AMPLE)? {
+        Answer::Unsat(_) => Ok(Some(number)),
+        _ => Ok(None),
     }
 }
 

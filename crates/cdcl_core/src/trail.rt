@@ -1,6 +1,6 @@
-ghost use Rattle.std.specs.Prelude.{◌≡◌, ◌^◌, ◌<◌, ◌≤◌, [], ◌∷◌, ℕ, Bool, suc, ◌↔◌, None, Some, length, IsTrue, IsSome, IfSome, IfNone, IfOk, OnOk, OnErr};
+ghost use Rattle.std.specs.Prelude.{◌≡◌, ◌^◌, ◌<◌, ◌≤◌, [], ◌∷◌, ℕ, Bool, true, suc, ◌↔◌, None, Some, length, IsTrue, IsSome, IfSome, IfNone, IfOk, OnOk, OnErr};
 ghost use Rattle.sat_form.specs.Satisfaction.{assignment_of};
-ghost use Rattle.cdcl_core.specs.Steps.{Course, known_value, known_place, known_truth, false_literal_of, oldest, HasDecisionAt};
+ghost use Rattle.cdcl_core.specs.Steps.{Course, known_value, known_place, known_truth, false_literal_of, oldest};
 
 use sat_form::{Assignment, Lit};
 use std::alloc::{AllocError, Global};
@@ -72,6 +72,7 @@ impl Trail {
     pub fn step_at(&self, place: usize) -> Option<Step>
         ensures within { IfSome result (λ s. s.literal.variable < self.now.variables) }
         ensures before { IsSome result → place < self.now.variables }
+        ensures limit { IsSome result → place < 2 ^ 31 }
         ensures found { IsSome result ↔ (place < length self.now.steps) }
         ensures step { IfSome result (λ s. oldest (suc place) self.now.steps ≡ s ∷ oldest place self.now.steps) }
     {
@@ -79,16 +80,6 @@ impl Trail {
             Some(self.steps[place])
         } else {
             None
-        }
-    }
-
-    /// Whether the step at a place is a decision.
-    pub fn is_decision(&self, place: usize) -> bool
-        ensures { IsTrue result ↔ ((place < length self.now.steps) × HasDecisionAt place self.now.steps) }
-    {
-        match self.step_at(place) {
-            Some(step) => step.decision,
-            None => false,
         }
     }
 
@@ -103,20 +94,41 @@ impl Trail {
         }
     }
 
-    /// Whether a literal is true, where the oldest `count` steps tell.
-    pub fn truth(&self, literal: Lit, count: usize) -> Option<bool>
+    /// How many of the oldest steps tell whether a literal is true: the fewest that do, or 0 where no
+    /// step tells.
+    pub fn height(&self, literal: Lit) -> usize
         requires { literal.variable < self.now.variables }
-        ensures { result ≡ known_truth (oldest count self.now.steps) literal }
+        ensures told { known_truth (oldest result self.now.steps) literal ≡ known_truth self.now.steps literal }
+        ensures before { (k : ℕ) → k < result → known_truth (oldest k self.now.steps) literal ≡ None }
     {
         match self.marks[literal.variable() as usize] {
-            Some(mark) => {
-                if mark.place < count {
-                    Some(mark.value != literal.is_negated())
-                } else {
-                    None
-                }
-            }
+            Some(mark) => mark.place + 1,
+            None => 0,
+        }
+    }
+
+    /// Whether a literal is true, where the steps tell.
+    pub fn value_of(&self, literal: Lit) -> Option<bool>
+        requires { literal.variable < self.now.variables }
+        ensures { result ≡ known_truth self.now.steps literal }
+    {
+        match self.marks[literal.variable() as usize] {
+            Some(mark) => Some(mark.value != literal.is_negated()),
             None => None,
+        }
+    }
+
+    /// Whether a literal is true.
+    pub fn is_true(&self, literal: Lit) -> bool
+        ensures { IsTrue result → known_truth self.now.steps literal ≡ Some true }
+    {
+        let variable = literal.variable() as usize;
+        if variable >= self.marks.len() {
+            return false;
+        }
+        match self.marks[variable] {
+            Some(mark) => mark.value != literal.is_negated(),
+            None => false,
         }
     }
 

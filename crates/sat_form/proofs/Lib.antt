@@ -6,3 +6,4 @@ pub mod Databases
 pub mod Propagation
 pub mod Refutations
 pub mod Units
+pub mod Chains

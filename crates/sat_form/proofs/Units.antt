@@ -198,7 +198,7 @@ pub record IsSomeIs {X : Type 0} (o : Option X) (P : X → Type 0) : Type 0 wher
   pub is : o ≡ Some x
   pub holds : P x
 
-some_and : {X : Type 0} → (o : Option X) (P : X → Type 0) → IsSomeAnd o P → IsSomeIs o P
+pub some_and : {X : Type 0} → (o : Option X) (P : X → Type 0) → IsSomeAnd o P → IsSomeIs o P
 some_and None P h = absurd h
 some_and (Some x) P h = record { x = x; is = refl; holds = h }
 

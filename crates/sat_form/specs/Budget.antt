@@ -41,7 +41,7 @@ AreUsed (c ∷ cs) (l ∷ given) = StandsIn cs (inverse_of l) × AreUsed cs give
 abbrev pub named_clauses : List (List Literal) → List Entry → List ℕ → List (List Literal)
 named_clauses form before hints = filter_map (live_clause form before) hints
 
--- without l, and the inverses of its other literals taken as true, the clause says something that propagation doesn't
+-- for one of its literals, propagation where its other literals are false gives neither that literal nor a conflict
 abbrev pub IsNews : List (List Literal) → List Literal → Type 0
 IsNews clauses clause =
     (front : List Literal) × (l : Literal) × (back : List Literal) × (clause ≡ front ++ l ∷ back)
@@ -52,15 +52,15 @@ IsNews clauses clause =
 pub record IsUnit (form : List (List Literal)) (before : List Entry) (clause : List Literal) (hints : List ℕ) : Type 0 where
   pub some : clause ≢ []
   pub distinct : HasDistinctVariables clause
-  -- the named clauses come to a conflict, where the clause is taken as false, giving these literals
+  -- 1. where the clause is false, the named clauses come to a conflict, and give these literals on the way
   pub given : List Literal
   pub conflict : IsConflictBy (map inverse_of clause) (named_clauses form before hints) given
-  -- nothing in the clause or on the way is idle
+  -- 2. each of its literals stands in a named clause, and the inverse of each given literal in a later one
   pub stands : (l : Literal) → Contains clause l → StandsIn (named_clauses form before hints) l
   pub used : AreUsed (named_clauses form before hints) given
-  -- propagation doesn't say what the clause says
+  -- 3. propagation doesn't say by itself what the clause says
   pub news : IsNews (database form before) clause
-  -- propagation alone gives none of its literals a value
+  -- 4. propagation alone gives none of its literals a value
   pub not_true : (l : Literal) → Contains clause l → PropagatesTo (database form before) l → ⊥
   pub not_false : (l : Literal) → Contains clause l → PropagatesTo (database form before) (inverse_of l) → ⊥
 

@@ -25,7 +25,7 @@ numbered_clauses form entries = form ++ added_clauses entries
 abbrev pub is_among : List ℕ → ℕ → Bool
 is_among numbers n = list_any (λ m. nat_eq m n) numbers
 
--- the clauses, whose numbers are those from n on, without the ones of these numbers
+-- the clauses without those of these numbers, where the first clause has the number n
 abbrev pub clauses_without : List ℕ → ℕ → List (List Literal) → List (List Literal)
 clauses_without gone n [] = []
 clauses_without gone n (c ∷ cs) = if is_among gone n then clauses_without gone (suc n) cs else c ∷ clauses_without gone (suc n) cs

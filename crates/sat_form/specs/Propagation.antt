@@ -15,7 +15,7 @@ pub record Gives (set : Literal → Bool) (clause : List Literal) (l : Literal) 
 abbrev pub IsClosed : List (List Literal) → (Literal → Bool) → Type 0
 IsClosed clauses set = (c : List Literal) → Contains clauses c → (l : Literal) → Gives set c l → IsTrue (set l)
 
--- unit propagation from the clauses gives l: the least closed set has it
+-- unit propagation from the clauses gives l: the least closed set has it, and so has each
 abbrev pub PropagatesTo : List (List Literal) → Literal → Type 0
 PropagatesTo clauses l = (set : Literal → Bool) → IsClosed clauses set → IsTrue (set l)
 
@@ -23,11 +23,11 @@ PropagatesTo clauses l = (set : Literal → Bool) → IsClosed clauses set → I
 abbrev pub HasFalsified : List (List Literal) → (Literal → Bool) → Type 0
 HasFalsified clauses set = (c : List Literal) × Contains clauses c × IsFalsified set c
 
--- unit propagation from the clauses comes to a conflict: the least closed set falsifies a clause
+-- unit propagation from the clauses comes to a conflict: the least closed set falsifies a clause, and so does each
 abbrev pub Conflicts : List (List Literal) → Type 0
 Conflicts clauses = (set : Literal → Bool) → IsClosed clauses set → HasFalsified clauses set
 
--- for each literal of a clause the clause of its inverse alone: that the clause is false
+-- that a clause is false, as clauses: the inverse of each of its literals alone
 abbrev pub negation_of : List Literal → List (List Literal)
 negation_of clause = map (λ l. inverse_of l ∷ []) clause
 

@@ -11,7 +11,7 @@ mod logs;
 pub use assignments::{Assignment, is_model};
 pub use clauses::{Clause, is_within};
 pub use forms::Cnf;
-pub use laws::{no_model, units_differ};
+pub use laws::{no_model, units_differ, units_follow};
 pub use lits::Lit;
 pub use logs::{Entry, Hints, Log};
 
@@ -133,6 +133,7 @@ mod tests {
         assert_eq!(rt; numbers.as_slice(), [7].as_slice());
         no_model();
         units_differ();
+        units_follow();
         Ok(())
     }
 }

@@ -16,9 +16,9 @@ returns-in_err-core-clause-stop c =
     let tokens = c.in_ok-tokens.tokens.tokens.items in
     let tree = view_file c.in_ok-tree.tree in
     let is_tree : IsFile (bytes_of file) tokens tree = subst (λ b. IsFile b tokens tree) c.in_ok-tokens.ensures.bytes c.in_ok-tree.ensures.found in
-    err_on c.from_residual-in_err-core.result c.in_err-core.field-0.0 _ c.from_residual-in_err-core.ensures.1 (λ limits.
-    stop_map c.in_err-core.field-0.0 (HasNoTyping tree) (Decides limits file) (λ a x.
-    from_tokens limits file tokens None a c.if-file-gt-FILE_BYTES.false c.in_ok-tokens.ensures.cut c.in_ok-tokens.ensures.fine (inr (no_typing limits (bytes_of file) tokens tree a is_tree x)))
+    err_on c.from_residual-in_err-core.result c.in_err-core.field-0.0 _ c.from_residual-in_err-core.ensures.1 (λ limits budget.
+    stop_map c.in_err-core.field-0.0 (HasNoTyping tree) (Decides limits budget file) (λ a x.
+    from_tokens limits budget file tokens None a c.if-file-gt-FILE_BYTES.false c.in_ok-tokens.ensures.cut c.in_ok-tokens.ensures.fine (inr (no_typing limits budget (bytes_of file) tokens tree a is_tree x)))
     c.in_err-core.ensures.stop)
 
 pub returns-clause-found : goal.returns-clause-found
@@ -38,7 +38,7 @@ returns-clause-stop c =
     let tree = view_file c.in_ok-tree.tree in
     let functions = view_core c.in_ok-core.core in
     let is_tree : IsFile (bytes_of file) tokens tree = subst (λ b. IsFile b tokens tree) c.in_ok-tokens.ensures.bytes c.in_ok-tree.ensures.found in
-    err_map c.in_profile.result _ _ c.in_profile.ensures.stop (λ s x. λ limits.
-    stop_map s (IsOutside functions) (Decides limits file) (λ a y.
-    from_tokens limits file tokens None a c.if-file-gt-FILE_BYTES.false c.in_ok-tokens.ensures.cut c.in_ok-tokens.ensures.fine (inr (outside limits (bytes_of file) tokens tree functions a is_tree c.in_ok-core.ensures.found y)))
+    err_map c.in_profile.result _ _ c.in_profile.ensures.stop (λ s x. λ limits budget.
+    stop_map s (IsOutside functions) (Decides limits budget file) (λ a y.
+    from_tokens limits budget file tokens None a c.if-file-gt-FILE_BYTES.false c.in_ok-tokens.ensures.cut c.in_ok-tokens.ensures.fine (inr (outside limits budget (bytes_of file) tokens tree functions a is_tree c.in_ok-core.ensures.found y)))
     x)

@@ -1,11 +1,24 @@
-use Rattle.std.proofs.Common.{None}
+use Rattle.std.proofs.Common.{None, subst}
 use Rattle.core_tree.specs.Trees.{view_core}
-use Rattle.cbmc_top.specs.Answers.{failed}
-use Rattle.cbmc_top.specs.Verdicts.{failure_of}
+use Rattle.cbmc_top.specs.Answers.{successful, failed, used_up}
+use Rattle.cbmc_top.specs.Verdicts.{failure_of, IsSearched}
 use Rattle.cbmc_top.proofs.Stages.{accepted_decides}
 use Rattle.cbmc_top.proofs.finding.checked.Goals as goal
 
+pub returns-in-Refuted-clause-found : goal.returns-in-Refuted-clause-found
+returns-in-Refuted-clause-found c =
+    let functions = view_core c.in_ok-program.program in
+    let found = subst (IsSearched c.args.bounds.now c.args.budget functions) c.in-Refuted.is c.in_ok-searched.ensures.found in
+    accepted_decides c.args.bounds.now c.args.budget c.args.file.now functions None (successful c.in-Refuted.used) c.in_ok-program.ensures.found c.in_ok-searched.ensures.counts
+    (record { within = found.0; at_all = λ on. found.0 }, found.1)
+
+pub returns-in-Broken-clause-found : goal.returns-in-Broken-clause-found
+returns-in-Broken-clause-found c =
+    accepted_decides c.args.bounds.now c.args.budget c.args.file.now (view_core c.in_ok-program.program) None (failed (failure_of c.in_ok-failing-in-Broken.failing)) c.in_ok-program.ensures.found c.in_ok-searched.ensures.counts
+    c.in_ok-failing-in-Broken.ensures.failure
+
 pub returns-clause-found : goal.returns-clause-found
 returns-clause-found c =
-    accepted_decides c.args.bounds.now c.args.file.now (view_core c.in_ok-program.program) None (failed (failure_of c.in_ok-described-in-Some.field-0)) c.in_ok-program.ensures.found c.in_ok-search.ensures.counts
-    c.in_ok-described-in-Some.ensures.failure
+    let functions = view_core c.in_ok-program.program in
+    let found = subst (IsSearched c.args.bounds.now c.args.budget functions) c.in-Budget.is c.in_ok-searched.ensures.found in
+    accepted_decides c.args.bounds.now c.args.budget c.args.file.now functions None (used_up c.in-Budget.used) c.in_ok-program.ensures.found c.in_ok-searched.ensures.counts found

@@ -2,7 +2,12 @@ use Rattle.std.proofs.Common.{subst}
 use Rattle.cdcl_core.specs.Answers.{IsAnswer}
 use Rattle.cbmc_top.proofs.searching.values_for.Goals as goal
 
-pub returns-in-Unsat : goal.returns-in-Unsat
-returns-in-Unsat c = λ v true_there.
-    let none = subst (IsAnswer c.in_ok-blasted.blasted.cnf) c.in-Unsat.is c.in_ok-solve.ensures in
-    let x = c.in_ok-blasted.ensures.extends v true_there in none x.0 x.2
+pub returns-else-not-check : goal.returns-else-not-check
+returns-else-not-check c =
+    let blasted = c.in_ok-blasted.blasted in
+    let found = subst (IsAnswer blasted.cnf c.args.budget) c.in-Unsat.is c.in_ok-answer.ensures in (
+      λ v true_there. let x = c.in_ok-blasted.ensures.extends v true_there in c.no_model.ensures blasted.cnf.clauses c.in-Unsat.log found.0 x.0 x.2,
+      (blasted.map, c.in_ok-blasted.ensures.steps),
+      found.0,
+      found.1,
+    )

@@ -1,15 +1,26 @@
-use Rattle.cdcl_core.specs.Soundness.{remaining}
-use Rattle.cdcl_core.proofs.Jumping.{IsReady-reordered, remaining-reordered}
+use Rattle.std.proofs.Common.{◌<◌, sym, subst}
+use Rattle.cdcl_core.specs.declared.search.Search.{Search}
+use Rattle.cdcl_core.specs.Going.{remaining}
+use Rattle.std.specs.Prelude.{IsSome}
+use Rattle.cdcl_core.specs.Steps.{known_value}
+use Rattle.cdcl_core.specs.Answers.{IsPropagated, IsDone}
+use Rattle.cdcl_core.proofs.Starting.{IsReady-reordered, IsPropagated-reordered}
+use Rattle.cdcl_core.proofs.Models.{IsAnswer-sat}
 use Rattle.cdcl_core.proofs.search.Search.advance.Goals as goal
 
-pub returns-then-branch : goal.returns-then-branch
-returns-then-branch c = (c.in_ok-learn.ensures.ready c.args.cnf.now c.requires.ready, c.in_ok-learn.ensures.falls c.if-branch.true)
-
-pub retreat-requires-clause-ready : goal.retreat-requires-clause-ready
-retreat-requires-clause-ready c = c.in_ok-learn.ensures.ready c.args.cnf.now c.requires.ready
-
 pub returns-in_ok-decide-in-Some-open_variable : goal.returns-in_ok-decide-in-Some-open_variable
-returns-in_ok-decide-in-Some-open_variable c = (
-  c.in_ok-decide-in-Some-open_variable.ensures.ready c.args.cnf.now (IsReady-reordered c.args.cnf.now c.args.self.now c.open_variable.new.self c.open_variable.ensures.same c.requires.ready),
-  remaining-reordered c.args.self.now c.open_variable.new.self (remaining c.decide.new.self.trail.variables c.decide.new.self.trail.steps) c.open_variable.ensures.same c.in_ok-decide-in-Some-open_variable.ensures.falls,
+returns-in_ok-decide-in-Some-open_variable c = λ form ready. (
+  c.in_ok-decide-in-Some-open_variable.ensures.ready form c.args.budget (IsReady-reordered form c.args.budget c.args.self.now c.open_variable.new.self c.open_variable.ensures.same ready),
+  c.in_ok-decide-in-Some-open_variable.ensures.watching,
+  subst (λ (x : Search). remaining c.decide.new.self.trail.variables c.decide.new.self.trail.steps < remaining x.trail.variables x.trail.steps) c.open_variable.ensures.same
+      c.in_ok-decide-in-Some-open_variable.ensures.falls,
 )
+
+pub returns-in_ok-assignment-in-None : goal.returns-in_ok-assignment-in-None
+returns-in_ok-assignment-in-None c = λ form ready.
+    let done : IsPropagated c.args.self.now = subst (IsDone c.args.self.now) c.in_default.is c.requires.done in
+    IsAnswer-sat form c.args.budget c.open_variable.new.self c.in_ok-assignment-in-None.field-0
+    (IsReady-reordered form c.args.budget c.args.self.now c.open_variable.new.self c.open_variable.ensures.same ready)
+    (IsPropagated-reordered c.args.self.now c.open_variable.new.self c.open_variable.ensures.same done)
+    (λ v. subst (λ (x : Search). v < x.trail.variables → IsSome (known_value x.trail.steps v)) (sym c.open_variable.ensures.same) (c.in-None.ensures.none v))
+    c.in_ok-assignment-in-None.ensures.length c.in_ok-assignment-in-None.ensures.given

@@ -17,6 +17,11 @@ returns-then-place-len-clause-before c = λ _.
     let fits : length (reverse c.self.inside.steps.items) ≤ length c.self.inside.marks.items = length-AreFresh _ _ c.self.invariant.fresh in
     omega (arith, fits, length-reverse c.self.inside.steps.items, ap (λ (x : Course). x.variables) c.self.view_is, c.self.inside.steps.ok.0)
 
+pub returns-then-place-len-clause-limit : goal.returns-then-place-len-clause-limit
+returns-then-place-len-clause-limit c = λ _.
+    let fits : length (reverse c.self.inside.steps.items) ≤ length c.self.inside.marks.items = length-AreFresh _ _ c.self.invariant.fresh in
+    omega (arith, fits, length-reverse c.self.inside.steps.items, c.self.invariant.limit, c.self.inside.steps.ok.0)
+
 pub returns-then-place-len-clause-step : goal.returns-then-place-len-clause-step
 returns-then-place-len-clause-step c =
     let place : c.args.place < length c.self.inside.steps.items = omega (arith, c.self.inside.steps.ok.0) in

@@ -1,0 +1,18 @@
+use Rattle.std.proofs.Common.{◌≡◌, ◌≤◌, suc, reverse}
+use Rattle.cdcl_core.specs.Learning.{IsClear}
+use Rattle.cdcl_core.specs.Cuts.{IsCut, IsReached}
+use Rattle.cdcl_core.proofs.analysis.Analysis.resolve_first.Given as goal
+
+abbrev pub invariant-loop-self : goal.invariant-loop-self
+invariant-loop-self l = record {
+  clear : IsClear l.trail.variables l.self;
+  reached : IsReached l.trail.steps l.self;
+  first : l.self.first ≡ l.fn.self.first;
+  newest : l.self.newest ≡ l.fn.self.newest;
+  low : l.self.low ≤ l.fn.self.low;
+  cut : IsCut l.clauses l.trail.steps l.self.top l.self.marked.items (reverse l.numbers.items);
+  single : l.self.high ≤ suc l.self.low;
+}
+
+abbrev pub decreases-loop-self : goal.decreases-loop-self
+decreases-loop-self l = l.self.top
