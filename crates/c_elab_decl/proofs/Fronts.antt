@@ -9,7 +9,7 @@ use Rattle.c_tree.specs.Tree.{Declared}
 use Rattle.c_tree.specs.Declarations.{Initial, Parts, Declarators, name_of}
 use Rattle.c_tree.specs.Statements.{Statement, block, view_item, Externals, declared, defines, view_external, externals_of}
 use Rattle.c_tree.specs.Statements.{Items, does, items_of as trees}
-use Rattle.c_types.specs.declared.integers.IntegerType.{IntegerType}
+use Rattle.c_types.specs.Types.{CType}
 use Rattle.core_tree.specs.declared.statement.CoreItem.{CoreItem}
 use Rattle.core_tree.specs.declared.statement.CoreItem as codes
 use Rattle.core_tree.specs.declared.statement.CoreStatement.{CoreStatement, Block}
@@ -19,7 +19,7 @@ use Rattle.core_tree.specs.Trees as cores
 use Rattle.core_tree.proofs.Views.{view_block}
 use Rattle.c_elab_expr.specs.declared.fault.TypingError.{TypingError}
 use Rattle.c_elab_expr.specs.declared.fault.TypingError.TheVariants as errors
-use Rattle.c_elab_expr.specs.Scopes.{Environment, Named, Scoped}
+use Rattle.c_elab_expr.specs.Scopes.{Environment, Named, Scoped, sizes}
 use Rattle.c_elab_expr.specs.Nodes.{◌>>=◌}
 use Rattle.c_elab_expr.specs.Types.{declared_line}
 use Rattle.c_elab_expr.specs.Typing.{Fault, fault, on_line, Fails}
@@ -66,37 +66,41 @@ behind_fails before now whole behind e same bad =
 
 -- ---- variables
 
+abbrev pub typed_as : Named → CType → Named
+typed_as base t = record { type = t; constant = base.constant }
+
 -- what stands behind the type of a variable, and behind its value
 abbrev behind_value : Scoped → Scoped → ℕ → (Scoped → Typed) → Result (Option Expression) Fault → Typed
 behind_value s u line behind r = r >>= λ x. in_front (declared_item line (length s.variables) x) (behind u)
 
-abbrev behind_type : Scoped → Named → Declared → Option Initial → (Scoped → Typed) → Result IntegerType Fault → Typed
+abbrev behind_type : Scoped → Named → Declared → Option Initial → (Scoped → Typed) → Result CType Fault → Typed
 behind_type s base d i behind r = r >>= λ t.
-    behind_value s (with_variable s (name_of d) t base.constant) (declared_line d) behind (initializer_of (declared_line d) (with_variable s (name_of d) t base.constant) t i)
+    behind_value s (with_variable s (name_of d) (typed_as base t)) (declared_line d) behind (initializer_of (declared_line d) (with_variable s (name_of d) (typed_as base t)) t i)
 
 pub type_fails : (r : Region) (s : Scoped) (base : Named) (d : Declared) (i : Option Initial) (behind : Scoped → Typed) (f : Fault)
     → variable_type r s base.type d i ≡ Err f → typed_variable r s base d i behind ≡ Err f
 type_fails r s base d i behind f bad = ap (behind_type s base d i behind) bad
 
-pub value_fails : (r : Region) (s u : Scoped) (base : Named) (d : Declared) (i : Option Initial) (behind : Scoped → Typed) (t : IntegerType) (line : ℕ) (f : Fault)
-    → variable_type r s base.type d i ≡ Ok t → u ≡ with_variable s (name_of d) t base.constant → line ≡ declared_line d → initializer_of line u t i ≡ Err f → typed_variable r s base d i behind ≡ Err f
+pub value_fails : (r : Region) (s u : Scoped) (base : Named) (d : Declared) (i : Option Initial) (behind : Scoped → Typed) (t : CType) (line : ℕ) (f : Fault)
+    → variable_type r s base.type d i ≡ Ok t → u ≡ with_variable s (name_of d) (typed_as base t) → line ≡ declared_line d → initializer_of line u t i ≡ Err f → typed_variable r s base d i behind ≡ Err f
 value_fails r s u base d i behind t line f good scope at bad =
     ap (behind_type s base d i behind) good
-    ∙ ap (behind_value s (with_variable s (name_of d) t base.constant) (declared_line d) behind)
-    (ap (λ (l : ℕ). initializer_of l (with_variable s (name_of d) t base.constant) t i) (sym at) ∙ ap (λ (x : Scoped). initializer_of line x t i) (sym scope) ∙ bad)
+    ∙ ap (behind_value s (with_variable s (name_of d) (typed_as base t)) (declared_line d) behind)
+    (ap (λ (l : ℕ). initializer_of l (with_variable s (name_of d) (typed_as base t)) t i) (sym at) ∙ ap (λ (x : Scoped). initializer_of line x t i) (sym scope) ∙ bad)
 
-pub variable_typed : (r : Region) (s u : Scoped) (base : Named) (d : Declared) (i : Option Initial) (behind : Scoped → Typed) (t : IntegerType) (line : ℕ)
+pub variable_typed : (r : Region) (s u : Scoped) (base : Named) (d : Declared) (i : Option Initial) (behind : Scoped → Typed) (t : CType) (line : ℕ)
     (x : Option Expression) (variable : ℕ) (before now : List CoreItem) (item : CoreItem)
-    → variable_type r s base.type d i ≡ Ok t → u ≡ with_variable s (name_of d) t base.constant → line ≡ declared_line d → initializer_of line u t i ≡ Ok x
+    → variable_type r s base.type d i ≡ Ok t → u ≡ with_variable s (name_of d) (typed_as base t) → line ≡ declared_line d → initializer_of line u t i ≡ Ok x
     → variable ≡ length s.variables → ((rest : cores.Items) → with_item item rest ≡ declared_item line variable x rest) → now ≡ before ++ item ∷ []
     → items_first before (typed_variable r s base d i behind) ≡ items_first now (behind u)
 variable_typed r s u base d i behind t line x variable before now item good scope at value number is items =
+    let w = with_variable s (name_of d) (typed_as base t) in
     ap (items_first before) (ap (behind_type s base d i behind) good
-    ∙ ap (behind_value s (with_variable s (name_of d) t base.constant) (declared_line d) behind)
-    (ap (λ (l : ℕ). initializer_of l (with_variable s (name_of d) t base.constant) t i) (sym at) ∙ ap (λ (y : Scoped). initializer_of line y t i) (sym scope) ∙ value))
-    ∙ one_first before item (declared_item (declared_line d) (length s.variables) x) (behind (with_variable s (name_of d) t base.constant))
+    ∙ ap (behind_value s w (declared_line d) behind)
+    (ap (λ (l : ℕ). initializer_of l w t i) (sym at) ∙ ap (λ (y : Scoped). initializer_of line y t i) (sym scope) ∙ value))
+    ∙ one_first before item (declared_item (declared_line d) (length s.variables) x) (behind w)
     (λ rest. is rest ∙ ap (λ (v : ℕ). declared_item line v x rest) number ∙ ap (λ (l : ℕ). declared_item l (length s.variables) x rest) at)
-    ∙ ap (λ (xs : List CoreItem). items_first xs (behind (with_variable s (name_of d) t base.constant))) (sym items)
+    ∙ ap (λ (xs : List CoreItem). items_first xs (behind w)) (sym items)
     ∙ ap (λ (y : Scoped). items_first now (behind y)) (sym scope)
 
 -- ---- statements and items
@@ -152,7 +156,7 @@ told (errors.Typing at rule) line r h = along (rule == 0) refl where
   along false e = ap (on_external line) h ∙ ap (λ (b : Bool). Err (if b then fault line 0 else fault at rule)) e
 
 abbrev definition_body : Scoped → ℕ → Externals → Result (cores.Statement × Scoped) Fault → Result (List Procedure) Fault
-definition_body s name_line rest r = r >>= λ x. typed_externals (outside x.1) rest >>= λ fs. Ok (main name_line x.1.variables x.0 ∷ fs)
+definition_body s name_line rest r = r >>= λ x. typed_externals (outside x.1) rest >>= λ fs. Ok (main name_line (sizes x.1) x.0 ∷ fs)
 
 abbrev named_main : Scoped → ℕ → ℕ → Statement → Externals → Result (Unit {0}) Fault → Result (List Procedure) Fault
 named_main s line name_line body rest r = r >>= λ new. definition_body s name_line rest (on_external line (typed_statement (with_function s (codes "main")) body))
@@ -180,12 +184,12 @@ front_function before p (Err f) = refl
 
 pub definition_typed : (s t x v : Scoped) (line name_line : ℕ) (body : Statement) (rest : Externals) (u : Unit {0}) (c : cores.Statement) (before now : List Function) (f : Function)
     → on_line name_line (function_node (earlier in_file s (codes "main"))) ≡ Ok u → t ≡ with_function s (codes "main") → on_external line (typed_statement t body) ≡ Ok (c, x) → v ≡ outside x
-    → view_function f ≡ main name_line x.variables c → now ≡ before ++ f ∷ []
+    → view_function f ≡ main name_line (sizes x) c → now ≡ before ++ f ∷ []
     → functions_first (view_core before) (typed_externals s (defines line name_line body rest)) ≡ functions_first (view_core now) (typed_externals v rest)
 definition_typed s t x v line name_line body rest u c before now f e scope good behind function items =
     ap (functions_first (view_core before)) (ap (named_main s line name_line body rest) e
     ∙ ap (definition_body s name_line rest) (ap (λ (w : Scoped). on_external line (typed_statement w body)) (sym scope) ∙ good))
-    ∙ front_function (view_core before) (main name_line x.variables c) (typed_externals (outside x) rest)
+    ∙ front_function (view_core before) (main name_line (sizes x) c) (typed_externals (outside x) rest)
     ∙ ap (λ (p : Procedure). functions_first (view_core before ++ p ∷ []) (typed_externals (outside x) rest)) (sym function)
     ∙ ap (λ (fs : List Procedure). functions_first fs (typed_externals (outside x) rest)) (sym (ap view_core items ∙ map-append view_function before (f ∷ [])))
     ∙ ap (λ (w : Scoped). functions_first (view_core now) (typed_externals w rest)) (sym behind)

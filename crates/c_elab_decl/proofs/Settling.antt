@@ -8,10 +8,11 @@ use Rattle.c_tree.specs.Tree.{TypePart, qualified, word, tagged, typedef_name, D
 use Rattle.c_tree.specs.Declarations.{Enumerated, Initial, Part, type_part, storage, function, structure, enumeration, Parts, no_part, part, Members, no_member, members, Declarators, none_declared, declarator, name_of}
 use Rattle.c_types.specs.declared.types.RecordKind.{RecordKind}
 use Rattle.c_types.specs.declared.types.RecordKind.TheVariants.{Struct, Union}
-use Rattle.c_types.specs.Types.{CType}
-use Rattle.c_types.specs.Layouts.{is_completed, kind_at}
+use Rattle.c_types.specs.Types.{CType, Records}
+use Rattle.c_types.specs.Layouts.{is_completed, are_complete, fits, kind_at}
 use Rattle.c_elab_expr.specs.declared.meaning.Meaning.{Meaning}
 use Rattle.c_elab_expr.specs.declared.meaning.Meaning.TheVariants.{Variable, Assert, Assume, Draw, Function, Typedef, Enumerator, Record, Enumeration}
+use Rattle.c_elab_expr.specs.Members.{Field, field_types}
 use Rattle.c_elab_expr.specs.Scopes.{Named, Scoped, tag_of}
 use Rattle.c_elab_expr.specs.Nodes.{◌>>=◌}
 use Rattle.c_elab_expr.specs.Types.{nothing_said, specified_type, declared_line}
@@ -24,10 +25,10 @@ use Rattle.c_elab_decl.specs.Regions.{earlier, earlier_tag}
 use Rattle.c_elab_decl.specs.Initializers.{no_initializer}
 use Rattle.c_elab_decl.specs.Enumerations.{enumerator_value, enumerator_node, typed_enumerator, typed_enumerators}
 use Rattle.c_elab_decl.specs.Declarators.{typedef_type, with_typedef, typed_typedef, typed_typedefs, typed_objects}
-use Rattle.c_elab_decl.specs.Tags.{kind_of, is_kind, with_record, with_tagged, new_tag, found_tag, tag_named, forward_tag, Opened, new_record, open_tag, opened, reopened, members_fit, closed, closed_scope, enumeration_tag, enumeration_closed}
+use Rattle.c_elab_decl.specs.Tags.{kind_of, is_kind, with_record, with_tagged, new_tag, found_tag, tag_named, forward_tag, Opened, new_record, open_tag, opened, reopened, fitting, members_fit, already, completed, closed, closed_scope, enumeration_tag, enumeration_closed}
 use Rattle.c_elab_decl.specs.Specifiers.{Fields, member_type, typed_member, typed_fields, is_none, has_untagged, with_anonymous, is_anonymous, Parted, with_type_part, fields_within, fields_out, with_members, typed_enumeration, said_before, fields_behind, typed_line, typed_part, typed_parts, typed_members, lone_tag, with_lone, Specification, typed_specifiers, parts_line}
 use Rattle.c_elab_decl.specs.Statements.{typed_others}
-use Rattle.c_elab_decl.proofs.Growing.{Follows, Settles, settles_refl, settles_trans, binding_settles, record_settles, records_settle, typedef_settles, last}
+use Rattle.c_elab_decl.proofs.Growing.{Follows, Settles, settles_refl, settles_trans, binding_settles, record_settles, completed_settles, typedef_settles, last}
 
 pub trivially : {A E : Type 0} (r : Result A E) → Holds (λ (x : A). Unit {0}) r
 trivially r x e = tt
@@ -94,12 +95,30 @@ reopened_settles p clash kind s = by (is_completed s.records.done p) where
   by true = record_settles s kind
   by false = settles_refl s
 
-closed_scope_settles : (o : Opened) (ms : List CType) (fit : Result (Unit {0}) ℕ) → Settles o.scope (closed_scope o ms fit)
-closed_scope_settles o ms (Ok u) = records_settle o.scope _ refl
-closed_scope_settles o ms (Err rule) = settles_refl o.scope
+-- members that fit are complete, and not too large
+fit_by : (rs : Records) (p : ℕ) (ms : List CType) (b c : Bool) → are_complete rs.done ms ≡ b → fits rs.done (kind_at rs p) ms ≡ c → (u : Unit {0})
+    → (if b then (if c then fitting else Err 4) else Err 3) ≡ Ok u → (are_complete rs.done ms ≡ true) × (fits rs.done (kind_at rs p) ms ≡ true)
+fit_by rs p ms true true e f u h = (e, f)
+fit_by rs p ms true false e f u h = let none : ⊥ = cc in absurd none
+fit_by rs p ms false c e f u h = let none : ⊥ = cc in absurd none
 
-pub closed_settles : (o : Opened) (ms : List CType) → Settles o.scope (closed o ms).1
-closed_settles o ms = closed_scope_settles o ms (members_fit o.scope.records o.place ms)
+fit_is : (rs : Records) (p : ℕ) (ms : List CType) (u : Unit {0}) → members_fit rs p ms ≡ Ok u → (are_complete rs.done ms ≡ true) × (fits rs.done (kind_at rs p) ms ≡ true)
+fit_is rs p [] u h = let none : ⊥ = cc in absurd none
+fit_is rs p (m ∷ ms) u h = fit_by rs p (m ∷ ms) (are_complete rs.done (m ∷ ms)) (fits rs.done (kind_at rs p) (m ∷ ms)) refl refl u h
+
+closed_scope_settles : (o : Opened) (fs : List Field) (fit : Result (Unit {0}) ℕ) → is_completed o.scope.records.done o.place ≡ false → members_fit o.scope.records o.place (field_types fs) ≡ fit
+    → Settles o.scope (closed_scope o fs fit)
+closed_scope_settles o fs (Ok u) before e =
+    let fine = fit_is o.scope.records o.place (field_types fs) u e in
+    completed_settles o.scope o.place (kind_at o.scope.records o.place) (field_types fs) _ before fine.0 fine.1
+closed_scope_settles o fs (Err rule) before e = settles_refl o.scope
+
+closed_by : (o : Opened) (fs : List Field) (b : Bool) → is_completed o.scope.records.done o.place ≡ b → Settles o.scope (if b then already o else completed o fs).1
+closed_by o fs true e = settles_refl o.scope
+closed_by o fs false e = closed_scope_settles o fs (members_fit o.scope.records o.place (field_types fs)) e refl
+
+pub closed_settles : (o : Opened) (fs : List Field) → Settles o.scope (closed o fs).1
+closed_settles o fs = closed_by o fs (is_completed o.scope.records.done o.place) refl
 
 enumeration_tag_settles : (s : Scoped) (name : List ℕ) (o : Option Meaning) → Settles s (enumeration_tag s name o).1
 enumeration_tag_settles s name None = binding_settles s name Enumeration refl
@@ -111,19 +130,19 @@ enumeration_settles r s (Some name) = enumeration_tag_settles s name (earlier_ta
 
 -- ---- members and specifiers
 
-pub member_keeps : (base : CType) (f : Fields) (d : Declared) → Holds (λ g. g.scope ≡ f.scope) (typed_member base f d)
+pub member_keeps : (base : Named) (f : Fields) (d : Declared) → Holds (λ g. g.scope ≡ f.scope) (typed_member base f d)
 member_keeps base f d =
-    bind (λ (t : CType). Unit {0}) (λ g. g.scope ≡ f.scope) (member_type base f.names f.scope d) _ (trivially _) (λ t _. given (λ g. g.scope ≡ f.scope) _ refl)
+    bind (λ (t : CType). Unit {0}) (λ g. g.scope ≡ f.scope) (member_type base.type f.names f.scope d) _ (trivially _) (λ t _. given (λ g. g.scope ≡ f.scope) _ refl)
 
-pub fields_keep : (base : CType) (f : Fields) (ds : List Declared) → Holds (λ g. g.scope ≡ f.scope) (typed_fields base f ds)
+pub fields_keep : (base : Named) (f : Fields) (ds : List Declared) → Holds (λ g. g.scope ≡ f.scope) (typed_fields base f ds)
 fields_keep base f [] = given (λ g. g.scope ≡ f.scope) f refl
 fields_keep base f (d ∷ ds) =
     bind (λ g. g.scope ≡ f.scope) (λ g. g.scope ≡ f.scope) (typed_member base f d) _ (member_keeps base f d) (λ g e.
     weaken (λ h. h.scope ≡ g.scope) (λ h. h.scope ≡ f.scope) (typed_fields base g ds) (fields_keep base g ds) (λ h same. same ∙ e))
 
-anonymous_keeps : (b : Bool) (t : CType) (f : Fields) → (with_anonymous b t f).scope ≡ f.scope
-anonymous_keeps true t f = refl
-anonymous_keeps false t f = refl
+anonymous_keeps : (b : Bool) (n : Named) (f : Fields) → (with_anonymous b n f).scope ≡ f.scope
+anonymous_keeps true n f = refl
+anonymous_keeps false n f = refl
 
 pub type_part_settles : (p : Parted) (t : TypePart) → Settles p.scope (with_type_part p t).scope
 type_part_settles p (qualified line q) = settles_refl p.scope
@@ -141,9 +160,9 @@ members_settle_by : (p : Parted) (o : Opened) (kind : RecordKind) (fields : Resu
 members_settle_by p o kind fields f h =
     bind (λ g. Settles o.scope g.scope) (λ q. Settles p.scope q.scope) fields _ h (λ g more.
     let again = reopened o.place o.clashes kind g.scope in
-    given (λ q. Settles p.scope q.scope) _ (settles_trans p.scope o.scope (closed again g.types).1 f
-    (settles_trans o.scope g.scope (closed again g.types).1 more
-    (settles_trans g.scope again.scope (closed again g.types).1 (reopened_settles o.place o.clashes kind g.scope) (closed_settles again g.types)))))
+    given (λ q. Settles p.scope q.scope) _ (settles_trans p.scope o.scope (closed again g.fields).1 f
+    (settles_trans o.scope g.scope (closed again g.fields).1 more
+    (settles_trans g.scope again.scope (closed again g.fields).1 (reopened_settles o.place o.clashes kind g.scope) (closed_settles again g.fields)))))
 
 out_settles : (anonymous : Bool) (names : List (List ℕ)) (s : Scoped) (fields : Result Fields Fault) → Holds (λ g. Settles s g.scope) fields → Holds (λ g. Settles s g.scope) (fields_out anonymous names fields)
 out_settles anonymous names s fields h = bind (λ g. Settles s g.scope) (λ g. Settles s g.scope) fields _ h (λ g f. given (λ x. Settles s x.scope) _ f)
@@ -153,9 +172,9 @@ line_settles : (f : Fields) (parts : Parts) (ds : List Declared) (specifiers : R
 line_settles f parts ds specifiers h =
     bind (λ p. Settles f.scope p.scope) (λ g. Settles f.scope g.scope) specifiers _ h (λ p more.
     bind (λ (t : Named). Unit {0}) (λ g. Settles f.scope g.scope) (on_line (parts_line parts) (specified_type p.said)) _ (trivially _) (λ t _.
-    let before = fields_behind f parts ds p t.type in
-    weaken (λ g. g.scope ≡ before.scope) (λ g. Settles f.scope g.scope) (typed_fields t.type before ds) (fields_keep t.type before ds) (λ g same.
-    subst (Settles f.scope) (sym (same ∙ anonymous_keeps (is_none ds && has_untagged parts) t.type (record { types = f.types; names = p.names; scope = p.scope }))) more)))
+    let before = fields_behind f parts ds p t in
+    weaken (λ g. g.scope ≡ before.scope) (λ g. Settles f.scope g.scope) (typed_fields t before ds) (fields_keep t before ds) (λ g same.
+    subst (Settles f.scope) (sym (same ∙ anonymous_keeps (is_none ds && has_untagged parts) t (record { fields = f.fields; names = p.names; scope = p.scope }))) more)))
 
 mutual
   pub part_settles : (r : Region) (alone : Bool) (p : Parted) (x : Part) → Holds (λ q. Settles p.scope q.scope) (typed_part r alone p x)

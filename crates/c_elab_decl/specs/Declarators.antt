@@ -2,7 +2,6 @@
 use Rattle.std.specs.Prelude.{ℕ, ◌==◌, ◌&&◌, ◌++◌, Bool, true, false, not, List, [], ◌∷◌, length, slice_get, Option, Some, None, Result, Ok, Err, if◌then◌else◌}
 use Rattle.c_tree.specs.Tree.{Declared}
 use Rattle.c_tree.specs.Declarations.{Initial, Declarators, none_declared, declarator, name_of}
-use Rattle.c_types.specs.declared.integers.IntegerType.{IntegerType}
 use Rattle.c_types.specs.Integers.{same_integer}
 use Rattle.c_types.specs.Types.{CType, void, integer, aggregate, array, Completed}
 use Rattle.c_types.specs.Layouts.{is_complete}
@@ -13,7 +12,7 @@ use Rattle.c_elab_expr.specs.declared.meaning.Meaning.{Meaning}
 use Rattle.c_elab_expr.specs.declared.meaning.Meaning.TheVariants.{Variable, Typedef}
 use Rattle.c_elab_expr.specs.Scopes.{binding, Named, Scoped}
 use Rattle.c_elab_expr.specs.Nodes.{◌>>=◌}
-use Rattle.c_elab_expr.specs.Types.{array_of, declared_line}
+use Rattle.c_elab_expr.specs.Types.{array_of, declared_line, type_size}
 use Rattle.c_elab_expr.specs.Typing.{Fault, on_line, untyped, lengths}
 use Rattle.c_elab_decl.specs.declared.regions.Region.{Region}
 use Rattle.c_elab_decl.specs.Regions.{earlier}
@@ -94,29 +93,30 @@ given_lengths (Some i) ls = behind_open ls
 abbrev pub complete_type : List Completed → CType → Result CType ℕ
 complete_type done t = if is_complete done t then Ok t else Err 3
 
+-- rule 4: and not too large a one
+abbrev pub sized_type : List Completed → CType → Result CType ℕ
+sized_type done t = type_size done t >>= λ size. Ok t
+
 -- the type of a variable, or of its elements where an initializer says how many there are
 abbrev pub variable_node : List Completed → Option Meaning → Result CType ℕ → Result CType ℕ
 variable_node done (Some m) made = Err 2
-variable_node done None made = made >>= complete_type done
+variable_node done None made = made >>= sized_type done
 
--- variables of other types have no typing yet
-abbrev pub scalar_type : List (Option ℕ) → CType → Result IntegerType Fault
-scalar_type [] (integer t) = Ok t
-scalar_type _ _ = Err untyped
+-- arrays with an initializer have no typing yet
+abbrev pub initialized_type : Option Initial → List (Option ℕ) → CType → Result CType Fault
+initialized_type None ls t = Ok t
+initialized_type (Some i) [] t = Ok t
+initialized_type (Some i) (l ∷ ls) t = Err untyped
 
-abbrev pub variable_type : Region → Scoped → CType → Declared → Option Initial → Result IntegerType Fault
+abbrev pub variable_type : Region → Scoped → CType → Declared → Option Initial → Result CType Fault
 variable_type r s base d i = do
   ls ← lengths s d
   t ← on_line (declared_line d) (variable_node s.records.done (earlier r s (name_of d)) (array_of s.records.done base (given_lengths i ls)))
-  scalar_type ls t
+  initialized_type i ls t
 
 -- a name that means a variable, the next of the function
-abbrev pub with_variable : Scoped → List ℕ → IntegerType → Bool → Scoped
-with_variable s name t k = record s {
-  bindings = binding name (Variable (length s.variables) t k) ∷ s.bindings;
-  variables = s.variables ++ t ∷ [];
-  constants = s.constants ++ k ∷ [];
-}
+abbrev pub with_variable : Scoped → List ℕ → Named → Scoped
+with_variable s name n = record s { bindings = binding name (Variable (length s.variables)) ∷ s.bindings; variables = s.variables ++ n ∷ [] }
 
 -- a declared variable in front of what stands behind it
 abbrev pub declared_item : ℕ → ℕ → Option Expression → cores.Items → cores.Items
@@ -136,8 +136,8 @@ in_front item behind = behind >>= λ y. Ok (item y.0, y.1)
 abbrev pub typed_variable : Region → Scoped → Named → Declared → Option Initial → (Scoped → Typed) → Typed
 typed_variable r s base d i behind = do
   t ← variable_type r s base.type d i
-  x ← initializer_of (declared_line d) (with_variable s (name_of d) t base.constant) t i
-  in_front (declared_item (declared_line d) (length s.variables) x) (behind (with_variable s (name_of d) t base.constant))
+  x ← initializer_of (declared_line d) (with_variable s (name_of d) (record { type = t; constant = base.constant })) t i
+  in_front (declared_item (declared_line d) (length s.variables) x) (behind (with_variable s (name_of d) (record { type = t; constant = base.constant })))
 
 -- declarators from left to right, and then what stands behind them
 abbrev pub typed_variables : Region → Scoped → Named → Declarators → (Scoped → Typed) → Typed

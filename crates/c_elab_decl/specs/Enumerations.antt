@@ -10,8 +10,8 @@ use Rattle.c_elab_expr.specs.declared.meaning.Meaning.{Meaning}
 use Rattle.c_elab_expr.specs.declared.meaning.Meaning.TheVariants.{Enumerator}
 use Rattle.c_elab_expr.specs.Scopes.{binding, Scoped}
 use Rattle.c_elab_expr.specs.Nodes.{◌>>=◌, required}
-use Rattle.c_elab_expr.specs.Constants.{constant_of}
-use Rattle.c_elab_expr.specs.Typing.{Fault, on_line, typed}
+use Rattle.c_elab_expr.specs.Operands.{constant_in}
+use Rattle.c_elab_expr.specs.Typing.{Fault, on_line, operand}
 use Rattle.c_elab_decl.specs.declared.regions.Region.{Region}
 use Rattle.c_elab_decl.specs.Regions.{earlier}
 
@@ -27,8 +27,8 @@ next_bits (Some bits) = if bits == 2147483647 then None else Some ((bits + 1) % 
 -- rule 13: a value that is given is an integer constant expression
 abbrev pub given_value : Scoped → Tree → Result TypedNumber Fault
 given_value s e = do
-  x ← typed s e
-  on_line (first_line e) (required 13 (constant_of x))
+  x ← operand s e
+  on_line (first_line e) (required 13 (constant_in x))
 
 -- the bits of an enumerator behind one with these, if an int has its value
 abbrev pub enumerator_value : Scoped → Option ℕ → Option Tree → Result (Option ℕ) Fault

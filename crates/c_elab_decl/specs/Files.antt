@@ -2,14 +2,13 @@
 use Rattle.std.specs.Prelude.{ℕ, ◌==◌, true, List, [], ◌∷◌, codes, Option, Some, None, Result, Ok, Err, if◌then◌else◌}
 use Rattle.c_tree.specs.Declarations.{Parts, Declarators}
 use Rattle.c_tree.specs.Statements.{Externals, no_more, declared, defines}
-use Rattle.c_types.specs.declared.integers.IntegerType.{IntegerType}
 use Rattle.core_tree.specs.Trees.{Procedure}
 use Rattle.core_tree.specs.Trees as cores
 use Rattle.c_elab_expr.specs.declared.meaning.Meaning.{Meaning}
 use Rattle.c_elab_expr.specs.declared.meaning.Meaning.TheVariants.{Function}
 use Rattle.c_elab_expr.specs.declared.fault.TypingError.{TypingError}
 use Rattle.c_elab_expr.specs.declared.fault.TypingError.TheVariants as errors
-use Rattle.c_elab_expr.specs.Scopes.{binding, Scoped, first_scope}
+use Rattle.c_elab_expr.specs.Scopes.{binding, Scoped, first_scope, sizes}
 use Rattle.c_elab_expr.specs.Nodes.{◌>>=◌}
 use Rattle.c_elab_expr.specs.Typing.{Fault, fault, on_line}
 use Rattle.c_elab_decl.specs.declared.regions.Region.{Region}
@@ -46,13 +45,13 @@ function_node None = Ok tt
 abbrev pub with_function : Scoped → List ℕ → Scoped
 with_function s name = record s { bindings = binding name Function ∷ s.bindings }
 
--- a function, of the name `main`
-abbrev pub main : ℕ → List IntegerType → cores.Statement → Procedure
+-- a function with variables of these sizes, of the name `main`
+abbrev pub main : ℕ → List ℕ → cores.Statement → Procedure
 main l vs b = record { name = codes "main"; line = l; variables = vs; body = b }
 
 -- the variables of a function end with it
 abbrev pub outside : Scoped → Scoped
-outside s = record s { variables = []; constants = [] }
+outside s = record s { variables = [] }
 
 -- what stands in a file, in a scope outside of functions
 abbrev pub typed_externals : Scoped → Externals → Result (List Procedure) Fault
@@ -64,7 +63,7 @@ typed_externals s (defines line name_line body rest) = do
   new ← on_line name_line (function_node (earlier in_file s (codes "main")))
   x ← on_external line (typed_statement (with_function s (codes "main")) body)
   fs ← typed_externals (outside x.1) rest
-  Ok (main name_line x.1.variables x.0 ∷ fs)
+  Ok (main name_line (sizes x.1) x.0 ∷ fs)
 
 -- the functions of a file
 abbrev pub elaborated : Externals → Result (List Procedure) Fault

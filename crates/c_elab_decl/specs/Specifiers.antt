@@ -6,9 +6,10 @@ use Rattle.c_tree.specs.declared.specifier.TagKind.{TagKind}
 use Rattle.c_tree.specs.declared.declaration.RecordKind.{RecordKind as TreeKind}
 use Rattle.c_tree.specs.Tree.{TypePart, qualified, word, tagged, typedef_name, Declared}
 use Rattle.c_tree.specs.Declarations.{Enumerated, Part, type_part, storage, function, structure, enumeration, Parts, no_part, part, Members, no_member, members, Declarators, none_declared, declarator, name_of}
-use Rattle.c_types.specs.declared.types.Ty.{Ty}
 use Rattle.c_types.specs.declared.types.RecordKind.{RecordKind}
-use Rattle.c_types.specs.Types.{CType, Completed, views}
+use Rattle.c_types.specs.Types.{CType, Completed}
+use Rattle.c_elab_expr.specs.declared.members.Field.{Field as CodeField}
+use Rattle.c_elab_expr.specs.Members.{Field, view_fields}
 use Rattle.c_elab_expr.specs.Scopes.{Named, Scoped, view_named}
 use Rattle.c_elab_expr.specs.Nodes.{◌>>=◌}
 use Rattle.c_elab_expr.specs.declared.specifying.Specified.{Specified}
@@ -39,14 +40,14 @@ parts_line (part first rest) = part_line first
 
 -- ---- members
 
--- the types of the members of a struct or union so far, their names and those of its anonymous structs and unions, and the scope
+-- the members of a struct or union so far, their names and those of the members of its anonymous structs and unions, and the scope
 pub record Fields : Type 0 where
-  pub types : List CType
+  pub fields : List Field
   pub names : List (List ℕ)
   pub scope : Scoped
 
-abbrev pub with_field : Fields → CType → Fields
-with_field f t = record f { types = f.types ++ t ∷ [] }
+abbrev pub with_field : Fields → Option (List ℕ) → Named → Fields
+with_field f name n = record f { fields = f.fields ++ record { name = name; type = n.type; constant = n.constant } ∷ [] }
 
 -- rule 2: names differ; rule 3: a member's type is complete (C11 6.7.2.1p3)
 abbrev pub member_node : List Completed → Bool → Result CType ℕ → Result CType ℕ
@@ -58,12 +59,12 @@ member_type base names s d = do
   ls ← lengths s d
   on_line (declared_line d) (member_node s.records.done (among names (name_of d)) (array_of s.records.done base ls))
 
-abbrev pub typed_member : CType → Fields → Declared → Result Fields Fault
+abbrev pub typed_member : Named → Fields → Declared → Result Fields Fault
 typed_member base f d = do
-  t ← member_type base f.names f.scope d
-  Ok (record f { types = f.types ++ t ∷ []; names = with_name f.names (name_of d) })
+  t ← member_type base.type f.names f.scope d
+  Ok (with_field (record f { names = with_name f.names (name_of d) }) (Some (name_of d)) (record { type = t; constant = base.constant }))
 
-abbrev pub typed_fields : CType → Fields → List Declared → Result Fields Fault
+abbrev pub typed_fields : Named → Fields → List Declared → Result Fields Fault
 typed_fields base f [] = Ok f
 typed_fields base f (d ∷ ds) = do
   g ← typed_member base f d
@@ -87,8 +88,8 @@ is_none [] = true
 is_none (d ∷ ds) = false
 
 -- Without a declarator a struct or union that has no tag is an anonymous member (C11 6.7.2.1p13), and nothing else declares one.
-abbrev pub with_anonymous : Bool → CType → Fields → Fields
-with_anonymous b t f = if b then with_field f t else f
+abbrev pub with_anonymous : Bool → Named → Fields → Fields
+with_anonymous b n f = if b then with_field f None n else f
 
 -- an anonymous struct or union, whose members have the names that those around it have
 abbrev pub is_anonymous : Bool → Option (List ℕ) → Bool
@@ -121,7 +122,7 @@ with_type_part p (typedef_name line name) = record p { said = with_part p.scope 
 
 -- the members in braces
 abbrev pub fields_within : Bool → List (List ℕ) → Scoped → Fields
-fields_within anonymous names s = record { types = []; names = names_within anonymous names; scope = s }
+fields_within anonymous names s = record { fields = []; names = names_within anonymous names; scope = s }
 
 abbrev pub fields_out : Bool → List (List ℕ) → Result Fields Fault → Result Fields Fault
 fields_out anonymous names fields = do
@@ -132,7 +133,7 @@ fields_out anonymous names fields = do
 abbrev pub with_members : Parted → Opened → RecordKind → Result Fields Fault → Result Parted Fault
 with_members p o kind fields = do
   f ← fields
-  Ok (with_named (record p { names = f.names }) (closed (reopened o.place o.clashes kind f.scope) f.types))
+  Ok (with_named (record p { names = f.names }) (closed (reopened o.place o.clashes kind f.scope) f.fields))
 
 abbrev pub typed_enumeration : Region → Parted → Option (List ℕ) → List Enumerated → Result Parted Fault
 typed_enumeration r p tag es = do
@@ -144,14 +145,14 @@ abbrev pub said_before : Fields → Parted
 said_before f = record { said = nothing_said; names = f.names; scope = f.scope }
 
 -- behind them, with the type that they say
-abbrev pub fields_behind : Fields → Parts → List Declared → Parted → CType → Fields
-fields_behind f parts ds p t = with_anonymous (is_none ds && has_untagged parts) t (record { types = f.types; names = p.names; scope = p.scope })
+abbrev pub fields_behind : Fields → Parts → List Declared → Parted → Named → Fields
+fields_behind f parts ds p n = with_anonymous (is_none ds && has_untagged parts) n (record { fields = f.fields; names = p.names; scope = p.scope })
 
 abbrev pub typed_line : Fields → Parts → List Declared → Result Parted Fault → Result Fields Fault
 typed_line f parts ds specifiers = do
   p ← specifiers
-  t ← on_line (parts_line parts) (specified_type p.said)
-  typed_fields t.type (fields_behind f parts ds p t.type) ds
+  n ← on_line (parts_line parts) (specified_type p.said)
+  typed_fields n (fields_behind f parts ds p n) ds
 
 -- Specifiers from left to right; alone, without declarators behind them. The type that they say is judged behind them.
 abbrev mutual
@@ -232,8 +233,8 @@ typed_specifiers r s parts ds = do
 abbrev pub view_parted : Specified → List (List ℕ) → Scoped → Parted
 view_parted said names s = record { said = view_said said; names = names; scope = s }
 
-abbrev pub view_fields : List Ty → List (List ℕ) → Scoped → Fields
-view_fields types names s = record { types = views types; names = names; scope = s }
+abbrev pub view_typed : List CodeField → List (List ℕ) → Scoped → Fields
+view_typed fields names s = record { fields = view_fields fields; names = names; scope = s }
 
 abbrev pub view_specification : Base → Scoped → Specification
 view_specification b s = record { type = view_named b.named; role = b.role; scope = s }

@@ -6,8 +6,9 @@ use Rattle.c_tree.specs.Statements.{Statement, block, if_then, if_else, evaluate
 use Rattle.c_types.specs.declared.integers.IntegerType.TheVariants as types
 use Rattle.core_tree.specs.Trees as cores
 use Rattle.c_elab_expr.specs.Scopes.{Scoped}
-use Rattle.c_elab_expr.specs.Nodes.{◌>>=◌, integer, as_type}
-use Rattle.c_elab_expr.specs.Typing.{Fault, fault, on_line, typed}
+use Rattle.c_elab_expr.specs.Nodes.{◌>>=◌, as_type}
+use Rattle.c_elab_expr.specs.Operands.{Operand, value, object, number}
+use Rattle.c_elab_expr.specs.Typing.{Fault, fault, on_line, untyped, operand}
 use Rattle.c_elab_decl.specs.declared.regions.Region.{Region}
 use Rattle.c_elab_decl.specs.declared.regions.Role.{Role}
 use Rattle.c_elab_decl.specs.declared.regions.Role.TheVariants as roles
@@ -35,6 +36,11 @@ typed_declaration r s parts ds behind = do
 
 -- ---- statements
 
+-- an expression statement of struct or union type has no typing yet
+abbrev pub evaluated : Operand → Result cores.Expression Fault
+evaluated (value e constant) = Ok e
+evaluated (object line v offset t constant) = Err untyped
+
 abbrev pub in_block : ℕ → Region
 in_block outer = record { outer = outer; is_file = false }
 
@@ -45,24 +51,25 @@ abbrev mutual
     x ← typed_items (length s.bindings) s items
     Ok (cores.block x.0, record x.1 { bindings = s.bindings })
   typed_statement s (if_then line test one) = do
-    x ← typed s test
+    x ← operand s test
     y ← typed_statement s one
-    t ← on_line line (integer 17 x)
-    Ok (cores.if_then line x y.0, y.1)
+    e ← on_line line (number 17 x)
+    Ok (cores.if_then line e y.0, y.1)
   typed_statement s (if_else line test one other) = do
-    x ← typed s test
+    x ← operand s test
     y ← typed_statement s one
     z ← typed_statement y.1 other
-    t ← on_line line (integer 17 x)
-    Ok (cores.if_else line x y.0 z.0, z.1)
+    e ← on_line line (number 17 x)
+    Ok (cores.if_else line e y.0 z.0, z.1)
   typed_statement s (evaluate e) = do
-    x ← typed s e
-    Ok (cores.evaluate x, s)
+    x ← operand s e
+    y ← evaluated x
+    Ok (cores.evaluate y, s)
   typed_statement s (return_nothing line) = Err (fault line 16)
   typed_statement s (return_value line e) = do
-    x ← typed s e
-    t ← on_line line (integer 8 x)
-    Ok (cores.returns line (as_type types.Int x), s)
+    x ← operand s e
+    y ← on_line line (number 8 x)
+    Ok (cores.returns line (as_type types.Int y), s)
 
   -- the items of the block that began with `outer` names and tags in scope
   pub typed_items : ℕ → Scoped → Items → Typed

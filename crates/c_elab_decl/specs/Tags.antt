@@ -1,5 +1,5 @@
 -- Tags, and the structs and unions that they are about (C11 6.7.2.1, 6.7.2.3).
-use Rattle.std.specs.Prelude.{ℕ, ◌++◌, Bool, true, false, List, [], ◌∷◌, length, Option, Some, None, Result, Ok, Err, if◌then◌else◌}
+use Rattle.std.specs.Prelude.{ℕ, ◌++◌, Bool, true, false, List, [], ◌∷◌, length, slice_set, Option, Some, None, Result, Ok, Err, if◌then◌else◌}
 use Rattle.c_tree.specs.declared.specifier.TagKind.{TagKind}
 use Rattle.c_tree.specs.declared.specifier.TagKind.TheVariants as tag_kinds
 use Rattle.c_tree.specs.declared.declaration.RecordKind.{RecordKind as TreeKind}
@@ -13,6 +13,7 @@ use Rattle.c_elab_expr.specs.declared.meaning.Meaning.{Meaning}
 use Rattle.c_elab_expr.specs.declared.meaning.Meaning.TheVariants.{Record, Enumeration}
 use Rattle.c_elab_expr.specs.declared.fault.Broken.{Broken}
 use Rattle.c_elab_expr.specs.declared.scope.QualifiedType.{QualifiedType}
+use Rattle.c_elab_expr.specs.Members.{Field, field_types, no_members, members_by}
 use Rattle.c_elab_expr.specs.Scopes.{binding, Named, plain, Scoped, view_named, tag_of}
 use Rattle.c_elab_expr.specs.Types.{tag_type}
 use Rattle.c_elab_expr.specs.Typing.{GivesNode}
@@ -32,7 +33,10 @@ is_kind Union Union = true
 
 -- one more struct or union, incomplete so far
 abbrev pub with_record : Scoped → RecordKind → Scoped
-with_record s kind = record s { records = record { declared = s.records.declared ++ kind ∷ []; done = s.records.done } }
+with_record s kind = record s {
+  records = record { declared = s.records.declared ++ kind ∷ []; done = s.records.done };
+  members = s.members ++ no_members ∷ [];
+}
 
 abbrev pub with_tag : Scoped → List ℕ → Meaning → Scoped
 with_tag s name m = record s { bindings = binding name m ∷ s.bindings }
@@ -90,10 +94,13 @@ opened r s kind (Some name) = open_tag s kind name (earlier_tag r s name)
 abbrev pub reopened : ℕ → Bool → RecordKind → Scoped → Opened
 reopened p clash kind s = if is_completed s.records.done p then new_record true s kind else record { place = p; clashes = clash; scope = s }
 
+abbrev pub fitting : Result (Unit {0}) ℕ
+fitting = Ok tt
+
 -- rules 3 and 4: there is a member, and they are not too large together
 abbrev pub members_fit : Records → ℕ → List CType → Result (Unit {0}) ℕ
 members_fit rs p [] = Err 3
-members_fit rs p (m ∷ ms) = if are_complete rs.done (m ∷ ms) then (if fits rs.done (kind_at rs p) (m ∷ ms) then Ok tt else Err 4) else Err 3
+members_fit rs p (m ∷ ms) = if are_complete rs.done (m ∷ ms) then (if fits rs.done (kind_at rs p) (m ∷ ms) then fitting else Err 4) else Err 3
 
 -- the struct or union, or the lowest rule; rule 18: its tag stands for something else, or it is completed twice
 abbrev pub closed_type : Bool → ℕ → Result (Unit {0}) ℕ → Result Named ℕ
@@ -101,12 +108,22 @@ closed_type false p (Ok u) = Ok (plain (aggregate p))
 closed_type true p (Ok u) = Err 18
 closed_type clash p (Err rule) = Err rule
 
-abbrev pub closed_scope : Opened → List CType → Result (Unit {0}) ℕ → Scoped
-closed_scope o ms (Ok u) = record o.scope { records = with_completed o.scope.records o.place (kind_at o.scope.records o.place) ms }
-closed_scope o ms (Err rule) = o.scope
+abbrev pub closed_scope : Opened → List Field → Result (Unit {0}) ℕ → Scoped
+closed_scope o fs (Ok u) = record o.scope {
+  records = with_completed o.scope.records o.place (kind_at o.scope.records o.place) (field_types fs);
+  members = slice_set o.scope.members o.place (members_by o.scope.members fs);
+}
+closed_scope o fs (Err rule) = o.scope
 
-abbrev pub closed : Opened → List CType → Result Named ℕ × Scoped
-closed o ms = let fit = members_fit o.scope.records o.place ms in (closed_type o.clashes o.place fit, closed_scope o ms fit)
+abbrev pub completed : Opened → List Field → Result Named ℕ × Scoped
+completed o fs = let fit = members_fit o.scope.records o.place (field_types fs) in (closed_type o.clashes o.place fit, closed_scope o fs fit)
+
+abbrev pub already : Opened → Result Named ℕ × Scoped
+already o = (Err 18, o.scope)
+
+-- it is completed once
+abbrev pub closed : Opened → List Field → Result Named ℕ × Scoped
+closed o fs = if is_completed o.scope.records.done o.place then already o else completed o fs
 
 -- ---- enumerations, which are of type int (C11 6.7.2.2p4)
 

@@ -143,7 +143,7 @@ fn elaborate_one(
 }
 
 /// The typed tree of a file (C11 6.9): its functions in order. Names mean what their innermost declarations say, each
-/// variable is one of its function, and each conversion is a node. Otherwise the first rule that is broken, where parts come
+/// variable is one of its function, by its size in bytes, and each conversion is a node. Otherwise the first rule that is broken, where parts come
 /// before what they are parts of, from left to right. A form that has no typing yet is told as rule 0 on the line of its external declaration.
 pub fn elaborate(alloc: Global, file: &File) -> Result<Core, TypingError>
     ensures { Gives (λ c. view_core c) result (elaborated (view_file file.now)) }

@@ -9,7 +9,7 @@ ghost use Rattle.c_elab_expr.specs.Typing.{Gives, on_line};
 ghost use Rattle.c_elab_decl.specs.Enumerations.{int_bits, next_bits, given_value, enumerator_value, enumerator_node, typed_enumerator, typed_enumerators};
 
 use crate::regions::{Region, earlier};
-use c_elab_expr::{Meaning, Scope, TypingError, constant_of, first_line, typed};
+use c_elab_expr::{Meaning, Scope, TypingError, constant_in, first_line, operand};
 use c_tree::{Enumerator, Expr};
 use c_types::IntegerType;
 use c_values::Number;
@@ -70,8 +70,8 @@ fn next_bits(previous: Option<u32>) -> Option<u32>
 fn given_value(alloc: Global, expr: &Expr, scope: &Scope) -> Result<Number, TypingError>
     ensures { Gives (λ n. n) result (given_value scope.now (tree expr.now)) }
 {
-    let core = typed(alloc, expr, scope)?;
-    match constant_of(&core) {
+    let core = operand(alloc, expr, scope)?;
+    match constant_in(&core) {
         Some(number) => Ok(number),
         None => Err(TypingError::Typing {
             line: first_line(expr),

@@ -1,20 +1,20 @@
-//! Rules that a value breaks at a line.
+//! Rules that an operand breaks at a line.
 
 ghost use Rattle.std.specs.Prelude.{◌≡◌};
 ghost use Rattle.core_tree.specs.Trees.{view};
-ghost use Rattle.c_elab_expr.specs.Nodes.{integer};
+ghost use Rattle.c_elab_expr.specs.Operands.{view_operand, number};
 ghost use Rattle.c_elab_expr.specs.Typing.{Gives, on_line};
 
-use c_elab_expr::TypingError;
-use c_types::{IntegerType, ValueType};
-use core_tree::{CoreExpr, type_of};
+use c_elab_expr::{Broken, CoreOperand, TypingError, number};
+use core_tree::CoreExpr;
 
-/// The integer type of a value; the rule is broken on the line where it has none.
-pub fn integer_on(expr: &CoreExpr, line: u32, rule: u32) -> Result<IntegerType, TypingError>
-    ensures { Gives (λ t. t) result (on_line line (integer rule (view expr.now))) }
+/// The expression of an operand that is a value of an integer type; the rule is broken on the line where it isn't one.
+pub fn number_on(operand: CoreOperand, line: u32, rule: u32) -> Result<CoreExpr, TypingError>
+    ensures { Gives view result (on_line line (number rule (view_operand operand))) }
 {
-    match type_of(expr) {
-        ValueType::Integer(type_) => Ok(type_),
-        ValueType::Void => Err(TypingError::Typing { line, rule }),
+    match number(operand, rule) {
+        Ok(value) => Ok(value),
+        Err(Broken::Rule { rule }) => Err(TypingError::Typing { line, rule }),
+        Err(Broken::Memory) => Err(TypingError::Memory),
     }
 }

@@ -1,12 +1,13 @@
 //! Specifiers, and the members in them.
 
-ghost use Rattle.std.specs.Prelude.{◌≡◌, ◌≤◌, ℕ, List, [], length, map, option_map, OnOk};
+ghost use Rattle.std.specs.Prelude.{◌≡◌, ◌≤◌, ◌++◌, ℕ, List, [], ◌∷◌, Some, None, length, map, option_map, OnOk};
 ghost use Rattle.c_tree.specs.Tree.{view_name, view_type_part, view_declarator};
 ghost use Rattle.c_tree.specs.Declarations.{view_part, parts_of, view_enumerator, members_of, declarators_of};
 ghost use Rattle.c_types.specs.Types.{view};
+ghost use Rattle.c_elab_expr.specs.Members.{view_fields};
 ghost use Rattle.c_elab_expr.specs.Scopes.{view_named};
 ghost use Rattle.c_elab_expr.specs.Typing.{Gives, on_line};
-ghost use Rattle.c_elab_decl.specs.Specifiers.{part_line, parts_line, member_node, member_type, typed_member, typed_fields, is_untagged, has_untagged, is_none, is_anonymous, with_type_part, said_before, typed_line, typed_enumeration, typed_record, typed_within, typed_part, typed_parts, typed_members, role_of, lone_part, lone_tag, with_lone, typed_specifiers, view_parted, view_fields, view_specification};
+ghost use Rattle.c_elab_decl.specs.Specifiers.{part_line, parts_line, member_node, member_type, typed_member, typed_fields, is_untagged, has_untagged, is_none, is_anonymous, with_type_part, said_before, typed_line, typed_enumeration, typed_record, typed_within, typed_part, typed_parts, typed_members, role_of, lone_part, lone_tag, with_lone, typed_specifiers, view_parted, view_typed, view_specification};
 
 use crate::enumerating::typed_enumerators;
 use crate::names::Names;
@@ -17,7 +18,7 @@ use crate::tagging::{
 };
 use crate::variables::complete_type;
 use c_elab_expr::{
-    QualifiedType, Scope, Specified, TypingError, array_type, declared_line, lengths,
+    Field, QualifiedType, Scope, Specified, TypingError, array_type, declared_line, lengths,
 };
 use c_tree::{
     Declarator, Enumerator, InitDeclarator, MemberDeclaration, Name, RecordKind, Specifier,
@@ -94,18 +95,36 @@ fn member_type(
     complete_type(type_, scope.layouts(), line)
 }
 
+// One more member.
+fn add_field(
+    fields: &mut Vec<Field>,
+    name: Option<Vec<u8>>,
+    type_: Ty,
+    constant: bool,
+) -> Result<(), AllocError>
+    ensures { OnOk result (view_fields fields.new.items ≡ view_fields fields.old.items ++ record { name = option_map (λ n. n.items) name; type = view type_; constant = constant } ∷ []) }
+{
+    fields.push(Field {
+        name,
+        type_,
+        constant,
+    })?;
+    Ok(())
+}
+
 fn typed_member(
     alloc: Global,
-    base: &Ty,
+    base: &QualifiedType,
     declarator: &Declarator,
-    types: &mut Vec<Ty>,
+    fields: &mut Vec<Field>,
     names: &mut Names,
     scope: &Scope,
 ) -> Result<(), TypingError>
-    ensures { Gives (λ u. view_fields types.new.items names.new scope.now) result (typed_member (view base.now) (view_fields types.old.items names.old scope.now) (view_declarator declarator.now)) }
+    ensures { Gives (λ u. view_typed fields.new.items names.new scope.now) result (typed_member (view_named base.now) (view_typed fields.old.items names.old scope.now) (view_declarator declarator.now)) }
 {
-    let type_ = member_type(alloc, base, declarator, names, scope)?;
-    types.push(type_)?;
+    let type_ = member_type(alloc, &base.type_, declarator, names, scope)?;
+    let name = name_of(declarator).to_vec(alloc)?;
+    add_field(fields, Some(name), type_, base.constant)?;
     names.add(alloc, name_of(declarator))?;
     Ok(())
 }
@@ -113,16 +132,16 @@ fn typed_member(
 // Members from left to right.
 fn typed_fields(
     alloc: Global,
-    base: &Ty,
+    base: &QualifiedType,
     declarators: &[Declarator],
-    types: &mut Vec<Ty>,
+    fields: &mut Vec<Field>,
     names: &mut Names,
     scope: &Scope,
 ) -> Result<(), TypingError>
-    ensures { Gives (λ u. view_fields types.new.items names.new scope.now) result (typed_fields (view base.now) (view_fields types.old.items names.old scope.now) (map view_declarator declarators.now)) }
+    ensures { Gives (λ u. view_typed fields.new.items names.new scope.now) result (typed_fields (view_named base.now) (view_typed fields.old.items names.old scope.now) (map view_declarator declarators.now)) }
 {
     for declarator in declarators {
-        typed_member(alloc, base, declarator, types, names, scope)?;
+        typed_member(alloc, base, declarator, fields, names, scope)?;
     }
     Ok(())
 }
@@ -284,7 +303,7 @@ fn typed_record(
 {
     let kind = kind_of(kind);
     let braces = opened(alloc, kind, tag, region, scope)?;
-    let types = typed_within(
+    let fields = typed_within(
         alloc,
         members,
         is_anonymous(alone, tag),
@@ -292,8 +311,8 @@ fn typed_record(
         names,
         scope,
     )?;
-    let braces = reopened(braces, kind, scope)?;
-    let named = closed(alloc, braces, types, scope)?;
+    let braces = reopened(alloc, braces, kind, scope)?;
+    let named = closed(alloc, braces, &fields, scope)?;
     said.add_type(named)?;
     Ok(())
 }
@@ -307,20 +326,20 @@ fn typed_within(
     region: Region,
     names: &mut Names,
     scope: &mut Scope,
-) -> Result<Vec<Ty>, TypingError>
+) -> Result<Vec<Field>, TypingError>
     requires { region.outer ≤ length scope.old.bindings }
-    ensures gives { Gives (λ v. view_fields v.items names.new scope.new) result (typed_within region anonymous names.old scope.old (members_of members.now)) }
+    ensures gives { Gives (λ v. view_typed v.items names.new scope.new) result (typed_within region anonymous names.old scope.old (members_of members.now)) }
     ensures within { OnOk result (region.outer ≤ length scope.new.bindings) }
     ensures grows { OnOk result (length scope.old.records.declared ≤ length scope.new.records.declared) }
 {
-    let mut types = Vec::new(alloc);
+    let mut fields = Vec::new(alloc);
     if anonymous {
-        typed_members(alloc, members, region, &mut types, names, scope)?;
+        typed_members(alloc, members, region, &mut fields, names, scope)?;
     } else {
         let mut inner = Names::new(alloc);
-        typed_members(alloc, members, region, &mut types, &mut inner, scope)?;
+        typed_members(alloc, members, region, &mut fields, &mut inner, scope)?;
     }
-    Ok(types)
+    Ok(fields)
 }
 
 // Specifiers from left to right.
@@ -351,17 +370,17 @@ fn typed_members(
     alloc: Global,
     members: &[MemberDeclaration],
     region: Region,
-    types: &mut Vec<Ty>,
+    fields: &mut Vec<Field>,
     names: &mut Names,
     scope: &mut Scope,
 ) -> Result<(), TypingError>
     requires { region.outer ≤ length scope.old.bindings }
-    ensures gives { Gives (λ u. view_fields types.new.items names.new scope.new) result (typed_members region (view_fields types.old.items names.old scope.old) (members_of members.now)) }
+    ensures gives { Gives (λ u. view_typed fields.new.items names.new scope.new) result (typed_members region (view_typed fields.old.items names.old scope.old) (members_of members.now)) }
     ensures within { OnOk result (region.outer ≤ length scope.new.bindings) }
     ensures grows { OnOk result (length scope.old.records.declared ≤ length scope.new.records.declared) }
 {
     for member in members {
-        typed_line(alloc, member, region, types, names, scope)?;
+        typed_line(alloc, member, region, fields, names, scope)?;
     }
     Ok(())
 }
@@ -372,14 +391,14 @@ fn typed_line(
     alloc: Global,
     member: &MemberDeclaration,
     region: Region,
-    types: &mut Vec<Ty>,
+    fields: &mut Vec<Field>,
     names: &mut Names,
     scope: &mut Scope,
 ) -> Result<(), TypingError>
     requires { region.outer ≤ length scope.old.bindings }
-    ensures gives { Gives (λ u. view_fields types.new.items names.new scope.new) result
-        (typed_line (view_fields types.old.items names.old scope.old) (parts_of member.now.specifiers.items) (map view_declarator member.now.declarators.items)
-        (typed_parts region (is_none (map view_declarator member.now.declarators.items)) (said_before (view_fields types.old.items names.old scope.old)) (parts_of member.now.specifiers.items))) }
+    ensures gives { Gives (λ u. view_typed fields.new.items names.new scope.new) result
+        (typed_line (view_typed fields.old.items names.old scope.old) (parts_of member.now.specifiers.items) (map view_declarator member.now.declarators.items)
+        (typed_parts region (is_none (map view_declarator member.now.declarators.items)) (said_before (view_typed fields.old.items names.old scope.old)) (parts_of member.now.specifiers.items))) }
     ensures within { OnOk result (region.outer ≤ length scope.new.bindings) }
     ensures grows { OnOk result (length scope.old.records.declared ≤ length scope.new.records.declared) }
 {
@@ -396,16 +415,9 @@ fn typed_line(
     )?;
     let named = said.type_on(alloc, parts_line(&member.specifiers))?;
     if alone && has_untagged(&member.specifiers) {
-        types.push(named.type_.copied(alloc)?)?;
+        add_field(fields, None, named.type_.copied(alloc)?, named.constant)?;
     }
-    typed_fields(
-        alloc,
-        &named.type_,
-        &member.declarators,
-        types,
-        names,
-        scope,
-    )
+    typed_fields(alloc, &named, &member.declarators, fields, names, scope)
 }
 
 fn role_of(is_file: bool, storage: &[StorageClass]) -> Role

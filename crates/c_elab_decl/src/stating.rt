@@ -3,19 +3,36 @@
 ghost use Rattle.std.specs.Prelude.{◌≡◌, ◌≤◌, length, OnOk};
 ghost use Rattle.c_tree.specs.Statements.{view_statement as tree};
 ghost use Rattle.c_tree.specs.Statements.{Items, view_item, items_of as trees};
-ghost use Rattle.core_tree.specs.Trees.{view_statement, items_of};
+ghost use Rattle.core_tree.specs.Trees.{view, view_statement, items_of};
+ghost use Rattle.c_elab_expr.specs.Operands.{view_operand};
 ghost use Rattle.c_elab_expr.specs.Typing.{Gives};
-ghost use Rattle.c_elab_decl.specs.Statements.{typed_statement, typed_items};
+ghost use Rattle.c_elab_decl.specs.Statements.{evaluated, typed_statement, typed_items};
 ghost use Rattle.c_elab_decl.specs.Steps.{Step};
 
 use crate::declaring::declare;
-use crate::places::integer_on;
+use crate::places::number_on;
 use crate::regions::Region;
-use c_elab_expr::{Scope, TypingError, as_type, typed};
+use c_elab_expr::{CoreOperand, Scope, TypingError, as_type, operand, untyped};
 use c_tree::{Item, Stmt};
 use c_types::IntegerType;
-use core_tree::{CoreItem, CoreStatement};
+use core_tree::{CoreExpr, CoreItem, CoreStatement};
 use std::alloc::Global;
+
+// An expression statement of struct or union type has no typing yet.
+fn evaluated(operand: CoreOperand) -> Result<CoreExpr, TypingError>
+    ensures { Gives view result (evaluated (view_operand operand)) }
+{
+    match operand {
+        CoreOperand::Value { value, constant: _ } => Ok(value),
+        CoreOperand::Object {
+            line: _,
+            variable: _,
+            offset: _,
+            type_: _,
+            constant: _,
+        } => Err(untyped()),
+    }
+}
 
 /// A statement. The scope keeps its names and gets the statement's variables.
 #[cycle(statement)]
@@ -36,9 +53,9 @@ pub fn typed_statement(
             Ok(CoreStatement::Block { items })
         }
         Stmt::If { line, test, yes } => {
-            let test = typed(alloc, test, scope)?;
+            let test = operand(alloc, test, scope)?;
             let yes = typed_statement(alloc, yes, scope)?;
-            let _type = integer_on(&test, *line, 17)?;
+            let test = number_on(test, *line, 17)?;
             Ok(CoreStatement::If {
                 line: *line,
                 test,
@@ -51,10 +68,10 @@ pub fn typed_statement(
             yes,
             no,
         } => {
-            let test = typed(alloc, test, scope)?;
+            let test = operand(alloc, test, scope)?;
             let yes = typed_statement(alloc, yes, scope)?;
             let no = typed_statement(alloc, no, scope)?;
-            let _type = integer_on(&test, *line, 17)?;
+            let test = number_on(test, *line, 17)?;
             Ok(CoreStatement::IfElse {
                 line: *line,
                 test,
@@ -62,16 +79,19 @@ pub fn typed_statement(
                 no: Box::new(alloc, no)?,
             })
         }
-        Stmt::Evaluate { expression } => Ok(CoreStatement::Evaluate {
-            expression: typed(alloc, expression, scope)?,
-        }),
+        Stmt::Evaluate { expression } => {
+            let operand = operand(alloc, expression, scope)?;
+            Ok(CoreStatement::Evaluate {
+                expression: evaluated(operand)?,
+            })
+        }
         Stmt::ReturnNothing { line } => Err(TypingError::Typing {
             line: *line,
             rule: 16,
         }),
         Stmt::ReturnValue { line, value } => {
-            let value = typed(alloc, value, scope)?;
-            let _type = integer_on(&value, *line, 8)?;
+            let value = operand(alloc, value, scope)?;
+            let value = number_on(value, *line, 8)?;
             Ok(CoreStatement::Return {
                 line: *line,
                 value: as_type(alloc, IntegerType::Int, value)?,

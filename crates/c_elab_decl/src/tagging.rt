@@ -2,15 +2,16 @@
 
 ghost use Rattle.std.specs.Prelude.{◌≡◌, ◌≤◌, ◌<◌, length, option_map, false, Ok, IfOk, OnOk};
 ghost use Rattle.c_tree.specs.Tree.{view_name};
-ghost use Rattle.c_types.specs.Types.{view, views};
+ghost use Rattle.c_types.specs.Types.{view};
 ghost use Rattle.c_types.specs.Layouts.{kind_at, is_completed};
+ghost use Rattle.c_elab_expr.specs.Members.{view_fields};
 ghost use Rattle.c_elab_expr.specs.Scopes.{plain, view_named};
 ghost use Rattle.c_elab_expr.specs.Typing.{GivesNode};
 ghost use Rattle.c_elab_decl.specs.Regions.{earlier_tag};
-ghost use Rattle.c_elab_decl.specs.Tags.{kind_of, is_kind, with_record, with_tagged, new_tag, tag_named, forward_tag, new_record, open_tag, opened, reopened, closed_type, closed, enumeration_closed, view_opened, GivesNamed};
+ghost use Rattle.c_elab_decl.specs.Tags.{kind_of, is_kind, with_record, with_tagged, new_tag, tag_named, forward_tag, new_record, open_tag, opened, reopened, closed_type, completed, closed, enumeration_closed, view_opened, GivesNamed};
 
 use crate::regions::{Region, earlier_tag};
-use c_elab_expr::{Broken, Meaning, QualifiedType, Scope, tag_type};
+use c_elab_expr::{Broken, Field, Meaning, QualifiedType, Scope, tag_type};
 use c_tree::{Name, TagKind};
 use c_types::{IntegerType, LayoutError, RecordKind, Ty};
 use std::alloc::{AllocError, Global};
@@ -67,14 +68,14 @@ fn plain(type_: Ty) -> QualifiedType
 }
 
 // One more struct or union, and its place.
-fn add_record(kind: RecordKind, scope: &mut Scope) -> Result<u32, AllocError>
+fn add_record(alloc: Global, kind: RecordKind, scope: &mut Scope) -> Result<u32, AllocError>
     ensures place { IfOk result (λ p. p ≡ length scope.old.records.declared) }
     ensures scope { OnOk result (scope.new ≡ with_record scope.old kind) }
 {
     if scope.layouts().len() > RECORDS {
         return Err(AllocError);
     }
-    scope.declare_record(kind)
+    scope.declare_record(alloc, kind)
 }
 
 // One more struct or union with its tag, and its place.
@@ -87,7 +88,7 @@ fn add_tagged(
     ensures place { IfOk result (λ p. p ≡ length scope.old.records.declared) }
     ensures scope { OnOk result (scope.new ≡ with_tagged scope.old kind name.now) }
 {
-    let place = add_record(kind, scope)?;
+    let place = add_record(alloc, kind, scope)?;
     scope.declare(alloc, name, Meaning::Record { place })?;
     Ok(place)
 }
@@ -152,10 +153,15 @@ pub fn forward_tag(
 }
 
 // A struct or union without a tag.
-fn new_record(clashes: bool, kind: RecordKind, scope: &mut Scope) -> Result<Braces, AllocError>
+fn new_record(
+    alloc: Global,
+    clashes: bool,
+    kind: RecordKind,
+    scope: &mut Scope,
+) -> Result<Braces, AllocError>
     ensures { IfOk result (λ b. view_opened b scope.new ≡ new_record clashes scope.old kind) }
 {
-    let place = add_record(kind, scope)?;
+    let place = add_record(alloc, kind, scope)?;
     Ok(Braces { place, clashes })
 }
 
@@ -184,10 +190,10 @@ fn open_tag(
                     clashes: false,
                 })
             } else {
-                new_record(true, kind, scope)
+                new_record(alloc, true, kind, scope)
             }
         }
-        Some(_) => new_record(true, kind, scope),
+        Some(_) => new_record(alloc, true, kind, scope),
     }
 }
 
@@ -205,7 +211,7 @@ pub fn opened(
     ensures grows { OnOk result (length scope.old.records.declared ≤ length scope.new.records.declared) }
 {
     match tag {
-        None => new_record(false, kind, scope),
+        None => new_record(alloc, false, kind, scope),
         Some(name) => {
             let earlier = earlier_tag(&name.bytes, region, scope);
             open_tag(alloc, kind, &name.bytes, earlier, scope)
@@ -214,21 +220,21 @@ pub fn opened(
 }
 
 /// The struct or union that gets the members: where that of the braces is complete already, it is another one.
-pub fn reopened(braces: Braces, kind: RecordKind, scope: &mut Scope) -> Result<Braces, AllocError>
+pub fn reopened(
+    alloc: Global,
+    braces: Braces,
+    kind: RecordKind,
+    scope: &mut Scope,
+) -> Result<Braces, AllocError>
     requires { braces.place < length scope.old.records.declared }
     ensures is { IfOk result (λ b. view_opened b scope.new ≡ reopened braces.place braces.clashes kind scope.old) }
     ensures there { IfOk result (λ b. b.place < length scope.new.records.declared) }
-    ensures incomplete { IfOk result (λ b. is_completed scope.new.records.done b.place ≡ false) }
     ensures grows { OnOk result (length scope.old.records.declared ≤ length scope.new.records.declared) }
 {
     if !scope.layouts().is_completed(braces.place) {
         return Ok(braces);
     }
-    let another = new_record(true, kind, scope)?;
-    // A new one isn't complete, so that this never comes.
-    if scope.layouts().is_completed(another.place) {
-        return Err(AllocError);
-    }
+    let another = new_record(alloc, true, kind, scope)?;
     Ok(another)
 }
 
@@ -242,28 +248,47 @@ fn closed_type(braces: Braces) -> Result<QualifiedType, Broken>
     }
 }
 
-/// Completes a struct or union, behind the braces. It is one that isn't complete.
-pub fn closed(
+// Completes a struct or union that isn't complete.
+fn completed(
     alloc: Global,
     braces: Braces,
-    members: Vec<Ty>,
+    fields: &[Field],
     scope: &mut Scope,
 ) -> Result<Result<QualifiedType, Broken>, AllocError>
     requires there { braces.place < length scope.old.records.declared }
     requires incomplete { is_completed scope.old.records.done braces.place ≡ false }
-    ensures named { IfOk result (λ x. GivesNamed x (closed (view_opened braces scope.old) (views members.items))) }
-    ensures scope { OnOk result (scope.new ≡ (closed (view_opened braces scope.old) (views members.items)).1) }
+    ensures named { IfOk result (λ x. GivesNamed x (completed (view_opened braces scope.old) (view_fields fields.now))) }
+    ensures scope { OnOk result (scope.new ≡ (completed (view_opened braces scope.old) (view_fields fields.now)).1) }
     ensures grows { OnOk result (length scope.old.records.declared ≤ length scope.new.records.declared) }
 {
-    if members.is_empty() {
+    if fields.is_empty() {
         return Ok(Err(Broken::Rule { rule: 3 }));
     }
-    match scope.complete_record(alloc, braces.place, members) {
+    match scope.complete_record(alloc, braces.place, fields) {
         Ok(()) => Ok(closed_type(braces)),
         Err(LayoutError::Incomplete) => Ok(Err(Broken::Rule { rule: 3 })),
         Err(LayoutError::TooLarge) => Ok(Err(Broken::Rule { rule: 4 })),
         Err(LayoutError::NoElements) => Err(AllocError),
         Err(LayoutError::Memory) => Err(AllocError),
+    }
+}
+
+/// Completes a struct or union, behind the braces.
+pub fn closed(
+    alloc: Global,
+    braces: Braces,
+    fields: &[Field],
+    scope: &mut Scope,
+) -> Result<Result<QualifiedType, Broken>, AllocError>
+    requires { braces.place < length scope.old.records.declared }
+    ensures named { IfOk result (λ x. GivesNamed x (closed (view_opened braces scope.old) (view_fields fields.now))) }
+    ensures scope { OnOk result (scope.new ≡ (closed (view_opened braces scope.old) (view_fields fields.now)).1) }
+    ensures grows { OnOk result (length scope.old.records.declared ≤ length scope.new.records.declared) }
+{
+    if scope.layouts().is_completed(braces.place) {
+        Ok(Err(Broken::Rule { rule: 18 }))
+    } else {
+        completed(alloc, braces, fields, scope)
     }
 }
 

@@ -2,6 +2,7 @@ use super::*;
 use c_elab_expr::TypingError;
 use c_lexer::{LexError, Tokens, lex};
 use c_parse_decl::parse;
+use c_types::IntegerType;
 use core_tree::{CoreExpr, CoreItem, CoreStatement, Place};
 use std::alloc::{AllocError, Global};
 use std::test::*;
@@ -15,7 +16,29 @@ fn lexed(alloc: Global, text: &[u8]) -> Result<Tokens, LexError> {
     }
 }
 
-/// A constant, a variable, a draw, or a conversion of one; `#` for any other expression.
+/// A place by its variable and the offset in it, with its type where that isn't int.
+fn show_place(alloc: Global, place: &Place) -> Result<String, AllocError> {
+    match place {
+        Place::Variable {
+            line: _,
+            type_,
+            variable,
+            offset,
+        } => {
+            let at = if *offset == 0 {
+                format!(in alloc; "v{variable}")?
+            } else {
+                format!(in alloc; "v{variable}+{offset}")?
+            };
+            match type_ {
+                IntegerType::Int => Ok(at),
+                other => format!(in alloc; "{at}:{other:?}"),
+            }
+        }
+    }
+}
+
+/// A constant, a place, an assignment, a draw, or a conversion of one; `#` for any other expression.
 fn show_expression(alloc: Global, expr: &CoreExpr) -> Result<String, AllocError> {
     match expr {
         CoreExpr::Constant {
@@ -23,13 +46,15 @@ fn show_expression(alloc: Global, expr: &CoreExpr) -> Result<String, AllocError>
             type_: _,
             bits,
         } => format!(in alloc; "{bits}"),
-        CoreExpr::Read {
-            place: Place::Variable {
-                line: _,
-                type_: _,
-                variable,
-            },
-        } => format!(in alloc; "v{variable}"),
+        CoreExpr::Read { place } => show_place(alloc, place),
+        CoreExpr::Assign {
+            line: _,
+            place,
+            value,
+        } => {
+            let place = show_place(alloc, place)?;
+            format!(in alloc; "{place}={}", show_expression(alloc, value)?)
+        }
         CoreExpr::Convert { to, operand } => {
             format!(in alloc; "{to:?}({})", show_expression(alloc, operand)?)
         }
@@ -89,18 +114,18 @@ fn show(alloc: Global, statement: &CoreStatement) -> Result<String, AllocError> 
     }
 }
 
-/// The types of the first function's variables and its body, or the broken rule.
+/// The sizes of the first function's variables and its body, or the broken rule.
 fn outcome(alloc: Global, text: &[u8]) -> Result<String, Fail> {
     let tokens = lexed(alloc, text)?;
     let file = parse(alloc, &tokens)?;
     match elaborate(alloc, &file) {
         Ok(core) => match core.functions().first() {
             Some(function) => {
-                let mut types = String::new(alloc);
-                for type_ in &function.variables {
-                    types.push_str(format!(in alloc; "{type_:?} ")?.as_str())?;
+                let mut sizes = String::new(alloc);
+                for size in &function.variables {
+                    sizes.push_str(format!(in alloc; "{size} ")?.as_str())?;
                 }
-                Ok(format!(in alloc; "{types}{}", show(alloc, &function.body)?)?)
+                Ok(format!(in alloc; "{sizes}{}", show(alloc, &function.body)?)?)
             }
             None => Err(Fail::from("no function")),
         },
@@ -116,39 +141,39 @@ fn variables_of_each_integer_type(rt: HostRuntime) -> Result<(), Fail> {
     let rows: [(&[u8], &str); 24] = [
         (
             b"int main(void){unsigned char (c)=200;c=c+100;assert(c==44);return 0;}",
-            "UnsignedChar {v0=UnsignedChar(200);#;#;return 0;}",
+            "1 {v0=UnsignedChar(200);v0:UnsignedChar=UnsignedChar(#);#;return 0;}",
         ),
         (
             b"int main(void){unsigned n=nondet_uint();assert((1u<<n)>>n==1u);return 0;}",
-            "UnsignedInt {v0=draw;#;return 0;}",
+            "4 {v0=draw;#;return 0;}",
         ),
         (
             b"int main(void){unsigned char x=nondet_uchar();assert(!(x*x==49&&100/x==14));return 0;}",
-            "UnsignedChar {v0=draw;#;return 0;}",
+            "1 {v0=draw;#;return 0;}",
         ),
         (
             b"int main(void){long unsigned int long a;short b;signed c;char d;_Bool e;}",
-            "UnsignedLongLong Short Int Char Bool {v0;v1;v2;v3;v4;}",
+            "8 2 4 1 1 {v0;v1;v2;v3;v4;}",
         ),
         (
             b"int main(void){size_t a;int8_t b;uint16_t c;ptrdiff_t d;pthread_t e;}",
-            "UnsignedLong SignedChar UnsignedShort Long UnsignedLong {v0;v1;v2;v3;v4;}",
+            "8 1 2 8 8 {v0;v1;v2;v3;v4;}",
         ),
         (
             b"int main(void){volatile register int a;auto long b;}",
-            "Int Long {v0;v1;}",
+            "4 8 {v0;v1;}",
         ),
         (
             b"int main(void){short a=1,b=a;}",
-            "Short Short {v0=Short(1);v1=v0;}",
+            "2 2 {v0=Short(1);v1=v0:Short;}",
         ),
         (
             b"int main(void){_Bool b=2;char c=b;}",
-            "Bool Char {v0=Bool(2);v1=Char(v0);}",
+            "1 1 {v0=Bool(2);v1=Char(v0:Bool);}",
         ),
         (
             b"int main(void){int x={1},y={{x}},z={z,};}",
-            "Int Int Int {v0=1;v1=v0;v2~=v2;}",
+            "4 4 4 {v0=1;v1=v0;v2~=v2;}",
         ),
         (b"int main(void){int;const int;}", "{}"),
         (b"int main(void){int x={1,2};}", "line 1 rule 12"),
@@ -177,15 +202,15 @@ fn typedefs_name_types(rt: HostRuntime) -> Result<(), Fail> {
     let rows: [(&[u8], &str); 28] = [
         (
             b"typedef unsigned char T;int main(void){T x=1;}",
-            "UnsignedChar {v0=UnsignedChar(1);}",
+            "1 {v0=UnsignedChar(1);}",
         ),
         (
             b"int main(void){typedef int T;{typedef T U;U x=1;}T y;}",
-            "Int Int {{v0=1;}v1;}",
+            "4 4 {{v0=1;}v1;}",
         ),
         (
             b"typedef int T;typedef int T;int main(void){T x;}",
-            "Int {v0;}",
+            "4 {v0;}",
         ),
         (
             b"typedef int T;\ntypedef const int\nT;int main(void){}",
@@ -197,7 +222,7 @@ fn typedefs_name_types(rt: HostRuntime) -> Result<(), Fail> {
         ),
         (
             b"typedef int T;int main(void){const T x=1;{T x;x=2;}}",
-            "Int Int {v0=1;{v1;#;}}",
+            "4 4 {v0=1;{v1;v1=2;}}",
         ),
         (
             b"typedef int T[3];typedef int T[3];int main(void){return sizeof(T);}",
@@ -215,10 +240,7 @@ fn typedefs_name_types(rt: HostRuntime) -> Result<(), Fail> {
         ),
         (b"typedef unsigned long size_t;int main(void){}", "{}"),
         (b"typedef unsigned size_t;int main(void){}", "line 1 rule 2"),
-        (
-            b"int main(void){typedef char size_t;size_t x;}",
-            "Char {v0;}",
-        ),
+        (b"int main(void){typedef char size_t;size_t x;}", "1 {v0;}"),
         (
             b"typedef struct{unsigned m;} pthread_mutex_t;int main(void){}",
             "line 1 rule 2",
@@ -228,9 +250,9 @@ fn typedefs_name_types(rt: HostRuntime) -> Result<(), Fail> {
             "{return Int(4);}",
         ),
         (b"typedef int assert;int main(void){}", "line 1 rule 2"),
-        (b"int main(void){typedef int assert;assert x;}", "Int {v0;}"),
+        (b"int main(void){typedef int assert;assert x;}", "4 {v0;}"),
         (b"typedef int main;\nint main(void){}", "line 2 rule 2"),
-        (b"typedef int T;int main(void){int T;T=1;}", "Int {v0;#;}"),
+        (b"typedef int T;int main(void){int T;T=1;}", "4 {v0;v0=1;}"),
         (b"int main(void){typedef int T;int\nT;}", "line 2 rule 2"),
         (b"int main(void){int T;typedef int T;}", "line 1 rule 2"),
         (
@@ -254,27 +276,27 @@ fn enumerators_are_ints(rt: HostRuntime) -> Result<(), Fail> {
     let rows: [(&[u8], &str); 27] = [
         (
             b"int main(void){enum{A,B=5,C};int x=A,y=B,z=C;}",
-            "Int Int Int {v0=0;v1=5;v2=6;}",
+            "4 4 4 {v0=0;v1=5;v2=6;}",
         ),
         (
             b"enum{A=-1,B};int main(void){int x=A,y=B;}",
-            "Int Int {v0=4294967295;v1=0;}",
+            "4 4 {v0=4294967295;v1=0;}",
         ),
         (
             b"enum{A=2147483647,B=1};int main(void){int x=A;}",
-            "Int {v0=2147483647;}",
+            "4 {v0=2147483647;}",
         ),
         (
             b"enum{A=-2147483648};int main(void){int x=A;}",
-            "Int {v0=2147483648;}",
+            "4 {v0=2147483648;}",
         ),
         (
             b"enum{A=(signed char)-1,B=sizeof(int),C='a',D=(unsigned char)300};int main(void){int w=A,x=B,y=C,z=D;}",
-            "Int Int Int Int {v0=4294967295;v1=4;v2=97;v3=44;}",
+            "4 4 4 4 {v0=4294967295;v1=4;v2=97;v3=44;}",
         ),
         (
             b"enum{A=1?2:1/0,B=0&&1/0};int main(void){int x=A,y=B;}",
-            "Int Int {v0=2;v1=0;}",
+            "4 4 {v0=2;v1=0;}",
         ),
         (b"enum{A=2147483647,\nB};int main(void){}", "line 2 rule 13"),
         (b"enum{A=\n2147483648};int main(void){}", "line 1 rule 13"),
@@ -287,7 +309,7 @@ fn enumerators_are_ints(rt: HostRuntime) -> Result<(), Fail> {
         (b"enum{A};int main(void){A=1;}", "line 1 rule 9"),
         (
             b"enum E{A};int main(void){enum E x=A;x=5;}",
-            "Int {v0=0;#;}",
+            "4 {v0=0;v0=5;}",
         ),
         (b"enum E;int main(void){}", "line 1 rule 3"),
         (b"int main(void){enum E x;}", "line 1 rule 3"),
@@ -295,7 +317,7 @@ fn enumerators_are_ints(rt: HostRuntime) -> Result<(), Fail> {
         (b"enum E{A};\nenum E{B};int main(void){}", "line 2 rule 18"),
         (
             b"int main(void){enum E{A};{enum E{B=7};int x=A,y=B;}}",
-            "Int Int {{v0=0;v1=7;}}",
+            "4 4 {{v0=0;v1=7;}}",
         ),
         (b"struct E;enum E{A};int main(void){}", "line 1 rule 18"),
         (b"enum E{A};int main(void){struct E x;}", "line 1 rule 18"),
@@ -340,7 +362,7 @@ fn structs_and_unions_have_layouts(rt: HostRuntime) -> Result<(), Fail> {
         ),
         (
             b"struct S{enum{A=3}e;int a[A];};int main(void){int x=A;return sizeof(struct S);}",
-            "Int {v0=3;return Int(16);}",
+            "4 {v0=3;return Int(16);}",
         ),
         (
             b"typedef struct{char a;}T;struct S{T a[5],b;int c;};int main(void){return sizeof(struct S);}",
@@ -423,10 +445,143 @@ fn structs_and_unions_have_layouts(rt: HostRuntime) -> Result<(), Fail> {
             b"struct S{int a;}struct T{int b;};int main(void){}",
             "line 1 rule 5",
         ),
+        (b"struct S{int a;};int main(void){\nstruct S s;}", "4 {v0;}"),
+    ];
+    for (text, typing) in rows {
+        assert_eq!(rt; outcome(rt.alloc(), text)?.as_str(), typing);
+    }
+    Ok(())
+}
+
+#[test]
+fn variables_of_structs_unions_and_arrays(rt: HostRuntime) -> Result<(), Fail> {
+    let rows: [(&[u8], &str); 25] = [
         (
-            b"struct S{int a;};int main(void){\nstruct S s;}",
+            b"struct S{char a;int b;};int main(void){struct S s;s.a=1;s.b=2;return s.b;}",
+            "8 {v0;v0:Char=Char(1);v0+4=2;return v0+4;}",
+        ),
+        (
+            b"union U{int i;char c;};int main(void){union U u;u.i=1;return u.c;}",
+            "4 {v0;v0=1;return Int(v0:Char);}",
+        ),
+        (
+            b"int main(void){struct{int a;union{long l;struct{char x,y;};};}s;s.y=1;return s.l;}",
+            "16 {v0;v0+9:Char=Char(1);return Int(v0+8:Long);}",
+        ),
+        (
+            b"struct S{short h;struct{int x;char y;}p[1],q;};int main(void){struct S s;s.q.y=1;return ((s).q).x;}",
+            "20 {v0;v0+16:Char=Char(1);return v0+12;}",
+        ),
+        (
+            b"struct S{char a;};int main(void){struct S s,t[5];long x;t;}",
+            "line 1 rule 7",
+        ),
+        (
+            b"struct S{char a;};int main(void){struct S s,t[5];long x;}",
+            "1 5 8 {v0;v1;v2;}",
+        ),
+        (
+            b"typedef int T[2][3];int main(void){T a;T b[2];const T c;return sizeof b;}",
+            "24 48 24 {v0;v1;v2;return Int(48);}",
+        ),
+        (
+            b"int main(void){int a[3];char b[2][5];return sizeof a;}",
+            "12 10 {v0;v1;return Int(12);}",
+        ),
+        (
+            b"struct S{char a[3];short b;};int main(void){struct S s;int x=sizeof s,y=sizeof(s.a),z=sizeof s.b;}",
+            "6 4 4 4 {v0;v1=Int(6);v2=Int(3);v3=Int(2);}",
+        ),
+        (
+            b"int main(void){struct S{int a;}s;{struct S{char c;}t;t.c=s.a;}struct S u;}",
+            "4 1 4 {v0;{v1;v1:Char=Char(v0);}v2;}",
+        ),
+        (
+            b"struct S{int x;};int main(void){int x=1;struct S s;{struct S x;x.x=s.x;}return x;}",
+            "4 4 4 {v0=1;v1;{v2;v2=v1;}return v0;}",
+        ),
+        (
+            b"struct S{const int a;int b;};int main(void){struct S s;s.b=1;\ns.a=2;}",
+            "line 2 rule 9",
+        ),
+        (
+            b"struct S{int a;};int main(void){const struct S s;\ns.a=2;}",
+            "line 2 rule 9",
+        ),
+        (
+            b"typedef const struct{int a;}T;int main(void){T s;\ns.a=2;}",
+            "line 2 rule 9",
+        ),
+        (
+            b"struct S{struct{const int x;}t;};int main(void){struct S s;s.t.x=1;}",
+            "line 1 rule 9",
+        ),
+        (
+            b"struct S{const struct{int x;};int y;};int main(void){struct S s;s.y=1;\ns.x=1;}",
+            "line 2 rule 9",
+        ),
+        (
+            b"typedef const int T;struct S{T a;};int main(void){struct S s;s.a++;}",
+            "line 1 rule 9",
+        ),
+        (
+            b"struct S{int a;};int main(void){struct S s;\ns.b=1;}",
+            "line 2 rule 11",
+        ),
+        (b"int main(void){int x;\nx.a=1;}", "line 2 rule 11"),
+        (
+            b"struct S{int a;};int main(void){struct S s;\nif(s)return 0;}",
+            "line 2 rule 17",
+        ),
+        (
+            b"struct S{int a;};int main(void){struct S s;\nreturn s;}",
+            "line 2 rule 8",
+        ),
+        (
+            b"struct S{int a;};int main(void){struct S s;int\nx=s;}",
+            "line 2 rule 8",
+        ),
+        (
+            b"struct S{int a[3];};int main(void){struct S s;\nreturn s.a;}",
+            "line 2 rule 7",
+        ),
+        (
+            b"struct S{int a;};int main(void){struct S s;\nreturn sizeof(s.b);}",
+            "line 2 rule 11",
+        ),
+        (
+            b"struct S{int a;};struct T{struct S a[1000];};int main(void){struct T\na[1000000];}",
+            "line 2 rule 4",
+        ),
+    ];
+    for (text, typing) in rows {
+        assert_eq!(rt; outcome(rt.alloc(), text)?.as_str(), typing);
+    }
+    Ok(())
+}
+
+#[test]
+fn forms_without_typing_are_told_on_their_declaration(rt: HostRuntime) -> Result<(), Fail> {
+    let rows: [(&[u8], &str); 7] = [
+        (
+            b"struct S{int a;};\nint main(void){\nstruct S s={1};}",
+            "line 2 rule 0",
+        ),
+        (b"int main(void){int a[2]={1,2};}", "line 1 rule 0"),
+        (b"int main(void){char a[]=\"ab\";}", "line 1 rule 0"),
+        (
+            b"struct S{int a;};int main(void){struct S s;\ns;}",
             "line 1 rule 0",
         ),
+        (
+            b"struct S{int a;};int main(void){struct S s,t;\ns=t;}",
+            "line 1 rule 0",
+        ),
+        (
+            b"struct S{int a;};int main(void){struct S s;(void)s;}",
+            "line 1 rule 0",
+        ),
+        (b"int main(void){static int x;}", "line 1 rule 0"),
     ];
     for (text, typing) in rows {
         assert_eq!(rt; outcome(rt.alloc(), text)?.as_str(), typing);
@@ -440,7 +595,7 @@ fn declarators_of_arrays_and_other_objects(rt: HostRuntime) -> Result<(), Fail> 
         (b"int main(void){int a[0];}", "line 1 rule 4"),
         (b"int main(void){int a[-1];}", "line 1 rule 4"),
         (b"int main(void){char a[2147483648];}", "line 1 rule 4"),
-        (b"int main(void){char a[2147483647];}", "line 1 rule 0"),
+        (b"int main(void){char a[2147483647];}", "2147483647 {v0;}"),
         (b"int main(void){int a[2147483647];}", "line 1 rule 4"),
         (b"int main(void){int a[];}", "line 1 rule 4"),
         (b"int main(void){int a[]={1};}", "line 1 rule 0"),
@@ -468,23 +623,23 @@ fn statements_are_typed_in_order(rt: HostRuntime) -> Result<(), Fail> {
     let rows: [(&[u8], &str); 18] = [
         (
             b"int main(void){int x=nondet_int();assert(x!=7);return 0;}",
-            "Int {v0=draw;#;return 0;}",
+            "4 {v0=draw;#;return 0;}",
         ),
         (
             b"int main(void){int x,y=x,z=z;return y;}",
-            "Int Int Int {v0;v1=v0;v2~=v2;return v1;}",
+            "4 4 4 {v0;v1=v0;v2~=v2;return v1;}",
         ),
         (
             b"int main(void){int x=1;{int x=x;}{int x=2;}return x;}",
-            "Int Int Int {v0=1;{v1~=v1;}{v2=2;}return v0;}",
+            "4 4 4 {v0=1;{v1~=v1;}{v2=2;}return v0;}",
         ),
         (
             b"int main(void){int x=1u;return 1l;}",
-            "Int {v0=Int(1);return Int(1);}",
+            "4 {v0=Int(1);return Int(1);}",
         ),
         (
             b"int main(void){int main;return main;}",
-            "Int {v0;return v0;}",
+            "4 {v0;return v0;}",
         ),
         (
             b"int main(void){if(1)return 0;else{}}",

@@ -4,14 +4,14 @@ use Rattle.std.proofs.lemmas.List.{append_assoc, drop_more}
 use Rattle.c_tree.specs.declared.expr.Expr.{Expr}
 use Rattle.c_tree.specs.Tree.{Tree, Trees, call}
 use Rattle.c_tree.specs.Tree.{view as tree, views_of as trees}
-use Rattle.core_tree.specs.Trees.{Expression}
+use Rattle.c_elab_expr.specs.Operands.{Operand}
 use Rattle.c_elab_expr.specs.declared.meaning.Meaning.{Meaning}
 use Rattle.c_elab_expr.specs.declared.fault.TypingError.{TypingError}
 use Rattle.c_elab_expr.specs.declared.fault.TypingError.TheVariants as errors
 use Rattle.c_elab_expr.specs.Scopes.{Scoped}
 use Rattle.c_elab_expr.specs.Nodes.{◌>>=◌}
 use Rattle.c_tree.specs.Tree.{first_line}
-use Rattle.c_elab_expr.specs.Typing.{Fault, fault, on_line, callee, called, typed, typed_arguments, Fails}
+use Rattle.c_elab_expr.specs.Typing.{Fault, fault, on_line, callee, called, typed, typed_arguments, operand, Fails}
 
 -- a fault of a part is one of the whole
 pub fails_on : {Y Z : Type 0} (e : TypingError) (r : Result Y Fault) (s : Result Z Fault) → ((f : Fault) → r ≡ Err f → s ≡ Err f) → Fails e r → Fails e s
@@ -19,40 +19,40 @@ fails_on errors.Memory r s h g = tt
 fails_on (errors.Typing line rule) r s h g = h (fault line rule) g
 
 -- typed arguments with others before them
-abbrev pub front : List Expression → Result (List Expression) Fault → Result (List Expression) Fault
+abbrev pub front : List Operand → Result (List Operand) Fault → Result (List Operand) Fault
 front xs r = r >>= λ ys. Ok (xs ++ ys)
 
-front_one : (xs : List Expression) (x : Expression) (r : Result (List Expression) Fault) → front xs (r >>= λ ys. Ok (x ∷ ys)) ≡ front (xs ++ x ∷ []) r
+front_one : (xs : List Operand) (x : Operand) (r : Result (List Operand) Fault) → front xs (r >>= λ ys. Ok (x ∷ ys)) ≡ front (xs ++ x ∷ []) r
 front_one xs x (Ok ys) = ap Ok (sym (append_assoc xs (x ∷ []) ys))
 front_one xs x (Err f) = refl
 
-next_argument : (scope : Scoped) (es : List Expr) (i : ℕ) (e : Expr) (xs : List Expression) (all : Result (List Expression) Fault) → i < length es → e ≡ get_or es i e
-    → front xs (typed_arguments scope (trees (drop i es))) ≡ all → front xs (typed scope (tree e) >>= λ x. typed_arguments scope (trees (drop (i + 1) es)) >>= λ ys. Ok (x ∷ ys)) ≡ all
+next_argument : (scope : Scoped) (es : List Expr) (i : ℕ) (e : Expr) (xs : List Operand) (all : Result (List Operand) Fault) → i < length es → e ≡ get_or es i e
+    → front xs (typed_arguments scope (trees (drop i es))) ≡ all → front xs (operand scope (tree e) >>= λ x. typed_arguments scope (trees (drop (i + 1) es)) >>= λ ys. Ok (x ∷ ys)) ≡ all
 next_argument scope es i e xs all h is so_far =
     let step = drop_more es i e h in
-    let here = ap (λ (x : Expr). front xs (typed scope (tree x) >>= λ y. typed_arguments scope (trees (drop (i + 1) es)) >>= λ ys. Ok (y ∷ ys))) is in
+    let here = ap (λ (x : Expr). front xs (operand scope (tree x) >>= λ y. typed_arguments scope (trees (drop (i + 1) es)) >>= λ ys. Ok (y ∷ ys))) is in
     here ∙ sym (ap (λ (ys : List Expr). front xs (typed_arguments scope (trees ys))) step) ∙ so_far
 
-pub argument_fails : (scope : Scoped) (es : List Expr) (i : ℕ) (e : Expr) (xs : List Expression) (all : Result (List Expression) Fault) (f : Fault) → i < length es → e ≡ get_or es i e
-    → front xs (typed_arguments scope (trees (drop i es))) ≡ all → typed scope (tree e) ≡ Err f → all ≡ Err f
+pub argument_fails : (scope : Scoped) (es : List Expr) (i : ℕ) (e : Expr) (xs : List Operand) (all : Result (List Operand) Fault) (f : Fault) → i < length es → e ≡ get_or es i e
+    → front xs (typed_arguments scope (trees (drop i es))) ≡ all → operand scope (tree e) ≡ Err f → all ≡ Err f
 argument_fails scope es i e xs all f h is so_far bad =
     sym (next_argument scope es i e xs all h is so_far)
-    ∙ ap (λ (r : Result Expression Fault). front xs (r >>= λ x. typed_arguments scope (trees (drop (i + 1) es)) >>= λ ys. Ok (x ∷ ys))) bad
+    ∙ ap (λ (r : Result Operand Fault). front xs (r >>= λ x. typed_arguments scope (trees (drop (i + 1) es)) >>= λ ys. Ok (x ∷ ys))) bad
 
-pub argument_typed : (scope : Scoped) (es : List Expr) (i : ℕ) (e : Expr) (xs : List Expression) (all : Result (List Expression) Fault) (x : Expression) → i < length es → e ≡ get_or es i e
-    → front xs (typed_arguments scope (trees (drop i es))) ≡ all → typed scope (tree e) ≡ Ok x → front (xs ++ x ∷ []) (typed_arguments scope (trees (drop (i + 1) es))) ≡ all
+pub argument_typed : (scope : Scoped) (es : List Expr) (i : ℕ) (e : Expr) (xs : List Operand) (all : Result (List Operand) Fault) (x : Operand) → i < length es → e ≡ get_or es i e
+    → front xs (typed_arguments scope (trees (drop i es))) ≡ all → operand scope (tree e) ≡ Ok x → front (xs ++ x ∷ []) (typed_arguments scope (trees (drop (i + 1) es))) ≡ all
 argument_typed scope es i e xs all x h is so_far good =
     sym (front_one xs x (typed_arguments scope (trees (drop (i + 1) es))))
-    ∙ sym (ap (λ (r : Result Expression Fault). front xs (r >>= λ x. typed_arguments scope (trees (drop (i + 1) es)) >>= λ ys. Ok (x ∷ ys))) good)
+    ∙ sym (ap (λ (r : Result Operand Fault). front xs (r >>= λ x. typed_arguments scope (trees (drop (i + 1) es)) >>= λ ys. Ok (x ∷ ys))) good)
     ∙ next_argument scope es i e xs all h is so_far
 
 -- a call whose callee is typed
-pub call_fails : (scope : Scoped) (f : Tree) (args : Trees) (m : Option (ℕ × Meaning)) (bad : Fault) → callee scope f (typed scope f) ≡ Ok m → typed_arguments scope args ≡ Err bad → typed scope (call f args) ≡ Err bad
+pub call_fails : (scope : Scoped) (f : Tree) (args : Trees) (m : Option (ℕ × Meaning)) (bad : Fault) → callee scope f (operand scope f) ≡ Ok m → typed_arguments scope args ≡ Err bad → typed scope (call f args) ≡ Err bad
 call_fails scope f args m bad e g =
     ap (λ (r : Result (Option (ℕ × Meaning)) Fault). r >>= λ n. typed_arguments scope args >>= λ xs. on_line (first_line f) (called n xs)) e
-    ∙ ap (λ (r : Result (List Expression) Fault). r >>= λ xs. on_line (first_line f) (called m xs)) g
+    ∙ ap (λ (r : Result (List Operand) Fault). r >>= λ xs. on_line (first_line f) (called m xs)) g
 
-pub call_typed : (scope : Scoped) (f : Tree) (args : Trees) (m : Option (ℕ × Meaning)) (xs : List Expression) → callee scope f (typed scope f) ≡ Ok m → typed_arguments scope args ≡ Ok xs → typed scope (call f args) ≡ on_line (first_line f) (called m xs)
+pub call_typed : (scope : Scoped) (f : Tree) (args : Trees) (m : Option (ℕ × Meaning)) (xs : List Operand) → callee scope f (operand scope f) ≡ Ok m → typed_arguments scope args ≡ Ok xs → typed scope (call f args) ≡ on_line (first_line f) (called m xs)
 call_typed scope f args m xs e g =
     ap (λ (r : Result (Option (ℕ × Meaning)) Fault). r >>= λ n. typed_arguments scope args >>= λ xs. on_line (first_line f) (called n xs)) e
-    ∙ ap (λ (r : Result (List Expression) Fault). r >>= λ xs. on_line (first_line f) (called m xs)) g
+    ∙ ap (λ (r : Result (List Operand) Fault). r >>= λ xs. on_line (first_line f) (called m xs)) g

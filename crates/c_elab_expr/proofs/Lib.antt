@@ -2,10 +2,12 @@ pub mod Entries
 pub mod Words
 pub mod Elements
 pub mod Parts
+pub mod Tables
 pub mod Casts
 pub mod Sizes
 pub mod Bindings
 pub mod Variables
 pub mod Arguments
 pub mod Types
+pub mod Parted
 pub mod WellTyped

@@ -13,7 +13,7 @@ use Rattle.c_elab_expr.specs.declared.fault.TypingError.{TypingError}
 use Rattle.c_elab_expr.specs.Scopes.{Scoped}
 use Rattle.c_elab_expr.specs.Nodes.{◌>>=◌}
 use Rattle.c_elab_expr.specs.Types.{Said, with_part, with_parts, one_array, array_of}
-use Rattle.c_elab_expr.specs.Typing.{Fault, Breaks, Adds, bound, typed, suffix_lengths, behind}
+use Rattle.c_elab_expr.specs.Typing.{Fault, Breaks, Adds, bound, operand, suffix_lengths, behind}
 use Rattle.c_elab_expr.proofs.Arguments.{fails_on}
 
 -- ---- arrays
@@ -66,7 +66,7 @@ by_bound (Err f) rest before = refl
 
 one_suffix : (s : Scoped) (x : ArraySuffix) (rest : Suffixes) (before : List (Option ℕ))
     → behind before (suffix_lengths s (view_suffix x rest)) ≡ (behind before (suffix_lengths s (view_suffix x no_suffix)) >>= λ now. behind now (suffix_lengths s rest))
-one_suffix s (array_suffixes.Bounded line e) rest before = by_bound (bound (first_line (tree e)) (typed s (tree e))) (suffix_lengths s rest) before
+one_suffix s (array_suffixes.Bounded line e) rest before = by_bound (bound (first_line (tree e)) (operand s (tree e))) (suffix_lengths s rest) before
 one_suffix s (array_suffixes.Open line) rest before = behind_one before None (suffix_lengths s rest)
 
 next_suffix : (s : Scoped) (xs : List ArraySuffix) (i : ℕ) (x : ArraySuffix) (before : List (Option ℕ)) → i < length xs → x ≡ get_or xs i x

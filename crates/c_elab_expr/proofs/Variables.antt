@@ -1,16 +1,16 @@
--- Variables stay among those of the function when it gets more.
-use Rattle.std.proofs.Common.{◌≡◌, ◌≤◌, ℕ, Bool, true, false, List, [], ◌∷◌, ◌++◌, length, Option, Some, None, refl, ap, ◌∙◌, arith}
-use Rattle.std.specs.Prelude.{◌&&◌, nat_lt, slice_index_or, IfSome, if◌then◌else◌}
-use Rattle.std.proofs.lemmas.List.{get_or_append_left, length-append}
+-- What names mean stays there, and variables keep their sizes, where more is declared and completed.
+use Rattle.std.proofs.Common.{◌≡◌, ◌≤◌, ◌==◌, ℕ, Bool, true, false, List, [], ◌∷◌, ◌++◌, length, Option, Some, None, Result, Ok, Err, refl, sym, ap, ap₂, ◌∙◌, arith}
+use Rattle.std.specs.Prelude.{◌&&◌, nat_lt, IfSome, if◌then◌else◌}
+use Rattle.std.proofs.lemmas.List.{length-append, map-append}
 use borrow.Author.Tests.{ltb-true, lt-ltb}
-use Rattle.c_types.specs.declared.integers.IntegerType.{IntegerType}
-use Rattle.c_types.specs.declared.integers.IntegerType.TheVariants as types
-use Rattle.c_types.specs.Integers.{same_integer}
 use Rattle.c_types.specs.declared.types.RecordKind.{RecordKind}
-use Rattle.core_tree.specs.Typed.{is_variable}
+use Rattle.c_types.specs.Types.{CType, void, integer, aggregate, array, Completed}
+use Rattle.c_types.specs.Layouts.{is_completed, is_complete, is_sized, size_of}
+use Rattle.c_types.proofs.Records.{same_type}
 use Rattle.c_elab_expr.specs.declared.meaning.Meaning.{Meaning}
 use Rattle.c_elab_expr.specs.declared.meaning.Meaning.TheVariants.{Variable, Assert, Assume, Draw, Function, Typedef, Enumerator, Record, Enumeration}
-use Rattle.c_elab_expr.specs.Scopes.{Named, Environment, is_called, meaning_in, is_there, are_there}
+use Rattle.c_elab_expr.specs.Scopes.{Named, Environment, is_called, meaning_in, is_there, are_there, are_complete, sizes_of}
+use Rattle.c_elab_expr.specs.Types.{type_size}
 
 pub both : (a b : Bool) → (a && b) ≡ true → (a ≡ true) × (b ≡ true)
 both true b e = (refl, e)
@@ -20,62 +20,37 @@ pub and : (a b : Bool) → a ≡ true → b ≡ true → (a && b) ≡ true
 and true b e f = f
 and false b e f = e
 
-pub variable_more : (variables more : List IntegerType) (v : ℕ) (t : IntegerType) → is_variable variables v t ≡ true → is_variable (variables ++ more) v t ≡ true
-variable_more variables more v t e =
-    let parts = both (nat_lt v (length variables)) (same_integer (slice_index_or variables v types.Int) t) e in
-    let within = ltb-true v (length variables) parts.0 in
-    let long = length-append variables more in
-    and (nat_lt v (length (variables ++ more))) (same_integer (slice_index_or (variables ++ more) v types.Int) t)
-    (lt-ltb v (length (variables ++ more)) (omega arith))
-    (ap (λ (u : IntegerType). same_integer u t) (get_or_append_left variables more types.Int v within) ∙ parts.1)
-
-there_more : (variables more : List IntegerType) (types records : ℕ) (m : Meaning) → is_there variables types records m ≡ true → is_there (variables ++ more) types records m ≡ true
-there_more variables more types records (Variable v t k) e = variable_more variables more v t e
-there_more variables more types records Assert e = refl
-there_more variables more types records Assume e = refl
-there_more variables more types records (Draw t) e = refl
-there_more variables more types records Function e = refl
-there_more variables more types records (Typedef n) e = e
-there_more variables more types records (Enumerator bits) e = refl
-there_more variables more types records (Record p) e = e
-there_more variables more types records Enumeration e = refl
-
-pub are_there_more : (variables more : List IntegerType) (types records : ℕ) (env : Environment) → are_there variables types records env ≡ true → are_there (variables ++ more) types records env ≡ true
-are_there_more variables more types records [] e = refl
-are_there_more variables more types records (b ∷ bs) e =
-    let parts = both (is_there variables types records b.meaning) (are_there variables types records bs) e in
-    and (is_there (variables ++ more) types records b.meaning) (are_there (variables ++ more) types records bs) (there_more variables more types records b.meaning parts.0)
-    (are_there_more variables more types records bs parts.1)
-
--- and what typedefs and tags name stays where more are declared
+-- what names mean stays there where more variables, typedefs and tags are declared
 below : (n few many : ℕ) → few ≤ many → nat_lt n few ≡ true → nat_lt n many ≡ true
 below n few many h e = let less = ltb-true n few e in lt-ltb n many (omega arith)
 
-there_wider : (variables : List IntegerType) (types others records greater : ℕ) (m : Meaning) → types ≤ others → records ≤ greater → is_there variables types records m ≡ true → is_there variables others greater m ≡ true
-there_wider variables types others records greater (Variable v t k) h g e = e
-there_wider variables types others records greater Assert h g e = refl
-there_wider variables types others records greater Assume h g e = refl
-there_wider variables types others records greater (Draw t) h g e = refl
-there_wider variables types others records greater Function h g e = refl
-there_wider variables types others records greater (Typedef n) h g e = below n types others h e
-there_wider variables types others records greater (Enumerator bits) h g e = refl
-there_wider variables types others records greater (Record p) h g e = below p records greater g e
-there_wider variables types others records greater Enumeration h g e = refl
+there_wider : (variables more types others records greater : ℕ) (m : Meaning) → variables ≤ more → types ≤ others → records ≤ greater
+    → is_there variables types records m ≡ true → is_there more others greater m ≡ true
+there_wider variables more types others records greater (Variable v) k h g e = below v variables more k e
+there_wider variables more types others records greater Assert k h g e = refl
+there_wider variables more types others records greater Assume k h g e = refl
+there_wider variables more types others records greater (Draw t) k h g e = refl
+there_wider variables more types others records greater Function k h g e = refl
+there_wider variables more types others records greater (Typedef n) k h g e = below n types others h e
+there_wider variables more types others records greater (Enumerator bits) k h g e = refl
+there_wider variables more types others records greater (Record p) k h g e = below p records greater g e
+there_wider variables more types others records greater Enumeration k h g e = refl
 
-pub are_there_wider : (variables : List IntegerType) (types others records greater : ℕ) (env : Environment) → types ≤ others → records ≤ greater → are_there variables types records env ≡ true → are_there variables others greater env ≡ true
-are_there_wider variables types others records greater [] h g e = refl
-are_there_wider variables types others records greater (b ∷ bs) h g e =
+pub are_there_wider : (variables more types others records greater : ℕ) (env : Environment) → variables ≤ more → types ≤ others → records ≤ greater
+    → are_there variables types records env ≡ true → are_there more others greater env ≡ true
+are_there_wider variables more types others records greater [] k h g e = refl
+are_there_wider variables more types others records greater (b ∷ bs) k h g e =
     let parts = both (is_there variables types records b.meaning) (are_there variables types records bs) e in
-    and (is_there variables others greater b.meaning) (are_there variables others greater bs) (there_wider variables types others records greater b.meaning h g parts.0)
-    (are_there_wider variables types others records greater bs h g parts.1)
+    and (is_there more others greater b.meaning) (are_there more others greater bs) (there_wider variables more types others records greater b.meaning k h g parts.0)
+    (are_there_wider variables more types others records greater bs k h g parts.1)
 
 -- what a name or a tag means is there
-meant : (variables : List IntegerType) (types records : ℕ) (x : Bool) (m : Meaning) (others : Option Meaning) → is_there variables types records m ≡ true
+meant : (variables types records : ℕ) (x : Bool) (m : Meaning) (others : Option Meaning) → is_there variables types records m ≡ true
     → IfSome others (λ n. is_there variables types records n ≡ true) → IfSome (if x then Some m else others) (λ n. is_there variables types records n ≡ true)
 meant variables types records true m others h g = h
 meant variables types records false m others h g = g
 
-pub meant_there : (variables : List IntegerType) (types records : ℕ) (tags : Bool) (env : Environment) (name : List ℕ) → are_there variables types records env ≡ true
+pub meant_there : (variables types records : ℕ) (tags : Bool) (env : Environment) (name : List ℕ) → are_there variables types records env ≡ true
     → IfSome (meaning_in tags None env name) (λ m. is_there variables types records m ≡ true)
 meant_there variables types records tags [] name e = tt
 meant_there variables types records tags (b ∷ bs) name e =
@@ -83,14 +58,56 @@ meant_there variables types records tags (b ∷ bs) name e =
     meant variables types records (is_called tags name b) b.meaning (meaning_in tags None bs name) parts.0 (meant_there variables types records tags bs name parts.1)
 
 -- where one typedef or one struct or union more is declared
-pub one_type_more : (variables : List IntegerType) (types others : List Named) (t : Named) (records : ℕ) (env : Environment) → others ≡ types ++ t ∷ []
+pub one_type_more : (variables : ℕ) (types others : List Named) (t : Named) (records : ℕ) (env : Environment) → others ≡ types ++ t ∷ []
     → are_there variables (length types) records env ≡ true → 9 ≤ length types → (are_there variables (length others) records env ≡ true) × (9 ≤ length others)
 one_type_more variables types others t records env e h few =
     let long = ap (λ (ts : List Named). length ts) e ∙ length-append types (t ∷ []) in
-    (are_there_wider variables (length types) (length others) records records env (omega (arith, long)) (omega arith) h, omega (arith, long, few))
+    (are_there_wider variables variables (length types) (length others) records records env (omega arith) (omega (arith, long)) (omega arith) h, omega (arith, long, few))
 
-pub one_record_more : (variables : List IntegerType) (types : ℕ) (records others : List RecordKind) (kind : RecordKind) (env : Environment) → others ≡ records ++ kind ∷ []
+pub one_record_more : (variables types : ℕ) (records others : List RecordKind) (kind : RecordKind) (env : Environment) → others ≡ records ++ kind ∷ []
     → are_there variables types (length records) env ≡ true → are_there variables types (length others) env ≡ true
 one_record_more variables types records others kind env e h =
     let long = ap (λ (ks : List RecordKind). length ks) e ∙ length-append records (kind ∷ []) in
-    are_there_wider variables types types (length records) (length others) env (omega arith) (omega (arith, long)) h
+    are_there_wider variables variables types types (length records) (length others) env (omega arith) (omega arith) (omega (arith, long)) h
+
+-- ---- the function's variables
+
+-- a type with that many bytes is complete
+pub complete_sized : (done : List Completed) (t : CType) (n : ℕ) → type_size done t ≡ Ok n → (is_complete done t ≡ true) × (n ≡ size_of done t)
+complete_sized done t n e = by (is_complete done t) (is_sized done t) e where
+  size : Result ℕ ℕ
+  size = Ok (size_of done t)
+
+  by : (b c : Bool) → (if b then (if c then size else Err 4) else Err 3) ≡ Ok n → (b ≡ true) × (n ≡ size_of done t)
+  by true true h = let same : size_of done t ≡ n = cc in (refl, sym same)
+  by true false h = let none : ⊥ = cc in absurd none
+  by false c h = let none : ⊥ = cc in absurd none
+
+-- one more
+pub complete_more : (done : List Completed) (variables : List Named) (n : Named) → are_complete done variables ≡ true → is_complete done n.type ≡ true → are_complete done (variables ++ n ∷ []) ≡ true
+complete_more done [] n h e = and (is_complete done n.type) true e refl
+complete_more done (m ∷ ms) n h e =
+    let parts = both (is_complete done m.type) (are_complete done ms) h in
+    and (is_complete done m.type) (are_complete done (ms ++ n ∷ [])) parts.0 (complete_more done ms n parts.1 e)
+
+pub sizes_more : (done : List Completed) (variables : List Named) (n : Named) → sizes_of done (variables ++ n ∷ []) ≡ sizes_of done variables ++ size_of done n.type ∷ []
+sizes_more done variables n = map-append (λ (m : Named). size_of done m.type) variables (n ∷ [])
+
+-- a complete type stays complete and keeps its size where another struct or union is completed
+pub complete_later : (done : List Completed) (c : Completed) (t : CType) → is_complete done t ≡ true → is_complete (c ∷ done) t ≡ true
+complete_later done c void is = is
+complete_later done c (integer t) is = is
+complete_later done c (aggregate n) is = by (c.place == n) where
+  by : (b : Bool) → (if b then true else is_completed done n) ≡ true
+  by true = refl
+  by false = is
+complete_later done c (array e k) is = complete_later done c e is
+
+pub variables_later : (done : List Completed) (c : Completed) (variables : List Named) → is_completed done c.place ≡ false → are_complete done variables ≡ true
+    → (are_complete (c ∷ done) variables ≡ true) × (sizes_of (c ∷ done) variables ≡ sizes_of done variables)
+variables_later done c [] before h = (refl, refl)
+variables_later done c (n ∷ ns) before h =
+    let parts = both (is_complete done n.type) (are_complete done ns) h in
+    let later = variables_later done c ns before parts.1 in
+    let same = same_type done c n.type before parts.0 in
+    (and (is_complete (c ∷ done) n.type) (are_complete (c ∷ done) ns) (complete_later done c n.type parts.0) later.0, ap₂ (λ (x : ℕ) (xs : List ℕ). x ∷ xs) same.size later.1)

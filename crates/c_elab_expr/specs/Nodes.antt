@@ -1,6 +1,5 @@
--- What an operator makes of its typed operands, or the lowest rule that they break (C11 6.3.1, 6.5).
-use Rattle.std.specs.Prelude.{ℕ, ◌%◌, ◌^◌, Bool, true, false, List, [], ◌∷◌, Option, Some, None, slice_index_or, Result, Ok, Err, if◌then◌else◌}
-use Rattle.std.specs.Option.{option_and_then}
+-- What an operator makes of typed values, or the lowest rule that they break (C11 6.3.1, 6.5).
+use Rattle.std.specs.Prelude.{ℕ, ◌%◌, ◌^◌, Bool, true, false, Option, Some, None, Result, Ok, Err, if◌then◌else◌}
 use Rattle.c_lexer.specs.declared.token.Constant.{Constant}
 use Rattle.c_lexer.specs.declared.token.ConstantType.{ConstantType}
 use Rattle.c_lexer.specs.declared.token.ConstantType.TheVariants as constants
@@ -28,11 +27,8 @@ use Rattle.core_tree.specs.declared.operators.SignOperator.TheVariants as signs
 use Rattle.core_tree.specs.declared.operators.StepOperator.{StepOperator}
 use Rattle.core_tree.specs.declared.operators.StepOperator.TheVariants as steps
 use Rattle.core_tree.specs.declared.expression.Place.{Place}
-use Rattle.core_tree.specs.declared.expression.Place.TheVariants as places
 use Rattle.core_tree.specs.Trees.{Expression, constant, read, convert, sign, is_zero, arithmetic, compare, logical, choice, assign, update, step, comma, assertion, assumption, draw}
 use Rattle.core_tree.specs.Typed.{type_of, place_type, is_shift}
-use Rattle.c_elab_expr.specs.declared.meaning.Meaning.{Meaning}
-use Rattle.c_elab_expr.specs.declared.meaning.Meaning.TheVariants.{Variable, Assert, Assume, Draw, Function, Typedef, Enumerator, Record, Enumeration}
 
 -- a typed node, or the rule that is broken
 abbrev pub Node : Type 0
@@ -79,15 +75,11 @@ place_of (assertion line e) = None
 place_of (assumption line e) = None
 place_of (draw line t) = None
 
--- a place is of a variable that isn't const, of which `constants` tells by number
-abbrev pub writable : List Bool → Place → Option Place
-writable constants (places.Variable line t v) = if slice_index_or constants v false then None else Some (places.Variable line t v)
+-- the place that may be changed, which isn't const
+abbrev pub target_of : Bool → Expression → Option Place
+target_of is_const e = if is_const then None else place_of e
 
--- the place that may be changed
-abbrev pub target_of : List Bool → Expression → Option Place
-target_of constants e = option_and_then (writable constants) (place_of e)
-
--- ---- constants and names
+-- ---- constants
 
 abbrev pub constant_type : ConstantType → IntegerType
 constant_type constants.Int = types.Int
@@ -104,20 +96,6 @@ constant_node line c = let t = constant_type c.type_ in constant line t (c.value
 -- a character constant is of type int (C11 6.4.4.4p10)
 abbrev pub character_node : ℕ → ℕ → Expression
 character_node line bits = constant line types.Int (bits % 2 ^ 32)
-
--- A function stands only where it is called, and a type's name where a type is named. An enumerator is a constant of type int
--- (C11 6.7.2.2p3).
-abbrev pub name_node : ℕ → Option Meaning → Node
-name_node line None = Err 1
-name_node line (Some (Variable v t k)) = Ok (read (places.Variable line t v))
-name_node line (Some Assert) = Err 7
-name_node line (Some Assume) = Err 7
-name_node line (Some (Draw t)) = Err 7
-name_node line (Some Function) = Err 7
-name_node line (Some (Typedef n)) = Err 7
-name_node line (Some (Enumerator bits)) = Ok (character_node line bits)
-name_node line (Some (Record p)) = Err 7
-name_node line (Some Enumeration) = Err 7
 
 -- ---- sizeof (C11 6.5.3.4)
 
@@ -159,23 +137,23 @@ not_node line e = do
   Ok (is_zero line e)
 
 -- `++` and `--` (C11 6.5.2.4, 6.5.3.1)
-abbrev pub step_node : List Bool → ℕ → StepOperator → Bool → Expression → Node
-step_node constants line op before e = do
+abbrev pub step_node : Bool → ℕ → StepOperator → Bool → Expression → Node
+step_node is_const line op before e = do
   t ← integer 7 e
-  p ← required 9 (target_of constants e)
+  p ← required 9 (target_of is_const e)
   Ok (step line p op before)
 
-abbrev pub unary_node : List Bool → ℕ → UnaryOp → Expression → Node
-unary_node constants line unaries.Increment e = step_node constants line steps.Increment true e
-unary_node constants line unaries.Decrement e = step_node constants line steps.Decrement true e
-unary_node constants line unaries.Plus e = sign_node line signs.Plus e
-unary_node constants line unaries.Minus e = sign_node line signs.Minus e
-unary_node constants line unaries.Complement e = sign_node line signs.Complement e
-unary_node constants line unaries.Not e = not_node line e
+abbrev pub unary_node : Bool → ℕ → UnaryOp → Expression → Node
+unary_node is_const line unaries.Increment e = step_node is_const line steps.Increment true e
+unary_node is_const line unaries.Decrement e = step_node is_const line steps.Decrement true e
+unary_node is_const line unaries.Plus e = sign_node line signs.Plus e
+unary_node is_const line unaries.Minus e = sign_node line signs.Minus e
+unary_node is_const line unaries.Complement e = sign_node line signs.Complement e
+unary_node is_const line unaries.Not e = not_node line e
 
-abbrev pub postfix_node : List Bool → ℕ → StepOp → Expression → Node
-postfix_node constants line postfixes.Increment e = step_node constants line steps.Increment false e
-postfix_node constants line postfixes.Decrement e = step_node constants line steps.Decrement false e
+abbrev pub postfix_node : Bool → ℕ → StepOp → Expression → Node
+postfix_node is_const line postfixes.Increment e = step_node is_const line steps.Increment false e
+postfix_node is_const line postfixes.Decrement e = step_node is_const line steps.Decrement false e
 
 -- ---- binary operators (C11 6.5.5 to 6.5.14)
 
@@ -239,11 +217,11 @@ choice_node line test a b = do
 
 -- ---- assignments (C11 6.5.16)
 
-abbrev pub assign_node : List Bool → ℕ → Expression → Expression → Node
-assign_node constants line place value = do
+abbrev pub assign_node : Bool → ℕ → Expression → Expression → Node
+assign_node is_const line place value = do
   t ← integer 8 place
   u ← integer 8 value
-  p ← required 9 (target_of constants place)
+  p ← required 9 (target_of is_const place)
   Ok (assign line p (as_type (place_type p) value))
 
 -- the operators that can stand before `=`
@@ -267,46 +245,14 @@ operator_of binaries.Multiply = Some arithmetics.Multiply
 operator_of binaries.Divide = Some arithmetics.Divide
 operator_of binaries.Remainder = Some arithmetics.Remainder
 
-abbrev pub update_node : List Bool → ℕ → BinaryOp → Expression → Expression → Node
-update_node constants line op place value = do
+abbrev pub update_node : Bool → ℕ → BinaryOp → Expression → Expression → Node
+update_node is_const line op place value = do
   operator ← required 7 (operator_of op)
   t ← integer 7 place
   u ← integer 7 value
-  p ← required 9 (target_of constants place)
+  p ← required 9 (target_of is_const place)
   Ok (update line p operator (left_type operator t u) (as_type (right_type operator t u) value))
 
-abbrev pub assignment_node : List Bool → ℕ → Option BinaryOp → Expression → Expression → Node
-assignment_node constants line None place value = assign_node constants line place value
-assignment_node constants line (Some op) place value = update_node constants line op place value
-
--- ---- calls (C11 6.5.2.2)
-
--- the one argument of an integer type
-abbrev pub one_integer : List Expression → Result Expression ℕ
-one_integer [] = Err 10
-one_integer (a ∷ []) = do
-  t ← integer 8 a
-  Ok a
-one_integer (a ∷ b ∷ rest) = do
-  t ← integer 8 a
-  Err 10
-
-abbrev pub no_arguments : List Expression → Expression → Node
-no_arguments [] e = Ok e
-no_arguments (a ∷ rest) e = Err 10
-
--- what a call of what a name on this line means is; no tree calls a function that the file defines
-abbrev pub call_node : ℕ → Meaning → List Expression → Node
-call_node line (Variable v t k) arguments = Err 10
-call_node line Assert arguments = do
-  a ← one_integer arguments
-  Ok (assertion line a)
-call_node line Assume arguments = do
-  a ← one_integer arguments
-  Ok (assumption line a)
-call_node line (Draw t) arguments = no_arguments arguments (draw line t)
-call_node line Function arguments = Err 10
-call_node line (Typedef n) arguments = Err 10
-call_node line (Enumerator bits) arguments = Err 10
-call_node line (Record p) arguments = Err 10
-call_node line Enumeration arguments = Err 10
+abbrev pub assignment_node : Bool → ℕ → Option BinaryOp → Expression → Expression → Node
+assignment_node is_const line None place value = assign_node is_const line place value
+assignment_node is_const line (Some op) place value = update_node is_const line op place value

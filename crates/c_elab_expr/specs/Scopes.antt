@@ -1,17 +1,18 @@
 -- What names mean at a place of a file (C11 6.2.1, 6.2.3).
-use Rattle.std.specs.Prelude.{ℕ, Bool, true, false, not, ◌&&◌, List, [], ◌∷◌, length, nat_lt, Option, Some, None, codes, if◌then◌else◌, refl}
+use Rattle.std.specs.Prelude.{ℕ, Bool, true, false, not, ◌&&◌, List, [], ◌∷◌, map, length, nat_lt, Option, Some, None, codes, if◌then◌else◌, refl}
 use Rattle.std.specs.List.{list_all, list_any}
 use Rattle.std.specs.Str.{bytes_eq}
 use Rattle.std.specs.Coded.{Coded, code_by, coded_bool, coded×}
 use Rattle.c_types.specs.declared.integers.IntegerType.{IntegerType}
 use Rattle.c_types.specs.declared.integers.IntegerType.TheVariants as types
 use Rattle.c_types.specs.declared.types.RecordKind.TheVariants.{Struct}
-use Rattle.c_types.specs.Types.{CType, Records, view, coded_type, coded_records}
+use Rattle.c_types.specs.Types.{CType, Completed, Records, view, coded_type, coded_records}
 use Rattle.c_types.specs.Types as ctypes
-use Rattle.core_tree.specs.Typed.{is_variable}
+use Rattle.c_types.specs.Layouts.{is_complete, size_of}
 use Rattle.c_elab_expr.specs.declared.meaning.Meaning.{Meaning}
 use Rattle.c_elab_expr.specs.declared.meaning.Meaning.TheVariants.{Variable, Assert, Assume, Draw, Function, Typedef, Enumerator, Record, Enumeration}
 use Rattle.c_elab_expr.specs.declared.scope.QualifiedType.{QualifiedType}
+use Rattle.c_elab_expr.specs.Members.{Members}
 
 -- a declared name
 pub record Binding : Type 0 where
@@ -52,9 +53,12 @@ built_in_types =
     ∷ plain (ctypes.aggregate 0)
     ∷ []
 
--- a struct with a member of type unsigned
+-- a struct with a member of type unsigned, which has no name
 abbrev pub built_in_records : Records
 built_in_records = record { declared = Struct ∷ []; done = record { place = 0; kind = Struct; members = ctypes.integer types.UnsignedInt ∷ [] } ∷ [] }
+
+abbrev pub built_in_members : List Members
+built_in_members = record { named = []; constant = false } ∷ []
 
 -- the names that each file may use without a declaration
 abbrev pub built_ins : Environment
@@ -91,7 +95,7 @@ built_ins =
 
 -- a tag, which has a name space of its own
 abbrev pub is_tag : Meaning → Bool
-is_tag (Variable v t k) = false
+is_tag (Variable v) = false
 is_tag Assert = false
 is_tag Assume = false
 is_tag (Draw t) = false
@@ -131,22 +135,22 @@ declares tags bindings name = list_any (λ b. is_called tags name b) bindings
 
 -- ---- scopes
 
--- A scope: the declared names, what typedefs name by number, the structs and unions by place, the types of the function's
--- variables by number, and of each whether it is const.
+-- A scope: the declared names, what typedefs name by number, the structs and unions by place with the members that `.` finds
+-- in each, and the types of the function's variables by number.
 pub record Scoped : Type 0 where
   pub bindings : Environment
   pub types : List Named
   pub records : Records
-  pub variables : List IntegerType
-  pub constants : List Bool
+  pub members : List Members
+  pub variables : List Named
 
 -- nothing is declared
 abbrev pub first_scope : Scoped
-first_scope = record { bindings = []; types = built_in_types; records = built_in_records; variables = []; constants = [] }
+first_scope = record { bindings = []; types = built_in_types; records = built_in_records; members = built_in_members; variables = [] }
 
--- what a name means is there: a variable of the function with its type, a typedef's type, or a struct or union
-abbrev pub is_there : List IntegerType → ℕ → ℕ → Meaning → Bool
-is_there variables types records (Variable v t k) = is_variable variables v t
+-- what a name means is there: a variable of the function, a typedef's type, or a struct or union
+abbrev pub is_there : ℕ → ℕ → ℕ → Meaning → Bool
+is_there variables types records (Variable v) = nat_lt v variables
 is_there variables types records Assert = true
 is_there variables types records Assume = true
 is_there variables types records (Draw t) = true
@@ -156,14 +160,26 @@ is_there variables types records (Enumerator bits) = true
 is_there variables types records (Record p) = nat_lt p records
 is_there variables types records Enumeration = true
 
-abbrev pub are_there : List IntegerType → ℕ → ℕ → Environment → Bool
+abbrev pub are_there : ℕ → ℕ → ℕ → Environment → Bool
 are_there variables types records bindings = list_all (λ b. is_there variables types records b.meaning) bindings
 
 abbrev pub is_known : Scoped → Meaning → Bool
-is_known s m = is_there s.variables (length s.types) (length s.records.declared) m
+is_known s m = is_there (length s.variables) (length s.types) (length s.records.declared) m
 
 abbrev pub are_known : Scoped → Bool
-are_known s = are_there s.variables (length s.types) (length s.records.declared) s.bindings
+are_known s = are_there (length s.variables) (length s.types) (length s.records.declared) s.bindings
+
+-- ---- the function's variables
+
+abbrev pub are_complete : List Completed → List Named → Bool
+are_complete done variables = list_all (λ n. is_complete done n.type) variables
+
+-- their sizes in bytes
+abbrev pub sizes_of : List Completed → List Named → List ℕ
+sizes_of done variables = map (λ n. size_of done n.type) variables
+
+abbrev pub sizes : Scoped → List ℕ
+sizes s = sizes_of s.records.done s.variables
 
 -- ---- codes, by which proofs tell scopes apart
 

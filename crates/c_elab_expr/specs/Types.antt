@@ -140,7 +140,7 @@ with_type s (Err rule) = record s { named = s.named ++ ctypes.void ∷ []; broke
 -- rule 1: what a typedef's name names
 abbrev pub typedef_of : Scoped → Option Meaning → Result Named ℕ
 typedef_of scope None = Err 1
-typedef_of scope (Some (Variable v t k)) = Err 1
+typedef_of scope (Some (Variable v)) = Err 1
 typedef_of scope (Some Assert) = Err 1
 typedef_of scope (Some Assume) = Err 1
 typedef_of scope (Some (Draw t)) = Err 1
@@ -165,7 +165,7 @@ enumeration_of tag_kinds.Union = Err 18
 enumeration_of tag_kinds.Enum = Ok (plain (ctypes.integer types.Int))
 
 abbrev pub tag_type : Scoped → TagKind → Meaning → Result Named ℕ
-tag_type scope kind (Variable v t k) = Err 18
+tag_type scope kind (Variable v) = Err 18
 tag_type scope kind Assert = Err 18
 tag_type scope kind Assume = Err 18
 tag_type scope kind (Draw t) = Err 18

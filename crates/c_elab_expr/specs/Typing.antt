@@ -1,21 +1,19 @@
--- The typed tree of an expression, or the first broken rule: parts come before the node, from left to right, so it is the node
+-- The typed operand of an expression, or the first broken rule: parts come before the node, from left to right, so it is the node
 -- whose last token comes first among those that break a rule and whose parts are all typed (C11 6.5).
-use Rattle.std.specs.Prelude.{◌≡◌, ℕ, ◌+◌, ◌++◌, List, [], ◌∷◌, Option, Some, None, Result, Ok, Err}
+use Rattle.std.specs.Prelude.{◌≡◌, ℕ, ◌+◌, ◌++◌, false, List, [], ◌∷◌, Option, Some, None, Result, Ok, Err}
 use Rattle.c_tree.specs.Tree.{TypePart, Tree, Trees, Declared, Suffixes, unnamed, named, inside, no_suffix, bounded, unbounded, constant, character, strings, name, parens, unary, cast, sizeof_expr, sizeof_type, step, member, binary, choice, assign, comma, call, none, more, first_line}
-use Rattle.core_tree.specs.Trees.{Expression}
-use Rattle.core_tree.specs.Trees as cores
 use Rattle.c_elab_expr.specs.declared.meaning.Meaning.{Meaning}
 use Rattle.c_elab_expr.specs.declared.fault.TypingError.{TypingError}
 use Rattle.c_elab_expr.specs.declared.fault.TypingError.TheVariants as errors
 use Rattle.c_elab_expr.specs.declared.fault.Broken.{Broken}
 use Rattle.c_elab_expr.specs.declared.fault.Broken.TheVariants as broken
-use Rattle.core_tree.specs.Typed.{type_of}
-use Rattle.c_types.specs.Types.{CType}
+use Rattle.c_types.specs.Types.{CType, Completed}
 use Rattle.c_elab_expr.specs.Scopes.{Scoped, meaning_of}
 use Rattle.c_elab_expr.specs.Types.{nothing_said, with_parts, specified_type, parts_line, declared_line, array_of, type_size}
-use Rattle.c_elab_expr.specs.Constants.{constant_of, length_said}
+use Rattle.c_elab_expr.specs.Constants.{length_said}
 use Rattle.c_elab_expr.specs.Strings.{strings_of, strings_length}
-use Rattle.c_elab_expr.specs.Nodes.{Node, ◌>>=◌, required, constant_node, character_node, name_node, unary_node, postfix_node, binary_node, choice_node, assignment_node, call_node, cast_node, size_node, value_size}
+use Rattle.c_elab_expr.specs.Nodes.{◌>>=◌, required, constant_node, character_node, size_node}
+use Rattle.c_elab_expr.specs.Operands.{Operand, value, OperandNode, computed, used, name_node, member_node, operand_bytes, constant_in, cast_operand, unary_operand, postfix_operand, binary_operand, choice_operand, assign_operand, comma_operand, call_node}
 
 -- a broken rule, and the line of the first token of the node that breaks it
 pub record Fault : Type 0 where
@@ -34,14 +32,21 @@ abbrev pub on_line : {A : Type 0} → ℕ → Result A ℕ → Result A Fault
 on_line line (Ok x) = Ok x
 on_line line (Err rule) = Err (fault line rule)
 
--- What a callee means, with the line of its name: any other tree is typed, and is no function.
-abbrev pub callee : Scoped → Tree → Result Expression Fault → Result (Option (ℕ × Meaning)) Fault
-callee s (name line n) typed_callee = on_line line (required 1 (meaning_of s.bindings n)) >>= λ m. Ok (Some (line, m))
-callee s _ typed_callee = typed_callee >>= λ e. Ok None
+-- what an expression that begins on this line is where it doesn't stand behind `sizeof`
+abbrev pub used_on : ℕ → Result Operand Fault → Result Operand Fault
+used_on line typing = typing >>= λ x. on_line line (used x)
 
-abbrev pub called : Option (ℕ × Meaning) → List Expression → Node
+abbrev pub no_function : Result Operand Fault → Result (Option (ℕ × Meaning)) Fault
+no_function typing = typing >>= λ x. Ok None
+
+-- What a callee means, with the line of its name: any other tree is typed, and is no function.
+abbrev pub callee : Scoped → Tree → Result Operand Fault → Result (Option (ℕ × Meaning)) Fault
+callee s (name line n) typed_callee = on_line line (required 1 (meaning_of s.bindings n)) >>= λ m. Ok (Some (line, m))
+callee s _ typed_callee = no_function typed_callee
+
+abbrev pub called : Option (ℕ × Meaning) → List Operand → OperandNode
 called None arguments = Err 10
-called (Some m) arguments = call_node m.0 m.1 arguments
+called (Some m) arguments = computed (call_node m.0 m.1 arguments)
 
 -- The type of a type name, whose specifiers are a node and whose declarator, with these typed bounds, is the next.
 abbrev pub type_name : Scoped → List TypePart → Declared → Result (List (Option ℕ)) Fault → Result CType Fault
@@ -50,72 +55,76 @@ type_name s parts d bounds = do
   ns ← bounds
   on_line (declared_line d) (array_of s.records.done t.type ns)
 
+abbrev pub sized : ℕ → ℕ → Operand
+sized line n = value (size_node line n) false
+
 -- The size of a string counts the zero behind it. Another operand has a typing, and is not evaluated.
-abbrev pub operand_size : ℕ → Option (List (List ℕ)) → Result Expression Fault → Result Expression Fault
-operand_size line (Some parts) typed_operand = Ok (size_node line (strings_length parts + 1))
-operand_size line None typed_operand = do
+abbrev pub operand_size : ℕ → List Completed → Option (List (List ℕ)) → Result Operand Fault → Result Operand Fault
+operand_size line done (Some parts) typed_operand = Ok (sized line (strings_length parts + 1))
+operand_size line done None typed_operand = do
   x ← typed_operand
-  n ← on_line line (value_size (type_of x))
-  Ok (size_node line n)
+  n ← on_line line (operand_bytes done x)
+  Ok (sized line n)
 
 -- rule 13: a bound is an integer constant expression, and says how many elements
-abbrev pub bound : ℕ → Result Expression Fault → Result ℕ Fault
+abbrev pub bound : ℕ → Result Operand Fault → Result ℕ Fault
 bound line typed_bound = do
   x ← typed_bound
-  n ← on_line line (required 13 (constant_of x))
+  n ← on_line line (required 13 (constant_in x))
   Ok (length_said n)
 
 abbrev mutual
-  pub typed : Scoped → Tree → Result Expression Fault
-  typed s (constant line c) = Ok (constant_node line c)
-  typed s (character line bits) = Ok (character_node line bits)
+  -- an expression, also as the operand of `sizeof`
+  pub typed : Scoped → Tree → Result Operand Fault
+  typed s (constant line c) = Ok (value (constant_node line c) false)
+  typed s (character line bits) = Ok (value (character_node line bits) false)
   typed s (strings line parts) = Err (fault line 7)
-  typed s (name line n) = on_line line (name_node line (meaning_of s.bindings n))
+  typed s (name line n) = on_line line (name_node s line (meaning_of s.bindings n))
   typed s (parens line e) = typed s e
   typed s (unary line op e) = do
-    x ← typed s e
-    on_line line (unary_node s.constants line op x)
+    x ← used_on (first_line e) (typed s e)
+    on_line line (unary_operand line op x)
   typed s (cast line parts d e) = do
     t ← type_name s parts d (lengths s d)
-    x ← typed s e
-    on_line line (cast_node t x)
-  typed s (sizeof_expr line e) = operand_size line (strings_of e) (typed s e)
+    x ← used_on (first_line e) (typed s e)
+    on_line line (cast_operand t x)
+  typed s (sizeof_expr line e) = operand_size line s.records.done (strings_of e) (typed s e)
   typed s (sizeof_type line parts d) = do
     t ← type_name s parts d (lengths s d)
     n ← on_line line (type_size s.records.done t)
-    Ok (size_node line n)
+    Ok (sized line n)
   typed s (step line op e) = do
-    x ← typed s e
-    on_line (first_line e) (postfix_node s.constants line op x)
+    x ← used_on (first_line e) (typed s e)
+    on_line (first_line e) (postfix_operand line op x)
   typed s (member line e n) = do
-    x ← typed s e
-    Err (fault (first_line e) 11)
+    x ← used_on (first_line e) (typed s e)
+    on_line (first_line e) (member_node s line x n)
   typed s (binary line op a b) = do
-    x ← typed s a
-    y ← typed s b
-    on_line (first_line a) (binary_node line op x y)
+    x ← used_on (first_line a) (typed s a)
+    y ← used_on (first_line b) (typed s b)
+    on_line (first_line a) (binary_operand line op x y)
   typed s (choice line test a b) = do
-    x ← typed s test
-    y ← typed s a
-    z ← typed s b
-    on_line (first_line test) (choice_node line x y z)
+    x ← used_on (first_line test) (typed s test)
+    y ← used_on (first_line a) (typed s a)
+    z ← used_on (first_line b) (typed s b)
+    on_line (first_line test) (choice_operand line x y z)
   typed s (assign line op a b) = do
-    x ← typed s a
-    y ← typed s b
-    on_line (first_line a) (assignment_node s.constants line op x y)
+    x ← used_on (first_line a) (typed s a)
+    y ← used_on (first_line b) (typed s b)
+    on_line (first_line a) (assign_operand s line op x y)
   typed s (comma line a b) = do
-    x ← typed s a
-    y ← typed s b
-    Ok (cores.comma line x y)
+    x ← used_on (first_line a) (typed s a)
+    y ← used_on (first_line b) (typed s b)
+    on_line (first_line a) (comma_operand line x y)
   typed s (call f arguments) = do
-    m ← callee s f (typed s f)
+    m ← callee s f (used_on (first_line f) (typed s f))
     xs ← typed_arguments s arguments
     on_line (first_line f) (called m xs)
 
-  pub typed_arguments : Scoped → Trees → Result (List Expression) Fault
+  pub typed_arguments : Scoped → Trees → Result (List Operand) Fault
   typed_arguments s none = Ok []
   typed_arguments s (more first rest) = do
-    x ← typed s first
+    x ← used_on (first_line first) (typed s first)
     xs ← typed_arguments s rest
     Ok (x ∷ xs)
 
@@ -132,12 +141,16 @@ abbrev mutual
   pub suffix_lengths : Scoped → Suffixes → Result (List (Option ℕ)) Fault
   suffix_lengths s no_suffix = Ok []
   suffix_lengths s (bounded line e rest) = do
-    n ← bound (first_line e) (typed s e)
+    n ← bound (first_line e) (used_on (first_line e) (typed s e))
     ns ← suffix_lengths s rest
     Ok (Some n ∷ ns)
   suffix_lengths s (unbounded line rest) = do
     ns ← suffix_lengths s rest
     Ok (None ∷ ns)
+
+-- an expression that doesn't stand behind `sizeof`
+abbrev pub operand : Scoped → Tree → Result Operand Fault
+operand s e = used_on (first_line e) (typed s e)
 
 -- ---- what the code's answers say
 

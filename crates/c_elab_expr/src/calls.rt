@@ -2,33 +2,32 @@
 
 ghost use Rattle.std.specs.Prelude.{◌≡◌, map};
 ghost use Rattle.core_tree.specs.Trees.{view};
-ghost use Rattle.c_elab_expr.specs.Nodes.{one_integer, no_arguments, call_node};
+ghost use Rattle.c_elab_expr.specs.Operands.{view_operand, one_integer, no_arguments, call_node};
 ghost use Rattle.c_elab_expr.specs.Typing.{GivesNode, called};
 
 use crate::fault::Broken;
 use crate::meaning::Meaning;
-use crate::nodes::integer;
+use crate::operands::{CoreOperand, computed, number};
 use core_tree::CoreExpr;
 use std::alloc::Global;
 
-fn one_integer(mut arguments: Vec<CoreExpr>) -> Result<CoreExpr, Broken>
-    ensures { GivesNode view result (one_integer (map view arguments.items)) }
+// The one argument, of an integer type.
+fn one_integer(mut arguments: Vec<CoreOperand>) -> Result<CoreExpr, Broken>
+    ensures { GivesNode view result (one_integer (map view_operand arguments.items)) }
 {
     if arguments.is_empty() {
         return Err(Broken::Rule { rule: 10 });
     }
-    let _type = integer(&arguments[0], 8)?;
-    if arguments.len() > 1 {
+    let more = arguments.len() > 1;
+    let argument = number(arguments.swap_remove(0), 8)?;
+    if more {
         return Err(Broken::Rule { rule: 10 });
     }
-    match arguments.pop() {
-        Some(argument) => Ok(argument),
-        None => unreachable!(),
-    }
+    Ok(argument)
 }
 
-fn no_arguments(arguments: &[CoreExpr], expr: CoreExpr) -> Result<CoreExpr, Broken>
-    ensures { GivesNode view result (no_arguments (map view arguments.now) (view expr)) }
+fn no_arguments(arguments: &[CoreOperand], expr: CoreExpr) -> Result<CoreExpr, Broken>
+    ensures { GivesNode view result (no_arguments (map view_operand arguments.now) (view expr)) }
 {
     if arguments.is_empty() {
         Ok(expr)
@@ -41,16 +40,12 @@ fn call_node(
     alloc: Global,
     line: u32,
     meaning: Meaning,
-    arguments: Vec<CoreExpr>,
+    arguments: Vec<CoreOperand>,
 ) -> Result<CoreExpr, Broken>
-    ensures { GivesNode view result (call_node line meaning (map view arguments.items)) }
+    ensures { GivesNode view result (call_node line meaning (map view_operand arguments.items)) }
 {
     match meaning {
-        Meaning::Variable {
-            variable: _,
-            type_: _,
-            constant: _,
-        } => Err(Broken::Rule { rule: 10 }),
+        Meaning::Variable { variable: _ } => Err(Broken::Rule { rule: 10 }),
         Meaning::Assert => {
             let argument = one_integer(arguments)?;
             Ok(CoreExpr::Assertion {
@@ -78,12 +73,12 @@ fn call_node(
 pub fn called(
     alloc: Global,
     callee: Option<(u32, Meaning)>,
-    arguments: Vec<CoreExpr>,
-) -> Result<CoreExpr, Broken>
-    ensures { GivesNode view result (called callee (map view arguments.items)) }
+    arguments: Vec<CoreOperand>,
+) -> Result<CoreOperand, Broken>
+    ensures { GivesNode view_operand result (called callee (map view_operand arguments.items)) }
 {
     match callee {
-        Some((line, meaning)) => call_node(alloc, line, meaning, arguments),
+        Some((line, meaning)) => computed(call_node(alloc, line, meaning, arguments)),
         None => Err(Broken::Rule { rule: 10 }),
     }
 }

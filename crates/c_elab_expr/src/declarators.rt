@@ -1,10 +1,10 @@
 //! What declarators make of types.
 
-ghost use Rattle.std.specs.Prelude.{◌≡◌};
+ghost use Rattle.std.specs.Prelude.{◌≡◌, Ok, MatchResult};
 ghost use Rattle.c_tree.specs.Tree.{unnamed, suffixes_of, view_declarator};
 ghost use Rattle.c_types.specs.Types.{view};
 ghost use Rattle.c_elab_expr.specs.Types.{declared_line, one_array, array_of, type_size};
-ghost use Rattle.c_elab_expr.specs.Typing.{Gives, GivesNode, on_line};
+ghost use Rattle.c_elab_expr.specs.Typing.{Gives, GivesNode, Fails, on_line};
 
 use crate::fault::{Broken, TypingError};
 use c_tree::{ArraySuffix, Declarator, DeclaratorCore};
@@ -126,6 +126,22 @@ pub fn type_size(type_: &Ty, layouts: &Layouts) -> Result<u64, Broken>
     }
     match size_of(type_, layouts) {
         Ok(size) => Ok(size as u64),
+        Err(_) => unreachable!(),
+    }
+}
+
+/// The bytes of an object of this type, or rule 3 or 4 on the line of its declarator.
+pub fn object_size(type_: &Ty, layouts: &Layouts, line: u32) -> Result<u32, TypingError>
+    ensures { MatchResult result (λ n. type_size layouts.now.done (view type_.now) ≡ Ok n) (λ e. Fails e (on_line line (type_size layouts.now.done (view type_.now)))) }
+{
+    if !is_complete(type_, layouts) {
+        return Err(TypingError::Typing { line, rule: 3 });
+    }
+    if !is_sized(type_, layouts) {
+        return Err(TypingError::Typing { line, rule: 4 });
+    }
+    match size_of(type_, layouts) {
+        Ok(size) => Ok(size),
         Err(_) => unreachable!(),
     }
 }

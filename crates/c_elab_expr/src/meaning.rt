@@ -6,34 +6,22 @@ use c_types::IntegerType;
 /// What a name or a tag means (C11 6.2.1, 6.2.3).
 #[derive(Clone, Copy, Debug, PartialEq, Eq)]
 pub enum Meaning {
-    /// A variable of the function, by its number there, with its type.
-    Variable {
-        variable: u32,
-        type_: IntegerType,
-        constant: bool,
-    },
+    /// A variable of the function, by its number there.
+    Variable { variable: u32 },
     /// `assert`, which takes an integer.
     Assert,
     /// `__CPROVER_assume`, which takes an integer.
     Assume,
     /// A function without parameters that gives a number of this type from the inputs.
-    Draw {
-        type_: IntegerType,
-    },
+    Draw { type_: IntegerType },
     /// A function that the file defines.
     Function,
     /// A typedef, with its type's number in the scope.
-    Typedef {
-        number: u32,
-    },
+    Typedef { number: u32 },
     /// A constant of type int, by its bits.
-    Enumerator {
-        bits: u32,
-    },
+    Enumerator { bits: u32 },
     /// A tag of a struct or union, by its place in the layouts.
-    Record {
-        place: u32,
-    },
+    Record { place: u32 },
     /// A tag of an enumeration.
     Enumeration,
 }
@@ -45,11 +33,7 @@ impl Meaning {
     {
         match self {
             Meaning::Record { place: _ } | Meaning::Enumeration => true,
-            Meaning::Variable {
-                variable: _,
-                type_: _,
-                constant: _,
-            }
+            Meaning::Variable { variable: _ }
             | Meaning::Assert
             | Meaning::Assume
             | Meaning::Draw { type_: _ }

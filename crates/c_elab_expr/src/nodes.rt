@@ -1,14 +1,13 @@
-//! What an operator makes of its typed operands, or the lowest rule that they break.
+//! What an operator makes of typed values, or the lowest rule that they break.
 
-ghost use Rattle.std.specs.Prelude.{◌≡◌, ◌≤◌, ◌%◌, ◌^◌, IfOk, Some, None, if◌then◌else◌};
+ghost use Rattle.std.specs.Prelude.{◌≡◌, ◌≤◌, ◌%◌, ◌^◌, IfOk};
 ghost use Rattle.c_types.specs.Types.{view as type_view};
 ghost use Rattle.core_tree.specs.Trees.{view};
 ghost use Rattle.core_tree.specs.Typed.{type_of, place_type, is_shift};
-ghost use Rattle.c_elab_expr.specs.Nodes.{integer, as_type, place_of, writable, target_of, required, constant_type, constant_node, character_node, name_node, size_node, value_size, discarded, cast_node, sign_node, not_node, step_node, unary_node, postfix_node, left_type, right_type, arithmetic_node, compare_node, logical_node, binary_node, chosen, choice_node, assign_node, operator_of, update_node, assignment_node};
+ghost use Rattle.c_elab_expr.specs.Nodes.{integer, as_type, place_of, target_of, required, constant_type, constant_node, character_node, size_node, value_size, discarded, cast_node, sign_node, not_node, step_node, unary_node, postfix_node, left_type, right_type, arithmetic_node, compare_node, logical_node, binary_node, chosen, choice_node, assign_node, operator_of, update_node, assignment_node};
 ghost use Rattle.c_elab_expr.specs.Typing.{GivesNode};
 
 use crate::fault::Broken;
-use crate::meaning::Meaning;
 use c_lexer::{Constant, ConstantType};
 use c_tree::{BinaryOp, StepOp, UnaryOp};
 use c_types::{IntegerType, Ty, ValueType, common, promote};
@@ -37,34 +36,15 @@ fn place_of(expr: &CoreExpr) -> Option<Place>
     }
 }
 
-// Whether the variable is const.
-fn is_constant(constants: &[bool], place: &Place) -> bool
-    ensures { writable constants.now place.now ≡ (if result then None else Some place.now) }
+// The place that may be changed, which isn't const.
+fn target(constant: bool, expr: &CoreExpr) -> Result<Place, Broken>
+    ensures { GivesNode (λ p. p) result (required 9 (target_of constant (view expr.now))) }
 {
-    match place {
-        Place::Variable {
-            line: _,
-            type_: _,
-            variable,
-        } => match constants.get(*variable as usize) {
-            Some(constant) => *constant,
-            None => false,
-        },
+    if constant {
+        return Err(Broken::Rule { rule: 9 });
     }
-}
-
-// The place that may be changed.
-fn target(constants: &[bool], expr: &CoreExpr) -> Result<Place, Broken>
-    ensures { GivesNode (λ p. p) result (required 9 (target_of constants.now (view expr.now))) }
-{
     match place_of(expr) {
-        Some(place) => {
-            if is_constant(constants, &place) {
-                Err(Broken::Rule { rule: 9 })
-            } else {
-                Ok(place)
-            }
-        }
+        Some(place) => Ok(place),
         None => Err(Broken::Rule { rule: 9 }),
     }
 }
@@ -123,35 +103,6 @@ pub fn character_node(line: u32, bits: u32) -> CoreExpr
         line,
         type_: IntegerType::Int,
         bits: low_bits(bits as u64, 32),
-    }
-}
-
-pub fn name_node(line: u32, meaning: Option<Meaning>) -> Result<CoreExpr, Broken>
-    ensures { GivesNode view result (name_node line meaning) }
-{
-    match meaning {
-        None => Err(Broken::Rule { rule: 1 }),
-        Some(
-            Meaning::Variable {
-                variable,
-                type_,
-                constant: _,
-            },
-        ) => Ok(CoreExpr::Read {
-            place: Place::Variable {
-                line,
-                type_,
-                variable,
-            },
-        }),
-        Some(Meaning::Assert) => Err(Broken::Rule { rule: 7 }),
-        Some(Meaning::Assume) => Err(Broken::Rule { rule: 7 }),
-        Some(Meaning::Draw { type_: _ }) => Err(Broken::Rule { rule: 7 }),
-        Some(Meaning::Function) => Err(Broken::Rule { rule: 7 }),
-        Some(Meaning::Typedef { number: _ }) => Err(Broken::Rule { rule: 7 }),
-        Some(Meaning::Enumerator { bits }) => Ok(character_node(line, bits)),
-        Some(Meaning::Record { place: _ }) => Err(Broken::Rule { rule: 7 }),
-        Some(Meaning::Enumeration) => Err(Broken::Rule { rule: 7 }),
     }
 }
 
@@ -234,16 +185,16 @@ fn not_node(alloc: Global, line: u32, expr: CoreExpr) -> Result<CoreExpr, Broken
 }
 
 fn step_node(
-    constants: &[bool],
+    constant: bool,
     line: u32,
     operator: StepOperator,
     before: bool,
     expr: &CoreExpr,
 ) -> Result<CoreExpr, Broken>
-    ensures { GivesNode view result (step_node constants.now line operator before (view expr.now)) }
+    ensures { GivesNode view result (step_node constant line operator before (view expr.now)) }
 {
     let _type = integer(expr, 7)?;
-    let place = target(constants, expr)?;
+    let place = target(constant, expr)?;
     Ok(CoreExpr::Step {
         line,
         place,
@@ -254,16 +205,16 @@ fn step_node(
 
 pub fn unary_node(
     alloc: Global,
-    constants: &[bool],
+    constant: bool,
     line: u32,
     operator: UnaryOp,
     expr: CoreExpr,
 ) -> Result<CoreExpr, Broken>
-    ensures { GivesNode view result (unary_node constants.now line operator (view expr)) }
+    ensures { GivesNode view result (unary_node constant line operator (view expr)) }
 {
     match operator {
-        UnaryOp::Increment => step_node(constants, line, StepOperator::Increment, true, &expr),
-        UnaryOp::Decrement => step_node(constants, line, StepOperator::Decrement, true, &expr),
+        UnaryOp::Increment => step_node(constant, line, StepOperator::Increment, true, &expr),
+        UnaryOp::Decrement => step_node(constant, line, StepOperator::Decrement, true, &expr),
         UnaryOp::Plus => sign_node(alloc, line, SignOperator::Plus, expr),
         UnaryOp::Minus => sign_node(alloc, line, SignOperator::Minus, expr),
         UnaryOp::Complement => sign_node(alloc, line, SignOperator::Complement, expr),
@@ -272,16 +223,16 @@ pub fn unary_node(
 }
 
 pub fn postfix_node(
-    constants: &[bool],
+    constant: bool,
     line: u32,
     operator: StepOp,
     expr: &CoreExpr,
 ) -> Result<CoreExpr, Broken>
-    ensures { GivesNode view result (postfix_node constants.now line operator (view expr.now)) }
+    ensures { GivesNode view result (postfix_node constant line operator (view expr.now)) }
 {
     match operator {
-        StepOp::Increment => step_node(constants, line, StepOperator::Increment, false, expr),
-        StepOp::Decrement => step_node(constants, line, StepOperator::Decrement, false, expr),
+        StepOp::Increment => step_node(constant, line, StepOperator::Increment, false, expr),
+        StepOp::Decrement => step_node(constant, line, StepOperator::Decrement, false, expr),
     }
 }
 
@@ -494,22 +445,23 @@ fn place_type(place: &Place) -> IntegerType
             line: _,
             type_,
             variable: _,
+            offset: _,
         } => *type_,
     }
 }
 
 fn assign_node(
     alloc: Global,
-    constants: &[bool],
+    constant: bool,
     line: u32,
     place: &CoreExpr,
     value: CoreExpr,
 ) -> Result<CoreExpr, Broken>
-    ensures { GivesNode view result (assign_node constants.now line (view place.now) (view value)) }
+    ensures { GivesNode view result (assign_node constant line (view place.now) (view value)) }
 {
     let _t = integer(place, 8)?;
     let _u = integer(&value, 8)?;
-    let place = target(constants, place)?;
+    let place = target(constant, place)?;
     let value = as_type(alloc, place_type(&place), value)?;
     Ok(CoreExpr::Assign {
         line,
@@ -546,18 +498,18 @@ fn operator_of(operator: BinaryOp) -> Result<ArithmeticOperator, Broken>
 
 fn update_node(
     alloc: Global,
-    constants: &[bool],
+    constant: bool,
     line: u32,
     operator: BinaryOp,
     place: &CoreExpr,
     value: CoreExpr,
 ) -> Result<CoreExpr, Broken>
-    ensures { GivesNode view result (update_node constants.now line operator (view place.now) (view value)) }
+    ensures { GivesNode view result (update_node constant line operator (view place.now) (view value)) }
 {
     let operator = operator_of(operator)?;
     let t = integer(place, 7)?;
     let u = integer(&value, 7)?;
-    let place = target(constants, place)?;
+    let place = target(constant, place)?;
     let value = as_type(alloc, right_type(operator, t, u), value)?;
     Ok(CoreExpr::Update {
         line,
@@ -570,16 +522,16 @@ fn update_node(
 
 pub fn assignment_node(
     alloc: Global,
-    constants: &[bool],
+    constant: bool,
     line: u32,
     operator: Option<BinaryOp>,
     place: &CoreExpr,
     value: CoreExpr,
 ) -> Result<CoreExpr, Broken>
-    ensures { GivesNode view result (assignment_node constants.now line operator (view place.now) (view value)) }
+    ensures { GivesNode view result (assignment_node constant line operator (view place.now) (view value)) }
 {
     match operator {
-        None => assign_node(alloc, constants, line, place, value),
-        Some(operator) => update_node(alloc, constants, line, operator, place, value),
+        None => assign_node(alloc, constant, line, place, value),
+        Some(operator) => update_node(alloc, constant, line, operator, place, value),
     }
 }

@@ -1,13 +1,19 @@
 //! What names mean at a place of a file.
 
-ghost use Rattle.std.specs.Prelude.{◌≡◌, ◌-◌, ◌<◌, ◌≤◌, ◌^◌, true, false, [], ◌∷◌, ◌++◌, length, map, take, drop, slice_get, option_map, IfOk, IfErr, OnOk, OnErr, IfSome, vec_len, vec_capacity};
-ghost use Rattle.c_types.specs.Types.{integer, views};
-ghost use Rattle.c_types.specs.Layouts.{kind_at, is_completed, with_completed, are_complete, fits, Refuses};
+ghost use Rattle.std.specs.Prelude.{◌≡◌, ◌-◌, ◌<◌, ◌≤◌, ◌^◌, true, false, [], ◌∷◌, ◌++◌, length, map, take, drop, slice_get, slice_set, option_map, Ok, IfOk, IfErr, OnOk, OnErr, IfSome, vec_len, vec_capacity};
+ghost use Rattle.c_types.specs.Types.{integer, view as type_view};
+ghost use Rattle.c_types.specs.Layouts.{kind_at, is_completed, with_completed, are_complete, fits, Refuses, IsBuilt};
+ghost use Rattle.c_elab_expr.specs.Members.{view_fields, view_members, view_tables, field_types, no_members, members_in, members_by, found};
 ghost use Rattle.c_elab_expr.specs.Places.{place_in};
-ghost use Rattle.c_elab_expr.specs.Scopes.{binding, view_named, meaning_of, tag_of, declares, is_there, are_there, is_known, are_known, plain, built_in_types, built_in_records, first_scope};
+ghost use Rattle.c_elab_expr.specs.Scopes.{binding, view_named, meaning_of, tag_of, declares, is_there, are_there, is_known, are_known, plain, built_in_types, built_in_records, built_in_members, first_scope, sizes};
+ghost use Rattle.c_elab_expr.specs.Scopes as scopes;
+ghost use Rattle.c_elab_expr.specs.Types.{type_size};
 
 use crate::built_ins::built_in;
 use crate::meaning::Meaning;
+use crate::members::{
+    Field, MemberTable, Way, field_types, is_constant_within, members_by, way_in,
+};
 use crate::places::Places;
 use c_types::{IntegerType, LayoutError, Layouts, RecordKind, Ty};
 use std::alloc::{AllocError, Global};
@@ -29,36 +35,40 @@ pub struct QualifiedType {
 }
 
 /// What names and tags mean at a place of a file (C11 6.2.1, 6.2.3): those that are declared, the innermost first; the types
-/// that typedefs name, by number; the structs and unions; and the types of the function's variables by number, with whether each
-/// is const. What a name means is there.
+/// that typedefs name, by number; the structs and unions by place, with the members that `.` finds in each; and the types of the
+/// function's variables by number, which are complete. What a name means is there.
 #[derive(Drop)]
 pub struct Scope {
     bounds: Vec<Bound>,
     places: Places,
     types: Vec<QualifiedType>,
     layouts: Layouts,
-    variables: Vec<IntegerType>,
-    constants: Vec<bool>,
+    tables: Vec<MemberTable>,
+    variables: Vec<QualifiedType>,
+    sizes: Vec<u32>,
 }
 
 impl Model for Scope {
     ghost use Rattle.std.specs.Prelude.{◌≡◌, ◌≤◌, ℕ, Bool, List, true, length, map};
     ghost use Rattle.std.specs.Coded.{codes};
     ghost use Rattle.c_types.specs.Types.{coded_records};
-    ghost use Rattle.c_elab_expr.specs.Scopes.{Scoped, view_named, are_there, coded_named};
+    ghost use Rattle.c_elab_expr.specs.Members.{view_tables, coded_members};
+    ghost use Rattle.c_elab_expr.specs.Scopes.{Scoped, view_named, are_there, are_complete, sizes_of, coded_named};
     ghost use Rattle.c_elab_expr.specs.Places.{environment, place_in, hidden_in, hidden_of, entries_of, place_at};
 
     ghost Value = { Scoped };
 
-    ghost coded = { Prim.hlevel (codes, coded_named, coded_records) };
+    ghost coded = { Prim.hlevel (codes, coded_named, coded_records, coded_members) };
 
-    ghost view = { λ s. record { bindings = environment s.bounds.items; types = map view_named s.types.items; records = s.layouts; variables = s.variables.items; constants = s.constants.items } };
+    ghost view = { λ s. record { bindings = environment s.bounds.items; types = map view_named s.types.items; records = s.layouts; members = view_tables s.tables.items; variables = map view_named s.variables.items } };
 
-    ghost invariant = { λ s. (are_there s.variables.items (length (map view_named s.types.items)) (length s.layouts.declared) (environment s.bounds.items) ≡ true)
+    ghost invariant = { λ s. (are_there (length (map view_named s.variables.items)) (length (map view_named s.types.items)) (length s.layouts.declared) (environment s.bounds.items) ≡ true)
         × ((tags : Bool) (name : List ℕ) → place_at (entries_of tags s.places) name ≡ place_in tags (environment s.bounds.items) name)
         × (hidden_of s.bounds.items ≡ hidden_in (environment s.bounds.items))
-        × (length s.constants.items ≡ length s.variables.items)
-        × (9 ≤ length (map view_named s.types.items)) };
+        × (s.sizes.items ≡ sizes_of s.layouts.done (map view_named s.variables.items))
+        × (9 ≤ length (map view_named s.types.items))
+        × (are_complete s.layouts.done (map view_named s.variables.items) ≡ true)
+        × (length s.tables.items ≡ length s.layouts.declared) };
 }
 
 // The struct that pthread_mutex_t names.
@@ -72,6 +82,14 @@ fn built_in_layouts(alloc: Global) -> Result<Layouts, AllocError>
         Ok(()) => Ok(layouts),
         Err(_) => Err(AllocError),
     }
+}
+
+// No name of a member of it is known.
+fn built_in_tables(alloc: Global) -> Result<Vec<MemberTable>, AllocError>
+    ensures { IfOk result (λ v. view_tables v.items ≡ built_in_members) }
+{
+    let tables = vec![in alloc; MemberTable::new(alloc)]?;
+    Ok(tables)
 }
 
 fn plain(type_: IntegerType) -> QualifiedType
@@ -114,17 +132,21 @@ impl Scope {
             places: Places::new(alloc),
             types: built_in_types(alloc)?,
             layouts: built_in_layouts(alloc)?,
+            tables: built_in_tables(alloc)?,
             variables: Vec::new(alloc),
-            constants: Vec::new(alloc),
+            sizes: Vec::new(alloc),
         })
     }
 
-    /// What names mean is there. Computes nothing.
+    /// What names mean is there, the variables have complete types, and each struct and union was completed once. Computes
+    /// nothing.
     pub fn prove_there(&self)
         ensures there { are_known self.now ≡ true }
         ensures built_in { 9 ≤ length self.now.types }
+        ensures complete { scopes.are_complete self.now.records.done self.now.variables ≡ true }
+        ensures built { IsBuilt self.now.records.done }
     {
-        let _ = &self.bounds;
+        self.layouts.prove_built();
     }
 
     /// How many variables the function has so far.
@@ -134,11 +156,25 @@ impl Scope {
         self.variables.len()
     }
 
-    /// Of each variable of the function whether it is const, by number.
-    pub fn constants(&self) -> &[bool]
-        ensures { result.now ≡ self.now.constants }
+    /// The type of a variable of the function, by its number.
+    pub fn variable(&self, number: u32) -> Option<&QualifiedType>
+        ensures { option_map (λ t. view_named t.now) result ≡ slice_get self.now.variables number }
     {
-        &self.constants
+        self.variables.get(number as usize)
+    }
+
+    /// The way of a member's name in an object of a type.
+    pub fn way(&self, type_: &Ty, name: &[u8]) -> Option<&Way>
+        ensures { option_map (λ w. (w.now.path.items, w.now.constant)) result ≡ found (members_in self.now.members (type_view type_.now)).named name.now }
+    {
+        way_in(type_, &self.tables, name)
+    }
+
+    /// Whether a member within a type is const (C11 6.3.2.1p1).
+    pub fn is_constant_within(&self, type_: &Ty) -> bool
+        ensures { result ≡ (members_in self.now.members (type_view type_.now)).constant }
+    {
+        is_constant_within(type_, &self.tables)
     }
 
     /// How many types typedefs name.
@@ -225,16 +261,17 @@ impl Scope {
     }
 
     // One more variable of the function, and its number.
-    fn add_variable(&mut self, type_: IntegerType, constant: bool) -> Result<u32, AllocError>
-        requires { length self.old.variables < 2 ^ 32 }
+    fn add_variable(&mut self, named: QualifiedType, size: u32) -> Result<u32, AllocError>
+        requires room { length self.old.variables < 2 ^ 32 }
+        requires sized { type_size self.old.records.done (type_view named.type_) ≡ Ok size }
         ensures number { IfOk result (λ v. v ≡ length self.old.variables) }
-        ensures added { OnOk result (self.new ≡ record self.old { variables = self.old.variables ++ type_ ∷ []; constants = self.old.constants ++ constant ∷ [] }) }
+        ensures added { OnOk result (self.new ≡ record self.old { variables = self.old.variables ++ view_named named ∷ [] }) }
         ensures same { OnErr result (self.new ≡ self.old) }
     {
         let number = self.variables.len() as u32;
-        self.constants.reserve(1)?;
-        self.variables.push(type_)?;
-        put_constant(&mut self.constants, constant);
+        self.sizes.reserve(1)?;
+        self.variables.push(named)?;
+        put_size(&mut self.sizes, size);
         Ok(number)
     }
 
@@ -265,32 +302,24 @@ impl Scope {
         Ok(())
     }
 
-    /// Declares a variable in the innermost block: its number is how many the function had.
+    /// Declares a variable of a type of that many bytes in the innermost block: its number is how many the function had.
     pub fn declare_variable(
         &mut self,
         alloc: Global,
         name: &[u8],
-        type_: IntegerType,
-        constant: bool,
+        named: QualifiedType,
+        size: u32,
     ) -> Result<u32, AllocError>
-        requires { length self.old.variables < 2 ^ 32 }
+        requires room { length self.old.variables < 2 ^ 32 }
+        requires sized { type_size self.old.records.done (type_view named.type_) ≡ Ok size }
         ensures number { IfOk result (λ v. v ≡ length self.old.variables) }
         ensures declared { OnOk result (self.new ≡ record self.old {
-          bindings = binding name.now (Meaning.Variable (length self.old.variables) type_ constant) ∷ self.old.bindings;
-          variables = self.old.variables ++ type_ ∷ [];
-          constants = self.old.constants ++ constant ∷ [];
+          bindings = binding name.now (Meaning.Variable (length self.old.variables)) ∷ self.old.bindings;
+          variables = self.old.variables ++ view_named named ∷ [];
         }) }
     {
-        let variable = self.add_variable(type_, constant)?;
-        self.declare(
-            alloc,
-            name,
-            Meaning::Variable {
-                variable,
-                type_,
-                constant,
-            },
-        )?;
+        let variable = self.add_variable(named, size)?;
+        self.declare(alloc, name, Meaning::Variable { variable })?;
         Ok(variable)
     }
 
@@ -323,15 +352,18 @@ impl Scope {
     }
 
     /// One more struct or union, incomplete so far, and its place (C11 6.7.2.3p4).
-    pub fn declare_record(&mut self, kind: RecordKind) -> Result<u32, AllocError>
+    pub fn declare_record(&mut self, alloc: Global, kind: RecordKind) -> Result<u32, AllocError>
         requires { length self.old.records.declared < 2 ^ 31 }
         ensures place { IfOk result (λ p. p ≡ length self.old.records.declared) }
         ensures declared { OnOk result (self.new ≡ record self.old {
           records = record { declared = self.old.records.declared ++ kind ∷ []; done = self.old.records.done };
+          members = self.old.members ++ no_members ∷ [];
         }) }
         ensures same { OnErr result (self.new ≡ self.old) }
     {
+        self.tables.reserve(1)?;
         let place = self.layouts.declare(kind)?;
+        put_table(&mut self.tables, MemberTable::new(alloc));
         Ok(place)
     }
 
@@ -341,17 +373,24 @@ impl Scope {
         &mut self,
         alloc: Global,
         place: u32,
-        members: Vec<Ty>,
+        fields: &[Field],
     ) -> Result<(), LayoutError>
         requires declared { place < length self.old.records.declared }
         requires incomplete { is_completed self.old.records.done place ≡ false }
-        ensures complete { IfOk result (λ _. are_complete self.old.records.done (views members.items) ≡ true) }
-        ensures fits { IfOk result (λ _. fits self.old.records.done (kind_at self.old.records place) (views members.items) ≡ true) }
-        ensures completed { OnOk result (self.new ≡ record self.old { records = with_completed self.old.records place (kind_at self.old.records place) (views members.items) }) }
-        ensures refused { IfErr result (Refuses self.old.records.done (kind_at self.old.records place) (views members.items)) }
+        ensures complete { IfOk result (λ _. are_complete self.old.records.done (field_types (view_fields fields.now)) ≡ true) }
+        ensures fits { IfOk result (λ _. fits self.old.records.done (kind_at self.old.records place) (field_types (view_fields fields.now)) ≡ true) }
+        ensures completed { OnOk result (self.new ≡ record self.old {
+          records = with_completed self.old.records place (kind_at self.old.records place) (field_types (view_fields fields.now));
+          members = slice_set self.old.members place (members_by self.old.members (view_fields fields.now));
+        }) }
+        ensures refused { IfErr result (Refuses self.old.records.done (kind_at self.old.records place) (field_types (view_fields fields.now))) }
         ensures unchanged { OnErr result (self.new ≡ self.old) }
     {
-        self.layouts.complete(alloc, place, members)
+        let table = members_by(alloc, fields, &self.tables)?;
+        let types = field_types(alloc, fields)?;
+        self.layouts.complete(alloc, place, types)?;
+        self.tables[place as usize] = table;
+        Ok(())
     }
 
     // Takes back the innermost declaration.
@@ -381,15 +420,15 @@ impl Scope {
         }
     }
 
-    /// Ends a function: the types of its variables. No name in scope is one of them.
-    pub fn take_variables(&mut self, alloc: Global) -> Vec<IntegerType>
-        requires { are_there [] (length self.old.types) (length self.old.records.declared) self.old.bindings ≡ true }
-        ensures types { result.items ≡ self.old.variables }
-        ensures ended { self.new ≡ record self.old { variables = []; constants = [] } }
+    /// Ends a function: the sizes of its variables in bytes. No name in scope is one of them.
+    pub fn take_variables(&mut self, alloc: Global) -> Vec<u32>
+        requires { are_there 0 (length self.old.types) (length self.old.records.declared) self.old.bindings ≡ true }
+        ensures sizes { result.items ≡ sizes self.old }
+        ensures ended { self.new ≡ record self.old { variables = [] } }
     {
         let mut taken = Vec::new(alloc);
-        std::mem::swap(&mut taken, &mut self.variables);
-        self.constants.clear();
+        std::mem::swap(&mut taken, &mut self.sizes);
+        self.variables.clear();
         taken
     }
 }
@@ -404,11 +443,21 @@ fn put(bounds: &mut Vec<Bound>, bound: Bound)
     }
 }
 
-fn put_constant(constants: &mut Vec<bool>, constant: bool)
-    requires { vec_len constants.old < vec_capacity constants.old }
-    ensures { constants.new.items ≡ constants.old.items ++ constant ∷ [] }
+fn put_size(sizes: &mut Vec<u32>, size: u32)
+    requires { vec_len sizes.old < vec_capacity sizes.old }
+    ensures { sizes.new.items ≡ sizes.old.items ++ size ∷ [] }
 {
-    match constants.push(constant) {
+    match sizes.push(size) {
+        Ok(()) => {}
+        Err(_) => unreachable!(),
+    }
+}
+
+fn put_table(tables: &mut Vec<MemberTable>, table: MemberTable)
+    requires { vec_len tables.old < vec_capacity tables.old }
+    ensures { tables.new.items ≡ tables.old.items ++ table ∷ [] }
+{
+    match tables.push(table) {
         Ok(()) => {}
         Err(_) => unreachable!(),
     }

@@ -16,13 +16,21 @@ fn lexed(alloc: Global, text: &[u8]) -> Result<Tokens, LexError> {
     }
 }
 
-fn variable(place: &Place) -> u32 {
+/// `v0`, or `v0+4` at an offset.
+fn show_place(alloc: Global, place: &Place) -> Result<String, AllocError> {
     match place {
         Place::Variable {
             line: _,
             type_: _,
             variable,
-        } => *variable,
+            offset,
+        } => {
+            if *offset == 0 {
+                format!(in alloc; "v{variable}")
+            } else {
+                format!(in alloc; "v{variable}+{offset}")
+            }
+        }
     }
 }
 
@@ -34,7 +42,7 @@ fn show(alloc: Global, expr: &CoreExpr) -> Result<String, AllocError> {
             type_,
             bits,
         } => format!(in alloc; "{type_:?} {bits}"),
-        CoreExpr::Read { place } => format!(in alloc; "v{}", variable(place)),
+        CoreExpr::Read { place } => show_place(alloc, place),
         CoreExpr::Convert { to, operand } => format!(in alloc; "{to:?}({})", show(alloc, operand)?),
         CoreExpr::Sign {
             line: _,
@@ -92,7 +100,10 @@ fn show(alloc: Global, expr: &CoreExpr) -> Result<String, AllocError> {
             line: _,
             place,
             value,
-        } => format!(in alloc; "Assign(v{}, {})", variable(place), show(alloc, value)?),
+        } => {
+            let place = show_place(alloc, place)?;
+            format!(in alloc; "Assign({place}, {})", show(alloc, value)?)
+        }
         CoreExpr::Update {
             line: _,
             place,
@@ -101,14 +112,15 @@ fn show(alloc: Global, expr: &CoreExpr) -> Result<String, AllocError> {
             value,
         } => {
             let value = show(alloc, value)?;
-            format!(in alloc; "{operator:?}To(v{}, {type_:?}, {value})", variable(place))
+            let place = show_place(alloc, place)?;
+            format!(in alloc; "{operator:?}To({place}, {type_:?}, {value})")
         }
         CoreExpr::Step {
             line: _,
             place,
             operator,
             before,
-        } => format!(in alloc; "{operator:?}(v{}, {before})", variable(place)),
+        } => format!(in alloc; "{operator:?}({}, {before})", show_place(alloc, place)?),
         CoreExpr::Comma {
             line: _,
             left,
@@ -125,6 +137,25 @@ fn show(alloc: Global, expr: &CoreExpr) -> Result<String, AllocError> {
 }
 
 /// Declares a variable of the function.
+fn add_object(
+    alloc: Global,
+    scope: &mut Scope,
+    name: &[u8],
+    type_: Ty,
+    constant: bool,
+) -> Result<(), Fail> {
+    if scope.variable_count() > 100 {
+        return Err(Fail::from("too much"));
+    }
+    match object_size(&type_, scope.layouts(), 1) {
+        Ok(size) => {
+            scope.declare_variable(alloc, name, QualifiedType { type_, constant }, size)?;
+            Ok(())
+        }
+        Err(_) => Err(Fail::from("no size")),
+    }
+}
+
 fn add_variable(
     alloc: Global,
     scope: &mut Scope,
@@ -132,11 +163,7 @@ fn add_variable(
     type_: IntegerType,
     constant: bool,
 ) -> Result<(), Fail> {
-    if scope.variable_count() > 100 {
-        return Err(Fail::from("too much"));
-    }
-    scope.declare_variable(alloc, name, type_, constant)?;
-    Ok(())
+    add_object(alloc, scope, name, Ty::Integer(type_), constant)
 }
 
 /// Declares the name of a type.
@@ -165,7 +192,7 @@ fn add_record(alloc: Global, scope: &mut Scope, kind: RecordKind, tag: &[u8]) ->
     if scope.layouts().len() > 100 {
         return Err(Fail::from("too much"));
     }
-    let place = scope.declare_record(kind)?;
+    let place = scope.declare_record(alloc, kind)?;
     if (place as usize) < scope.layouts().len() {
         scope.declare(alloc, tag, Meaning::Record { place })?;
     }
@@ -173,11 +200,19 @@ fn add_record(alloc: Global, scope: &mut Scope, kind: RecordKind, tag: &[u8]) ->
 }
 
 /// Completes a struct or union with these members.
-fn complete(alloc: Global, scope: &mut Scope, place: u32, members: Vec<Ty>) -> Result<(), Fail> {
+fn complete(alloc: Global, scope: &mut Scope, place: u32, fields: &[Field]) -> Result<(), Fail> {
     if (place as usize) < scope.layouts().len() && !scope.layouts().is_completed(place) {
-        scope.complete_record(alloc, place, members)?;
+        scope.complete_record(alloc, place, fields)?;
     }
     Ok(())
+}
+
+fn field(alloc: Global, name: &[u8], type_: Ty, constant: bool) -> Result<Field, AllocError> {
+    Ok(Field {
+        name: Some(name.to_vec(alloc)?),
+        type_,
+        constant,
+    })
 }
 
 /// The array type of three numbers of type int.
@@ -216,24 +251,47 @@ fn add_names(alloc: Global, scope: &mut Scope) -> Result<(), Fail> {
     add_enumerator(alloc, scope, b"M", 0xffff_ffff)
 }
 
-/// Adds `struct S` of an int and a char, `union V`, which is incomplete, and `enum N`.
-fn add_tags(alloc: Global, scope: &mut Scope) -> Result<(), Fail> {
+/// Adds `struct S` of an int `a` and a const char `b`, `union V`, which is incomplete, and `enum N`.
+fn add_tags(alloc: Global, scope: &mut Scope) -> Result<u32, Fail> {
     let place = add_record(alloc, scope, RecordKind::Struct, b"S")?;
-    let members = vec![in alloc;
-        Ty::Integer(IntegerType::Int),
-        Ty::Integer(IntegerType::Char),
+    let fields = vec![in alloc;
+        field(alloc, b"a", Ty::Integer(IntegerType::Int), false)?,
+        field(alloc, b"b", Ty::Integer(IntegerType::Char), true)?,
     ]?;
-    complete(alloc, scope, place, members)?;
+    complete(alloc, scope, place, &fields)?;
     let _place = add_record(alloc, scope, RecordKind::Union, b"V")?;
     scope.declare(alloc, b"N", Meaning::Enumeration)?;
-    Ok(())
+    Ok(place)
+}
+
+/// Adds `struct R` of a char `c`, an anonymous `struct S`, an `A` `n` and a `struct S` `s`, the variables `r` and `t` of this type
+/// (v6, v7), `q` of it and const (v8), and `m` of type `A` (v9).
+fn add_objects(alloc: Global, scope: &mut Scope, inner: u32) -> Result<(), Fail> {
+    let place = add_record(alloc, scope, RecordKind::Struct, b"R")?;
+    let fields = vec![in alloc;
+        field(alloc, b"c", Ty::Integer(IntegerType::Char), false)?,
+        Field {
+            name: None,
+            type_: Ty::Record(inner),
+            constant: false
+        },
+        field(alloc, b"n", three_ints(alloc, scope)?, false)?,
+        field(alloc, b"s", Ty::Record(inner), false)?,
+    ]?;
+    complete(alloc, scope, place, &fields)?;
+    add_object(alloc, scope, b"r", Ty::Record(place), false)?;
+    add_object(alloc, scope, b"t", Ty::Record(place), false)?;
+    add_object(alloc, scope, b"q", Ty::Record(place), true)?;
+    let three = three_ints(alloc, scope)?;
+    add_object(alloc, scope, b"m", three, false)
 }
 
 /// All of these names.
 fn typed_scope(alloc: Global) -> Result<Scope, Fail> {
     let mut scope = test_scope(alloc)?;
     add_names(alloc, &mut scope)?;
-    add_tags(alloc, &mut scope)?;
+    let inner = add_tags(alloc, &mut scope)?;
+    add_objects(alloc, &mut scope, inner)?;
     Ok(scope)
 }
 
@@ -257,8 +315,17 @@ fn type_names(alloc: Global) -> Result<TypeNames, AllocError> {
 fn outcome(alloc: Global, text: &[u8], scope: &Scope) -> Result<String, Fail> {
     let tokens = lexed(alloc, text)?;
     let (tree, _) = expression(alloc, &tokens, 0, Level::Comma, &type_names(alloc)?)?;
-    match typed(alloc, &tree, scope) {
-        Ok(core) => Ok(show(alloc, &core)?),
+    match operand(alloc, &tree, scope) {
+        Ok(CoreOperand::Value { value, constant: _ }) => Ok(show(alloc, &value)?),
+        Ok(
+            CoreOperand::Object {
+                line,
+                variable,
+                offset,
+                type_: _,
+                constant,
+            },
+        ) => Ok(format!(in alloc; "line {line} v{variable}+{offset} {constant}")?),
         Err(TypingError::Typing { line, rule }) => {
             Ok(format!(in alloc; "line {line} rule {rule}")?)
         }
@@ -446,6 +513,75 @@ fn casts_and_constants_are_no_places(rt: HostRuntime) -> Result<(), Fail> {
     ];
     for (text, typing) in rows {
         assert_eq!(rt; outcome(alloc, text, &scope)?.as_str(), typing);
+    }
+    Ok(())
+}
+
+#[test]
+fn members_lie_in_their_objects(rt: HostRuntime) -> Result<(), Fail> {
+    let alloc = rt.alloc();
+    let scope = typed_scope(alloc)?;
+    let rows: [(&[u8], &str); 45] = [
+        (b"r.c", "v6"),
+        (b"r.a", "v6+4"),
+        (b"(r).b+1", "Add(Int(v6+8), Int 1)"),
+        (b"r\n.\ns", "line 2 v6+24 false"),
+        (b"r.s.a=x", "Assign(v6+24, v0)"),
+        (b"t.s.a++", "Increment(v7+24, false)"),
+        (b"r.c+=t.a", "AddTo(v6, Int, v7+4)"),
+        (b"\nq", "line 2 v8+0 true"),
+        (b"q.s", "line 1 v8+24 true"),
+        (b"r.b=1", "line 1 rule 9"),
+        (b"r.s.b=1", "line 1 rule 9"),
+        (b"++r.s.b", "line 1 rule 9"),
+        (b"q.c=1", "line 1 rule 9"),
+        (b"q.s.a++", "line 1 rule 9"),
+        (b"\nr\n.d", "line 2 rule 11"),
+        (b"r.s.c", "line 1 rule 11"),
+        (b"r.c.a", "line 1 rule 11"),
+        (b"\nm", "line 2 rule 7"),
+        (b"x+\nm", "line 2 rule 7"),
+        (b"x+\n(m)", "line 2 rule 7"),
+        (b"m\n=1", "line 1 rule 7"),
+        (b"m.a", "line 1 rule 7"),
+        (b"r.n", "line 1 rule 7"),
+        (b"sizeof m", "UnsignedLong 12"),
+        (b"sizeof((m))", "UnsignedLong 12"),
+        (b"sizeof r.n", "UnsignedLong 12"),
+        (b"sizeof r", "UnsignedLong 32"),
+        (b"sizeof r.s", "UnsignedLong 8"),
+        (b"sizeof r.b", "UnsignedLong 1"),
+        (b"sizeof(m,1)", "line 1 rule 7"),
+        (b"sizeof r.d", "line 1 rule 11"),
+        (b"-r", "line 1 rule 7"),
+        (b"r+1", "line 1 rule 7"),
+        (b"r++", "line 1 rule 7"),
+        (b"r+=1", "line 1 rule 7"),
+        (b"r=1", "line 1 rule 8"),
+        (b"x=r", "line 1 rule 8"),
+        (b"r=r.s", "line 1 rule 8"),
+        (b"q=r", "line 1 rule 9"),
+        (b"r=t", "line 1 rule 9"),
+        (b"x?r:r.s", "line 1 rule 7"),
+        (b"x?r:1", "line 1 rule 7"),
+        (b"r?1:2", "line 1 rule 7"),
+        (b"assert(r)", "line 1 rule 8"),
+        (b"(int)r", "line 1 rule 7"),
+    ];
+    for (text, typing) in rows {
+        assert_eq!(rt; outcome(alloc, text, &scope)?.as_str(), typing);
+    }
+    Ok(())
+}
+
+#[test]
+fn values_of_structs_have_no_typing_yet(rt: HostRuntime) -> Result<(), Fail> {
+    let alloc = rt.alloc();
+    let scope = typed_scope(alloc)?;
+    let rows: [&[u8]; 4] = [b"x?r:t", b"(void)r", b"r,1", b"1,r"];
+    for text in rows {
+        let typing = outcome(alloc, text, &scope)?;
+        assert!(rt; typing.as_str().ends_with("rule 0"));
     }
     Ok(())
 }

@@ -1,29 +1,29 @@
-//! The typed tree of an expression.
+//! The typed operand of an expression.
 
 ghost use Rattle.std.specs.Prelude.{◌≡◌, ℕ, true, map, Result, IfOk};
 ghost use Rattle.c_tree.specs.Tree.{first_line, view_type_part, view_declarator, view_suffix, no_suffix, suffixes_of};
 ghost use Rattle.c_tree.specs.Tree.{view as tree, views_of as trees};
 ghost use Rattle.c_types.specs.Types.{view as type_view};
-ghost use Rattle.core_tree.specs.Trees.{Expression, view};
-ghost use Rattle.core_tree.specs.Typed.{is_typed};
 ghost use Rattle.c_elab_expr.specs.Strings.{strings_of};
-ghost use Rattle.c_elab_expr.specs.Typing.{Gives, GivesNode, Adds, on_line, callee, bound, type_name, operand_size, typed, typed_arguments, lengths, suffix_lengths};
+ghost use Rattle.c_elab_expr.specs.Operands.{Operand, view_operand, is_typed_operand};
+ghost use Rattle.c_elab_expr.specs.Typing.{Gives, GivesNode, Adds, on_line, Fault, sized, used_on, no_function, callee, bound, type_name, operand_size, typed, typed_arguments, operand, lengths, suffix_lengths};
 
 use crate::calls::called;
-use crate::constants::{constant_of, length_said};
+use crate::constants::length_said;
 use crate::declarators::{array_type, declared_line, type_size};
 use crate::fault::{Broken, TypingError};
 use crate::meaning::Meaning;
-use crate::nodes::{
-    assignment_node, binary_node, cast_node, character_node, choice_node, constant_node, name_node,
-    postfix_node, size_node, unary_node, value_size,
+use crate::nodes::{character_node, constant_node, size_node};
+use crate::operands::{
+    CoreOperand, assign_operand, binary_operand, cast_operand, choice_operand, comma_operand,
+    constant_in, member_node, name_node, operand_bytes, postfix_operand, unary_operand, used,
 };
 use crate::scope::Scope;
 use crate::specifying::parts_type;
 use crate::strings::{strings_length, strings_of};
 use c_tree::{ArraySuffix, Declarator, DeclaratorCore, Expr, TypeName};
 use c_types::Ty;
-use core_tree::{CoreExpr, type_of};
+use core_tree::CoreExpr;
 use std::alloc::Global;
 
 /// The line of an expression's first token. It goes down one path of the tree.
@@ -96,8 +96,8 @@ pub fn untyped() -> TypingError
 }
 
 // A node, or its broken rule with a line.
-fn placed_at(node: Result<CoreExpr, Broken>, line: u32) -> Result<CoreExpr, TypingError>
-    ensures { (r : Result Expression ℕ) → GivesNode view node r → Gives view result (on_line line r) }
+fn placed_at(node: Result<CoreOperand, Broken>, line: u32) -> Result<CoreOperand, TypingError>
+    ensures { (r : Result Operand ℕ) → GivesNode view_operand node r → Gives view_operand result (on_line line r) }
 {
     match node {
         Ok(core) => Ok(core),
@@ -118,8 +118,8 @@ fn number_at(node: Result<u64, Broken>, line: u32) -> Result<u64, TypingError>
 }
 
 // A node, or its broken rule with the line of the first token of a tree.
-fn placed(node: Result<CoreExpr, Broken>, first: &Expr) -> Result<CoreExpr, TypingError>
-    ensures { (r : Result Expression ℕ) → GivesNode view node r → Gives view result (on_line (first_line (tree first.now)) r) }
+fn placed(node: Result<CoreOperand, Broken>, first: &Expr) -> Result<CoreOperand, TypingError>
+    ensures { (r : Result Operand ℕ) → GivesNode view_operand node r → Gives view_operand result (on_line (first_line (tree first.now)) r) }
 {
     match node {
         Ok(core) => Ok(core),
@@ -127,20 +127,51 @@ fn placed(node: Result<CoreExpr, Broken>, first: &Expr) -> Result<CoreExpr, Typi
     }
 }
 
+// A constant of type unsigned long.
+fn sized(line: u32, size: u64) -> CoreOperand
+    ensures { view_operand result ≡ sized line size }
+{
+    CoreOperand::Value {
+        value: size_node(line, size),
+        constant: false,
+    }
+}
+
+// An expression that doesn't stand behind `sizeof`.
+#[cycle(typing)]
+fn used_expr(alloc: Global, expr: &Expr, scope: &Scope) -> Result<CoreOperand, TypingError>
+    ensures { Gives view_operand result (used_on (first_line (tree expr.now)) (typed scope.now (tree expr.now))) }
+{
+    let core = typed_expr(alloc, expr, scope)?;
+    placed(used(core), expr)
+}
+
 #[cycle(typing)]
 fn typed_arguments(
     alloc: Global,
     exprs: &[Expr],
     scope: &Scope,
-) -> Result<Vec<CoreExpr>, TypingError>
-    ensures { Gives (λ v. map view v.items) result (typed_arguments scope.now (trees exprs.now)) }
+) -> Result<Vec<CoreOperand>, TypingError>
+    ensures { Gives (λ v. map view_operand v.items) result (typed_arguments scope.now (trees exprs.now)) }
 {
     let mut arguments = Vec::new(alloc);
     for expr in exprs {
-        let argument = typed_expr(alloc, expr, scope)?;
+        let argument = used_expr(alloc, expr, scope)?;
         arguments.push(argument)?;
     }
     Ok(arguments)
+}
+
+// A callee that is no name.
+fn no_function(
+    operand: Result<CoreOperand, TypingError>,
+) -> Result<Option<(u32, Meaning)>, TypingError>
+    ensures { (r : Result Operand Fault) → Gives view_operand operand r → Gives (λ o. o) result (no_function r) }
+{
+    match operand {
+        Ok(_operand) => Ok(None),
+        Err(error) => Err(error),
+    }
 }
 
 // What a callee means, with the line of its name; any other callee is typed, and is no function.
@@ -150,7 +181,7 @@ fn callee(
     function: &Expr,
     scope: &Scope,
 ) -> Result<Option<(u32, Meaning)>, TypingError>
-    ensures { Gives (λ o. o) result (callee scope.now (tree function.now) (typed scope.now (tree function.now))) }
+    ensures { Gives (λ o. o) result (callee scope.now (tree function.now) (used_on (first_line (tree function.now)) (typed scope.now (tree function.now)))) }
 {
     match function {
         Expr::Name { line, name } => match scope.meaning(&name.bytes) {
@@ -160,20 +191,17 @@ fn callee(
                 rule: 1,
             }),
         },
-        _ => {
-            let _core = typed_expr(alloc, function, scope)?;
-            Ok(None)
-        }
+        _ => no_function(used_expr(alloc, function, scope)),
     }
 }
 
 // How many elements a bound says.
 #[cycle(typing)]
 fn bound(alloc: Global, expr: &Expr, scope: &Scope) -> Result<u64, TypingError>
-    ensures { Gives (λ n. n) result (bound (first_line (tree expr.now)) (typed scope.now (tree expr.now))) }
+    ensures { Gives (λ n. n) result (bound (first_line (tree expr.now)) (used_on (first_line (tree expr.now)) (typed scope.now (tree expr.now)))) }
 {
-    let core = typed_expr(alloc, expr, scope)?;
-    match constant_of(&core) {
+    let core = used_expr(alloc, expr, scope)?;
+    match constant_in(&core) {
         Some(number) => Ok(length_said(number)),
         None => Err(TypingError::Typing {
             line: first_line(expr),
@@ -274,42 +302,48 @@ fn operand_size(
     line: u32,
     operand: &Expr,
     scope: &Scope,
-) -> Result<CoreExpr, TypingError>
-    ensures { Gives view result (operand_size line (strings_of (tree operand.now)) (typed scope.now (tree operand.now))) }
+) -> Result<CoreOperand, TypingError>
+    ensures { Gives view_operand result (operand_size line scope.now.records.done (strings_of (tree operand.now)) (typed scope.now (tree operand.now))) }
 {
     match strings_of(operand) {
-        Some(parts) => Ok(size_node(line, strings_length(parts)? + 1)),
+        Some(parts) => Ok(sized(line, strings_length(parts)? + 1)),
         None => {
             let core = typed_expr(alloc, operand, scope)?;
-            let size = number_at(value_size(type_of(&core)), line)?;
-            Ok(size_node(line, size))
+            let size = number_at(operand_bytes(&core, scope.layouts()), line)?;
+            Ok(sized(line, size))
         }
     }
 }
 
 #[cycle(typing)]
-fn typed_expr(alloc: Global, expr: &Expr, scope: &Scope) -> Result<CoreExpr, TypingError>
-    ensures { Gives view result (typed scope.now (tree expr.now)) }
+fn typed_expr(alloc: Global, expr: &Expr, scope: &Scope) -> Result<CoreOperand, TypingError>
+    ensures { Gives view_operand result (typed scope.now (tree expr.now)) }
 {
     match expr {
-        Expr::Constant { line, constant } => Ok(constant_node(*line, constant)),
-        Expr::Character { line, value } => Ok(character_node(*line, *value)),
+        Expr::Constant { line, constant } => Ok(CoreOperand::Value {
+            value: constant_node(*line, constant),
+            constant: false,
+        }),
+        Expr::Character { line, value } => Ok(CoreOperand::Value {
+            value: character_node(*line, *value),
+            constant: false,
+        }),
         Expr::Strings { line, parts: _ } => Err(TypingError::Typing {
             line: *line,
             rule: 7,
         }),
-        Expr::Name { line, name } => placed_at(name_node(*line, scope.meaning(&name.bytes)), *line),
+        Expr::Name { line, name } => placed_at(
+            name_node(alloc, *line, scope.meaning(&name.bytes), scope),
+            *line,
+        ),
         Expr::Parens { line: _, inner } => typed_expr(alloc, inner, scope),
         Expr::Unary {
             line,
             operator,
             operand,
         } => {
-            let core = typed_expr(alloc, operand, scope)?;
-            placed_at(
-                unary_node(alloc, scope.constants(), *line, *operator, core),
-                *line,
-            )
+            let core = used_expr(alloc, operand, scope)?;
+            placed_at(unary_operand(alloc, *line, *operator, core), *line)
         }
         Expr::Cast {
             line,
@@ -317,36 +351,26 @@ fn typed_expr(alloc: Global, expr: &Expr, scope: &Scope) -> Result<CoreExpr, Typ
             operand,
         } => {
             let type_ = type_named(alloc, type_name, scope)?;
-            let core = typed_expr(alloc, operand, scope)?;
-            placed_at(cast_node(alloc, &type_, core), *line)
+            let core = used_expr(alloc, operand, scope)?;
+            placed_at(cast_operand(alloc, &type_, core), *line)
         }
         Expr::SizeofExpr { line, operand } => operand_size(alloc, *line, operand, scope),
         Expr::SizeofType { line, type_name } => {
             let type_ = type_named(alloc, type_name, scope)?;
             let size = number_at(type_size(&type_, scope.layouts()), *line)?;
-            Ok(size_node(*line, size))
+            Ok(sized(*line, size))
         }
         Expr::Step {
             line,
             operator,
             operand,
         } => {
-            let core = typed_expr(alloc, operand, scope)?;
-            placed(
-                postfix_node(scope.constants(), *line, *operator, &core),
-                operand,
-            )
+            let core = used_expr(alloc, operand, scope)?;
+            placed(postfix_operand(*line, *operator, &core), operand)
         }
-        Expr::Member {
-            line: _,
-            left,
-            name: _,
-        } => {
-            let _core = typed_expr(alloc, left, scope)?;
-            Err(TypingError::Typing {
-                line: first_line(left),
-                rule: 11,
-            })
+        Expr::Member { line, left, name } => {
+            let core = used_expr(alloc, left, scope)?;
+            placed(member_node(alloc, *line, core, &name.bytes, scope), left)
         }
         Expr::Binary {
             line,
@@ -354,9 +378,9 @@ fn typed_expr(alloc: Global, expr: &Expr, scope: &Scope) -> Result<CoreExpr, Typ
             left,
             right,
         } => {
-            let a = typed_expr(alloc, left, scope)?;
-            let b = typed_expr(alloc, right, scope)?;
-            placed(binary_node(alloc, *line, *operator, a, b), left)
+            let a = used_expr(alloc, left, scope)?;
+            let b = used_expr(alloc, right, scope)?;
+            placed(binary_operand(alloc, *line, *operator, a, b), left)
         }
         Expr::Choice {
             line,
@@ -364,10 +388,10 @@ fn typed_expr(alloc: Global, expr: &Expr, scope: &Scope) -> Result<CoreExpr, Typ
             yes,
             no,
         } => {
-            let a = typed_expr(alloc, test, scope)?;
-            let b = typed_expr(alloc, yes, scope)?;
-            let c = typed_expr(alloc, no, scope)?;
-            placed(choice_node(alloc, *line, a, b, c), test)
+            let a = used_expr(alloc, test, scope)?;
+            let b = used_expr(alloc, yes, scope)?;
+            let c = used_expr(alloc, no, scope)?;
+            placed(choice_operand(alloc, *line, a, b, c), test)
         }
         Expr::Assign {
             line,
@@ -375,21 +399,14 @@ fn typed_expr(alloc: Global, expr: &Expr, scope: &Scope) -> Result<CoreExpr, Typ
             place,
             value,
         } => {
-            let a = typed_expr(alloc, place, scope)?;
-            let b = typed_expr(alloc, value, scope)?;
-            placed(
-                assignment_node(alloc, scope.constants(), *line, *operator, &a, b),
-                place,
-            )
+            let a = used_expr(alloc, place, scope)?;
+            let b = used_expr(alloc, value, scope)?;
+            placed(assign_operand(alloc, *line, *operator, &a, b, scope), place)
         }
         Expr::Comma { line, left, right } => {
-            let a = typed_expr(alloc, left, scope)?;
-            let b = typed_expr(alloc, right, scope)?;
-            Ok(CoreExpr::Comma {
-                line: *line,
-                left: Box::new(alloc, a)?,
-                right: Box::new(alloc, b)?,
-            })
+            let a = used_expr(alloc, left, scope)?;
+            let b = used_expr(alloc, right, scope)?;
+            placed(comma_operand(alloc, *line, a, b), left)
         }
         Expr::Call {
             function,
@@ -402,12 +419,21 @@ fn typed_expr(alloc: Global, expr: &Expr, scope: &Scope) -> Result<CoreExpr, Typ
     }
 }
 
-/// The typed tree of an expression in a scope (C11 6.5). Operands are typed from left to right and before their
-/// operator; the first node that breaks a rule decides, by its lowest rule and the line of its first token.
-pub fn typed(alloc: Global, expr: &Expr, scope: &Scope) -> Result<CoreExpr, TypingError>
-    ensures gives { Gives view result (typed scope.now (tree expr.now)) }
-    ensures typed { IfOk result (λ c. is_typed scope.now.variables (view c) ≡ true) }
+/// The typing of an expression in a scope (C11 6.5), also as the operand of `sizeof`. Operands are typed from left to right and
+/// before their operator; the first node that breaks a rule decides, by its lowest rule and the line of its first token.
+pub fn typed(alloc: Global, expr: &Expr, scope: &Scope) -> Result<CoreOperand, TypingError>
+    ensures gives { Gives view_operand result (typed scope.now (tree expr.now)) }
+    ensures typed { IfOk result (λ x. is_typed_operand scope.now (view_operand x) ≡ true) }
 {
     scope.prove_there();
     typed_expr(alloc, expr, scope)
+}
+
+/// The typing of an expression that doesn't stand behind `sizeof`: it is no array.
+pub fn operand(alloc: Global, expr: &Expr, scope: &Scope) -> Result<CoreOperand, TypingError>
+    ensures gives { Gives view_operand result (operand scope.now (tree expr.now)) }
+    ensures typed { IfOk result (λ x. is_typed_operand scope.now (view_operand x) ≡ true) }
+{
+    let core = typed(alloc, expr, scope)?;
+    placed(used(core), expr)
 }

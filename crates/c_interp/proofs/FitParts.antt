@@ -4,15 +4,15 @@ use Rattle.std.proofs.lemmas.Bool.{false≢true}
 use Rattle.std.proofs.lemmas.Bool.Decides.{nat_tests}
 use Rattle.std.proofs.Common.{arith}
 use Rattle.c_types.specs.declared.integers.IntegerType.{IntegerType}
-use Rattle.c_types.specs.Integers.{width}
+use Rattle.c_types.specs.Integers.{width, bytes}
 use Rattle.core_tree.specs.declared.operators.ArithmeticOperator.{ArithmeticOperator}
 use Rattle.core_tree.specs.declared.operators.Comparison.{Comparison}
 use Rattle.core_tree.specs.declared.expression.Place.{Place}
 use Rattle.core_tree.specs.Trees.{Expression}
-use Rattle.core_tree.specs.Typed.{place_type, is_typed}
+use Rattle.core_tree.specs.Typed.{place_type, is_within, is_place, is_typed}
 use Rattle.c_interp.specs.Meaning.{number_type}
 use Rattle.c_values.specs.Numbers.{TypedNumber}
-use Rattle.c_interp.specs.Items.{top, rest, second, Item, evaluates, operates, compares, retypes, stores, updates}
+use Rattle.c_interp.specs.Items.{top, rest, second, Item, evaluates, operates, compares, retypes, stores, updates, initial}
 use Rattle.c_values.specs.Numbers.{same_width, are_operands_of}
 use Rattle.c_interp.specs.Fits.{top_type, rest_types, second_type, types_of, fits}
 
@@ -42,34 +42,49 @@ second_types xs = ap top_type (rest_of_types xs) ∙ top_types (rest xs)
 same_from : (a b : ℕ) → (a == b) ≡ true → a ≡ b
 same_from a b h = grind (arith, nat_tests)
 
-module _ (types : List IntegerType) (is : List Item) (xs : List TypedNumber) where
-  pub evaluates_fit : (e : Expression) → fits types (evaluates e ∷ is) (types_of xs) ≡ true → is_typed types e ≡ true
-  evaluates_fit e h = left_of (is_typed types e) (fits types is (number_type e ∷ types_of xs)) h
+module _ (sizes : List ℕ) (is : List Item) (xs : List TypedNumber) where
+  pub evaluates_fit : (e : Expression) → fits sizes (evaluates e ∷ is) (types_of xs) ≡ true → is_typed sizes e ≡ true
+  evaluates_fit e h = left_of (is_typed sizes e) (fits sizes is (number_type e ∷ types_of xs)) h
 
-  pub stores_fit : (p : Place) → fits types (stores p ∷ is) (types_of xs) ≡ true → width (top xs).type ≡ width (place_type p)
+  pub stores_within : (p : Place) → fits sizes (stores p ∷ is) (types_of xs) ≡ true → is_place sizes p ≡ true
+  stores_within p h =
+      let same = same_width (top_type (types_of xs)) (place_type p) in
+      left_of (is_place sizes p) same (left_of (is_place sizes p && same) (fits sizes is (place_type p ∷ rest_types (types_of xs))) h)
+
+  pub stores_fit : (p : Place) → fits sizes (stores p ∷ is) (types_of xs) ≡ true → width (top xs).type ≡ width (place_type p)
   stores_fit p h =
-      let e = left_of (same_width (top_type (types_of xs)) (place_type p)) (fits types is (place_type p ∷ rest_types (types_of xs))) h in
+      let same = same_width (top_type (types_of xs)) (place_type p) in
+      let e = right_of (is_place sizes p) same (left_of (is_place sizes p && same) (fits sizes is (place_type p ∷ rest_types (types_of xs))) h) in
       ap width (sym (top_types xs)) ∙ same_from (width (top_type (types_of xs))) (width (place_type p)) e
 
-  pub retypes_fit : (t : IntegerType) → fits types (retypes t ∷ is) (types_of xs) ≡ true → width (top xs).type ≡ width t
+  pub retypes_fit : (t : IntegerType) → fits sizes (retypes t ∷ is) (types_of xs) ≡ true → width (top xs).type ≡ width t
   retypes_fit t h =
-      let e = left_of (same_width (top_type (types_of xs)) t) (fits types is (t ∷ rest_types (types_of xs))) h in
+      let e = left_of (same_width (top_type (types_of xs)) t) (fits sizes is (t ∷ rest_types (types_of xs))) h in
       ap width (sym (top_types xs)) ∙ same_from (width (top_type (types_of xs))) (width t) e
 
-  pub compares_fit : (op : Comparison) → fits types (compares op ∷ is) (types_of xs) ≡ true → width (second xs).type ≡ width (top xs).type
+  pub compares_fit : (op : Comparison) → fits sizes (compares op ∷ is) (types_of xs) ≡ true → width (second xs).type ≡ width (top xs).type
   compares_fit op h =
       let ts = types_of xs in
-      let e = left_of (same_width (second_type ts) (top_type ts)) (fits types is (_ ∷ rest_types (rest_types ts))) h in
+      let e = left_of (same_width (second_type ts) (top_type ts)) (fits sizes is (_ ∷ rest_types (rest_types ts))) h in
       ap width (sym (second_types xs)) ∙ same_from (width (second_type ts)) (width (top_type ts)) e ∙ ap width (top_types xs)
 
-  pub operates_fit : (line : ℕ) (op : ArithmeticOperator) → fits types (operates line op ∷ is) (types_of xs) ≡ true → are_operands_of op (second xs).type (top xs).type ≡ true
+  pub operates_fit : (line : ℕ) (op : ArithmeticOperator) → fits sizes (operates line op ∷ is) (types_of xs) ≡ true → are_operands_of op (second xs).type (top xs).type ≡ true
   operates_fit line op h =
       let ts = types_of xs in
-      let e = left_of (are_operands_of op (second_type ts) (top_type ts)) (fits types is (second_type ts ∷ rest_types (rest_types ts))) h in
+      let e = left_of (are_operands_of op (second_type ts) (top_type ts)) (fits sizes is (second_type ts ∷ rest_types (rest_types ts))) h in
       ap (λ t. are_operands_of op t (top xs).type) (sym (second_types xs)) ∙ ap (are_operands_of op (second_type ts)) (sym (top_types xs)) ∙ e
 
-  pub updates_fit : (line : ℕ) (p : Place) (op : ArithmeticOperator) (t : IntegerType) → fits types (updates line p op t ∷ is) (types_of xs) ≡ true → are_operands_of op t (top xs).type ≡ true
+  pub updates_fit : (line : ℕ) (p : Place) (op : ArithmeticOperator) (t : IntegerType) → fits sizes (updates line p op t ∷ is) (types_of xs) ≡ true → are_operands_of op t (top xs).type ≡ true
   updates_fit line p op t h =
       let ts = types_of xs in
-      let e = left_of (are_operands_of op t (top_type ts)) (fits types is (place_type p ∷ rest_types ts)) h in
+      let operands = are_operands_of op t (top_type ts) in
+      let e = right_of (is_place sizes p) operands (left_of (is_place sizes p && operands) (fits sizes is (place_type p ∷ rest_types ts)) h) in
       ap (are_operands_of op t) (sym (top_types xs)) ∙ e
+
+  pub updates_within : (line : ℕ) (p : Place) (op : ArithmeticOperator) (t : IntegerType) → fits sizes (updates line p op t ∷ is) (types_of xs) ≡ true → is_place sizes p ≡ true
+  updates_within line p op t h =
+      let operands = are_operands_of op t (top_type (types_of xs)) in
+      left_of (is_place sizes p) operands (left_of (is_place sizes p && operands) (fits sizes is (place_type p ∷ rest_types (types_of xs))) h)
+
+  pub initial_within : (v : ℕ) (t : IntegerType) → fits sizes (initial v t ∷ is) (types_of xs) ≡ true → is_within sizes v 0 (bytes t) ≡ true
+  initial_within v t h = left_of (is_within sizes v 0 (bytes t)) (fits sizes is (rest_types (types_of xs))) h

@@ -1,5 +1,7 @@
 pub mod Tops
 pub mod FitParts
+pub mod Words
+pub mod Sizes
 pub mod TypeWidths
 pub mod FitsKept
 pub mod DrawnBits

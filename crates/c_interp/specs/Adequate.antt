@@ -15,8 +15,8 @@ use Rattle.actions.specs.Behaviour.{accepts, shape_of, has_shape, word_64}
 use Rattle.c_values.specs.Variables.{Variables, read_place}
 use Rattle.c_interp.specs.Meaning.{Running, number_type, decides, final, ask, unless_broken, eval, exec}
 use Rattle.c_values.specs.Numbers.{TypedNumber, typed}
-use Rattle.c_interp.specs.Items.{top, rest, second, Item, evaluates, converts, signs, negates, operates, compares, decides_on, tests, chooses, retypes, stores, updates, drops, passes, asserts, assumes, runs, branches, divides, enters, goes_on, initial, leaving, left, State, state, from, behaves, work, statement_work, total_work}
-use Rattle.c_interp.specs.Steps.{Move, silent, asks, breaks, blocks, ends, unless_stopped, move_expression, move_statement, move_entry, move_items, move_item, move}
+use Rattle.c_interp.specs.Items.{top, rest, second, Item, evaluates, converts, signs, negates, operates, compares, decides_on, tests, chooses, retypes, stores, updates, drops, passes, asserts, assumes, runs, branches, divides, enters, goes_on, initial, fills, leaving, left, State, state, from, behaves, work, statement_work, total_work}
+use Rattle.c_interp.specs.Steps.{Move, silent, asks, breaks, blocks, ends, unless_stopped, move_expression, move_statement, move_fill, move_entry, move_items, move_item, move}
 use Rattle.c_interp.specs.Small.{stepped_on, settled, settle, next_of, answered_by, small}
 
 module _ (running : Running) where
@@ -62,8 +62,8 @@ module _ (running : Running) where
 
   meets_entry : (items : Items) (is : List Item) (xs : List TypedNumber) (vs : Variables) → Meets (state (enters items ∷ is) xs vs) (move_entry running items is xs vs)
   meets_entry done is xs vs = (refl, omega arith)
-  meets_entry (declares line v more) is xs vs = refl
-  meets_entry (initializes line v true e more) is xs vs = refl
+  meets_entry (declares line v more) is xs vs = (refl, omega arith)
+  meets_entry (initializes line v true e more) is xs vs = (refl, omega arith)
   meets_entry (initializes line v false e more) is xs vs = (refl, omega arith)
   meets_entry (does s more) is xs vs = (refl, omega arith)
 
@@ -72,6 +72,10 @@ module _ (running : Running) where
   meets_items (declares line v more) is xs vs = (refl, omega arith)
   meets_items (initializes line v is_drawn e more) is xs vs = (refl, omega arith)
   meets_items (does s more) is xs vs = (refl, omega arith)
+
+  meets_fill : (words line v offset : ℕ) (is : List Item) (xs : List TypedNumber) (vs : Variables) → Meets (state (fills words line v offset ∷ is) xs vs) (move_fill running words line v offset is xs vs)
+  meets_fill zero line v offset is xs vs = (refl, omega arith)
+  meets_fill (suc k) line v offset is xs vs = refl
 
   -- ---- items that test a value
 
@@ -128,7 +132,8 @@ module _ (running : Running) where
   meets_item (divides s t) is xs vs = dividing (state (divides s t ∷ is) xs vs) (is_true (top xs).bits) s t is (rest xs) vs refl refl
   meets_item (enters items) is xs vs = meets_entry items is xs vs
   meets_item (goes_on items) is xs vs = meets_items items is xs vs
-  meets_item (initial v) is xs vs = (refl, omega arith)
+  meets_item (initial v t) is xs vs = (refl, omega arith)
+  meets_item (fills words line v offset) is xs vs = meets_fill words line v offset is xs vs
   meets_item (leaving line) is xs vs = refl
   meets_item left is xs vs = refl
 

@@ -8,8 +8,8 @@ use Rattle.actions.specs.declared.action.Next.{Next}
 use Rattle.actions.specs.declared.action.Next.TheVariants.{Act, Blocked}
 use Rattle.actions.specs.Behaviour.{Behaviour, after, accepts, shape_of, has_shape}
 use Rattle.c_interp.specs.declared.task.Change.{Change}
-use Rattle.c_interp.specs.declared.task.Plan.{Plan}
-use Rattle.c_interp.specs.declared.task.Plan.TheVariants as plan
+use Rattle.c_interp.specs.declared.task.Halt.{Halt}
+use Rattle.c_interp.specs.declared.task.Halt.TheVariants as halt
 use Rattle.c_interp.specs.Meaning.{Running, ask}
 use Rattle.c_interp.specs.Items.{top, left, State, state, behaves, total_work}
 use Rattle.c_interp.specs.Steps.{Move, silent, asks, breaks, blocks, ends, move}
@@ -35,13 +35,12 @@ module _ (r : Running) (s : State) where
   draw_next blocks n l e d = absurd d
   draw_next (ends v) n l e d = absurd d
 
-  pub halt_next : (p : Plan) → IsHalt r.first s.values s.variables (move r s) p → next_by r.first r.function s.values p ≡ behaves r s []
-  halt_next (plan.Goes c) h = absurd h
-  halt_next (plan.Draws n l) h = draw_next (move r s) n l (meets r s) h
-  halt_next (plan.Leaves l) h = λ i. sym (met (leave_move r.first s.values s.variables l) h) i []
-  halt_next (plan.Breaks class line) h = λ i. sym (met (breaks class line) h) i []
-  halt_next plan.Blocks h = λ i. sym (met blocks h) i []
-  halt_next (plan.Ends v) h = λ i. sym (met (ends v) h) i []
+  pub halt_next : (p : Halt) → IsHalt r.first s.values s.variables (move r s) p → next_by r.first r.function s.values p ≡ behaves r s []
+  halt_next (halt.Draws n l) h = draw_next (move r s) n l (meets r s) h
+  halt_next (halt.Leaves l) h = λ i. sym (met (leave_move r.first s.values s.variables l) h) i []
+  halt_next (halt.Breaks class line) h = λ i. sym (met (breaks class line) h) i []
+  halt_next halt.Blocks h = λ i. sym (met blocks h) i []
+  halt_next (halt.Ends v) h = λ i. sym (met (ends v) h) i []
 
   -- what follows an answer
   if_true : (b : Bool) (x y : Next) → b ≡ true → (if b then x else y) ≡ x
@@ -89,5 +88,5 @@ module _ (r : Running) (s : State) where
   draw_accepts a n l h d = accepts_by a n l (move r s) (meets r s) h d
 
   -- an answer comes only to an action
-  pub end_accepts : (a : Answer) (p : Plan) → IsHalt r.first s.values s.variables (move r s) p → accepts (next_by r.first r.function s.values p) a ≡ false → accepts (behaves r s []) a ≡ false
+  pub end_accepts : (a : Answer) (p : Halt) → IsHalt r.first s.values s.variables (move r s) p → accepts (next_by r.first r.function s.values p) a ≡ false → accepts (behaves r s []) a ≡ false
   end_accepts a p h k = ap (λ n. accepts n a) (sym (halt_next p h)) ∙ k

@@ -15,7 +15,7 @@ use Rattle.actions.specs.declared.action.Next.TheVariants.{Ended, Blocked, Broke
 use Rattle.actions.specs.Behaviour.{Behaviour, word_64}
 use Rattle.c_values.specs.Variables.{Variables, write_variable, write_place}
 use Rattle.c_values.specs.Numbers.{TypedNumber, typed}
-use Rattle.c_interp.specs.Meaning.{Running, number_type, decides, final, unless_broken, operated, updated, eval, variable_type, enter, leaves, exec, exec_items}
+use Rattle.c_interp.specs.Meaning.{Running, number_type, decides, final, unless_broken, operated, updated, eval, draws_words, enter, leaves, exec, exec_items}
 
 abbrev pub top : List TypedNumber → TypedNumber
 top [] = typed Int 0
@@ -51,7 +51,8 @@ pub data Item : Type 0 where
   divides : (yes no : Statement) → Item
   enters : (items : Items) → Item
   goes_on : (items : Items) → Item
-  initial : (variable : ℕ) → Item
+  initial : (variable : ℕ) (type : IntegerType) → Item
+  fills : (words line variable offset : ℕ) → Item
   leaving : (line : ℕ) → Item
   left : Item
 
@@ -94,7 +95,8 @@ module _ (running : Running) where
   from (divides s t ∷ is) xs vs = if is_true (top xs).bits then exec running s vs (from is (rest xs)) else exec running t vs (from is (rest xs))
   from (enters items ∷ is) xs vs = enter running items vs (from is xs)
   from (goes_on items ∷ is) xs vs = exec_items running items vs (from is xs)
-  from (initial v ∷ is) xs vs = from is (rest xs) (write_variable vs v (variable_type running v) (top xs).bits)
+  from (initial v t ∷ is) xs vs = from is (rest xs) (write_variable vs v 0 t (top xs).bits)
+  from (fills words line v offset ∷ is) xs vs = draws_words running words line v offset vs (from is xs)
   from (leaving line ∷ is) xs vs = leaves running line (top xs).bits
   from (left ∷ is) xs vs = final (Ended (word_64 (if running.first then 0 else (top xs).bits)))
 
@@ -123,8 +125,8 @@ work (draw line t) = 1
 
 abbrev pub entry_work : Items → ℕ
 entry_work done = 1
-entry_work (declares line v more) = entry_work more + 1
-entry_work (initializes line v drawn e more) = entry_work more + 1
+entry_work (declares line v more) = entry_work more + 2
+entry_work (initializes line v drawn e more) = entry_work more + 2
 entry_work (does s more) = entry_work more + 1
 
 abbrev mutual

@@ -1,12 +1,12 @@
 -- What a thread of the typed source does, by what follows each expression and statement (C11 5.1.2.3, 6.5, 6.8). Operands are evaluated from left to right.
-use Rattle.std.specs.Prelude.{ℕ, Bool, not, List, [], ◌∷◌, Option, Some, None, slice_index_or, if◌then◌else◌}
+use Rattle.std.specs.Prelude.{ℕ, zero, suc, ◌+◌, ◌*◌, Bool, not, List, [], ◌∷◌, Option, Some, None, slice_index, if◌then◌else◌}
 use Rattle.words.specs.declared.check.Class.{Class}
 use Rattle.words.specs.declared.check.Class.TheVariants.{Assertion}
 use Rattle.c_types.specs.declared.integers.IntegerType.{IntegerType}
 use Rattle.c_types.specs.declared.integers.IntegerType.TheVariants.{Int}
 use Rattle.c_types.specs.declared.types.ValueType.{ValueType}
 use Rattle.c_types.specs.declared.types.ValueType.TheVariants.{Void, Integer}
-use Rattle.c_types.specs.Integers.{width, promoted}
+use Rattle.c_types.specs.Integers.{promoted}
 use Rattle.core_tree.specs.declared.operators.ArithmeticOperator.{ArithmeticOperator}
 use Rattle.core_tree.specs.declared.operators.LogicalOperator.{LogicalOperator}
 use Rattle.core_tree.specs.declared.operators.LogicalOperator.TheVariants as logicals
@@ -21,12 +21,12 @@ use Rattle.actions.specs.declared.action.Answer.TheVariants as answer
 use Rattle.actions.specs.declared.action.Next.{Next}
 use Rattle.actions.specs.declared.action.Next.TheVariants.{Act, Ended, Blocked, Broken}
 use Rattle.actions.specs.Behaviour.{Behaviour, shape_of, has_shape, word_64}
-use Rattle.c_values.specs.Variables.{Variables, read_place, write_variable, write_place}
+use Rattle.c_values.specs.Variables.{Variables, low_bytes, word_count, drawn_count, put_bytes, cleared, read_place, write_variable, write_place}
 
--- what a thread runs: a function by its number, with the types of its variables; and whether it is thread 0
+-- what a thread runs: a function by its number, with the sizes of its variables; and whether it is thread 0
 pub record Running : Type 0 where
   pub function : ℕ
-  pub types : List IntegerType
+  pub sizes : List ℕ
   pub first : Bool
 
 -- the integer type of an expression; one of type void has no number, which is written 0
@@ -104,19 +104,26 @@ module _ (running : Running) where
 
   -- ---- statements
 
-  abbrev pub variable_type : ℕ → IntegerType
-  variable_type v = slice_index_or running.types v Int
+  abbrev pub size_of : ℕ → ℕ
+  size_of v = slice_index running.sizes v
 
-  -- the first value of a variable without initializer is drawn, all its bits
+  -- so many words are drawn, from an offset of a variable on
+  abbrev pub draws_words : (words line v offset : ℕ) → Variables → (Variables → Behaviour) → Behaviour
+  draws_words zero line v offset vs follows = follows vs
+  draws_words (suc k) line v offset vs follows =
+      let count = drawn_count (size_of v) offset in
+      ask (Draw (8 * count)) line (λ a. draws_words k line v (offset + 8) (put_bytes vs v offset (low_bytes count (drawn a))) follows)
+
+  -- the first bytes of a variable without initializer are drawn
   abbrev pub draws : ℕ → ℕ → Variables → (Variables → Behaviour) → Behaviour
-  draws line v vs follows = ask (Draw (width (variable_type v))) line (λ a. follows (write_variable vs v (variable_type v) (drawn a)))
+  draws line v vs follows = draws_words (word_count (size_of v)) line v 0 vs follows
 
-  -- on entry to a block its own variables get their first values, in order; one that an initializer will write starts as 0
+  -- on entry to a block its own variables get their first values, in order; one that an initializer will write starts with bytes that are 0
   abbrev pub enter : Items → Variables → (Variables → Behaviour) → Behaviour
   enter done vs follows = follows vs
   enter (declares line v rest) vs follows = draws line v vs (λ after. enter rest after follows)
   enter (initializes line v is_drawn e rest) vs follows =
-      if is_drawn then draws line v vs (λ after. enter rest after follows) else enter rest (write_variable vs v (variable_type v) 0) follows
+      if is_drawn then draws line v vs (λ after. enter rest after follows) else enter rest (cleared vs v (size_of v)) follows
   enter (does s rest) vs follows = enter rest vs follows
 
   -- the end of a function with a value: thread 0 ends the process, another thread ends itself (C11 5.1.2.2.3)
@@ -134,5 +141,5 @@ module _ (running : Running) where
     pub exec_items : Items → Variables → (Variables → Behaviour) → Behaviour
     exec_items done vs follows = follows vs
     exec_items (declares line v rest) vs follows = exec_items rest vs follows
-    exec_items (initializes line v is_drawn e rest) vs follows = eval e vs (λ x after. exec_items rest (write_variable after v (variable_type v) x) follows)
+    exec_items (initializes line v is_drawn e rest) vs follows = eval e vs (λ x after. exec_items rest (write_variable after v 0 (number_type e) x) follows)
     exec_items (does s rest) vs follows = exec s vs (λ after. exec_items rest after follows)

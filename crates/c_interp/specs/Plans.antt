@@ -8,10 +8,10 @@ use Rattle.c_values.specs.Numbers.{TypedNumber}
 use Rattle.c_interp.specs.Items.{Item}
 use Rattle.c_interp.specs.Steps.{Move, move_item}
 use Rattle.c_interp.specs.Fits.{fits, types_of}
-use Rattle.c_interp.specs.Tasks.{items_in, values_in, IsPlan}
+use Rattle.c_interp.specs.Tasks.{items_in, values_in, IsPlan, WritesWithin}
 
 abbrev pub running_in : Look → Running
-running_in l = record { function = l.function; types = l.types.now; first = l.first }
+running_in l = record { function = l.function; sizes = l.sizes.now; first = l.first }
 
 abbrev pub items_behind : Look → List Item
 items_behind l = items_in l.behind.now
@@ -19,13 +19,13 @@ items_behind l = items_in l.behind.now
 abbrev pub values_on : Look → List TypedNumber
 values_on l = values_in l.numbers.now
 
--- the item's numbers have the types that it asks for
+-- the item's numbers have the types that it asks for, and its variables are there
 abbrev pub FitsIn : Look → Item → Type 0
-FitsIn l i = fits l.types.now (i ∷ items_behind l) (types_of (values_on l)) ≡ true
+FitsIn l i = fits l.sizes.now (i ∷ items_behind l) (types_of (values_on l)) ≡ true
 
 -- the plan of a move
 abbrev pub Plans : Look → Move → Plan → Type 0
-Plans l m p = IsPlan l.first (items_behind l) (values_on l) l.variables.now m p
+Plans l m p = IsPlan l.first (items_behind l) (values_on l) l.variables.now m p × WritesWithin l.sizes.now p
 
 abbrev pub PlansItem : Look → Item → Plan → Type 0
 PlansItem l i p = Plans l (move_item (running_in l) i (items_behind l) (values_on l) l.variables.now) p

@@ -12,7 +12,7 @@ use Rattle.c_values.specs.Variables.{first_variables}
 use Rattle.c_interp.specs.Meaning.{Running, final, leaves, exec}
 
 abbrev pub running : Bool → ℕ → Procedure → Running
-running first number f = record { function = number; types = f.variables; first = first }
+running first number f = record { function = number; sizes = f.variables; first = first }
 
 -- a function's end without `return` gives 0, at the line of its name (C11 5.1.2.2.3)
 abbrev pub runs : Running → Procedure → Behaviour

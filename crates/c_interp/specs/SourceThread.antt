@@ -1,9 +1,8 @@
 -- What a function does is what its small steps do from its start; and that is what a thread may do.
-use Rattle.std.specs.Prelude.{◌≡◌, ℕ, Bool, true, false, List, [], ◌∷◌, Option, Some, None, slice_get, if◌then◌else◌}
+use Rattle.std.specs.Prelude.{◌≡◌, ℕ, zero, suc, Bool, true, false, List, [], ◌∷◌, Option, Some, None, slice_get, if◌then◌else◌}
 use Rattle.std.proofs.Common.{refl, subst}
 use Rattle.words.specs.declared.check.Class.{Class}
 use Rattle.words.specs.declared.check.Class.TheVariants.{Assertion}
-use Rattle.c_types.specs.declared.integers.IntegerType.{IntegerType}
 use Rattle.c_types.specs.declared.integers.IntegerType.TheVariants.{Int}
 use Rattle.c_types.specs.Integers.{promoted}
 use Rattle.core_tree.specs.Trees.{Expression, step, Statement, block, Items, done, initializes, Procedure}
@@ -19,8 +18,8 @@ use Rattle.c_values.specs.Variables.{Variables, first_variables, read_place}
 use Rattle.c_interp.specs.Meaning.{Running}
 use Rattle.c_interp.specs.Source.{running, function_behaviour, runs_at, source_program}
 use Rattle.c_values.specs.Numbers.{TypedNumber, typed}
-use Rattle.c_interp.specs.Items.{top, second, Item, evaluates, signs, operates, updates, asserts, assumes, runs, enters, goes_on, leaving, State, state, behaves}
-use Rattle.c_interp.specs.Steps.{Move, silent, blocks, unless_stopped, move_expression, move_statement, move_entry, move_items, move_item, move}
+use Rattle.c_interp.specs.Items.{top, second, Item, evaluates, signs, operates, updates, asserts, assumes, runs, enters, goes_on, fills, leaving, State, state, behaves}
+use Rattle.c_interp.specs.Steps.{Move, silent, blocks, unless_stopped, move_expression, move_statement, move_fill, move_entry, move_items, move_item, move}
 use Rattle.c_interp.specs.Small.{settle, next_of, answered_by, next_small, answered_small, small}
 use Rattle.c_interp.specs.Adequate.{adequate}
 
@@ -65,13 +64,13 @@ module _ (program : Program) where
   assumed_fine r here true s = (tt, λ a. tt)
   assumed_fine r here false s = (tt, λ a. tt)
 
-  abbrev run_of : ℕ → List IntegerType → Bool → Running
-  run_of function types first = record { function = function; types = types; first = first }
+  abbrev run_of : ℕ → List ℕ → Bool → Running
+  run_of function sizes first = record { function = function; sizes = sizes; first = first }
 
-  leaving_fine : (function : ℕ) (types : List IntegerType) (first : Bool) (line : ℕ) (is : List Item) (xs : List TypedNumber) (vs : Variables) →
-      IsFine (run_of function types first) (state (leaving line ∷ is) xs vs) (move_item (run_of function types first) (leaving line) is xs vs)
-  leaving_fine function types true line is xs vs = (tt, λ a ok. refl)
-  leaving_fine function types false line is xs vs = (tt, λ a ok. refl)
+  leaving_fine : (function : ℕ) (sizes : List ℕ) (first : Bool) (line : ℕ) (is : List Item) (xs : List TypedNumber) (vs : Variables) →
+      IsFine (run_of function sizes first) (state (leaving line ∷ is) xs vs) (move_item (run_of function sizes first) (leaving line) is xs vs)
+  leaving_fine function sizes true line is xs vs = (tt, λ a ok. refl)
+  leaving_fine function sizes false line is xs vs = (tt, λ a ok. refl)
 
   expression_fine : (r : Running) (e : Expression) (is : List Item) (xs : List TypedNumber) (vs : Variables) → IsFine r (state (evaluates e ∷ is) xs vs) (move_expression r e is xs vs)
   expression_fine r (step line p op before) is xs vs =
@@ -88,6 +87,10 @@ module _ (program : Program) where
   entry_fine r (initializes line v false e more) is xs vs = (tt, λ a. tt)
   entry_fine r _ is xs vs = (tt, λ a. tt)
 
+  fill_fine : (r : Running) (words line v offset : ℕ) (is : List Item) (xs : List TypedNumber) (vs : Variables) → IsFine r (state (fills words line v offset ∷ is) xs vs) (move_fill r words line v offset is xs vs)
+  fill_fine r zero line v offset is xs vs = (tt, λ a. tt)
+  fill_fine r (suc k) line v offset is xs vs = (tt, λ a. tt)
+
   items_fine : (r : Running) (items : Items) (is : List Item) (xs : List TypedNumber) (vs : Variables) → IsFine r (state (goes_on items ∷ is) xs vs) (move_items r items is xs vs)
   items_fine r done is xs vs = (tt, λ a. tt)
   items_fine r _ is xs vs = (tt, λ a. tt)
@@ -102,7 +105,8 @@ module _ (program : Program) where
   item_fine r (runs s) is xs vs = statement_fine r s is xs vs
   item_fine r (enters items) is xs vs = entry_fine r items is xs vs
   item_fine r (goes_on items) is xs vs = items_fine r items is xs vs
-  item_fine r (leaving line) is xs vs = leaving_fine r.function r.types r.first line is xs vs
+  item_fine r (fills words line v offset) is xs vs = fill_fine r words line v offset is xs vs
+  item_fine r (leaving line) is xs vs = leaving_fine r.function r.sizes r.first line is xs vs
   item_fine r _ is xs vs = (tt, λ a. tt)
 
   fine_from : (r : Running) (is : List Item) (xs : List TypedNumber) (vs : Variables) → IsFine r (state is xs vs) (move r (state is xs vs))

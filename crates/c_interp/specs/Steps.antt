@@ -1,10 +1,10 @@
 -- The small steps: what a thread does next in a state.
-use Rattle.std.specs.Prelude.{ℕ, not, List, [], ◌∷◌, Option, Some, None, if◌then◌else◌}
+use Rattle.std.specs.Prelude.{ℕ, zero, suc, ◌+◌, ◌*◌, not, List, [], ◌∷◌, Option, Some, None, if◌then◌else◌}
 use Rattle.words.specs.declared.check.Class.{Class}
 use Rattle.words.specs.declared.check.Class.TheVariants.{Assertion}
 use Rattle.c_types.specs.declared.integers.IntegerType.{IntegerType}
 use Rattle.c_types.specs.declared.integers.IntegerType.TheVariants.{Int}
-use Rattle.c_types.specs.Integers.{width, promoted}
+use Rattle.c_types.specs.Integers.{promoted}
 use Rattle.core_tree.specs.declared.operators.ArithmeticOperator.{ArithmeticOperator}
 use Rattle.core_tree.specs.declared.expression.Place.{Place}
 use Rattle.core_tree.specs.Trees.{Expression, constant, read, convert, sign, is_zero, arithmetic, compare, logical, choice, assign, update, step, comma, assertion, assumption, draw, Statement, block, if_then, if_else, evaluate, returns, Items, done, declares, initializes, does}
@@ -13,10 +13,10 @@ use Rattle.core_tree.specs.Operations.{is_true, truth_bits, converted, drawn_wid
 use Rattle.actions.specs.declared.action.Action.{Action}
 use Rattle.actions.specs.declared.action.Action.TheVariants.{Draw, End, Exit}
 use Rattle.actions.specs.declared.action.Answer.{Answer}
-use Rattle.c_values.specs.Variables.{Variables, read_place, write_variable, write_place}
-use Rattle.c_interp.specs.Meaning.{Running, number_type, decides, drawn, variable_type}
+use Rattle.c_values.specs.Variables.{Variables, low_bytes, word_count, drawn_count, put_bytes, cleared, read_place, write_variable, write_place}
+use Rattle.c_interp.specs.Meaning.{Running, number_type, decides, drawn, size_of}
 use Rattle.c_values.specs.Numbers.{TypedNumber, typed}
-use Rattle.c_interp.specs.Items.{top, rest, second, Item, evaluates, converts, signs, negates, operates, compares, decides_on, tests, chooses, retypes, stores, updates, drops, passes, asserts, assumes, runs, branches, divides, enters, goes_on, initial, leaving, left, State, state}
+use Rattle.c_interp.specs.Items.{top, rest, second, Item, evaluates, converts, signs, negates, operates, compares, decides_on, tests, chooses, retypes, stores, updates, drops, passes, asserts, assumes, runs, branches, divides, enters, goes_on, initial, fills, leaving, left, State, state}
 
 -- a silent step to another state; an action with the state after each answer; or the thread breaks a check, is blocked or has ended with a value
 pub data Move : Type 0 where
@@ -65,21 +65,27 @@ module _ (running : Running) where
   move_statement (evaluate e) is xs vs = silent (state (evaluates e ∷ drops ∷ is) xs vs)
   move_statement (returns line e) is xs vs = silent (state (evaluates e ∷ leaving line ∷ is) xs vs)
 
-  abbrev pub draw_variable : ℕ → ℕ → Items → List Item → List TypedNumber → Variables → Move
-  draw_variable line v more is xs vs =
-      asks (Draw (width (variable_type running v))) line (λ a. state (enters more ∷ is) xs (write_variable vs v (variable_type running v) (drawn a)))
+  -- the next of the words that are drawn of a variable
+  abbrev pub move_fill : (words line v offset : ℕ) → List Item → List TypedNumber → Variables → Move
+  move_fill zero line v offset is xs vs = silent (state is xs vs)
+  move_fill (suc k) line v offset is xs vs =
+      let count = drawn_count (size_of running v) offset in
+      asks (Draw (8 * count)) line (λ a. state (fills k line v (offset + 8) ∷ is) xs (put_bytes vs v offset (low_bytes count (drawn a))))
+
+  abbrev pub draws_variable : ℕ → ℕ → Items → List Item → List TypedNumber → Variables → Move
+  draws_variable line v more is xs vs = silent (state (fills (word_count (size_of running v)) line v 0 ∷ enters more ∷ is) xs vs)
 
   abbrev pub move_entry : Items → List Item → List TypedNumber → Variables → Move
   move_entry done is xs vs = silent (state is xs vs)
-  move_entry (declares line v more) is xs vs = draw_variable line v more is xs vs
+  move_entry (declares line v more) is xs vs = draws_variable line v more is xs vs
   move_entry (initializes line v is_drawn e more) is xs vs =
-      if is_drawn then draw_variable line v more is xs vs else silent (state (enters more ∷ is) xs (write_variable vs v (variable_type running v) 0))
+      if is_drawn then draws_variable line v more is xs vs else silent (state (enters more ∷ is) xs (cleared vs v (size_of running v)))
   move_entry (does s more) is xs vs = silent (state (enters more ∷ is) xs vs)
 
   abbrev pub move_items : Items → List Item → List TypedNumber → Variables → Move
   move_items done is xs vs = silent (state is xs vs)
   move_items (declares line v more) is xs vs = silent (state (goes_on more ∷ is) xs vs)
-  move_items (initializes line v is_drawn e more) is xs vs = silent (state (evaluates e ∷ initial v ∷ goes_on more ∷ is) xs vs)
+  move_items (initializes line v is_drawn e more) is xs vs = silent (state (evaluates e ∷ initial v (number_type e) ∷ goes_on more ∷ is) xs vs)
   move_items (does s more) is xs vs = silent (state (runs s ∷ goes_on more ∷ is) xs vs)
 
   abbrev pub move_item : Item → List Item → List TypedNumber → Variables → Move
@@ -108,7 +114,8 @@ module _ (running : Running) where
   move_item (divides s t) is xs vs = silent (state (runs (if is_true (top xs).bits then s else t) ∷ is) (rest xs) vs)
   move_item (enters items) is xs vs = move_entry items is xs vs
   move_item (goes_on items) is xs vs = move_items items is xs vs
-  move_item (initial v) is xs vs = silent (state is (rest xs) (write_variable vs v (variable_type running v) (top xs).bits))
+  move_item (initial v t) is xs vs = silent (state is (rest xs) (write_variable vs v 0 t (top xs).bits))
+  move_item (fills words line v offset) is xs vs = move_fill words line v offset is xs vs
   move_item (leaving line) is xs vs = asks (if running.first then Exit else End (top xs).bits) line (λ a. state (left ∷ []) xs vs)
   move_item left is xs vs = ends (if running.first then 0 else (top xs).bits)
 

@@ -1,22 +1,27 @@
 -- The tasks of the code as items, and what a plan has to do with a move.
-use Rattle.std.specs.Prelude.{◌≡◌, ℕ, Bool, true, if◌then◌else◌, ◌++◌, List, [], ◌∷◌, Option, Some, None, slice_set}
+use Rattle.std.specs.Prelude.{◌≡◌, ℕ, Bool, true, if◌then◌else◌, ◌≤◌, ◌++◌, List, [], ◌∷◌, Option, Some, None, slice_index}
 use Rattle.actions.specs.declared.action.Action.TheVariants.{Draw, End, Exit}
 use Rattle.actions.specs.declared.action.Answer.{Answer}
 use Rattle.actions.specs.declared.action.Next.{Next}
 use Rattle.actions.specs.declared.action.Next.TheVariants.{Act, Ended, Blocked, Broken}
 use Rattle.actions.specs.Behaviour.{shape_of, has_shape, word_64}
+use Rattle.core_tree.specs.Typed.{is_within}
 use Rattle.core_tree.specs.Trees.{Expression, convert, sign, is_zero, arithmetic, compare, logical, choice, assign, update, comma, assertion, assumption, Statement, if_then, if_else, returns, view, view_statement, items_of}
 use Rattle.c_interp.specs.declared.task.Task.{Task}
 use Rattle.c_interp.specs.declared.task.Task.TheVariants as task
 use Rattle.c_interp.specs.declared.task.Tasks.{Tasks}
 use Rattle.c_interp.specs.declared.task.Taken.{Taken}
 use Rattle.c_interp.specs.declared.task.Taken.TheVariants as taken
+use Rattle.c_interp.specs.declared.task.Written.{Written}
+use Rattle.c_interp.specs.declared.task.Written.TheVariants as writes
 use Rattle.c_interp.specs.declared.task.Change.{Change}
 use Rattle.c_interp.specs.declared.task.Plan.{Plan}
 use Rattle.c_interp.specs.declared.task.Plan.TheVariants as plan
-use Rattle.c_values.specs.Variables.{Variables}
+use Rattle.c_interp.specs.declared.task.Halt.{Halt}
+use Rattle.c_interp.specs.declared.task.Halt.TheVariants as halt
+use Rattle.c_values.specs.Variables.{Variables, low_bytes, put_bytes, cleared}
 use Rattle.c_values.specs.Numbers.{TypedNumber}
-use Rattle.c_interp.specs.Items.{top, rest, Item, evaluates, converts, signs, negates, operates, compares, decides_on, tests, chooses, retypes, stores, updates, drops, passes, asserts, assumes, runs, branches, divides, enters, goes_on, initial, leaving, left, State, state}
+use Rattle.c_interp.specs.Items.{top, rest, Item, evaluates, converts, signs, negates, operates, compares, decides_on, tests, chooses, retypes, stores, updates, drops, passes, asserts, assumes, runs, branches, divides, enters, goes_on, initial, fills, leaving, left, State, state}
 use Rattle.c_interp.specs.Steps.{Move, silent, asks, breaks, blocks, ends}
 
 -- what comes behind the operands of an expression
@@ -51,7 +56,8 @@ item_of (task.Run s) = runs (view_statement s.now)
 item_of (task.End s) = end_of (view_statement s.now)
 item_of (task.Enter items) = enters (items_of items.now)
 item_of (task.GoOn items) = goes_on (items_of items.now)
-item_of (task.Initialize v) = initial v
+item_of (task.Initialize v t) = initial v t
+item_of (task.Fill words line v offset) = fills words line v offset
 item_of (task.Leave line) = leaving line
 item_of task.Left = left
 
@@ -85,9 +91,16 @@ abbrev pub with_put : Option TypedNumber → List TypedNumber → List TypedNumb
 with_put None xs = xs
 with_put (Some x) xs = x ∷ xs
 
-abbrev pub with_written : Option (ℕ × List ℕ) → Variables → Variables
-with_written None vs = vs
-with_written (Some w) vs = slice_set vs w.0 w.1
+abbrev pub with_written : Written → Variables → Variables
+with_written writes.Nothing vs = vs
+with_written (writes.Bits v offset count bits) vs = put_bytes vs v offset (low_bytes count bits)
+with_written (writes.Zeros v size) vs = cleared vs v size
+
+-- the bytes that are written lie in the variables, which have these sizes
+abbrev pub LiesWithin : List ℕ → Written → Type 0
+LiesWithin sizes writes.Nothing = Unit {0}
+LiesWithin sizes (writes.Bits v offset count bits) = (is_within sizes v offset count ≡ true) × (count ≤ 8)
+LiesWithin sizes (writes.Zeros v size) = size ≡ slice_index sizes v
 
 -- the state after a change, where these items stand behind the first
 abbrev pub changed : Change → List Item → List TypedNumber → Variables → State
@@ -102,37 +115,41 @@ IsDraw _ n l = ⊥
 abbrev pub leave_move : Bool → List TypedNumber → Variables → ℕ → Move
 leave_move first xs vs line = asks (if first then Exit else End (top xs).bits) line (λ a. state (left ∷ []) xs vs)
 
+-- this is the move, which is no silent step
+abbrev pub IsHalt : Bool → List TypedNumber → Variables → Move → Halt → Type 0
+IsHalt first xs vs m (halt.Draws n l) = IsDraw m n l
+IsHalt first xs vs m (halt.Leaves l) = m ≡ leave_move first xs vs l
+IsHalt first xs vs m (halt.Breaks class line) = m ≡ breaks class line
+IsHalt first xs vs m halt.Blocks = m ≡ blocks
+IsHalt first xs vs m (halt.Ends v) = m ≡ ends v
+
 -- the plan is the move, where these items stand behind the first
 abbrev pub IsPlan : Bool → List Item → List TypedNumber → Variables → Move → Plan → Type 0
 IsPlan first is xs vs m (plan.Goes c) = m ≡ silent (changed c is xs vs)
-IsPlan first is xs vs m (plan.Draws n l) = IsDraw m n l
-IsPlan first is xs vs m (plan.Leaves l) = m ≡ leave_move first xs vs l
-IsPlan first is xs vs m (plan.Breaks class line) = m ≡ breaks class line
-IsPlan first is xs vs m plan.Blocks = m ≡ blocks
-IsPlan first is xs vs m (plan.Ends v) = m ≡ ends v
+IsPlan first is xs vs m (plan.Halts h) = IsHalt first xs vs m h
 
--- and it is no silent step
-abbrev pub IsHalt : Bool → List TypedNumber → Variables → Move → Plan → Type 0
-IsHalt first xs vs m (plan.Goes c) = ⊥
-IsHalt first xs vs m (plan.Draws n l) = IsDraw m n l
-IsHalt first xs vs m (plan.Leaves l) = m ≡ leave_move first xs vs l
-IsHalt first xs vs m (plan.Breaks class line) = m ≡ breaks class line
-IsHalt first xs vs m plan.Blocks = m ≡ blocks
-IsHalt first xs vs m (plan.Ends v) = m ≡ ends v
+-- what a plan writes lies in the variables
+abbrev pub WritesWithin : List ℕ → Plan → Type 0
+WritesWithin sizes (plan.Goes c) = LiesWithin sizes c.written
+WritesWithin sizes (plan.Halts h) = Unit {0}
 
--- what is next by a plan that is no silent step
-abbrev pub next_by : Bool → ℕ → List TypedNumber → Plan → Next
-next_by first function xs (plan.Goes c) = Blocked
-next_by first function xs (plan.Draws n l) = Act (Draw n) l function
-next_by first function xs (plan.Leaves l) = Act (if first then Exit else End (top xs).bits) l function
-next_by first function xs (plan.Breaks class line) = Broken class line function
-next_by first function xs plan.Blocks = Blocked
-next_by first function xs (plan.Ends v) = Ended (word_64 v)
+-- what is next at a halt
+abbrev pub next_by : Bool → ℕ → List TypedNumber → Halt → Next
+next_by first function xs (halt.Draws n l) = Act (Draw n) l function
+next_by first function xs (halt.Leaves l) = Act (if first then Exit else End (top xs).bits) l function
+next_by first function xs (halt.Breaks class line) = Broken class line function
+next_by first function xs halt.Blocks = Blocked
+next_by first function xs (halt.Ends v) = Ended (word_64 v)
 
 -- the change that the answer to a draw makes
 abbrev pub AnswersDraw : List Item → List TypedNumber → Variables → Move → Answer → Change → Type 0
 AnswersDraw is xs vs (asks (Draw n) line follows) a c = follows a ≡ changed c is xs vs
 AnswersDraw is xs vs _ a c = Unit {0}
+
+-- that change is planned, and what it writes lies in the variables
+abbrev pub IsAnswered : List ℕ → List Item → List TypedNumber → Variables → Move → Answer → Plan → Type 0
+IsAnswered sizes is xs vs m a (plan.Goes c) = AnswersDraw is xs vs m a c × LiesWithin sizes c.written
+IsAnswered sizes is xs vs m a (plan.Halts h) = ⊥
 
 abbrev pub AcceptsDraw : Move → Answer → Type 0
 AcceptsDraw (asks (Draw n) line follows) a = has_shape (shape_of (Draw n)) a ≡ true

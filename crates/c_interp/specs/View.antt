@@ -3,7 +3,7 @@ use Rattle.std.specs.Prelude.{◌≡◌}
 use Rattle.core_tree.specs.Trees.{view_core}
 use Rattle.actions.specs.Behaviour as actions
 use Rattle.c_interp.specs.declared.thread.Thread.{Thread}
-use Rattle.c_interp.specs.declared.task.Plan.{Plan}
+use Rattle.c_interp.specs.declared.task.Halt.{Halt}
 use Rattle.c_interp.specs.Meaning.{Running}
 use Rattle.c_interp.specs.Steps.{move}
 use Rattle.c_interp.specs.Items.{State, state}
@@ -11,7 +11,7 @@ use Rattle.c_interp.specs.Tasks.{items_in, values_in, IsHalt}
 use Rattle.c_interp.specs.SourceThread.{thread_in}
 
 abbrev pub running_of : Thread → Running
-running_of t = record { function = t.function; types = t.types.now; first = t.first }
+running_of t = record { function = t.function; sizes = t.sizes.now; first = t.first }
 
 abbrev pub state_of : Thread → State
 state_of t = state (items_in t.tasks.items) (values_in t.numbers.items) t.variables.items
@@ -23,6 +23,6 @@ thread_of t = thread_in (view_core t.functions.now) t.startable (running_of t) (
 abbrev pub SameProgram : Thread → Thread → Type 0
 SameProgram t u = (u.functions ≡ t.functions) × (u.startable ≡ t.startable)
 
--- the plan says what is next, which is no silent step
-abbrev pub Halts : Thread → Plan → Type 0
+-- this is what comes next, which is no silent step
+abbrev pub Halts : Thread → Halt → Type 0
 Halts t p = IsHalt t.first (values_in t.numbers.items) t.variables.items (move (running_of t) (state_of t)) p

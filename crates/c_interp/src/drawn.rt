@@ -1,22 +1,20 @@
-ghost use Rattle.std.specs.Prelude.{◌≡◌, ◌<◌, ◌^◌, true, None, IfOk};
+ghost use Rattle.std.specs.Prelude.{◌≡◌, ◌<◌, ◌^◌, true, None};
 ghost use Rattle.c_types.specs.Integers.{width};
 ghost use Rattle.core_tree.specs.Operations.{drawn_width};
-ghost use Rattle.core_tree.specs.Trees.{view, items_of};
+ghost use Rattle.core_tree.specs.Trees.{view};
 ghost use Rattle.actions.specs.Behaviour.{has_shape, word};
 ghost use Rattle.c_interp.specs.Meaning.{drawn};
-ghost use Rattle.c_interp.specs.Items.{evaluates, enters};
-ghost use Rattle.c_interp.specs.Tasks.{item_of, changed};
-ghost use Rattle.c_interp.specs.Plans.{items_behind, values_on, running_in};
-ghost use Rattle.c_interp.specs.Draws.{AnswersDrawOf, AcceptsDrawOf, variable_drawn};
+ghost use Rattle.c_interp.specs.Items.{evaluates, fills};
+ghost use Rattle.c_interp.specs.Tasks.{item_of};
+ghost use Rattle.c_interp.specs.Plans.{FitsIn};
+ghost use Rattle.c_interp.specs.Draws.{AnswersDrawOf, AcceptsDrawOf};
 
-use crate::plan::type_of_variable;
-use crate::task::{Change, Look, Taken, Task, Tasks};
-use crate::variables::block_of;
-use actions::{Answer, Bytes};
+use crate::plan::count_drawn;
+use crate::task::{Change, Look, Taken, Task, Tasks, Written};
+use actions::Answer;
 use c_types::IntegerType;
 use c_values::Number;
-use core_tree::{CoreExpr, CoreItem};
-use std::alloc::AllocError;
+use core_tree::CoreExpr;
 
 // The bits that a Draw gave.
 fn drawn_bits(answer: &Answer) -> u64
@@ -39,11 +37,7 @@ fn drawn_number(answer: &Answer, type_: IntegerType) -> Number
 
 // ---- changes
 
-fn change<'a>(
-    first: Option<Task<'a>>,
-    put: Option<Number>,
-    written: Option<(u32, Bytes)>,
-) -> Change<'a>
+fn change<'a>(first: Option<Task<'a>>, put: Option<Number>, written: Written) -> Change<'a>
     ensures { result ≡ record { tasks = record { first = first.entry; second = None; third = None }; taken = Taken.None; put = put; written = written } }
 {
     Change {
@@ -65,68 +59,48 @@ fn draw_expression<'a>(look: &Look, expr: &'a CoreExpr, answer: &Answer) -> Chan
     ensures { AnswersDrawOf look.now (evaluates (view expr.now)) answer.now result }
 {
     match expr {
-        CoreExpr::Draw { line: _, type_ } => change(None, Some(drawn_number(answer, *type_)), None),
+        CoreExpr::Draw { line: _, type_ } => {
+            change(None, Some(drawn_number(answer, *type_)), Written::Nothing)
+        }
         _ => unreachable!(),
     }
 }
 
-fn draw_variable<'a>(
+// The next word of a variable.
+fn draw_fill<'a>(
     look: &Look,
+    words: u32,
+    line: u32,
     variable: u32,
-    rest: &'a [CoreItem],
+    offset: usize,
     answer: &Answer,
-) -> Result<Change<'a>, AllocError>
-    ensures { IfOk result (λ c. changed c (items_behind look.now) (values_on look.now) look.now.variables.now ≡ variable_drawn (running_in look.now) variable (items_of rest.now) (items_behind look.now) (values_on look.now) look.now.variables.now answer.now) }
+) -> Change<'a>
+    requires fits { FitsIn look.now (fills words line variable offset) }
+    requires accepts { AcceptsDrawOf look.now (fills words line variable offset) answer.now }
+    ensures { AnswersDrawOf look.now (fills words line variable offset) answer.now result }
 {
-    let bytes = block_of(
-        look.alloc,
-        type_of_variable(look, variable),
-        drawn_bits(answer),
-    )?;
-    Ok(change(Some(Task::Enter(rest)), None, Some((variable, bytes))))
-}
-
-fn draw_entry<'a>(
-    look: &Look,
-    items: &'a [CoreItem],
-    answer: &Answer,
-) -> Result<Change<'a>, AllocError>
-    requires { AcceptsDrawOf look.now (enters (items_of items.now)) answer.now }
-    ensures { IfOk result (λ c. AnswersDrawOf look.now (enters (items_of items.now)) answer.now c) }
-{
-    let Some((item, rest)) = items.split_first() else {
-        unreachable!()
+    let count = count_drawn(look, variable, offset);
+    let written = Written::Bits {
+        variable,
+        offset,
+        count: count as usize,
+        bits: drawn_bits(answer),
     };
-    match item {
-        CoreItem::Declare { line: _, variable } => draw_variable(look, *variable, rest, answer),
-        CoreItem::Initialize {
-            line: _,
-            variable,
-            drawn,
-            value: _,
-        } => {
-            if *drawn {
-                draw_variable(look, *variable, rest, answer)
-            } else {
-                unreachable!()
-            }
-        }
-        CoreItem::Statement { statement: _ } => unreachable!(),
-    }
+    let next = Task::Fill(words - 1, line, variable, offset + 8);
+    change(Some(next), None, written)
 }
 
 // What the answer to a draw changes.
-pub(crate) fn draw_task<'a>(
-    look: &Look,
-    task: Task<'a>,
-    answer: &Answer,
-) -> Result<Change<'a>, AllocError>
-    requires { AcceptsDrawOf look.now (item_of task) answer.now }
-    ensures { IfOk result (λ c. AnswersDrawOf look.now (item_of task.entry) answer.now c) }
+pub(crate) fn draw_task<'a>(look: &Look, task: Task<'a>, answer: &Answer) -> Change<'a>
+    requires fits { FitsIn look.now (item_of task) }
+    requires accepts { AcceptsDrawOf look.now (item_of task) answer.now }
+    ensures { AnswersDrawOf look.now (item_of task.entry) answer.now result }
 {
     match task {
-        Task::Evaluate(expr) => Ok(draw_expression(look, expr, answer)),
-        Task::Enter(items) => draw_entry(look, items, answer),
-        _ => Ok(change(None, None, None)),
+        Task::Evaluate(expr) => draw_expression(look, expr, answer),
+        Task::Fill(words, line, variable, offset) => {
+            draw_fill(look, words, line, variable, offset, answer)
+        }
+        _ => change(None, None, Written::Nothing),
     }
 }

@@ -1,26 +1,24 @@
-ghost use Rattle.std.specs.Prelude.{◌≡◌, true, not, IfOk, Some, None, [], slice_set, if◌then◌else◌};
-ghost use Rattle.c_types.specs.Integers.{width};
+ghost use Rattle.std.specs.Prelude.{◌≡◌, ◌+◌, ◌<◌, ◌≤◌, ◌^◌, true, not, Some, None, [], ◌∷◌, if◌then◌else◌};
 ghost use Rattle.core_tree.specs.Trees.{view, view_statement, items_of, step, block};
-ghost use Rattle.core_tree.specs.Typed.{place_type};
+ghost use Rattle.core_tree.specs.Typed.{place_type, is_place};
 ghost use Rattle.core_tree.specs.Operations as operations;
 ghost use Rattle.c_interp.specs.Meaning as meaning;
-ghost use Rattle.c_interp.specs.Meaning.{number_type, variable_type};
-ghost use Rattle.c_values.specs.Variables.{Variables, write_place};
-ghost use Rattle.c_interp.specs.Items.{top, second, evaluates, initial, leaving, runs, enters, goes_on, stores, updates};
-ghost use Rattle.c_interp.specs.Steps.{updates_to};
+ghost use Rattle.c_interp.specs.Meaning.{number_type, size_of};
+ghost use Rattle.c_values.specs.Variables.{Variables, drawn_count, cleared, write_place};
+ghost use Rattle.c_interp.specs.Items.{top, second, state, evaluates, initial, leaving, runs, enters, goes_on, stores, updates, fills};
+ghost use Rattle.c_interp.specs.Steps.{updates_to, draws_variable, silent};
 ghost use Rattle.c_interp.specs.Plans.{IsByOperand, IsTested};
-ghost use Rattle.c_interp.specs.Tasks.{finish_of, end_of, item_of, values_in};
+ghost use Rattle.c_interp.specs.Tasks.{finish_of, end_of, item_of, values_in, with_written, LiesWithin};
 ghost use Rattle.c_interp.specs.Plans.{FitsIn, PlansItem, Plans, running_in, items_behind, values_on};
 
-use crate::task::{Change, Look, Plan, Taken, Task, Tasks};
-use crate::variables::{block_of, read};
-use actions::{Bytes, DrawBits};
+use crate::task::{Change, Halt, Look, Plan, Taken, Task, Tasks, Written};
+use crate::variables::read;
+use actions::DrawBits;
 use c_types::{IntegerType, promote};
-use c_values::{Number, compare, operate, sign};
+use c_values::{Number, compare, drawn_count, operate, sign, word_count};
 use core_tree::{
     ArithmeticOperator, CoreExpr, CoreItem, CoreStatement, LogicalOperator, Place, StepOperator,
 };
-use std::alloc::AllocError;
 use words::Class;
 
 // ---- changes
@@ -36,7 +34,7 @@ fn pushes<'a>(
       tasks = record { first = Some first.entry; second = second.entry; third = third.entry };
       taken = taken;
       put = None;
-      written = None;
+      written = Written.Nothing;
     }) }
 {
     Plan::Goes(Change {
@@ -47,7 +45,7 @@ fn pushes<'a>(
         },
         taken,
         put: None,
-        written: None,
+        written: Written::Nothing,
     })
 }
 
@@ -57,7 +55,7 @@ fn puts<'a>(taken: Taken, number: Number) -> Plan<'a>
       tasks = record { first = None; second = None; third = None };
       taken = taken;
       put = Some number;
-      written = None;
+      written = Written.Nothing;
     }) }
 {
     Plan::Goes(Change {
@@ -68,7 +66,7 @@ fn puts<'a>(taken: Taken, number: Number) -> Plan<'a>
         },
         taken,
         put: Some(number),
-        written: None,
+        written: Written::Nothing,
     })
 }
 
@@ -78,7 +76,7 @@ fn takes<'a>(taken: Taken) -> Plan<'a>
       tasks = record { first = None; second = None; third = None };
       taken = taken;
       put = None;
-      written = None;
+      written = Written.Nothing;
     }) }
 {
     Plan::Goes(Change {
@@ -89,22 +87,22 @@ fn takes<'a>(taken: Taken) -> Plan<'a>
         },
         taken,
         put: None,
-        written: None,
+        written: Written::Nothing,
     })
 }
 
-// A variable gets these bytes.
+// A variable is written.
 fn writes<'a>(
     first: Option<Task<'a>>,
     taken: Taken,
     put: Option<Number>,
-    written: (u32, Bytes),
+    written: Written,
 ) -> Plan<'a>
     ensures { result ≡ Plan.Goes (record {
       tasks = record { first = first.entry; second = None; third = None };
       taken = taken;
       put = put;
-      written = Some written;
+      written = written;
     }) }
 {
     Plan::Goes(Change {
@@ -115,7 +113,7 @@ fn writes<'a>(
         },
         taken,
         put,
-        written: Some(written),
+        written,
     })
 }
 
@@ -141,12 +139,12 @@ fn second_of(numbers: &[Number]) -> Number
     }
 }
 
-pub(crate) fn type_of_variable(look: &Look, variable: u32) -> IntegerType
-    ensures { result ≡ variable_type (running_in look.now) variable }
+pub(crate) fn size_of_variable(look: &Look, variable: u32) -> u32
+    ensures { result ≡ size_of (running_in look.now) variable }
 {
-    match look.types.get(variable as usize) {
-        Some(type_) => *type_,
-        None => IntegerType::Int,
+    match look.sizes.get(variable as usize) {
+        Some(size) => *size,
+        None => 0,
     }
 }
 
@@ -215,6 +213,7 @@ fn type_of_place(place: Place) -> IntegerType
             line: _,
             type_,
             variable: _,
+            offset: _,
         } => type_,
     }
 }
@@ -246,19 +245,24 @@ fn step_operation(operator: StepOperator) -> ArithmeticOperator
     }
 }
 
-// What a write to the place leaves: the variable, and its bytes.
-fn written(look: &Look, place: Place, bits: u64) -> Result<(u32, Bytes), AllocError>
-    ensures { IfOk result (λ w. (vs : Variables) → slice_set vs w.0 w.1 ≡ write_place vs place bits) }
+// A write of a number to the place.
+fn written(look: &Look, place: Place, bits: u64) -> Written
+    requires { is_place look.now.sizes.now place ≡ true }
+    ensures value { (vs : Variables) → with_written result vs ≡ write_place vs place bits }
+    ensures within { LiesWithin look.now.sizes.now result }
 {
     match place {
         Place::Variable {
             line: _,
             type_,
             variable,
-        } => {
-            let bytes = block_of(look.alloc, type_, bits)?;
-            Ok((variable, bytes))
-        }
+            offset,
+        } => Written::Bits {
+            variable,
+            offset: offset as usize,
+            count: type_.size() as usize,
+            bits,
+        },
     }
 }
 
@@ -276,19 +280,20 @@ fn plan_step<'a>(
     place: Place,
     operator: StepOperator,
     before: bool,
-) -> Result<Plan<'a>, AllocError>
-    ensures { IfOk result (λ p. PlansItem look.now (evaluates (step line place operator before)) p) }
+) -> Plan<'a>
+    requires { is_place look.now.sizes.now place ≡ true }
+    ensures { PlansItem look.now (evaluates (step line place operator before)) result }
 {
     let old = read(look.variables, place);
     let promoted = promote(type_of_place(place));
     let one = Number::new(promoted, 1);
     match operate(step_operation(operator), old.converted(promoted), one) {
-        Err(class) => Ok(Plan::Breaks(class, line)),
+        Err(class) => Plan::Halts(Halt::Breaks(class, line)),
         Ok(sum) => {
             let new = sum.converted(type_of_place(place));
-            let write = written(look, place, new.bits())?;
+            let write = written(look, place, new.bits());
             let value = picked(before, new, old);
-            Ok(writes(None, Taken::None, Some(value), write))
+            writes(None, Taken::None, Some(value), write)
         }
     }
 }
@@ -299,35 +304,35 @@ fn plan_update<'a>(
     place: Place,
     operator: ArithmeticOperator,
     type_: IntegerType,
-) -> Result<Plan<'a>, AllocError>
+) -> Plan<'a>
     requires { FitsIn look.now (updates line place operator type_) }
-    ensures { IfOk result (λ p. PlansItem look.now (updates line place operator type_) p) }
+    ensures { PlansItem look.now (updates line place operator type_) result }
 {
     let old = read(look.variables, place);
     match operate(operator, old.converted(type_), top_of(look.numbers)) {
-        Err(class) => Ok(Plan::Breaks(class, line)),
+        Err(class) => Plan::Halts(Halt::Breaks(class, line)),
         Ok(value) => {
             let new = value.converted(type_of_place(place));
-            let write = written(look, place, new.bits())?;
-            Ok(writes(None, Taken::One, Some(new), write))
+            let write = written(look, place, new.bits());
+            writes(None, Taken::One, Some(new), write)
         }
     }
 }
 
-fn plan_store<'a>(look: &Look, place: Place) -> Result<Plan<'a>, AllocError>
+fn plan_store<'a>(look: &Look, place: Place) -> Plan<'a>
     requires { FitsIn look.now (stores place) }
-    ensures { IfOk result (λ p. PlansItem look.now (stores place) p) }
+    ensures { PlansItem look.now (stores place) result }
 {
     let number = top_of(look.numbers);
-    let write = written(look, place, number.bits())?;
+    let write = written(look, place, number.bits());
     let value = number.retyped(type_of_place(place));
-    Ok(writes(None, Taken::One, Some(value), write))
+    writes(None, Taken::One, Some(value), write)
 }
 
 // The plan of an expression that is to be evaluated.
-fn plan_expression<'a>(look: &Look, expr: &'a CoreExpr) -> Result<Plan<'a>, AllocError>
+fn plan_expression<'a>(look: &Look, expr: &'a CoreExpr) -> Plan<'a>
     requires { FitsIn look.now (evaluates (view expr.now)) }
-    ensures { IfOk result (λ p. PlansItem look.now (evaluates (view expr.now)) p) }
+    ensures { PlansItem look.now (evaluates (view expr.now)) result }
 {
     let finish = Some(Task::Finish(expr));
     match expr {
@@ -335,38 +340,38 @@ fn plan_expression<'a>(look: &Look, expr: &'a CoreExpr) -> Result<Plan<'a>, Allo
             line: _,
             type_,
             bits,
-        } => Ok(puts(Taken::None, Number::new(*type_, *bits))),
-        CoreExpr::Read { place } => Ok(puts(Taken::None, read(look.variables, *place))),
+        } => puts(Taken::None, Number::new(*type_, *bits)),
+        CoreExpr::Read { place } => puts(Taken::None, read(look.variables, *place)),
         CoreExpr::Step {
             line,
             place,
             operator,
             before,
         } => plan_step(look, *line, *place, *operator, *before),
-        CoreExpr::Draw { line, type_ } => { Ok(Plan::Draws(drawn_width(*type_), *line)) }
+        CoreExpr::Draw { line, type_ } => Plan::Halts(Halt::Draws(drawn_width(*type_), *line)),
         CoreExpr::Arithmetic {
             line: _,
             operator: _,
             left,
             right,
-        } => Ok(pushes(
+        } => pushes(
             Taken::None,
             Task::Evaluate(left),
             Some(Task::Evaluate(right)),
             finish,
-        )),
+        ),
         CoreExpr::Compare {
             line: _,
             operator: _,
             left,
             right,
-        } => Ok(pushes(
+        } => pushes(
             Taken::None,
             Task::Evaluate(left),
             Some(Task::Evaluate(right)),
             finish,
-        )),
-        _ => Ok(plan_operand(look, expr)),
+        ),
+        _ => plan_operand(look, expr),
     }
 }
 
@@ -428,33 +433,33 @@ fn plan_operand<'a>(look: &Look, expr: &'a CoreExpr) -> Plan<'a>
 }
 
 // The plan of an expression whose operands are evaluated.
-fn plan_finish<'a>(look: &Look, expr: &'a CoreExpr) -> Result<Plan<'a>, AllocError>
+fn plan_finish<'a>(look: &Look, expr: &'a CoreExpr) -> Plan<'a>
     requires { FitsIn look.now (finish_of (view expr.now)) }
-    ensures { IfOk result (λ p. PlansItem look.now (finish_of (view expr.now)) p) }
+    ensures { PlansItem look.now (finish_of (view expr.now)) result }
 {
     let x = top_of(look.numbers);
     match expr {
-        CoreExpr::Convert { to, operand: _ } => Ok(puts(Taken::One, x.converted(*to))),
+        CoreExpr::Convert { to, operand: _ } => puts(Taken::One, x.converted(*to)),
         CoreExpr::Sign {
             line,
             operator,
             operand: _,
         } => match sign(*operator, x) {
-            Ok(number) => Ok(puts(Taken::One, number)),
-            Err(class) => Ok(Plan::Breaks(class, *line)),
+            Ok(number) => puts(Taken::One, number),
+            Err(class) => Plan::Halts(Halt::Breaks(class, *line)),
         },
         CoreExpr::IsZero {
             line: _,
             operand: _,
-        } => Ok(puts(Taken::One, Number::of_truth(!x.is_true()))),
+        } => puts(Taken::One, Number::of_truth(!x.is_true())),
         CoreExpr::Arithmetic {
             line,
             operator,
             left: _,
             right: _,
         } => match operate(*operator, second_of(look.numbers), x) {
-            Ok(number) => Ok(puts(Taken::Two, number)),
-            Err(class) => Ok(Plan::Breaks(class, *line)),
+            Ok(number) => puts(Taken::Two, number),
+            Err(class) => Plan::Halts(Halt::Breaks(class, *line)),
         },
         CoreExpr::Compare {
             line: _,
@@ -463,7 +468,7 @@ fn plan_finish<'a>(look: &Look, expr: &'a CoreExpr) -> Result<Plan<'a>, AllocErr
             right: _,
         } => {
             let truth = compare(*operator, second_of(look.numbers), x);
-            Ok(puts(Taken::Two, Number::of_truth(truth)))
+            puts(Taken::Two, Number::of_truth(truth))
         }
         CoreExpr::Assign {
             line: _,
@@ -477,7 +482,7 @@ fn plan_finish<'a>(look: &Look, expr: &'a CoreExpr) -> Result<Plan<'a>, AllocErr
             type_,
             value: _,
         } => plan_update(look, *line, *place, *operator, *type_),
-        _ => Ok(plan_tested(look, expr)),
+        _ => plan_tested(look, expr),
     }
 }
 
@@ -522,7 +527,7 @@ fn plan_tested<'a>(look: &Look, expr: &'a CoreExpr) -> Plan<'a>
             if x.is_true() {
                 puts(Taken::One, Number::new(IntegerType::Int, 0))
             } else {
-                Plan::Breaks(Class::Assertion, *line)
+                Plan::Halts(Halt::Breaks(Class::Assertion, *line))
             }
         }
         CoreExpr::Assumption {
@@ -532,7 +537,7 @@ fn plan_tested<'a>(look: &Look, expr: &'a CoreExpr) -> Plan<'a>
             if x.is_true() {
                 puts(Taken::One, Number::new(IntegerType::Int, 0))
             } else {
-                Plan::Blocks
+                Plan::Halts(Halt::Blocks)
             }
         }
         _ => takes(Taken::One),
@@ -583,7 +588,7 @@ fn plan_statement<'a>(look: &Look, statement: &'a CoreStatement) -> Plan<'a>
 fn plan_leave<'a>(_look: &Look, line: u32) -> Plan<'a>
     ensures { PlansItem _look.now (leaving line) result }
 {
-    Plan::Leaves(line)
+    Plan::Halts(Halt::Leaves(line))
 }
 
 // The plan of a statement whose test or value is evaluated.
@@ -622,22 +627,37 @@ fn plan_end<'a>(look: &Look, statement: &'a CoreStatement) -> Plan<'a>
 
 // ---- items of a block
 
-fn draws<'a>(look: &Look, line: u32, variable: u32) -> Plan<'a>
-    ensures { result ≡ Plan.Draws (width (variable_type (running_in look.now) variable)) line }
+// The words of a variable are drawn, and then come the items behind it.
+fn draws<'a>(look: &Look, line: u32, variable: u32, rest: &'a [CoreItem]) -> Plan<'a>
+    ensures { Plans look.now (draws_variable (running_in look.now) line variable (items_of rest.now) (items_behind look.now) (values_on look.now) look.now.variables.now) result }
 {
-    let width = type_of_variable(look, variable).width();
-    Plan::Draws(DrawBits::new(width), line)
+    let words = word_count(size_of_variable(look, variable));
+    pushes(
+        Taken::None,
+        Task::Fill(words, line, variable, 0),
+        Some(Task::Enter(rest)),
+        None,
+    )
+}
+
+// A variable becomes 0, and then come the items behind it.
+fn clears<'a>(look: &Look, variable: u32, rest: &'a [CoreItem]) -> Plan<'a>
+    ensures { Plans look.now (silent (state (enters (items_of rest.now) ∷ items_behind look.now) (values_on look.now) (cleared look.now.variables.now variable (size_of (running_in look.now) variable)))) result }
+{
+    let size = size_of_variable(look, variable);
+    let zeros = Written::Zeros { variable, size };
+    writes(Some(Task::Enter(rest)), Taken::None, None, zeros)
 }
 
 // The plan of the entry to a block of which these items are left.
-fn plan_entry<'a>(look: &Look, items: &'a [CoreItem]) -> Result<Plan<'a>, AllocError>
-    ensures { IfOk result (λ p. PlansItem look.now (enters (items_of items.now)) p) }
+fn plan_entry<'a>(look: &Look, items: &'a [CoreItem]) -> Plan<'a>
+    ensures { PlansItem look.now (enters (items_of items.now)) result }
 {
     let Some((item, rest)) = items.split_first() else {
-        return Ok(takes(Taken::None));
+        return takes(Taken::None);
     };
     match item {
-        CoreItem::Declare { line, variable } => Ok(draws(look, *line, *variable)),
+        CoreItem::Declare { line, variable } => draws(look, *line, *variable, rest),
         CoreItem::Initialize {
             line,
             variable,
@@ -645,18 +665,13 @@ fn plan_entry<'a>(look: &Look, items: &'a [CoreItem]) -> Result<Plan<'a>, AllocE
             value: _,
         } => {
             if *drawn {
-                return Ok(draws(look, *line, *variable));
+                draws(look, *line, *variable, rest)
+            } else {
+                clears(look, *variable, rest)
             }
-            let bytes = block_of(look.alloc, type_of_variable(look, *variable), 0)?;
-            Ok(writes(
-                Some(Task::Enter(rest)),
-                Taken::None,
-                None,
-                (*variable, bytes),
-            ))
         }
         CoreItem::Statement { statement: _ } => {
-            Ok(pushes(Taken::None, Task::Enter(rest), None, None))
+            pushes(Taken::None, Task::Enter(rest), None, None)
         }
     }
 }
@@ -682,7 +697,7 @@ fn plan_items<'a>(look: &Look, items: &'a [CoreItem]) -> Plan<'a>
         } => pushes(
             Taken::None,
             Task::Evaluate(value),
-            Some(Task::Initialize(*variable)),
+            Some(Task::Initialize(*variable, number_type_of(value))),
             Some(more),
         ),
         CoreItem::Statement { statement } => {
@@ -691,32 +706,64 @@ fn plan_items<'a>(look: &Look, items: &'a [CoreItem]) -> Plan<'a>
     }
 }
 
-fn plan_initial<'a>(look: &Look, variable: u32) -> Result<Plan<'a>, AllocError>
-    ensures { IfOk result (λ p. PlansItem look.now (initial variable) p) }
+// An initializer's value is written.
+fn plan_initial<'a>(look: &Look, variable: u32, type_: IntegerType) -> Plan<'a>
+    requires { FitsIn look.now (initial variable type_) }
+    ensures { PlansItem look.now (initial variable type_) result }
 {
     let number = top_of(look.numbers);
-    let type_ = type_of_variable(look, variable);
-    let bytes = block_of(look.alloc, type_, number.bits())?;
-    Ok(writes(None, Taken::One, None, (variable, bytes)))
+    let bits = Written::Bits {
+        variable,
+        offset: 0,
+        count: type_.size() as usize,
+        bits: number.bits(),
+    };
+    writes(None, Taken::One, None, bits)
+}
+
+// How many bytes of a variable are drawn in the word that begins at an offset of it.
+pub(crate) fn count_drawn(look: &Look, variable: u32, offset: usize) -> u32
+    requires { offset < size_of (running_in look.now) variable }
+    ensures is { result ≡ drawn_count (size_of (running_in look.now) variable) offset }
+    ensures positive { 1 ≤ result }
+    ensures at_most_8 { result ≤ 8 }
+    ensures small { offset < 2 ^ 32 }
+{
+    drawn_count(size_of_variable(look, variable), offset as u32)
+}
+
+// The next of the words that are drawn of a variable.
+fn plan_fill<'a>(look: &Look, words: u32, line: u32, variable: u32, offset: usize) -> Plan<'a>
+    requires { FitsIn look.now (fills words line variable offset) }
+    ensures { PlansItem look.now (fills words line variable offset) result }
+{
+    if words == 0 {
+        takes(Taken::None)
+    } else {
+        Plan::Halts(Halt::Draws(DrawBits::new(8 * count_drawn(look, variable, offset)), line))
+    }
 }
 
 // The plan of a task.
-pub(crate) fn plan_task<'a>(look: &Look, task: Task<'a>) -> Result<Plan<'a>, AllocError>
+pub(crate) fn plan_task<'a>(look: &Look, task: Task<'a>) -> Plan<'a>
     requires { FitsIn look.now (item_of task) }
-    ensures { IfOk result (λ p. PlansItem look.now (item_of task.entry) p) }
+    ensures { PlansItem look.now (item_of task.entry) result }
 {
     let x = top_of(look.numbers);
     match task {
         Task::Evaluate(expr) => plan_expression(look, expr),
         Task::Finish(expr) => plan_finish(look, expr),
-        Task::Test => Ok(puts(Taken::One, Number::of_truth(x.is_true()))),
-        Task::Retype(type_) => Ok(puts(Taken::One, x.retyped(type_))),
-        Task::Run(statement) => Ok(plan_statement(look, statement)),
-        Task::End(statement) => Ok(plan_end(look, statement)),
+        Task::Test => puts(Taken::One, Number::of_truth(x.is_true())),
+        Task::Retype(type_) => puts(Taken::One, x.retyped(type_)),
+        Task::Run(statement) => plan_statement(look, statement),
+        Task::End(statement) => plan_end(look, statement),
         Task::Enter(items) => plan_entry(look, items),
-        Task::GoOn(items) => Ok(plan_items(look, items)),
-        Task::Initialize(variable) => plan_initial(look, variable),
-        Task::Leave(line) => Ok(plan_leave(look, line)),
-        Task::Left => Ok(Plan::Ends(if look.first { 0 } else { x.bits() })),
+        Task::GoOn(items) => plan_items(look, items),
+        Task::Initialize(variable, type_) => plan_initial(look, variable, type_),
+        Task::Fill(words, line, variable, offset) => {
+            plan_fill(look, words, line, variable, offset)
+        }
+        Task::Leave(line) => plan_leave(look, line),
+        Task::Left => Plan::Halts(Halt::Ends(if look.first { 0 } else { x.bits() })),
     }
 }

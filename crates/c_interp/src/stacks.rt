@@ -1,9 +1,12 @@
-ghost use Rattle.std.specs.Prelude.{◌≡◌, ◌+◌, ◌<◌, ◌≤◌, ◌∷◌, [], ◌++◌, vec_len, vec_capacity};
+ghost use Rattle.std.specs.Prelude.{◌≡◌, ◌+◌, ◌<◌, ◌≤◌, ◌∷◌, true, [], ◌++◌, slice_index, vec_len, vec_capacity};
+ghost use Rattle.core_tree.specs.Typed.{is_within};
+ghost use Rattle.c_values.specs.Variables.{low_bytes, put_bytes, cleared};
+ghost use Rattle.c_interp.specs.Fits.{sizes_of};
 ghost use Rattle.c_interp.specs.Items.{rest};
-ghost use Rattle.c_interp.specs.Tasks.{items_in, values_in, with_task, with_tasks, with_put, without, with_written, behind};
+ghost use Rattle.c_interp.specs.Tasks.{items_in, values_in, with_task, with_tasks, with_put, without, with_written, LiesWithin, behind};
 
-use crate::task::{Taken, Task, Tasks};
-use actions::Bytes;
+use crate::task::{Taken, Task, Tasks, Written};
+use crate::variables::Block;
 use c_values::Number;
 
 #[tactic(auto, using(crate::proofs::Tops::items_push))]
@@ -87,13 +90,43 @@ pub(crate) fn change_numbers(numbers: &mut Vec<Number>, taken: Taken, put: Optio
     }
 }
 
-// Gives a variable its bytes.
-pub(crate) fn change_variables(variables: &mut Vec<Bytes>, written: Option<(u32, Bytes)>)
-    ensures { variables.new.items ≡ with_written written variables.old.items }
+// Writes the lowest bytes of a number into a variable.
+fn write_bits(variables: &mut Vec<Block>, variable: u32, offset: usize, count: usize, bits: u64)
+    requires few { count ≤ 8 }
+    requires within { is_within (sizes_of variables.old.items) variable offset count ≡ true }
+    ensures value { variables.new.items ≡ put_bytes variables.old.items variable offset (low_bytes count bits) }
+    ensures sizes { sizes_of variables.new.items ≡ sizes_of variables.old.items }
 {
-    if let Some((variable, bytes)) = written {
-        if (variable as usize) < variables.len() {
-            variables[variable as usize] = bytes;
-        }
+    if let Some(block) = variables.get_mut(variable as usize) {
+        block.write(offset, count, bits);
+    }
+}
+
+// Writes zeros over a variable.
+fn write_zeros(variables: &mut Vec<Block>, variable: u32, size: u32)
+    requires { size ≡ slice_index (sizes_of variables.old.items) variable }
+    ensures value { variables.new.items ≡ cleared variables.old.items variable size }
+    ensures sizes { sizes_of variables.new.items ≡ sizes_of variables.old.items }
+{
+    if let Some(block) = variables.get_mut(variable as usize) {
+        block.clear();
+    }
+}
+
+// Writes into a variable.
+pub(crate) fn change_variables(variables: &mut Vec<Block>, written: Written)
+    requires { LiesWithin (sizes_of variables.old.items) written }
+    ensures value { variables.new.items ≡ with_written written variables.old.items }
+    ensures sizes { sizes_of variables.new.items ≡ sizes_of variables.old.items }
+{
+    match written {
+        Written::Nothing => {}
+        Written::Bits {
+            variable,
+            offset,
+            count,
+            bits,
+        } => write_bits(variables, variable, offset, count, bits),
+        Written::Zeros { variable, size } => write_zeros(variables, variable, size),
     }
 }

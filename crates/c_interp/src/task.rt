@@ -1,8 +1,8 @@
-use actions::{Bytes, DrawBits};
+use crate::variables::Block;
+use actions::DrawBits;
 use c_types::IntegerType;
 use c_values::Number;
 use core_tree::{CoreExpr, CoreItem, CoreStatement};
-use std::alloc::Global;
 use words::Class;
 
 // What is still to be done. `Finish` comes behind the operands of an expression, or behind the test or the
@@ -17,7 +17,9 @@ pub(crate) enum Task<'a> {
     End(&'a CoreStatement),
     Enter(&'a [CoreItem]),
     GoOn(&'a [CoreItem]),
-    Initialize(u32),
+    Initialize(u32, IntegerType),
+    // So many words are drawn, at this line, from an offset of a variable on.
+    Fill(u32, u32, u32, usize),
     Leave(u32),
     Left,
 }
@@ -38,20 +40,43 @@ pub(crate) enum Taken {
     Two,
 }
 
-// What a silent step changes: tasks in the place of the first, numbers that are taken, one that is put on
-// top, and the bytes of a variable.
+// What is written: the lowest bytes of a number at an offset of a variable, or zeros over all of a
+// variable of this size.
+#[derive(Clone, Copy)]
+pub(crate) enum Written {
+    Nothing,
+    Bits {
+        variable: u32,
+        offset: usize,
+        count: usize,
+        bits: u64,
+    },
+    Zeros {
+        variable: u32,
+        size: u32,
+    },
+}
+
+// What a step changes: tasks in the place of the first, numbers that are taken, one that is put on top,
+// and the bytes of a variable.
 #[derive(Drop)]
 pub(crate) struct Change<'a> {
     pub(crate) tasks: Tasks<'a>,
     pub(crate) taken: Taken,
     pub(crate) put: Option<Number>,
-    pub(crate) written: Option<(u32, Bytes)>,
+    pub(crate) written: Written,
 }
 
 // What a thread does next in a state.
 #[derive(Drop)]
 pub(crate) enum Plan<'a> {
     Goes(Change<'a>),
+    Halts(Halt),
+}
+
+// What comes next where no silent step does.
+#[derive(Clone, Copy)]
+pub(crate) enum Halt {
     // A draw of so many bits, at this line.
     Draws(DrawBits, u32),
     // The end of the function, at this line.
@@ -62,14 +87,13 @@ pub(crate) enum Plan<'a> {
 }
 
 // What a plan depends on: the running function, the tasks behind the first, the numbers that wait, the
-// variables and their types. The last of the tasks and the last of the numbers come first.
+// variables and their sizes. The last of the tasks and the last of the numbers come first.
 #[derive(Drop)]
 pub(crate) struct Look<'a, 'b> {
-    pub(crate) alloc: Global,
     pub(crate) function: u32,
     pub(crate) first: bool,
-    pub(crate) types: &'a [IntegerType],
+    pub(crate) sizes: &'a [u32],
     pub(crate) behind: &'b [Task<'a>],
     pub(crate) numbers: &'b [Number],
-    pub(crate) variables: &'b [Bytes],
+    pub(crate) variables: &'b [Block],
 }

@@ -1,7 +1,7 @@
-ghost use Rattle.std.specs.Prelude.{◌≡◌, true, [], ◌∷◌, IfOk};
-ghost use Rattle.c_types.specs.declared.integers.IntegerType.{IntegerType};
-ghost use Rattle.core_tree.specs.Trees.{view, items_of};
-ghost use Rattle.core_tree.specs.Typed.{is_typed, are_typed_items};
+ghost use Rattle.std.specs.Prelude.{◌≡◌, ◌+◌, ◌≤◌, true, [], ◌∷◌, IfOk};
+ghost use Rattle.c_types.specs.Integers.{bytes};
+ghost use Rattle.core_tree.specs.Trees.{view, items_of, with_item, done};
+ghost use Rattle.core_tree.specs.Typed.{is_place, is_typed, are_typed_items};
 ghost use Rattle.c_interp.specs.Ints.{IsInt, IsIntPlace, IsTypedItem, ints};
 
 use crate::replay::run;
@@ -20,12 +20,14 @@ const X: Place = Place::Variable {
     line: 1,
     type_: IntegerType::Int,
     variable: 0,
+    offset: 0,
 };
 
 const Y: Place = Place::Variable {
     line: 1,
     type_: IntegerType::Int,
     variable: 1,
+    offset: 0,
 };
 
 fn int(bits: u32) -> CoreExpr
@@ -197,12 +199,12 @@ fn drawn_int() -> CoreExpr
     }
 }
 
-// The file whose main has two int variables and this body.
-fn file(alloc: Global, items: Vec<CoreItem>) -> Result<Core, AllocError>
-    requires { are_typed_items ints (items_of items.items) ≡ true }
+// The file whose main has variables of these sizes and this body.
+fn file(alloc: Global, sizes: [u32; 2], items: Vec<CoreItem>) -> Result<Core, AllocError>
+    requires { are_typed_items sizes (items_of items.items) ≡ true }
 {
     let bytes = Vec::from_slice(alloc, b"main".as_slice())?;
-    let variables = Vec::from_slice(alloc, &[IntegerType::Int, IntegerType::Int])?;
+    let variables = Vec::from_slice(alloc, &sizes)?;
     let main = Function {
         name: Name { bytes },
         line: 1,
@@ -213,15 +215,28 @@ fn file(alloc: Global, items: Vec<CoreItem>) -> Result<Core, AllocError>
     Ok(Core::new(functions))
 }
 
-// How the run of a file with this body ends on these words, in four turns of thread 0.
+// How the run of a file with two int variables and this body ends on these words.
 fn ending(alloc: Global, items: Vec<CoreItem>, words: &[u64]) -> Result<Option<Outcome>, AllocError>
     requires { are_typed_items ints (items_of items.items) ≡ true }
 {
-    let core = file(alloc, items)?;
+    ending_with(alloc, [4, 4], items, words)
+}
+
+// How the run of a file with variables of these sizes and this body ends on these words, in six turns of
+// thread 0.
+fn ending_with(
+    alloc: Global,
+    sizes: [u32; 2],
+    items: Vec<CoreItem>,
+    words: &[u64],
+) -> Result<Option<Outcome>, AllocError>
+    requires { are_typed_items sizes (items_of items.items) ≡ true }
+{
+    let core = file(alloc, sizes, items)?;
     let bounds = Bounds::new(1, Vec::new(alloc), true, 1, false);
     let mut inputs = Inputs::new(alloc);
     inputs.insert(0, Words::new(Vec::from_slice(alloc, words)?))?;
-    let schedule = Schedule::new(Vec::from_slice(alloc, &[0, 0, 0, 0])?);
+    let schedule = Schedule::new(Vec::from_slice(alloc, &[0, 0, 0, 0, 0, 0])?);
     match admit(core) {
         Ok(admitted) => Ok(Some(run(alloc, &admitted, &bounds, &inputs, &schedule)?)),
         Err(_) => Ok(None),
@@ -370,7 +385,7 @@ fn many_draws(alloc: Global) -> Result<Vec<CoreItem>, AllocError>
 #[test]
 fn a_long_run_is_replayed(rt: HostRuntime) -> Result<(), Fail> {
     let alloc = rt.alloc();
-    let core = file(alloc, many_draws(alloc)?)?;
+    let core = file(alloc, [4, 4], many_draws(alloc)?)?;
     let bounds = Bounds::new(1, Vec::new(alloc), true, 1, false);
     let mut words = vec![in alloc; 0; DRAWS as usize]?;
     words.push(7)?;
@@ -383,6 +398,156 @@ fn a_long_run_is_replayed(rt: HostRuntime) -> Result<(), Fail> {
             assert!(rt; Some(outcome) == broken(Class::Assertion, 3));
         }
         Err(_) => assert!(rt; false),
+    }
+    Ok(())
+}
+
+// `assert((unsigned long)x == bits);`, where x is a number in one of two variables, the second of 4 bytes
+fn asserted_number(
+    alloc: Global,
+    size: u32,
+    line: u32,
+    place: Place,
+    bits: u64,
+) -> Result<CoreItem, AllocError>
+    requires { is_place (size ∷ 4 ∷ []) place ≡ true }
+    ensures { IfOk result (λ i. are_typed_items (size ∷ 4 ∷ []) (with_item i done) ≡ true) }
+{
+    let read = CoreExpr::Convert {
+        to: IntegerType::UnsignedLong,
+        operand: Box::new(alloc, CoreExpr::Read { place })?,
+    };
+    let constant = CoreExpr::Constant {
+        line,
+        type_: IntegerType::UnsignedLong,
+        bits,
+    };
+    let condition = CoreExpr::Compare {
+        line,
+        operator: Comparison::Equal,
+        left: Box::new(alloc, read)?,
+        right: Box::new(alloc, constant)?,
+    };
+    let expression = CoreExpr::Assertion {
+        line,
+        condition: Box::new(alloc, condition)?,
+    };
+    Ok(CoreItem::Statement {
+        statement: CoreStatement::Evaluate { expression },
+    })
+}
+
+fn number_at(variable: u32, offset: u32, type_: IntegerType) -> Place
+    ensures { result ≡ Place.Variable 1 type_ variable offset }
+{
+    Place::Variable {
+        line: 1,
+        type_,
+        variable,
+        offset,
+    }
+}
+
+// Two variables that are drawn, of this size and of 4 bytes, then assertions of the number at an offset of
+// the first, and that the second is 9.
+fn drawn_variables(
+    alloc: Global,
+    size: u32,
+    offset: u32,
+    type_: IntegerType,
+    bits: u64,
+) -> Result<Vec<CoreItem>, AllocError>
+    requires { offset + bytes type_ ≤ size }
+    ensures { IfOk result (λ items. are_typed_items (size ∷ 4 ∷ []) (items_of items.items) ≡ true) }
+{
+    let place = number_at(0, offset, type_);
+    let first = asserted_number(alloc, size, 3, place, bits)?;
+    let nine = number_at(1, 0, IntegerType::Int);
+    let second = asserted_number(alloc, size, 4, nine, 9)?;
+    let items = vec![in alloc;
+        CoreItem::Declare {
+            line: 1,
+            variable: 0
+        },
+        CoreItem::Declare {
+            line: 2,
+            variable: 1
+        },
+        first,
+        second,
+    ]?;
+    Ok(items)
+}
+
+// The size of a variable, the words that are drawn, and the number of a type at an offset of it.
+#[derive(Clone, Copy)]
+struct Drawn {
+    size: u32,
+    words: [u64; 4],
+    offset: u32,
+    type_: IntegerType,
+    bits: u64,
+}
+
+// How a run ends that draws these words and looks for this number.
+fn drawn_ending(alloc: Global, row: &Drawn, bits: u64) -> Result<Option<Outcome>, AllocError> {
+    if row.size < 100 && row.offset < 100 && row.offset + row.type_.size() <= row.size {
+        let items = drawn_variables(alloc, row.size, row.offset, row.type_, bits)?;
+        ending_with(alloc, [row.size, 4], items, &row.words)
+    } else {
+        Ok(None)
+    }
+}
+
+const WORD: u64 = 0x8877665544330011;
+
+fn row(size: u32, words: [u64; 4], offset: u32, type_: IntegerType, bits: u64) -> Drawn {
+    Drawn {
+        size,
+        words,
+        offset,
+        type_,
+        bits,
+    }
+}
+
+#[test]
+fn variables_are_drawn_in_words(rt: HostRuntime) -> Result<(), Fail> {
+    let alloc = rt.alloc();
+    let rows = [
+        row(3, [0x332211, 9, 0, 0], 2, IntegerType::UnsignedChar, 0x33),
+        row(8, [WORD, 9, 0, 0], 7, IntegerType::UnsignedChar, 0x88),
+        row(
+            12,
+            [WORD, 0xccbbaa99, 9, 0],
+            8,
+            IntegerType::UnsignedInt,
+            0xccbbaa99,
+        ),
+        row(
+            12,
+            [WORD, 0xccbbaa99, 9, 0],
+            6,
+            IntegerType::UnsignedInt,
+            0xaa998877,
+        ),
+        row(17, [WORD, 5, 0x5a, 9], 16, IntegerType::UnsignedChar, 0x5a),
+        row(17, [WORD, 5, 0x5a, 9], 8, IntegerType::UnsignedLong, 5),
+        row(8, [WORD, 9, 0, 0], 3, IntegerType::UnsignedShort, 0x5544),
+        row(8, [WORD, 9, 0, 0], 4, IntegerType::Int, 0xffffffff88776655),
+        row(
+            8,
+            [WORD, 9, 0, 0],
+            7,
+            IntegerType::SignedChar,
+            0xffffffffffffff88,
+        ),
+        row(8, [WORD, 9, 0, 0], 1, IntegerType::Bool, 0),
+        row(8, [WORD, 9, 0, 0], 2, IntegerType::Bool, 1),
+    ];
+    for row in &rows {
+        assert!(rt; drawn_ending(alloc, row, row.bits)? == FINE);
+        assert!(rt; drawn_ending(alloc, row, row.bits ^ 1)? == broken(Class::Assertion, 3));
     }
     Ok(())
 }

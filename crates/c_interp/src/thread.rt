@@ -1,16 +1,16 @@
 ghost use Rattle.std.specs.Prelude.{◌≡◌, true};
 ghost use Rattle.core_tree.specs.Trees.{view_core};
 ghost use Rattle.core_tree.specs.Typed.{are_typed};
-ghost use Rattle.c_interp.specs.Fits.{fits, types_of};
+ghost use Rattle.c_interp.specs.Fits.{fits, types_of, sizes_of};
 ghost use Rattle.c_interp.specs.Tasks.{items_in, values_in};
 
 use crate::drawn::draw_task;
 use crate::functions::{body_of, number_of_main};
 use crate::plan::{plan_task, top_of};
 use crate::stacks::{change_numbers, change_tasks, change_variables};
-use crate::task::{Change, Look, Plan, Task};
-use crate::variables::first_variables;
-use actions::{Action, Answer, Bytes, DrawBits, Machine, Next};
+use crate::task::{Change, Halt, Look, Plan, Task};
+use crate::variables::{Block, first_variables};
+use actions::{Action, Answer, DrawBits, Machine, Next};
 use c_profile::Admitted;
 use c_types::IntegerType;
 use c_values::Number;
@@ -27,12 +27,13 @@ pub struct Thread<'a> {
     startable: u32,
     function: u32,
     first: bool,
-    types: &'a [IntegerType],
+    sizes: &'a [u32],
     tasks: Vec<Task<'a>>,
     numbers: Vec<Number>,
-    variables: Vec<Bytes>,
+    variables: Vec<Block>,
     ghost all_typed: { are_typed (view_core functions.now) ≡ true },
-    ghost typed: { fits types.now (items_in tasks.items) (types_of (values_in numbers.items)) ≡ true },
+    ghost typed: { fits sizes.now (items_in tasks.items) (types_of (values_in numbers.items)) ≡ true },
+    ghost sized: { sizes_of variables.items ≡ sizes.now },
 }
 
 impl<'a> Thread<'a> {
@@ -47,7 +48,7 @@ impl<'a> Thread<'a> {
     ghost use Rattle.c_interp.specs.Source.{running, source_program, source_thread};
     ghost use Rattle.c_interp.specs.Steps.{move, silent};
     ghost use Rattle.c_interp.specs.SourceThread.{start_state, thread_in, function_thread};
-    ghost use Rattle.c_interp.specs.Tasks.{items_in, values_in, behind, IsPlan, IsDraw, changed, next_by, AnswersDraw, AcceptsDraw};
+    ghost use Rattle.c_interp.specs.Tasks.{items_in, values_in, behind, IsPlan, IsDraw, changed, next_by, IsAnswered, AcceptsDraw, LiesWithin, WritesWithin};
     ghost use Rattle.c_interp.specs.View.{running_of, state_of, thread_of, SameProgram, Halts};
 
     /// Thread 0 of a file at its start: it runs the function named `main`. The bounds are of loops, calls
@@ -89,7 +90,7 @@ impl<'a> Thread<'a> {
             startable,
             function,
             first,
-            types: &body.variables,
+            sizes: &body.variables,
             tasks,
             numbers,
             variables,
@@ -112,7 +113,7 @@ impl<'a> Thread<'a> {
             startable,
             function,
             first: false,
-            types: &[],
+            sizes: &[],
             tasks: Vec::new(alloc),
             numbers: Vec::new(alloc),
             variables: Vec::new(alloc),
@@ -150,17 +151,16 @@ impl<'a> Thread<'a> {
     }
 
     // What is next in this state.
-    fn plan(&self) -> Result<Plan<'a>, AllocError>
-        ensures { IfOk result (λ p. IsPlan (self.now).first (behind (items_in (self.now).tasks.items)) (values_in (self.now).numbers.items) (self.now).variables.items (move (running_of self.now) (state_of self.now)) p) }
+    fn plan(&self) -> Plan<'a>
+        ensures { IsPlan (self.now).first (behind (items_in (self.now).tasks.items)) (values_in (self.now).numbers.items) (self.now).variables.items (move (running_of self.now) (state_of self.now)) result × WritesWithin (self.now).sizes.now result }
     {
         match self.tasks.as_slice().split_last() {
-            None => Ok(Plan::Blocks),
+            None => Plan::Halts(Halt::Blocks),
             Some((task, behind)) => {
                 let look = Look {
-                    alloc: self.alloc,
                     function: self.function,
                     first: self.first,
-                    types: self.types,
+                    sizes: self.sizes,
                     behind,
                     numbers: self.numbers.as_slice(),
                     variables: self.variables.as_slice(),
@@ -172,7 +172,8 @@ impl<'a> Thread<'a> {
 
     // Makes a change, where there is room for it.
     fn apply(&mut self, change: Change<'a>)
-        requires step { Fits (self.old).types.now (changed change (behind (items_in (self.old).tasks.items)) (values_in (self.old).numbers.items) (self.old).variables.items) }
+        requires step { Fits (self.old).sizes.now (changed change (behind (items_in (self.old).tasks.items)) (values_in (self.old).numbers.items) (self.old).variables.items) }
+        requires within { LiesWithin (self.old).sizes.now change.written }
         requires tasks { vec_len (self.old).tasks + 3 ≤ vec_capacity (self.old).tasks }
         requires numbers { vec_len (self.old).numbers < vec_capacity (self.old).numbers }
         ensures state { state_of self.new ≡ changed change.entry (behind (items_in (self.old).tasks.items)) (values_in (self.old).numbers.items) (self.old).variables.items }
@@ -191,45 +192,40 @@ impl<'a> Thread<'a> {
     }
 
     // Makes a silent step, or says what is next instead.
-    fn step(&mut self) -> Result<Option<Plan<'a>>, AllocError>
+    fn step(&mut self) -> Result<Option<Halt>, AllocError>
         ensures same { thread_of self.new ≡ thread_of self.old }
         ensures step { IfOk result (λ o. MatchOption o (total_work (state_of self.new).items < total_work (state_of self.old).items) (λ p. Halts self.new p)) }
     {
         self.make_room()?;
-        match self.plan()? {
+        match self.plan() {
             Plan::Goes(change) => {
                 self.apply(change);
                 Ok(None)
             }
-            Plan::Draws(bits, line) => Ok(Some(Plan::Draws(bits, line))),
-            Plan::Leaves(line) => Ok(Some(Plan::Leaves(line))),
-            Plan::Breaks(class, line) => Ok(Some(Plan::Breaks(class, line))),
-            Plan::Blocks => Ok(Some(Plan::Blocks)),
-            Plan::Ends(v) => Ok(Some(Plan::Ends(v))),
+            Plan::Halts(halt) => Ok(Some(halt)),
         }
     }
 
     // Makes the silent steps up to what is next.
-    fn settle(&mut self) -> Result<Plan<'a>, AllocError>
+    fn settle(&mut self) -> Result<Halt, AllocError>
         ensures same { thread_of self.new ≡ thread_of self.old }
         ensures halts { IfOk result (λ p. Halts self.new p) }
     {
         'steps: loop {
-            if let Some(plan) = self.step()? {
-                return Ok(plan);
+            if let Some(halt) = self.step()? {
+                return Ok(halt);
             }
         }
     }
 
-    // What is next, by the plan of the state.
-    fn next_of(&self, plan: Plan) -> Next
-        requires { Halts self.now plan }
-        ensures { result ≡ next_by (self.now).first (self.now).function (values_in (self.now).numbers.items) plan.entry }
+    // What is next, by what comes next in the state.
+    fn next_of(&self, halt: Halt) -> Next
+        requires { Halts self.now halt }
+        ensures { result ≡ next_by (self.now).first (self.now).function (values_in (self.now).numbers.items) halt }
     {
-        match plan {
-            Plan::Goes(_) => Next::Blocked,
-            Plan::Draws(bits, line) => Next::Act(Action::Draw(bits), line, self.function),
-            Plan::Leaves(line) => {
+        match halt {
+            Halt::Draws(bits, line) => Next::Act(Action::Draw(bits), line, self.function),
+            Halt::Leaves(line) => {
                 let action = if self.first {
                     Action::Exit
                 } else {
@@ -237,38 +233,37 @@ impl<'a> Thread<'a> {
                 };
                 Next::Act(action, line, self.function)
             }
-            Plan::Breaks(class, line) => Next::Broken(class, line, self.function),
-            Plan::Blocks => Next::Blocked,
-            Plan::Ends(v) => Next::Ended(Word::new(v, 64)),
+            Halt::Breaks(class, line) => Next::Broken(class, line, self.function),
+            Halt::Blocks => Next::Blocked,
+            Halt::Ends(v) => Next::Ended(Word::new(v, 64)),
         }
     }
 
     // What is next, by the thread's meaning.
-    fn next(&self, plan: Plan) -> Next
-        requires { Halts self.now plan }
+    fn next(&self, halt: Halt) -> Next
+        requires { Halts self.now halt }
         ensures { result ≡ (thread_of self.now).behaves [] }
     {
-        self.next_of(plan)
+        self.next_of(halt)
     }
 
-    // What the answer to a draw changes.
-    fn draw(&self, answer: &Answer) -> Result<Change<'a>, AllocError>
+    // The change that the answer to a draw makes.
+    fn draw(&self, answer: &Answer) -> Plan<'a>
         requires { AcceptsDraw (move (running_of self.now) (state_of self.now)) answer.now }
-        ensures { IfOk result (λ c. AnswersDraw (behind (items_in (self.now).tasks.items)) (values_in (self.now).numbers.items) (self.now).variables.items (move (running_of self.now) (state_of self.now)) answer.now c) }
+        ensures { IsAnswered (self.now).sizes.now (behind (items_in (self.now).tasks.items)) (values_in (self.now).numbers.items) (self.now).variables.items (move (running_of self.now) (state_of self.now)) answer.now result }
     {
         match self.tasks.as_slice().split_last() {
             None => unreachable!(),
             Some((task, behind)) => {
                 let look = Look {
-                    alloc: self.alloc,
                     function: self.function,
                     first: self.first,
-                    types: self.types,
+                    sizes: self.sizes,
                     behind,
                     numbers: self.numbers.as_slice(),
                     variables: self.variables.as_slice(),
                 };
-                draw_task(&look, *task, answer)
+                Plan::Goes(draw_task(&look, *task, answer))
             }
         }
     }
@@ -297,23 +292,25 @@ impl<'a> Thread<'a> {
         ensures err { OnErr result (thread_of self.new ≡ thread_of self.old) }
     {
         self.make_room()?;
-        let change = self.draw(answer)?;
-        self.apply(change);
+        match self.draw(answer) {
+            Plan::Goes(change) => self.apply(change),
+            Plan::Halts(_) => unreachable!(),
+        }
         Ok(())
     }
 
-    // Takes the answer to what is next, by the plan of the state.
-    fn take(&mut self, plan: Plan, answer: &Answer) -> Result<(), AllocError>
-        requires halts { Halts self.old plan }
+    // Takes the answer to what comes next in the state.
+    fn take(&mut self, halt: Halt, answer: &Answer) -> Result<(), AllocError>
+        requires halts { Halts self.old halt }
         requires accepts { accepts ((thread_of self.old).behaves []) answer.now ≡ true }
-        requires next { accepts (next_by (self.old).first (self.old).function (values_in (self.old).numbers.items) plan) answer.now ≡ true }
+        requires next { accepts (next_by (self.old).first (self.old).function (values_in (self.old).numbers.items) halt) answer.now ≡ true }
         ensures ok { OnOk result (thread_of self.new ≡ answered (thread_of self.old) answer.now) }
         ensures err { OnErr result (thread_of self.new ≡ thread_of self.old) }
     {
-        match plan {
-            Plan::Draws(bits, line) => self.take_draw(bits, line, answer),
-            Plan::Leaves(_) => self.leave(),
-            Plan::Goes(_) | Plan::Breaks(_, _) | Plan::Blocks | Plan::Ends(_) => unreachable!(),
+        match halt {
+            Halt::Draws(bits, line) => self.take_draw(bits, line, answer),
+            Halt::Leaves(_) => self.leave(),
+            Halt::Breaks(_, _) | Halt::Blocks | Halt::Ends(_) => unreachable!(),
         }
     }
 }
@@ -330,13 +327,13 @@ impl<'a> Machine for Thread<'a> {
     }
 
     fn advance(&mut self) -> Result<Next, AllocError> {
-        let plan = self.settle()?;
-        Ok(self.next(plan))
+        let halt = self.settle()?;
+        Ok(self.next(halt))
     }
 
     fn answer(&mut self, answer: &Answer) -> Result<(), AllocError> {
-        let plan = self.settle()?;
-        self.take(plan, answer)
+        let halt = self.settle()?;
+        self.take(halt, answer)
     }
 
     ghost valid = { λ t. is_thread (view_core t.functions.now) t.startable (running_of t) (state_of t) };

@@ -1,25 +1,65 @@
-ghost use Rattle.std.specs.Prelude.{◌≡◌, IfOk};
-ghost use Rattle.std.specs.Int.{to_le_bytes};
+ghost use Rattle.std.specs.Prelude.{◌≡◌, ◌+◌, ◌≤◌, length, IfOk};
 ghost use Rattle.core_tree.specs.Typed.{place_type};
-ghost use Rattle.c_values.specs.Variables.{storage, read_place, first_variables};
+ghost use Rattle.c_values.specs.Variables.{low_bytes, put_at, zeros, number_at, read_place, first_variables};
 ghost use Rattle.c_values.specs.Numbers.{typed};
+ghost use Rattle.c_interp.specs.Fits.{sizes_of};
 
-use actions::Bytes;
 use c_types::IntegerType;
-use c_values::{Number, bytes_of, read_block};
+use c_values::{Number, read_block, write_block};
 use core_tree::Place;
 use std::alloc::{AllocError, Global};
+use std::marker::Model;
 
-// The block of a variable of the type.
-pub(crate) fn block_of(alloc: Global, type_: IntegerType, bits: u64) -> Result<Bytes, AllocError>
-    ensures { IfOk result (λ bytes. bytes ≡ to_le_bytes (storage type_) bits) }
-{
-    let items = bytes_of(alloc, type_, bits)?;
-    Ok(Bytes::new(items))
+// The bytes of a variable, the lowest first.
+#[derive(Drop)]
+pub(crate) struct Block {
+    bytes: Vec<u8>,
+}
+
+impl Model for Block {
+    ghost use Rattle.std.specs.Prelude.{List, ℕ};
+
+    ghost Value = { List ℕ };
+
+    ghost view = { λ b. b.bytes.items };
+}
+
+impl Block {
+    // So many bytes that are 0.
+    fn new(alloc: Global, size: u32) -> Result<Block, AllocError>
+        ensures { IfOk result (λ block. block ≡ zeros size) }
+    {
+        let bytes = vec![in alloc; 0; size as usize]?;
+        Ok(Block { bytes })
+    }
+
+    // The number that a read of an object of the type at an offset gives.
+    fn read(&self, offset: usize, type_: IntegerType) -> Number
+        ensures { result ≡ typed type_ (number_at type_ offset self.now) }
+    {
+        read_block(self.bytes.as_slice(), offset, type_)
+    }
+
+    // Writes the lowest `count` bytes of a number from an offset on.
+    pub(crate) fn write(&mut self, offset: usize, count: usize, bits: u64)
+        requires few { count ≤ 8 }
+        requires within { offset + count ≤ length self.old }
+        ensures value { self.new ≡ put_at offset (low_bytes count bits) self.old }
+        ensures len { length self.new ≡ length self.old }
+    {
+        write_block(self.bytes.as_mut_slice(), offset, count, bits);
+    }
+
+    // Makes each byte 0.
+    pub(crate) fn clear(&mut self)
+        ensures { self.new ≡ zeros (length self.old) }
+    {
+        self.bytes.as_mut_slice().fill(0);
+    }
 }
 
 // The number that a read of the place gives.
-pub(crate) fn read(variables: &[Bytes], place: Place) -> Number
+pub(crate) fn read(variables: &[Block], place: Place) -> Number
     ensures { result ≡ typed (place_type place) (read_place variables.now place) }
 {
     match place {
@@ -27,24 +67,23 @@ pub(crate) fn read(variables: &[Bytes], place: Place) -> Number
             line: _,
             type_,
             variable,
+            offset,
         } => match variables.get(variable as usize) {
-            Some(block) => read_block(block.as_slice(), type_),
-            None => read_block(&[], type_),
+            Some(block) => block.read(offset as usize, type_),
+            None => read_block(&[], offset as usize, type_),
         },
     }
 }
 
 // The variables before the function's body: each byte is 0.
-pub(crate) fn first_variables(
-    alloc: Global,
-    types: &[IntegerType],
-) -> Result<Vec<Bytes>, AllocError>
-    ensures { IfOk result (λ vs. vs.items ≡ first_variables types.now) }
+pub(crate) fn first_variables(alloc: Global, sizes: &[u32]) -> Result<Vec<Block>, AllocError>
+    ensures values { IfOk result (λ vs. vs.items ≡ first_variables sizes.now) }
+    ensures sizes { IfOk result (λ vs. sizes_of vs.items ≡ sizes.now) }
 {
-    let mut variables = Vec::with_capacity(alloc, types.len())?;
-    for type_ in types {
-        let bytes = block_of(alloc, *type_, 0)?;
-        variables.push(bytes)?;
+    let mut variables = Vec::with_capacity(alloc, sizes.len())?;
+    for size in sizes {
+        let block = Block::new(alloc, *size)?;
+        variables.push(block)?;
     }
     Ok(variables)
 }

@@ -1,4 +1,3 @@
 pub mod Conversions
 pub mod Counts
-pub mod LowBytes
 pub mod Undefined

@@ -1,22 +1,21 @@
-ghost use Rattle.std.specs.Prelude.{◌≡◌, ◌<◌, ◌^◌, IfOk, slice_index};
-ghost use Rattle.std.specs.Int.{to_le_bytes, from_le_bytes};
+ghost use Rattle.std.specs.Prelude.{◌≡◌, ◌+◌, ◌<◌, ◌≤◌, ◌^◌, length, drop, slice_index};
+ghost use Rattle.std.specs.Int.{from_le_bytes};
 ghost use Rattle.c_types.specs.Integers.{width};
-ghost use Rattle.core_tree.specs.Operations.{read_bits};
-ghost use Rattle.c_values.specs.Variables.{storage};
+ghost use Rattle.c_values.specs.Variables.{storage, low_bytes, put_at, number_at};
 ghost use Rattle.c_values.specs.Numbers.{typed};
 
 use crate::number::Number;
 use c_types::IntegerType;
-use std::alloc::{AllocError, Global};
 
-/// The bytes of an object of the type, the lowest first.
-#[tactic(auto, using(crate::proofs::LowBytes::low_bytes))]
-pub fn bytes_of(alloc: Global, type_: IntegerType, bits: u64) -> Result<Vec<u8>, AllocError>
-    ensures { IfOk result (λ bytes. bytes.items ≡ to_le_bytes (storage type_) bits) }
+/// Writes the lowest `count` bytes of a number, the lowest first, in the place of as many from an offset
+/// of a block on.
+pub fn write_block(block: &mut [u8], offset: usize, count: usize, bits: u64)
+    requires few { count ≤ 8 }
+    requires within { offset + count ≤ length block.old }
+    ensures { block.new ≡ put_at offset (low_bytes count bits) block.old }
 {
     let all = bits.to_le_bytes();
-    let size = type_.width() as usize / 8;
-    Vec::from_slice(alloc, &all[..size])
+    block[offset..offset + count].copy_from_slice(&all[..count]);
 }
 
 fn byte(block: &[u8], i: usize) -> u8
@@ -75,11 +74,22 @@ fn number_64(block: &[u8]) -> u64
     ])
 }
 
-/// The number that a read of an object of the type gives, from its bytes.
-pub fn read_block(block: &[u8], type_: IntegerType) -> Number
-    ensures { result ≡ typed type_ (read_bits type_ (from_le_bytes (storage type_) block.now)) }
+// The bytes from an offset on, none past the end.
+fn bytes_from(block: &[u8], offset: usize) -> &[u8]
+    ensures { result.now ≡ drop offset block.now }
 {
-    let bits = number_in(block, type_);
+    if offset <= block.len() {
+        &block[offset..]
+    } else {
+        &[]
+    }
+}
+
+/// The number that a read of an object of the type at an offset gives, from the bytes of a block.
+pub fn read_block(block: &[u8], offset: usize, type_: IntegerType) -> Number
+    ensures { result ≡ typed type_ (number_at type_ offset block.now) }
+{
+    let bits = number_in(bytes_from(block, offset), type_);
     match type_ {
         IntegerType::Bool => Number::new(type_, (bits != 0) as u64),
         _ => Number::new(type_, bits),

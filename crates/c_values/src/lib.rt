@@ -2,7 +2,9 @@
 #![tactic(auto)]
 
 mod blocks;
+mod draws;
 mod number;
 
-pub use blocks::{bytes_of, read_block};
+pub use blocks::{read_block, write_block};
+pub use draws::{drawn_count, word_count};
 pub use number::{Number, broken_by, broken_sign, compare, operate, sign, signed_value, value};

@@ -8,14 +8,13 @@ use Rattle.core_tree.specs.declared.functions.Name.{Name}
 use Rattle.core_tree.specs.Trees.{Procedure, view_core}
 use Rattle.core_tree.specs.Ranges.{Limits}
 use Rattle.c_tree.specs.Statements.{Externals, no_more, declared, defines}
-use Rattle.c_elab_expr.specs.Scopes.{Scoped, first_scope}
+use Rattle.c_elab_expr.specs.Scopes.{Scoped, first_scope, sizes}
 use Rattle.c_elab_expr.specs.Nodes.{◌>>=◌}
 use Rattle.c_elab_expr.specs.Typing.{on_line}
 use Rattle.c_elab_decl.specs.Regions.{earlier}
 use Rattle.c_elab_decl.specs.Specifiers.{parts_line}
 use Rattle.c_elab_decl.specs.Statements.{typed_statement}
 use Rattle.c_elab_decl.specs.Files.{in_file, on_external, typed_outside, function_node, with_function, main, outside, typed_externals}
-use Rattle.c_types.specs.declared.integers.IntegerType.{IntegerType}
 use Rattle.core_tree.specs.Trees.{Statement}
 use Rattle.std.proofs.lemmas.Bool.Decides.{nat_tests}
 use Rattle.interleave.specs.Inputs.{InputLists}
@@ -43,7 +42,7 @@ ok_from (Err z) f y e = cc
 ok_is : {A E : Type 0} (x y : A) (r : Result A E) → r ≡ Ok x → r ≡ Ok y → x ≡ y
 ok_is x y r p q = cc
 
-first_or_later : (t : Scoped) (rest : Externals) (line : ℕ) (vs : List IntegerType) (b : Statement) (fs : List Procedure) (n : ℕ) (x : List ℕ) → ((m : ℕ) (y : List ℕ) → name_in fs m ≡ Some y → y ≡ codes "main")
+first_or_later : (t : Scoped) (rest : Externals) (line : ℕ) (vs : List ℕ) (b : Statement) (fs : List Procedure) (n : ℕ) (x : List ℕ) → ((m : ℕ) (y : List ℕ) → name_in fs m ≡ Some y → y ≡ codes "main")
     → name_in (main line vs b ∷ fs) n ≡ Some x → x ≡ codes "main"
 first_or_later t rest line vs b fs zero x later h = some_is (sym h)
 first_or_later t rest line vs b fs (suc n) x later h = later n x h
@@ -55,11 +54,11 @@ all_main s (declared parts ds rest) functions e n x h =
     all_main a.0 rest functions a.2 n x h
 all_main s (defines line name_line body rest) functions e n x h =
     let a = ok_from (on_line name_line (function_node (earlier in_file s (codes "main"))))
-    (λ new. on_external line (typed_statement (with_function s (codes "main")) body) >>= λ y. typed_externals (outside y.1) rest >>= λ fs. Ok (main name_line y.1.variables y.0 ∷ fs)) functions e in
-    let b = ok_from (on_external line (typed_statement (with_function s (codes "main")) body)) (λ y. typed_externals (outside y.1) rest >>= λ fs. Ok (main name_line y.1.variables y.0 ∷ fs)) functions a.2 in
-    let c = ok_from (typed_externals (outside b.0.1) rest) (λ fs. Ok (main name_line b.0.1.variables b.0.0 ∷ fs)) functions b.2 in
-    let whole : (main name_line b.0.1.variables b.0.0 ∷ c.0) ≡ functions = ok_is (main name_line b.0.1.variables b.0.0 ∷ c.0) functions (Ok (main name_line b.0.1.variables b.0.0 ∷ c.0)) refl c.2 in
-    first_or_later (outside b.0.1) rest name_line b.0.1.variables b.0.0 c.0 n x (all_main (outside b.0.1) rest c.0 c.1) (subst (λ fs. name_in fs n ≡ Some x) (sym whole) h)
+    (λ new. on_external line (typed_statement (with_function s (codes "main")) body) >>= λ y. typed_externals (outside y.1) rest >>= λ fs. Ok (main name_line (sizes y.1) y.0 ∷ fs)) functions e in
+    let b = ok_from (on_external line (typed_statement (with_function s (codes "main")) body)) (λ y. typed_externals (outside y.1) rest >>= λ fs. Ok (main name_line (sizes y.1) y.0 ∷ fs)) functions a.2 in
+    let c = ok_from (typed_externals (outside b.0.1) rest) (λ fs. Ok (main name_line (sizes b.0.1) b.0.0 ∷ fs)) functions b.2 in
+    let whole : (main name_line (sizes b.0.1) b.0.0 ∷ c.0) ≡ functions = ok_is (main name_line (sizes b.0.1) b.0.0 ∷ c.0) functions (Ok (main name_line (sizes b.0.1) b.0.0 ∷ c.0)) refl c.2 in
+    first_or_later (outside b.0.1) rest name_line (sizes b.0.1) b.0.0 c.0 n x (all_main (outside b.0.1) rest c.0 c.1) (subst (λ fs. name_in fs n ≡ Some x) (sym whole) h)
 
 -- The name of the function that a broken check stands in.
 pub named : (bytes : List ℕ) (functions : List Procedure) (limits : Limits) (t : Trace) → IsAccepted bytes functions → IsBroken limits functions t → (name : List ℕ) × (name_in functions t.check.function ≡ Some name) × (is_identifier name ≡ true)

@@ -1,5 +1,5 @@
 -- Each action and each broken check of a thread names a function that is there.
-use Rattle.std.proofs.Common.{◌≡◌, ℕ, Bool, true, false, cond, List, [], ◌∷◌, Option, Some, None, refl, ap, subst}
+use Rattle.std.proofs.Common.{◌≡◌, ℕ, zero, suc, Bool, true, false, cond, List, [], ◌∷◌, Option, Some, None, refl, ap, subst}
 use Rattle.std.specs.Prelude.{slice_get, option_map}
 use Rattle.std.specs.Ordering.{nat_cmp, match_ordering}
 use Rattle.std.specs.declared.cmp.Ordering.{Ordering}
@@ -18,7 +18,7 @@ use Rattle.actions.specs.Behaviour.{Behaviour, Thread, shape_of, has_shape}
 use Rattle.actions.specs.Memory.{Change, keeps, adds, kills, puts, starts, ends}
 use Rattle.actions.specs.Row.{Outcome, breaks, waits, moves}
 use Rattle.c_values.specs.Variables.{Variables, first_variables}
-use Rattle.c_interp.specs.Meaning.{Running, final, ask, unless_broken, eval, decides, draws, enter, leaves, exec, exec_items}
+use Rattle.c_interp.specs.Meaning.{Running, final, ask, unless_broken, eval, decides, draws_words, draws, enter, leaves, exec, exec_items}
 use Rattle.c_interp.specs.Source.{running, runs_at, function_behaviour, main_number, source_world}
 use Rattle.interleave.specs.declared.turn.Turn.{Turn}
 use Rattle.interleave.specs.declared.turn.Turn.TheVariants as turned
@@ -74,8 +74,12 @@ module _ (P : ℕ → Type 0) (r : Running) (there : P r.function) where
   eval_speaks (assumption line e) vs follows h = eval_speaks e vs _ (λ x after. cond_speaks P (is_true x) _ _ (h _ _) (final_speaks P Blocked tt))
   eval_speaks (draw line t) vs follows h = ask_speaks _ line _ (λ a. h _ _)
 
+  words_speak : (words line v offset : ℕ) (vs : Variables) (follows : Variables → Behaviour) → ((after : Variables) → Speaks P (follows after)) → Speaks P (draws_words r words line v offset vs follows)
+  words_speak zero line v offset vs follows h = h vs
+  words_speak (suc k) line v offset vs follows h = ask_speaks _ line _ (λ a. words_speak k line v _ _ follows h)
+
   draws_speaks : (line v : ℕ) (vs : Variables) (follows : Variables → Behaviour) → ((after : Variables) → Speaks P (follows after)) → Speaks P (draws r line v vs follows)
-  draws_speaks line v vs follows h = ask_speaks _ line _ (λ a. h _)
+  draws_speaks line v vs follows h = words_speak _ line v 0 vs follows h
 
   enter_speaks : (items : Items) (vs : Variables) (follows : Variables → Behaviour) → ((after : Variables) → Speaks P (follows after)) → Speaks P (enter r items vs follows)
   enter_speaks done vs follows h = h vs

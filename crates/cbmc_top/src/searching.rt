@@ -22,7 +22,7 @@ use core_tree::Bounds;
 use goto_checks::insert;
 use goto_lower::lower;
 use goto_prog::Unrolled;
-use goto_unwind::{UnwindError, unwind};
+use goto_unwind::{UnwindError, passed_limit, unwind};
 use guarded_ssa::threads;
 use interleave::Trace;
 use mem_seq::{Formula, Sets, sequential};
@@ -60,6 +60,9 @@ fn unrolled_code(alloc: Global, file: &Admitted, bounds: &Bounds) -> Result<Unro
     ensures same { IfOk result (λ u. (plain_thread u).behaves ≡ (source_thread (view_core file.now)).behaves) }
     ensures stop { IfErr result (λ s. StopsWith s (IsPassed bounds.now (view_core file.now))) }
 {
+    if let Some(limit) = passed_limit(file, bounds) {
+        return Err(Stop::Limited(limit));
+    }
     let lowered = lower(alloc, file)?;
     let checked = insert(alloc, lowered)?;
     match unwind(alloc, file, &checked, bounds) {

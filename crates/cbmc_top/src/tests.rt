@@ -23,9 +23,9 @@ const SYNTAX: &str = "refused 10 Syntax line 1\n";
 
 const SEVEN: &str = "int main(void){int x=nondet_int();assert(x!=7);return 0;}";
 
-/// Five numbers below 4 that differ: there are none.
+/// Five bytes below 4 that differ: there are none.
 const FIVE: &str =
-    "int main(void){int a=nondet_int()&3,b=nondet_int()&3,c=nondet_int()&3,d=nondet_int()&3,e=nondet_int()&3;__CPROVER_assume(a!=b&&a!=c&&a!=d&&a!=e&&b!=c&&b!=d&&b!=e&&c!=d&&c!=e&&d!=e);assert(0);return 0;}";
+    "int main(void){unsigned char a=nondet_uchar()&3,b=nondet_uchar()&3,c=nondet_uchar()&3,d=nondet_uchar()&3,e=nondet_uchar()&3;__CPROVER_assume(a!=b&&a!=c&&a!=d&&a!=e&&b!=c&&b!=d&&b!=e&&c!=d&&c!=e&&d!=e);assert(0);return 0;}";
 
 const SEVEN_BREAKS: &str =
     "file a.c unwind 8\nviolated assertion line 1 function main thread 0\ninputs 0: 7\nschedule 0x2\nVERIFICATION FAILED\n";
@@ -78,7 +78,7 @@ fn outcome(
 }
 
 /// Files with their answers.
-static FILES: [(&str, u8, &str); 46] = [
+static FILES: [(&str, u8, &str); 57] = [
     (SEVEN, 10, SEVEN_BREAKS),
     (
         "int main(void){int x=nondet_int();if(x>0)x=x+1;return 0;}",
@@ -225,6 +225,61 @@ static FILES: [(&str, u8, &str); 46] = [
         "enum{A=3,B};int main(void){_Bool b=B;signed char c=(char)200;assert(b==1&&c==-56);return A-3;}",
         0,
         SAFE,
+    ),
+    (
+        "int main(void){union{int i;unsigned short h;}u;u.i=-2;assert(u.h==65534);return 0;}",
+        0,
+        SAFE,
+    ),
+    (
+        "int main(void){union{unsigned u;_Bool b;}u;u.u=2;assert(u.b==1);u.u=256;assert(u.b==0);return 0;}",
+        0,
+        SAFE,
+    ),
+    (
+        "int main(void){struct{char a,b,c;}s;assert(!(s.a==1&&s.b==2&&s.c==3));return 0;}",
+        10,
+        "file a.c unwind 8\nviolated assertion line 1 function main thread 0\ninputs 0: 197121\nschedule 0x2\nVERIFICATION FAILED\n",
+    ),
+    (
+        "int main(void){struct{int a,b,c;}s;\nassert(!(s.a==1&&s.b==2&&s.c==3));return 0;}",
+        10,
+        "file a.c unwind 8\nviolated assertion line 2 function main thread 0\ninputs 0: 8589934593 3\nschedule 0x3\nVERIFICATION FAILED\n",
+    ),
+    (
+        "struct P{int x;struct{short y;unsigned char z;};};int main(void){struct P p;p.x=1;p.y=-2;p.z=300;assert(p.x==1&&p.y==-2&&p.z==44);p.y+=p.z++;return p.y==42&&p.z==45?0:1/0;}",
+        0,
+        SAFE,
+    ),
+    (
+        "int main(void){struct{const int a;int b;}s;s.b=1;\ns.a=1;return 0;}",
+        6,
+        "refused 11 Typing line 2 rule 9\n",
+    ),
+    (
+        "int main(void){struct{int a;}s;\nreturn s.b;}",
+        6,
+        "refused 11 Typing line 2 rule 11\n",
+    ),
+    (
+        "int main(void){int a[3];\nreturn a+1;}",
+        6,
+        "refused 11 Typing line 2 rule 7\n",
+    ),
+    (
+        "int main(void){int a[3];return sizeof a==12&&sizeof(int[3])==12?0:1/0;}",
+        0,
+        SAFE,
+    ),
+    (
+        "int main(void){char a[65536];return sizeof a==65536?0:1/0;}",
+        0,
+        SAFE,
+    ),
+    (
+        "int main(void){char a[65537];return 0;}",
+        7,
+        "limit object-bytes 65536\n",
     ),
     (
         "int main(void){struct S s;return 0;}",

@@ -89,11 +89,11 @@ abbrev pub items_of : List CoreItem → Items
 items_of [] = done
 items_of (i ∷ is) = with_item i (items_of is)
 
--- a function: its name, the line of that, the types of its variables by number, and its body
+-- a function: its name, the line of that, the sizes of its variables in bytes by number, and its body
 pub record Procedure : Type 0 where
   pub name : List ℕ
   pub line : ℕ
-  pub variables : List IntegerType
+  pub variables : List ℕ
   pub body : Statement
 
 abbrev pub view_function : Function → Procedure

@@ -1,11 +1,11 @@
 -- What is true of each typed tree: its parts have the types that their places ask for, and the variables that it names are there (C11 6.5, 6.8).
-use Rattle.std.specs.Prelude.{ℕ, ◌^◌, ◌==◌, Bool, true, false, ◌&&◌, ◌||◌, List, nat_lt, length, slice_index_or}
+use Rattle.std.specs.Prelude.{ℕ, ◌+◌, ◌^◌, ◌==◌, Bool, true, false, ◌&&◌, ◌||◌, List, nat_lt, nat_le, length, slice_index}
 use Rattle.std.specs.List.{list_all}
 use Rattle.c_types.specs.declared.integers.IntegerType.{IntegerType}
 use Rattle.c_types.specs.declared.integers.IntegerType.TheVariants as types
 use Rattle.c_types.specs.declared.types.ValueType.{ValueType}
 use Rattle.c_types.specs.declared.types.ValueType.TheVariants.{Void, Integer}
-use Rattle.c_types.specs.Integers.{width, promoted, same_integer, same_type}
+use Rattle.c_types.specs.Integers.{width, bytes, promoted, same_integer, same_type}
 use Rattle.core_tree.specs.declared.operators.ArithmeticOperator.{ArithmeticOperator}
 use Rattle.core_tree.specs.declared.operators.ArithmeticOperator.TheVariants as arithmetics
 use Rattle.core_tree.specs.declared.expression.Place.{Place}
@@ -15,7 +15,7 @@ use Rattle.core_tree.specs.Trees.{Expression, constant, read, convert, sign, is_
 -- ---- the type of a tree
 
 abbrev pub place_type : Place → IntegerType
-place_type (places.Variable line t v) = t
+place_type (places.Variable line t v offset) = t
 
 abbrev pub type_of : Expression → ValueType
 type_of (constant line t bits) = Integer t
@@ -62,15 +62,21 @@ is_shift arithmetics.Or = false
 abbrev pub are_operands : ArithmeticOperator → ValueType → ValueType → Bool
 are_operands op a b = is_promoted a && is_promoted b && (is_shift op || same_type a b)
 
--- ---- trees, over the types of the function's variables
+-- ---- trees, over the sizes of the function's variables
 
-abbrev pub is_variable : List IntegerType → ℕ → IntegerType → Bool
-is_variable variables v t = nat_lt v (length variables) && same_integer (slice_index_or variables v types.Int) t
+-- so many bytes from an offset of a variable on lie in it
+abbrev pub is_within : List ℕ → ℕ → ℕ → ℕ → Bool
+is_within variables v offset count = nat_lt v (length variables) && nat_le (offset + count) (slice_index variables v)
 
-abbrev pub is_place : List IntegerType → Place → Bool
-is_place variables (places.Variable line t v) = is_variable variables v t
+abbrev pub is_place : List ℕ → Place → Bool
+is_place variables (places.Variable line t v offset) = is_within variables v offset (bytes t)
 
-abbrev pub is_typed : List IntegerType → Expression → Bool
+-- a value of an integer type that is as large as a variable
+abbrev pub fills : List ℕ → ℕ → ValueType → Bool
+fills variables v Void = false
+fills variables v (Integer t) = nat_lt v (length variables) && bytes t == slice_index variables v
+
+abbrev pub is_typed : List ℕ → Expression → Bool
 is_typed variables (constant line t bits) = nat_lt bits (2 ^ width t)
 is_typed variables (read p) = is_place variables p
 is_typed variables (convert to e) = is_integer (type_of e) && is_typed variables e
@@ -90,18 +96,18 @@ is_typed variables (draw line t) = true
 
 -- the value that a function gives is an int
 abbrev mutual
-  pub is_typed_statement : List IntegerType → Statement → Bool
+  pub is_typed_statement : List ℕ → Statement → Bool
   is_typed_statement variables (block items) = are_typed_items variables items
   is_typed_statement variables (if_then line test s) = is_integer (type_of test) && is_typed variables test && is_typed_statement variables s
   is_typed_statement variables (if_else line test s t) = is_integer (type_of test) && is_typed variables test && is_typed_statement variables s && is_typed_statement variables t
   is_typed_statement variables (evaluate e) = is_typed variables e
   is_typed_statement variables (returns line e) = same_type (type_of e) (Integer types.Int) && is_typed variables e
 
-  pub are_typed_items : List IntegerType → Items → Bool
+  pub are_typed_items : List ℕ → Items → Bool
   are_typed_items variables done = true
   are_typed_items variables (declares line v rest) = nat_lt v (length variables) && are_typed_items variables rest
   are_typed_items variables (initializes line v drawn e rest) =
-      nat_lt v (length variables) && same_type (type_of e) (Integer (slice_index_or variables v types.Int)) && is_typed variables e && are_typed_items variables rest
+      fills variables v (type_of e) && is_typed variables e && are_typed_items variables rest
   are_typed_items variables (does s rest) = is_typed_statement variables s && are_typed_items variables rest
 
 abbrev pub is_typed_function : Procedure → Bool
@@ -113,7 +119,7 @@ are_typed functions = list_all is_typed_function functions
 -- ---- which variables an expression names
 
 abbrev pub place_names : ℕ → Place → Bool
-place_names v (places.Variable line t w) = v == w
+place_names v (places.Variable line t w offset) = v == w
 
 abbrev pub names_variable : ℕ → Expression → Bool
 names_variable v (constant line t bits) = false

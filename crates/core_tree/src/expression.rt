@@ -6,11 +6,13 @@ use c_types::IntegerType;
 /// What can be read and written (C11 6.3.2.1p1).
 #[derive(Clone, Copy, Debug)]
 pub enum Place {
-    /// A variable of the function, by its number there, with its type and the line of its name.
+    /// An object of an integer type within a variable of the function, which the variable's number there
+    /// and the object's offset in it, in bytes, tell, with the line of the node's own token.
     Variable {
         line: u32,
         type_: IntegerType,
         variable: u32,
+        offset: u32,
     },
 }
 

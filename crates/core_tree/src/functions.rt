@@ -3,7 +3,6 @@ ghost use Rattle.core_tree.specs.Trees.{view_core};
 ghost use Rattle.core_tree.specs.Typed.{are_typed};
 
 use crate::statement::CoreStatement;
-use c_types::IntegerType;
 use std::marker::Model;
 
 /// A name, by its bytes.
@@ -12,13 +11,13 @@ pub struct Name {
     pub bytes: Vec<u8>,
 }
 
-/// A function without parameters that gives an int: its name with its line, the types of its variables
-/// by their numbers, and its body.
+/// A function without parameters that gives an int: its name with its line, the sizes of its variables in
+/// bytes by their numbers, and its body.
 #[derive(Drop)]
 pub struct Function {
     pub name: Name,
     pub line: u32,
-    pub variables: Vec<IntegerType>,
+    pub variables: Vec<u32>,
     pub body: CoreStatement,
 }
 

@@ -34,13 +34,14 @@ pub enum CoreStatement {
 #[cycle(statement)]
 pub enum CoreItem {
     /// A variable without an initializer, by its number in the function, with the line of its
-    /// declarator. Its first bits are drawn on entry to the block.
+    /// declarator. Its first bytes are drawn on entry to the block.
     Declare {
         line: u32,
         variable: u32,
     },
-    /// A variable with an initializer of its type, which is written when the declaration is reached.
-    /// Where `drawn` stands its first bits are drawn too, since the initializer names it.
+    /// A variable of an integer type with an initializer of that type, which is written when the
+    /// declaration is reached. Where `drawn` stands its first bytes are drawn too, since the initializer
+    /// names it.
     Initialize {
         line: u32,
         variable: u32,

@@ -15,6 +15,7 @@ fn place_type(place: &Place) -> IntegerType
             line: _,
             type_,
             variable: _,
+            offset: _,
         } => *type_,
     }
 }
@@ -107,6 +108,7 @@ fn place_names(variable: u32, place: &Place) -> bool
             line: _,
             type_: _,
             variable: named,
+            offset: _,
         } => variable == *named,
     }
 }

@@ -77,13 +77,14 @@ extent_place xs p n lt = let l = length-drop (p + 1) xs in extent_rest n (drop (
 below_test : (m n : ℕ) → nat_le m n ≡ true → m ≤ n
 below_test m n h = grind (arith, nat_tests)
 
-count_behind : (rs bs : List IntegerType) (n : ℕ) (o : Operation) → operation_fits rs bs n o ≡ true → count_of o ≤ n
+count_behind : (rs : List IntegerType) (bs : List ℕ) (n : ℕ) (o : Operation) → operation_fits rs bs n o ≡ true → count_of o ≤ n
 count_behind rs bs n (operations.Skip k) h = below_test k n h
 count_behind rs bs n (operations.SkipIfZero a k) h = below_test k n (both (is_there rs a) (nat_le k n) h).1
 count_behind rs bs n (operations.Constant r bits) h = omega arith
 count_behind rs bs n (operations.Copy r a) h = omega arith
-count_behind rs bs n (operations.Load r t b) h = omega arith
-count_behind rs bs n (operations.Store t b a) h = omega arith
+count_behind rs bs n (operations.Load r t b offset) h = omega arith
+count_behind rs bs n (operations.Store b offset count a) h = omega arith
+count_behind rs bs n (operations.Clear b size) h = omega arith
 count_behind rs bs n (operations.Convert r from to a) h = omega arith
 count_behind rs bs n (operations.Sign r op t a) h = omega arith
 count_behind rs bs n (operations.Arithmetic r op t u a b) h = omega arith
@@ -95,7 +96,7 @@ count_behind rs bs n (operations.Assume a) h = omega arith
 count_behind rs bs n (operations.Draw r bits) h = omega arith
 count_behind rs bs n operations.Exit h = omega arith
 
-pub count_within : (rs bs : List IntegerType) (xs : List Instruction) (p : ℕ) (i : Instruction) → code_fits rs bs xs ≡ true → slice_get xs p ≡ Some i → p + count_of i.operation < length xs
+pub count_within : (rs : List IntegerType) (bs : List ℕ) (xs : List Instruction) (p : ℕ) (i : Instruction) → code_fits rs bs xs ≡ true → slice_get xs p ≡ Some i → p + count_of i.operation < length xs
 count_within rs bs xs p i fits found =
     let within = slice_get_within xs p i found in
     let few = count_behind rs bs (length (drop (p + 1) xs)) i.operation (fits_at rs bs xs p i fits found) in

@@ -82,7 +82,7 @@ module _ (rs : List IntegerType) where
   sign_fits signs.Minus t a is = signed_fits (is_signed t) (checks.Negation t a) (λ s. both_true _ _ s is)
   sign_fits signs.Complement t a is = tt
 
-  module _ (bs : List IntegerType) where
+  module _ (bs : List ℕ) where
     checks_fit : (n : ℕ) (o : Operation) → operation_fits rs bs n o ≡ true → AllFit (checks_of o)
     checks_fit n (operations.Sign r op t a) h = sign_fits op t a (both (is_register rs r t) (is_register rs a t) h).1
     checks_fit n (operations.Arithmetic r op t u a b) h =
@@ -92,8 +92,9 @@ module _ (rs : List IntegerType) where
         arithmetic_fits op t u a b same.0 left.1 last.1
     checks_fit n (operations.Constant r bits) h = tt
     checks_fit n (operations.Copy r a) h = tt
-    checks_fit n (operations.Load r t b) h = tt
-    checks_fit n (operations.Store t b a) h = tt
+    checks_fit n (operations.Load r t b offset) h = tt
+    checks_fit n (operations.Store b offset count a) h = tt
+    checks_fit n (operations.Clear b size) h = tt
     checks_fit n (operations.Convert r from to a) h = tt
     checks_fit n (operations.Compare r op t a b) h = tt
     checks_fit n (operations.IsZero r a) h = tt
@@ -113,8 +114,9 @@ module _ (rs : List IntegerType) where
     jump_fits : (n : ℕ) (o : Operation) (code : List Instruction) → operation_fits rs bs n o ≡ true → operation_fits rs bs (length (inserted code)) (with_count o (extent (count_of o) code)) ≡ true
     jump_fits n (operations.Constant r bits) code h = h
     jump_fits n (operations.Copy r a) code h = h
-    jump_fits n (operations.Load r t b) code h = h
-    jump_fits n (operations.Store t b a) code h = h
+    jump_fits n (operations.Load r t b offset) code h = h
+    jump_fits n (operations.Store b offset count a) code h = h
+    jump_fits n (operations.Clear b size) code h = h
     jump_fits n (operations.Convert r from to a) code h = h
     jump_fits n (operations.Sign r op t a) code h = h
     jump_fits n (operations.Arithmetic r op t u a b) code h = h

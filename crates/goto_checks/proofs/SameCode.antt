@@ -94,8 +94,9 @@ module _ {R : Type 0} (o : Reading R) where
       ≡ operates o true 0 line f op (on true code) m
   one line f (operations.Constant r bits) code m same = same 0 _
   one line f (operations.Copy r a) code m same = same 0 _
-  one line f (operations.Load r t b) code m same = same 0 _
-  one line f (operations.Store t b a) code m same = same 0 _
+  one line f (operations.Load r t b offset) code m same = same 0 _
+  one line f (operations.Store b offset count a) code m same = same 0 _
+  one line f (operations.Clear b size) code m same = same 0 _
   one line f (operations.Convert r from to a) code m same = same 0 _
   one line f (operations.Sign r op t a) code m same = sign_checked op t a line f m _ ∙ ap (or_else o (sign_check op t (register m a)) line f) (same 0 _)
   one line f (operations.Arithmetic r op t u a b) code m same = arithmetic_checked op t u a b line f m _ ∙ ap (or_else o (arithmetic_check op t u (register m a) (register m b)) line f) (same 0 _)

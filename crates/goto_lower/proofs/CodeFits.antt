@@ -1,10 +1,10 @@
 -- The code of typed trees fits their registers and variables.
-use Rattle.std.proofs.Common.{◌≡◌, ℕ, ◌+◌, Bool, true, false, nat_lt, List, [], ◌∷◌, ◌++◌, length, refl, sym, ap, arith, length-append}
-use Rattle.std.specs.Prelude.{if◌then◌else◌}
+use Rattle.std.proofs.Common.{◌≡◌, ℕ, zero, suc, ◌+◌, ◌-◌, ◌*◌, ◌≤◌, Bool, true, false, nat_lt, List, [], ◌∷◌, ◌++◌, length, refl, sym, ap, arith, length-append}
+use Rattle.std.specs.Prelude.{replicate, if◌then◌else◌}
 use Rattle.c_types.specs.declared.integers.IntegerType.{IntegerType}
-use Rattle.c_types.specs.declared.integers.IntegerType.TheVariants.{Int}
+use Rattle.c_types.specs.declared.integers.IntegerType.TheVariants.{Int, UnsignedLong}
 use Rattle.c_types.specs.declared.types.ValueType.TheVariants.{Integer}
-use Rattle.c_types.specs.Integers.{width, promoted}
+use Rattle.c_types.specs.Integers.{promoted}
 use Rattle.core_tree.specs.declared.operators.ArithmeticOperator.{ArithmeticOperator}
 use Rattle.core_tree.specs.declared.operators.LogicalOperator.{LogicalOperator}
 use Rattle.core_tree.specs.declared.operators.LogicalOperator.TheVariants as logicals
@@ -14,18 +14,19 @@ use Rattle.core_tree.specs.Trees.{Expression, constant, read, convert, sign, is_
 use Rattle.core_tree.specs.Typed.{place_type, type_of, is_place, is_typed, is_typed_statement, are_typed_items, is_typed_function}
 use Rattle.core_tree.specs.Operations.{drawn_width, step_operation}
 use Rattle.c_values.specs.Numbers.{are_operands_of}
+use Rattle.c_values.specs.Variables.{word_count, drawn_count}
 use Rattle.c_interp.specs.Meaning.{number_type}
 use Rattle.c_interp.proofs.TypeWidths.{operand_widths}
 use Rattle.goto_prog.specs.declared.code.Instruction.{Instruction}
 use Rattle.goto_prog.specs.declared.code.Operation.TheVariants as operations
 use Rattle.goto_prog.specs.Fitting.{code_fits}
-use Rattle.goto_lower.specs.Lowering.{top, at_line, update_code, logical_code, code, variable_type, variable_store, entry_registers, statement_registers, entry_code, statement_code, items_code, body_code}
-use Rattle.goto_lower.specs.Registers.{types, update_types, entry_types, statement_types, items_types}
+use Rattle.goto_lower.specs.Lowering.{top, at_line, update_code, logical_code, code, size_of, first_registers, words_code, first_code, initial_store, entry_registers, statement_registers, entry_code, statement_code, items_code, body_code}
+use Rattle.goto_lower.specs.Registers.{types, update_types, first_types, entry_types, statement_types, items_types}
 use Rattle.goto_lower.proofs.Drafting.{types_length}
-use Rattle.goto_lower.proofs.DraftingStatements.{entry_length, statement_length}
-use Rattle.goto_lower.proofs.RegisterTypes.{both, left_of, right_of, same_types, same_itself, own_operands, Register, Has, register_at, register_of, has_at, has_left, has_right, has_itself, Fit, fit-append, fit_all, there_is, constant_fits, copy_fits, load_fits, store_fits, convert_fits, sign_fits, arithmetic_fits, compare_fits, is_zero_fits, skip_fits, skip_if_fits, draw_fits, one_fits, zero_fits, some_drawn, few_drawn, some_bits, own_width}
+use Rattle.goto_lower.proofs.DraftingStatements.{first_length, entry_length, statement_length}
+use Rattle.goto_lower.proofs.RegisterTypes.{left_of, right_of, same_types, own_operands, Register, Has, register_at, register_of, has_at, has_left, has_right, has_itself, Fit, fit-append, fit_all, there_is, constant_fits, copy_fits, load_fits, store_fits, word_fits, within_is, clear_fits, filled_there, filled_within, at_most_true, convert_fits, sign_fits, arithmetic_fits, compare_fits, is_zero_fits, skip_fits, skip_if_fits, draw_fits, one_fits, some_drawn, few_drawn}
 
-module _ (registers variables : List IntegerType) (f : ℕ) where
+module _ (registers : List IntegerType) (variables : List ℕ) (f : ℕ) where
   abbrev Fits : ℕ → List Instruction → Type 0
   Fits k xs = Fit registers variables k xs
 
@@ -45,17 +46,17 @@ module _ (registers variables : List IntegerType) (f : ℕ) where
 
   update_fits : (line : ℕ) (p : Place) (op : ArithmeticOperator) (t u : IntegerType) (y n : ℕ) → is_place variables p ≡ true → are_operands_of op t u ≡ true
       → Holds y u → Has registers n (update_types p t) → (k : ℕ) → Fits k (update_code f line p (place_type p) op t u y n)
-  update_fits line (Variable at place v) op t u y n there operands y_is h k =
+  update_fits line (Variable at place v offset) op t u y n there operands y_is h k =
       let r2 : Holds (n + 2) t = register_at registers (n + 1 + 1) (n + 2) t (omega arith) h.1.1.0 in
       let r3 : Holds (n + 3) place = register_at registers (n + 1 + 1 + 1) (n + 3) place (omega arith) h.1.1.1.0 in (
-        load_fits registers variables n v place h.0 there,
+        load_fits registers variables n v offset place h.0 there,
         (
           convert_fits registers variables (n + 1) n place t h.1.0 h.0,
           (
             arithmetic_fits registers variables (n + 2) (n + 1) y op t u operands r2 h.1.0 y_is,
             (
               convert_fits registers variables (n + 3) (n + 2) t place r3 r2,
-              (store_fits registers variables (n + 3) v place r3 there, tt),
+              (store_fits registers variables (n + 3) v offset place r3 there, tt),
             ),
           ),
         ),
@@ -106,8 +107,8 @@ module _ (registers variables : List IntegerType) (f : ℕ) where
   pub expression_fits : (e : Expression) (n : ℕ) → is_typed variables e ≡ true → Has registers n (types e) → Fine e n
   expression_fits (constant line t bits) n typed h =
       record { value = register_at registers n (n + 0) t (omega arith) h.0; fits = λ k. (constant_fits registers variables n bits t h.0 typed, tt) }
-  expression_fits (read (Variable line t v)) n typed h =
-      record { value = register_at registers n (n + 0) t (omega arith) h.0; fits = λ k. (load_fits registers variables n v t h.0 typed, tt) }
+  expression_fits (read (Variable line t v offset)) n typed h =
+      record { value = register_at registers n (n + 0) t (omega arith) h.0; fits = λ k. (load_fits registers variables n v offset t h.0 typed, tt) }
   expression_fits (convert to e) n typed h =
       let fine = expression_fits e n (right_of _ _ typed) (within e n _ h) in
       let last = (beyond e n (to ∷ []) h).0 in
@@ -184,12 +185,12 @@ module _ (registers variables : List IntegerType) (f : ℕ) where
           )) k,
         ));
       }
-  expression_fits (assign line (Variable at t v) e) n typed h =
+  expression_fits (assign line (Variable at t v offset) e) n typed h =
       let fine = expression_fits e n (right_of _ _ typed) h in
       let tests = left_of _ _ typed in
       let same = same_types (type_of e) (Integer t) (right_of _ _ tests) in
       let value : Holds (n + top e) t = register_of registers (n + top e) (number_type e) t same fine.value in
-      record { value = value; fits = joined e n _ fine (λ k. (store_fits registers variables (n + top e) v t value (left_of _ _ tests), tt)) }
+      record { value = value; fits = joined e n _ fine (λ k. (store_fits registers variables (n + top e) v offset t value (left_of _ _ tests), tt)) }
   expression_fits (update line p op t e) n typed h =
       let fine = expression_fits e n (right_of _ _ typed) (within e n _ h) in
       let tests = left_of _ _ typed in
@@ -231,34 +232,48 @@ module _ (registers variables : List IntegerType) (f : ℕ) where
 
   -- ---- statements
 
-  variable_fits : (line v n : ℕ) → nat_lt v (length variables) ≡ true → Holds n (variable_type variables v) → (k : ℕ) → Fits k (variable_store f variables line v n ∷ [])
-  variable_fits line v n there h k = (store_fits registers variables n v (variable_type variables v) h (both _ _ there (same_itself (variable_type variables v))), tt)
+  words_fit : (words line v offset n : ℕ) → nat_lt v (length variables) ≡ true → 8 * words ≤ size_of variables v - offset + 7 → Has registers n (replicate words UnsignedLong) → (k : ℕ) → Fits k (words_code f variables words line v offset n)
+  words_fit zero line v offset n there few h k = tt
+  words_fit (suc words) line v offset n there few h k =
+      let size = size_of variables v in
+      let count = drawn_count size offset in
+      let some : 1 ≤ count = omega (arith, few) in
+      let most : count ≤ 8 = omega arith in
+      let room : offset + count ≤ size = omega (arith, few) in (
+        draw_fits registers variables n (8 * count) UnsignedLong h.0 (at_most_true registers variables 1 (8 * count) (omega (arith, some))) (at_most_true registers variables (8 * count) 64 (omega (arith, most))),
+        (
+          word_fits registers variables n v offset count h.0 some most (within_is registers variables v offset count there room),
+          words_fit words line v (offset + 8) (n + 1) there (omega (arith, few)) h.1 k,
+        ),
+      )
+
+  first_fits : (line v : ℕ) (drawn : Bool) (n : ℕ) → nat_lt v (length variables) ≡ true → Has registers n (first_types variables v drawn) → (k : ℕ) → Fits k (first_code f variables line v drawn n)
+  first_fits line v true n there h k = words_fit (word_count (size_of variables v)) line v 0 n there (omega arith) h k
+  first_fits line v false n there h k = (clear_fits registers variables v there, tt)
+
+  -- the first value of a variable with those of others behind it
+  behind_first : (line v : ℕ) (drawn : Bool) (rest : Items) (n : ℕ) → nat_lt v (length variables) ≡ true
+      → ((m : ℕ) → Has registers m (entry_types variables rest) → (k : ℕ) → Fits k (entry_code f variables rest m))
+      → Has registers n (first_types variables v drawn ++ entry_types variables rest)
+      → (k : ℕ) → Fits k (first_code f variables line v drawn n ++ entry_code f variables rest (n + first_registers variables v drawn))
+  behind_first line v drawn rest n there others h k =
+      let m = n + first_registers variables v drawn in
+      let behind = has_at registers (n + length (first_types variables v drawn)) m (entry_types variables rest) (ap (λ r. n + r) (first_length variables v drawn)) (has_right registers n (first_types variables v drawn) (entry_types variables rest) h) in
+      fit-append registers variables k (first_code f variables line v drawn n) (entry_code f variables rest m)
+      (first_fits line v drawn n there (has_left registers n (first_types variables v drawn) (entry_types variables rest) h) _)
+      (others m behind k)
 
   pub entry_fits : (items : Items) (n : ℕ) → are_typed_items variables items ≡ true → Has registers n (entry_types variables items) → (k : ℕ) → Fits k (entry_code f variables items n)
   entry_fits done n typed h k = tt
-  entry_fits (declares line v rest) n typed h k =
-      let t = variable_type variables v in (
-        draw_fits registers variables n (width t) t h.0 (some_bits t) (own_width t),
-        ((variable_fits line v n (left_of _ _ typed) h.0 k).0, entry_fits rest (n + 1) (right_of _ _ typed) h.1 k),
-      )
-  entry_fits (initializes line v true e rest) n typed h k =
-      let t = variable_type variables v in
-      let there = left_of _ _ (left_of _ _ (left_of _ _ typed)) in (
-        draw_fits registers variables n (width t) t h.0 (some_bits t) (own_width t),
-        ((variable_fits line v n there h.0 k).0, entry_fits rest (n + 1) (right_of _ _ typed) h.1 k),
-      )
-  entry_fits (initializes line v false e rest) n typed h k =
-      let t = variable_type variables v in
-      let there = left_of _ _ (left_of _ _ (left_of _ _ typed)) in (
-        constant_fits registers variables n 0 t h.0 (zero_fits t),
-        ((variable_fits line v n there h.0 k).0, entry_fits rest (n + 1) (right_of _ _ typed) h.1 k),
-      )
+  entry_fits (declares line v rest) n typed h k = behind_first line v true rest n (left_of _ _ typed) (λ m. entry_fits rest m (right_of _ _ typed)) h k
+  entry_fits (initializes line v drawn e rest) n typed h k =
+      behind_first line v drawn rest n (filled_there registers variables v (type_of e) (left_of _ _ (left_of _ _ typed))) (λ m. entry_fits rest m (right_of _ _ typed)) h k
   entry_fits (does s rest) n typed h k = entry_fits rest n (right_of _ _ typed) h k
 
   mutual
     pub statement_fits : (s : Statement) (n : ℕ) → is_typed_statement variables s ≡ true → Has registers n (statement_types variables s) → (k : ℕ) → Fits k (statement_code f variables s n)
     statement_fits (block items) n typed h k =
-        let m = n + entry_registers items in
+        let m = n + entry_registers variables items in
         let behind = has_at registers (n + length (entry_types variables items)) m (items_types variables items) (ap (λ r. n + r) (entry_length variables items)) (has_right registers n (entry_types variables items) (items_types variables items) h) in
         fit-append registers variables k (entry_code f variables items n) (items_code f variables items m)
         (entry_fits items n typed (has_left registers n (entry_types variables items) (items_types variables items) h) _)
@@ -272,7 +287,7 @@ module _ (registers variables : List IntegerType) (f : ℕ) where
         )) k
     statement_fits (if_else line test s t) n typed h k =
         let first = n + (top test + 1) in
-        let second = first + statement_registers s in
+        let second = first + statement_registers variables s in
         let some_typed = left_of _ _ typed in
         let tested = expression_fits test n (right_of _ _ (left_of _ _ some_typed)) (within test n (statement_types variables s ++ statement_types variables t) h) in
         let behind = beyond test n (statement_types variables s ++ statement_types variables t) h in
@@ -294,16 +309,13 @@ module _ (registers variables : List IntegerType) (f : ℕ) where
     items_fit (declares line v rest) n typed h k = items_fit rest n (right_of _ _ typed) h k
     items_fit (initializes line v drawn e rest) n typed h k =
         let some_typed = left_of _ _ typed in
-        let most_typed = left_of _ _ some_typed in
         let fine = expression_fits e n (right_of _ _ some_typed) (within e n (items_types variables rest) h) in
-        let t = variable_type variables v in
-        let value : Holds (n + top e) t = register_of registers (n + top e) (number_type e) t (same_types (type_of e) (Integer t) (right_of _ _ most_typed)) fine.value in
-        joined e n (variable_store f variables line v (n + top e) ∷ items_code f variables rest (n + (top e + 1))) fine (λ j. (
-          (variable_fits line v (n + top e) (left_of _ _ most_typed) value j).0,
+        joined e n (initial_store f variables line v (number_type e) (n + top e) ∷ items_code f variables rest (n + (top e + 1))) fine (λ j. (
+          store_fits registers variables (n + top e) v 0 (number_type e) fine.value (filled_within registers variables v (type_of e) (left_of _ _ some_typed)),
           items_fit rest (n + (top e + 1)) (right_of _ _ typed) (beyond e n (items_types variables rest) h) j,
         )) k
     items_fit (does s rest) n typed h k =
-        let m = n + statement_registers s in
+        let m = n + statement_registers variables s in
         let behind = has_at registers (n + length (statement_types variables s)) m (items_types variables rest) (ap (λ r. n + r) (statement_length variables s)) (has_right registers n (statement_types variables s) (items_types variables rest) h) in
         fit-append registers variables k (statement_code f variables s n) (items_code f variables rest m)
         (statement_fits s n (left_of _ _ typed) (has_left registers n (statement_types variables s) (items_types variables rest) h) _)

@@ -105,13 +105,13 @@ module _ (running : Running) where
       → y < k → k + 3 < length m.registers
       → ((m' : Memory) → Kept k m m' → register m' k ≡ read_place m.blocks p → begin rest m' ≡ follows (register m' (k + 3)) m'.blocks)
       → begin (on (update_code running.function line p (place_type p) op t u y k) rest) m ≡ updated running p op t u (register m y) line m.blocks follows
-  updating line (Variable at_name place v) op t u y k m rest follows below room goes =
-      let old = read_variable m.blocks v place in
+  updating line (Variable at_name place v offset) op t u y k m rest follows below room goes =
+      let old = read_variable m.blocks v offset place in
       let m1 : Memory = with_register m k old in
       let m2 : Memory = with_register m1 (k + 1) (converted place t (register m1 k)) in
       let m3 : Memory = with_register m2 (k + 2) (arithmetic_value op t (register m2 (k + 1)) (register m2 y)) in
       let m4 : Memory = with_register m3 (k + 3) (converted t place (register m3 (k + 2))) in
-      let m5 : Memory = record m4 { blocks = write_variable m4.blocks v place (register m4 (k + 3)) } in
+      let m5 : Memory = record m4 { blocks = write_variable m4.blocks v offset place (register m4 (k + 3)) } in
       let room1 : length m1.registers ≡ length m.registers = set_room m k old in
       let room2 : length m2.registers ≡ length m1.registers = set_room m1 (k + 1) _ in
       let room3 : length m3.registers ≡ length m2.registers = set_room m2 (k + 2) _ in
@@ -130,8 +130,8 @@ module _ (running : Running) where
       (kept-then k k m2 m3 m4 (omega arith) (kept-set k (k + 2) m2 _ (omega arith)) (kept-set k (k + 3) m3 _ (omega arith)))) in
       same_check running (arithmetic_check op t u (register m2 (k + 1)) (register m2 y)) line (begin rest m5) (follows (register m4 (k + 3)) m5.blocks)
       (goes m5 (record { below = kept.below; room = kept.room }) still)
-      ∙ (λ i. unless_broken running (arithmetic_check op t u (register m2 (k + 1)) (register m2 y)) line (follows (back i) (write_variable m.blocks v place (back i))))
-      ∙ (λ i. operated running op t u (left i) (right i) line (λ z. follows (converted t place z) (write_variable m.blocks v place (converted t place z))))
+      ∙ (λ i. unless_broken running (arithmetic_check op t u (register m2 (k + 1)) (register m2 y)) line (follows (back i) (write_variable m.blocks v offset place (back i))))
+      ∙ (λ i. operated running op t u (left i) (right i) line (λ z. follows (converted t place z) (write_variable m.blocks v offset place (converted t place z))))
 
   -- code with registers from n on does what a meaning says; the register `last` behind n takes the value
   abbrev pub Means : List Instruction → ℕ → ℕ → (Variables → Follows → Behaviour) → Type 0
@@ -184,8 +184,8 @@ module _ (running : Running) where
       → begin (on (code running.function e n) rest) m ≡ eval running e m.blocks follows
   means (constant line t bits) n m rest follows room goes =
       sets n n bits m m rest follows (omega arith) (omega (arith, room)) (kept-refl n m) (goes-at n m rest n (n + 0) follows (omega arith) goes)
-  means (read (Variable line t v)) n m rest follows room goes =
-      sets n n (read_variable m.blocks v t) m m rest follows (omega arith) (omega (arith, room)) (kept-refl n m) (goes-at n m rest n (n + 0) follows (omega arith) goes)
+  means (read (Variable line t v offset)) n m rest follows room goes =
+      sets n n (read_variable m.blocks v offset t) m m rest follows (omega arith) (omega (arith, room)) (kept-refl n m) (goes-at n m rest n (n + 0) follows (omega arith) goes)
   means (draw line t) n m rest follows room goes =
       same_ask running (Draw (drawn_width t)) line _ _ (λ i a.
       (sets n n (word_of a) m m rest follows (omega arith) (omega (arith, room)) (kept-refl n m) (goes-at n m rest n (n + 0) follows (omega arith) goes)
@@ -244,10 +244,10 @@ module _ (running : Running) where
       ∙ means a first m1 _ follows (omega (arith, room, kept1.room)) (λ m2 kept2.
       past no_code _ rest 1 (with_register m2 result (register m2 (first + top a)))
       ∙ sets n result (register m2 (first + top a)) m m2 rest follows (omega arith) (omega (arith, room)) (kept-then n first m m1 m2 (omega arith) kept1 kept2) goes')))
-  means (assign line (Variable place t v) e) n m rest follows room goes =
+  means (assign line (Variable place t v offset) e) n m rest follows room goes =
       split (code running.function e n) _ rest m
-      ∙ means e n m _ (λ x after. follows x (write_variable after v t x)) (omega (arith, room)) (λ m' kept.
-      goes (record m' { blocks = write_variable m'.blocks v t (register m' (n + top e)) }) (record { below = kept.below; room = kept.room }))
+      ∙ means e n m _ (λ x after. follows x (write_variable after v offset t x)) (omega (arith, room)) (λ m' kept.
+      goes (record m' { blocks = write_variable m'.blocks v offset t (register m' (n + top e)) }) (record { below = kept.below; room = kept.room }))
   means (update line p op t e) n m rest follows room goes =
       split (code running.function e n) _ rest m
       ∙ means e n m _ (λ y after. updated running p op t (number_type e) y line after follows) (omega (arith, room)) (λ m1 kept1.

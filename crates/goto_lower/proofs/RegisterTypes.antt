@@ -1,6 +1,6 @@
 -- Registers and their types, and which code fits them.
-use Rattle.std.proofs.Common.{◌≡◌, ℕ, ◌+◌, ◌<◌, ◌≤◌, ◌^◌, Bool, true, false, ◌&&◌, ◌||◌, nat_lt, nat_le, List, [], ◌∷◌, ◌++◌, length, refl, sym, ap, subst, ◌∙◌, arith, append_assoc, length-append}
-use Rattle.std.specs.Prelude.{◌==◌, slice_index_or}
+use Rattle.std.proofs.Common.{◌≡◌, ℕ, ◌+◌, ◌*◌, ◌<◌, ◌≤◌, ◌^◌, Bool, true, false, ◌&&◌, ◌||◌, nat_lt, nat_le, List, [], ◌∷◌, ◌++◌, length, refl, sym, ap, subst, ◌∙◌, arith, append_assoc, length-append}
+use Rattle.std.specs.Prelude.{◌==◌, slice_index, slice_index_or}
 use Rattle.std.proofs.Math.Seq.{get_or-append_seam}
 use Rattle.std.proofs.lemmas.Bool.{false≢true}
 use Rattle.std.proofs.lemmas.Bool.Decides.{nat_tests}
@@ -8,17 +8,17 @@ use Rattle.c_types.specs.declared.integers.IntegerType.{IntegerType}
 use Rattle.c_types.specs.declared.integers.IntegerType.TheVariants as types
 use Rattle.c_types.specs.declared.types.ValueType.{ValueType}
 use Rattle.c_types.specs.declared.types.ValueType.TheVariants.{Void, Integer}
-use Rattle.c_types.specs.Integers.{width, number_of, same_integer, same_type}
+use Rattle.c_types.specs.Integers.{width, bytes, number_of, same_integer, same_type}
 use Rattle.core_tree.specs.declared.operators.ArithmeticOperator.{ArithmeticOperator}
 use Rattle.core_tree.specs.declared.operators.Comparison.{Comparison}
 use Rattle.core_tree.specs.declared.operators.SignOperator.{SignOperator}
-use Rattle.core_tree.specs.Typed.{is_shift}
+use Rattle.core_tree.specs.Typed.{is_shift, is_within, fills}
 use Rattle.core_tree.specs.Operations.{drawn_width}
 use Rattle.c_values.specs.Numbers.{same_width, are_operands_of}
 use Rattle.c_interp.specs.Meaning.{integer_of}
 use Rattle.goto_prog.specs.declared.code.Instruction.{Instruction}
 use Rattle.goto_prog.specs.declared.code.Operation.TheVariants as operations
-use Rattle.goto_prog.specs.Fitting.{is_there, is_register, is_block, operation_fits, code_fits}
+use Rattle.goto_prog.specs.Fitting.{is_there, is_register, has_bytes, operation_fits, code_fits}
 
 pub both : (a b : Bool) → a ≡ true → b ≡ true → (a && b) ≡ true
 both a b first second = λ i. first i && second i
@@ -108,9 +108,19 @@ has_behind before (t ∷ ts) =
 pub has_itself : (ts : List IntegerType) → Has ts 0 ts
 has_itself ts = has_behind [] ts
 
+-- ---- bytes
+
+some_bytes : (t : IntegerType) → nat_le 1 (bytes t) ≡ true
+some_bytes types.Bool = refl
+some_bytes _ = refl
+
+own_bytes : (t : IntegerType) → nat_le (8 * bytes t) (width t) ≡ true
+own_bytes types.Bool = refl
+own_bytes _ = refl
+
 -- ---- code
 
-module _ (registers blocks : List IntegerType) where
+module _ (registers : List IntegerType) (blocks : List ℕ) where
   -- code fits with this many instructions behind it
   abbrev pub Fit : ℕ → List Instruction → Type 0
   Fit behind [] = Unit {0}
@@ -148,11 +158,35 @@ module _ (registers blocks : List IntegerType) where
   pub copy_fits : (r a : ℕ) (t : IntegerType) → Register registers r t → Register registers a t → operation_fits registers blocks 0 (operations.Copy r a) ≡ true
   copy_fits r a t h g = both _ _ (there_is a t g) (ap (λ u. is_register registers r u) g.is ∙ register_is r t h)
 
-  pub load_fits : (r b : ℕ) (t : IntegerType) → Register registers r t → is_block blocks b t ≡ true → operation_fits registers blocks 0 (operations.Load r t b) ≡ true
-  load_fits r b t h block = both _ _ (register_is r t h) block
+  pub load_fits : (r b offset : ℕ) (t : IntegerType) → Register registers r t → is_within blocks b offset (bytes t) ≡ true → operation_fits registers blocks 0 (operations.Load r t b offset) ≡ true
+  load_fits r b offset t h within = both _ _ (register_is r t h) within
 
-  pub store_fits : (a b : ℕ) (t : IntegerType) → Register registers a t → is_block blocks b t ≡ true → operation_fits registers blocks 0 (operations.Store t b a) ≡ true
-  store_fits a b t h block = both _ _ (register_is a t h) block
+  bytes_there : (a count : ℕ) (t : IntegerType) → Register registers a t → nat_le 1 count ≡ true → nat_le (8 * count) (width t) ≡ true → has_bytes registers a count ≡ true
+  bytes_there a count t h some few = both _ _ (both _ _ (there_is a t h) some) (ap (λ u. nat_le (8 * count) (width u)) h.is ∙ few)
+
+  pub store_fits : (a b offset : ℕ) (t : IntegerType) → Register registers a t → is_within blocks b offset (bytes t) ≡ true → operation_fits registers blocks 0 (operations.Store b offset (bytes t) a) ≡ true
+  store_fits a b offset t h within = both _ _ (bytes_there a (bytes t) t h (some_bytes t) (own_bytes t)) within
+
+  pub word_fits : (a b offset count : ℕ) → Register registers a types.UnsignedLong → 1 ≤ count → count ≤ 8 → is_within blocks b offset count ≡ true → operation_fits registers blocks 0 (operations.Store b offset count a) ≡ true
+  word_fits a b offset count h some few within =
+      both _ _ (bytes_there a count types.UnsignedLong h (at_most_true 1 count some) (at_most_true (8 * count) 64 (omega (arith, few)))) within
+
+  pub within_is : (b offset count : ℕ) → nat_lt b (length blocks) ≡ true → offset + count ≤ slice_index blocks b → is_within blocks b offset count ≡ true
+  within_is b offset count there room = both _ _ there (at_most_true (offset + count) (slice_index blocks b) room)
+
+  pub clear_fits : (b : ℕ) → nat_lt b (length blocks) ≡ true → operation_fits registers blocks 0 (operations.Clear b (slice_index blocks b)) ≡ true
+  clear_fits b there = both _ _ there (to_same (slice_index blocks b) (slice_index blocks b) refl)
+
+  -- a value that fills a block
+  pub filled_there : (b : ℕ) (t : ValueType) → fills blocks b t ≡ true → nat_lt b (length blocks) ≡ true
+  filled_there b Void h = absurd (false≢true h)
+  filled_there b (Integer t) h = left_of (nat_lt b (length blocks)) (bytes t == slice_index blocks b) h
+
+  pub filled_within : (b : ℕ) (t : ValueType) → fills blocks b t ≡ true → is_within blocks b 0 (bytes (integer_of t)) ≡ true
+  filled_within b Void h = absurd (false≢true h)
+  filled_within b (Integer t) h =
+      let same = from_same (bytes t) (slice_index blocks b) (right_of (nat_lt b (length blocks)) (bytes t == slice_index blocks b) h) in
+      within_is b 0 (bytes t) (filled_there b (Integer t) h) (omega (arith, same))
 
   pub convert_fits : (r a : ℕ) (from to : IntegerType) → Register registers r to → Register registers a from → operation_fits registers blocks 0 (operations.Convert r from to a) ≡ true
   convert_fits r a from to h g = both _ _ (register_is r to h) (register_is a from g)
@@ -197,11 +231,3 @@ some_drawn _ = refl
 pub few_drawn : (t : IntegerType) → nat_le (drawn_width t) (width t) ≡ true
 few_drawn types.Bool = refl
 few_drawn _ = refl
-
-pub some_bits : (t : IntegerType) → nat_le 1 (width t) ≡ true
-some_bits types.Bool = refl
-some_bits _ = refl
-
-pub own_width : (t : IntegerType) → nat_le (width t) (width t) ≡ true
-own_width types.Bool = refl
-own_width _ = refl

@@ -1,19 +1,20 @@
 -- The code of a function that grows, and what each tree adds to it.
-use Rattle.std.specs.Prelude.{◌≡◌, ℕ, ◌+◌, ◌-◌, List, ◌++◌, length, Option, Some, None, slice_set}
+use Rattle.std.specs.Prelude.{◌≡◌, ℕ, ◌+◌, ◌-◌, List, ◌++◌, length, replicate, Option, Some, None, slice_set}
 use Rattle.c_types.specs.declared.integers.IntegerType.{IntegerType}
+use Rattle.c_types.specs.declared.integers.IntegerType.TheVariants.{UnsignedLong}
 use Rattle.core_tree.specs.Trees.{Expression, Statement, Items}
 use Rattle.c_interp.specs.Meaning.{number_type}
 use Rattle.goto_prog.specs.declared.code.Operation.{Operation}
 use Rattle.goto_prog.specs.declared.code.Operation.TheVariants.{Skip, SkipIfZero}
 use Rattle.goto_prog.specs.declared.code.Instruction.{Instruction}
 use Rattle.goto_lower.specs.declared.operand.Operand.{Operand}
-use Rattle.goto_lower.specs.Lowering.{top, line_of, at_line, code, entry_code, statement_code, items_code}
+use Rattle.goto_lower.specs.Lowering.{top, line_of, at_line, code, words_code, entry_code, statement_code, items_code}
 use Rattle.goto_lower.specs.Registers.{types, entry_types, statement_types, items_types}
 
--- the function and the types of its variables; the code so far, and the types of the registers so far
+-- the function and the sizes of its variables; the code so far, and the types of the registers so far
 pub record Listed : Type 0 where
   pub function : ℕ
-  pub variables : List IntegerType
+  pub variables : List ℕ
   pub instructions : List Instruction
   pub registers : List IntegerType
 
@@ -56,6 +57,10 @@ pub record Lowers (old new : Listed) (e : Expression) (x : Operand) : Type 0 whe
 
 abbrev pub after_statement : Listed → Statement → Listed
 after_statement d s = added d (statement_code d.function d.variables s (next d)) (statement_types d.variables s)
+
+-- so many drawn words of a variable, from an offset on
+abbrev pub after_words : Listed → (words line v offset : ℕ) → Listed
+after_words d words line v offset = added d (words_code d.function d.variables words line v offset (next d)) (replicate words UnsignedLong)
 
 abbrev pub after_entry : Listed → Items → Listed
 after_entry d items = added d (entry_code d.function d.variables items (next d)) (entry_types d.variables items)

@@ -1,8 +1,7 @@
 -- The flat code of typed trees. Each node has a register of its own, which the code of the node sets last; the code of a tree uses registers from n on.
-use Rattle.std.specs.Prelude.{ℕ, ◌+◌, Bool, List, [], ◌∷◌, ◌++◌, length, slice_index_or, if◌then◌else◌}
+use Rattle.std.specs.Prelude.{ℕ, zero, suc, ◌+◌, ◌*◌, Bool, true, List, [], ◌∷◌, ◌++◌, length, slice_index, if◌then◌else◌}
 use Rattle.c_types.specs.declared.integers.IntegerType.{IntegerType}
-use Rattle.c_types.specs.declared.integers.IntegerType.TheVariants.{Int}
-use Rattle.c_types.specs.Integers.{width, promoted}
+use Rattle.c_types.specs.Integers.{bytes, promoted}
 use Rattle.core_tree.specs.declared.operators.ArithmeticOperator.{ArithmeticOperator}
 use Rattle.core_tree.specs.declared.operators.LogicalOperator.{LogicalOperator}
 use Rattle.core_tree.specs.declared.operators.LogicalOperator.TheVariants as logicals
@@ -11,6 +10,7 @@ use Rattle.core_tree.specs.declared.expression.Place.TheVariants.{Variable}
 use Rattle.core_tree.specs.Trees.{Expression, constant, read, convert, sign, is_zero, arithmetic, compare, logical, choice, assign, update, step, comma, assertion, assumption, draw, Statement, block, if_then, if_else, evaluate, returns, Items, done, declares, initializes, does}
 use Rattle.core_tree.specs.Operations.{drawn_width, step_operation}
 use Rattle.core_tree.specs.Typed.{place_type}
+use Rattle.c_values.specs.Variables.{word_count, drawn_count}
 use Rattle.c_interp.specs.Meaning.{number_type}
 use Rattle.goto_prog.specs.declared.code.Operation.{Operation}
 use Rattle.goto_prog.specs.declared.code.Operation.TheVariants as operations
@@ -37,7 +37,7 @@ top (assumption line e) = top e + 1
 top (draw line t) = 0
 
 abbrev pub place_line : Place → ℕ
-place_line (Variable line t v) = line
+place_line (Variable line t v offset) = line
 
 -- the line of the node's own token; a conversion has its operand's
 abbrev pub line_of : Expression → ℕ
@@ -63,10 +63,10 @@ module _ (function : ℕ) where
   at_line line o = record { line = line; function = function; operation = o }
 
   abbrev pub load : ℕ → Place → Instruction
-  load r (Variable line t v) = at_line line (operations.Load r t v)
+  load r (Variable line t v offset) = at_line line (operations.Load r t v offset)
 
   abbrev pub store : ℕ → Place → ℕ → Instruction
-  store line (Variable at t v) a = at_line line (operations.Store t v a)
+  store line (Variable at t v offset) a = at_line line (operations.Store v offset (bytes t) a)
 
   -- the place's number, an operation with another on it, and the result back into the place: registers from n on
   abbrev pub update_code : ℕ → Place → IntegerType → ArithmeticOperator → IntegerType → IntegerType → ℕ → ℕ → List Instruction
@@ -139,56 +139,73 @@ module _ (function : ℕ) where
 
 -- ---- statements: no register is needed behind one
 
--- the registers that a statement uses
-abbrev pub entry_registers : Items → ℕ
-entry_registers done = 0
-entry_registers (declares line v rest) = entry_registers rest + 1
-entry_registers (initializes line v drawn e rest) = entry_registers rest + 1
-entry_registers (does s rest) = entry_registers rest
+module _ (variables : List ℕ) where
+  abbrev pub size_of : ℕ → ℕ
+  size_of v = slice_index variables v
 
-abbrev mutual
-  pub statement_registers : Statement → ℕ
-  statement_registers (block items) = entry_registers items + items_registers items
-  statement_registers (if_then line test s) = top test + (statement_registers s + 1)
-  statement_registers (if_else line test s t) = top test + (statement_registers s + (statement_registers t + 1))
-  statement_registers (evaluate e) = top e + 1
-  statement_registers (returns line e) = top e + 1
+  -- how many registers the first value of a variable needs: one for each word that is drawn
+  abbrev pub first_registers : ℕ → Bool → ℕ
+  first_registers v drawn = if drawn then word_count (size_of v) else 0
 
-  pub items_registers : Items → ℕ
-  items_registers done = 0
-  items_registers (declares line v rest) = items_registers rest
-  items_registers (initializes line v drawn e rest) = top e + (items_registers rest + 1)
-  items_registers (does s rest) = statement_registers s + items_registers rest
+  -- the registers that a statement uses
+  abbrev pub entry_registers : Items → ℕ
+  entry_registers done = 0
+  entry_registers (declares line v rest) = first_registers v true + entry_registers rest
+  entry_registers (initializes line v drawn e rest) = first_registers v drawn + entry_registers rest
+  entry_registers (does s rest) = entry_registers rest
 
-abbrev pub variable_type : List IntegerType → ℕ → IntegerType
-variable_type types v = slice_index_or types v Int
+  abbrev mutual
+    pub statement_registers : Statement → ℕ
+    statement_registers (block items) = entry_registers items + items_registers items
+    statement_registers (if_then line test s) = top test + (statement_registers s + 1)
+    statement_registers (if_else line test s t) = top test + (statement_registers s + (statement_registers t + 1))
+    statement_registers (evaluate e) = top e + 1
+    statement_registers (returns line e) = top e + 1
 
-module _ (function : ℕ) (types : List IntegerType) where
-  abbrev pub variable_store : ℕ → ℕ → ℕ → Instruction
-  variable_store line v a = at_line function line (operations.Store (variable_type types v) v a)
+    pub items_registers : Items → ℕ
+    items_registers done = 0
+    items_registers (declares line v rest) = items_registers rest
+    items_registers (initializes line v drawn e rest) = top e + (items_registers rest + 1)
+    items_registers (does s rest) = statement_registers s + items_registers rest
 
-  -- the first value of a variable, drawn or 0
+module _ (function : ℕ) (variables : List ℕ) where
+  -- a drawn word of a variable, from an offset on
+  abbrev pub word_code : (line v offset n : ℕ) → List Instruction
+  word_code line v offset n =
+      let count = drawn_count (size_of variables v) offset in
+      at_line function line (operations.Draw n (8 * count)) ∷ at_line function line (operations.Store v offset count n) ∷ []
+
+  -- so many words, from an offset on
+  abbrev pub words_code : (words line v offset n : ℕ) → List Instruction
+  words_code zero line v offset n = []
+  words_code (suc k) line v offset n = word_code line v offset n ++ words_code k line v (offset + 8) (n + 1)
+
+  -- the first value of a variable: drawn, or each byte 0
   abbrev pub first_code : ℕ → ℕ → Bool → ℕ → List Instruction
-  first_code line v drawn n = at_line function line (if drawn then operations.Draw n (width (variable_type types v)) else operations.Constant n 0) ∷ variable_store line v n ∷ []
+  first_code line v drawn n =
+      if drawn then words_code (word_count (size_of variables v)) line v 0 n else at_line function line (operations.Clear v (size_of variables v)) ∷ []
 
   -- the first values of a block's own variables
   abbrev pub entry_code : Items → ℕ → List Instruction
   entry_code done n = []
-  entry_code (declares line v rest) n = at_line function line (operations.Draw n (width (variable_type types v))) ∷ variable_store line v n ∷ entry_code rest (n + 1)
-  entry_code (initializes line v drawn e rest) n =
-      at_line function line (if drawn then operations.Draw n (width (variable_type types v)) else operations.Constant n 0) ∷ variable_store line v n ∷ entry_code rest (n + 1)
+  entry_code (declares line v rest) n = first_code line v true n ++ entry_code rest (n + first_registers variables v true)
+  entry_code (initializes line v drawn e rest) n = first_code line v drawn n ++ entry_code rest (n + first_registers variables v drawn)
   entry_code (does s rest) n = entry_code rest n
+
+  -- the value of an initializer, which a register has
+  abbrev pub initial_store : (line v : ℕ) → IntegerType → ℕ → Instruction
+  initial_store line v t a = at_line function line (operations.Store v 0 (bytes t) a)
 
   abbrev mutual
     pub statement_code : Statement → ℕ → List Instruction
-    statement_code (block items) n = entry_code items n ++ items_code items (n + entry_registers items)
+    statement_code (block items) n = entry_code items n ++ items_code items (n + entry_registers variables items)
     statement_code (if_then line test s) n =
         let yes = statement_code s (n + (top test + 1)) in
         code function test n ++ at_line function line (operations.SkipIfZero (n + top test) (length yes)) ∷ yes
     statement_code (if_else line test s t) n =
         let first = n + (top test + 1) in
         let yes = statement_code s first in
-        let no = statement_code t (first + statement_registers s) in
+        let no = statement_code t (first + statement_registers variables s) in
         code function test n ++ at_line function line (operations.SkipIfZero (n + top test) (length yes + 1)) ∷ (yes ++ at_line function line (operations.Skip (length no)) ∷ no)
     statement_code (evaluate e) n = code function e n
     statement_code (returns line e) n = code function e n ++ at_line function line operations.Exit ∷ []
@@ -196,8 +213,8 @@ module _ (function : ℕ) (types : List IntegerType) where
     pub items_code : Items → ℕ → List Instruction
     items_code done n = []
     items_code (declares line v rest) n = items_code rest n
-    items_code (initializes line v drawn e rest) n = code function e n ++ variable_store line v (n + top e) ∷ items_code rest (n + (top e + 1))
-    items_code (does s rest) n = statement_code s n ++ items_code rest (n + statement_registers s)
+    items_code (initializes line v drawn e rest) n = code function e n ++ initial_store line v (number_type e) (n + top e) ∷ items_code rest (n + (top e + 1))
+    items_code (does s rest) n = statement_code s n ++ items_code rest (n + statement_registers variables s)
 
   -- a body, and the end of the process behind it
   abbrev pub body_code : Statement → ℕ → List Instruction

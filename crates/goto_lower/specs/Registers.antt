@@ -1,13 +1,13 @@
 -- The types of the registers of a tree, in the order of their numbers.
-use Rattle.std.specs.Prelude.{List, [], ◌∷◌, ◌++◌}
+use Rattle.std.specs.Prelude.{ℕ, Bool, true, List, [], ◌∷◌, ◌++◌, replicate}
 use Rattle.c_types.specs.declared.integers.IntegerType.{IntegerType}
-use Rattle.c_types.specs.declared.integers.IntegerType.TheVariants.{Int}
+use Rattle.c_types.specs.declared.integers.IntegerType.TheVariants.{Int, UnsignedLong}
 use Rattle.c_types.specs.Integers.{promoted}
 use Rattle.core_tree.specs.declared.expression.Place.{Place}
 use Rattle.core_tree.specs.Trees.{Expression, constant, read, convert, sign, is_zero, arithmetic, compare, logical, choice, assign, update, step, comma, assertion, assumption, draw, Statement, block, if_then, if_else, evaluate, returns, Items, done, declares, initializes, does}
 use Rattle.core_tree.specs.Typed.{place_type}
 use Rattle.c_interp.specs.Meaning.{number_type}
-use Rattle.goto_lower.specs.Lowering.{variable_type}
+use Rattle.goto_lower.specs.Lowering.{first_registers}
 
 -- of an operation of type t on a place
 abbrev pub update_types : Place → IntegerType → List IntegerType
@@ -31,11 +31,15 @@ types (assertion line e) = types e ++ Int ∷ []
 types (assumption line e) = types e ++ Int ∷ []
 types (draw line t) = t ∷ []
 
-module _ (variables : List IntegerType) where
+module _ (variables : List ℕ) where
+  -- a drawn word has 8 bytes at most
+  abbrev pub first_types : ℕ → Bool → List IntegerType
+  first_types v drawn = replicate (first_registers variables v drawn) UnsignedLong
+
   abbrev pub entry_types : Items → List IntegerType
   entry_types done = []
-  entry_types (declares line v rest) = variable_type variables v ∷ entry_types rest
-  entry_types (initializes line v drawn e rest) = variable_type variables v ∷ entry_types rest
+  entry_types (declares line v rest) = first_types v true ++ entry_types rest
+  entry_types (initializes line v drawn e rest) = first_types v drawn ++ entry_types rest
   entry_types (does s rest) = entry_types rest
 
   abbrev mutual

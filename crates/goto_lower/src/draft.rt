@@ -1,6 +1,6 @@
 ghost use Rattle.std.specs.Prelude.{◌≡◌, true, false, [], ◌∷◌, length, IfOk, OnOk};
 ghost use Rattle.goto_prog.specs.Fitting.{code_fits};
-ghost use Rattle.goto_lower.specs.Lowering.{at_line, variable_type};
+ghost use Rattle.goto_lower.specs.Lowering.{at_line, size_of};
 ghost use Rattle.goto_lower.specs.Drafts.{next, added, filled, landed, jump, operand};
 
 use crate::operand::Operand;
@@ -13,7 +13,7 @@ use std::marker::Model;
 #[derive(Drop)]
 pub(crate) struct Draft<'a> {
     function: u32,
-    variables: &'a [IntegerType],
+    variables: &'a [u32],
     instructions: Vec<Instruction>,
     registers: Vec<IntegerType>,
 }
@@ -37,7 +37,7 @@ fn jump(test: Option<usize>, count: usize) -> Operation
 
 impl<'a> Draft<'a> {
     // No code yet.
-    pub fn new(alloc: Global, function: u32, variables: &'a [IntegerType]) -> Draft<'a>
+    pub fn new(alloc: Global, function: u32, variables: &'a [u32]) -> Draft<'a>
         ensures { result ≡ record { function = function; variables = variables.now; instructions = []; registers = [] } }
     {
         Draft {
@@ -55,13 +55,13 @@ impl<'a> Draft<'a> {
         self.registers.len()
     }
 
-    // The type of a variable.
-    pub fn variable_type(&self, variable: u32) -> IntegerType
-        ensures { result ≡ variable_type self.now.variables variable }
+    // The size of a variable.
+    pub fn size_of(&self, variable: u32) -> u32
+        ensures { result ≡ size_of self.now.variables variable }
     {
         match self.variables.get(variable as usize) {
-            Some(type_) => *type_,
-            None => IntegerType::Int,
+            Some(size) => *size,
+            None => 0,
         }
     }
 

@@ -44,6 +44,7 @@ fn type_of_place(place: Place) -> IntegerType
             line: _,
             type_,
             variable: _,
+            offset: _,
         } => type_,
     }
 }
@@ -80,10 +81,15 @@ impl<'a> Draft<'a> {
                 line,
                 type_,
                 variable,
+                offset,
             } => {
-                let into = self.next();
-                let block = variable as usize;
-                self.set(line, type_, Operation::Load { into, type_, block })
+                let operation = Operation::Load {
+                    into: self.next(),
+                    type_,
+                    block: variable as usize,
+                    offset,
+                };
+                self.set(line, type_, operation)
             }
         }
     }
@@ -97,13 +103,14 @@ impl<'a> Draft<'a> {
                 line: _,
                 type_,
                 variable,
+                offset,
             } => {
-                let block = variable as usize;
                 self.push(
                     line,
                     Operation::Store {
-                        type_,
-                        block,
+                        block: variable as usize,
+                        offset,
+                        count: type_.size(),
                         operand,
                     },
                 )

@@ -1,51 +1,84 @@
 //! The code of statements.
 
-ghost use Rattle.std.specs.Prelude.{◌≡◌, [], ◌∷◌, ◌++◌, OnOk};
+ghost use Rattle.std.specs.Prelude.{◌≡◌, ℕ, suc, ◌+◌, [], ◌∷◌, ◌++◌, OnOk};
 ghost use Rattle.core_tree.specs.Trees.{view_statement, items_of, with_item, done, Items};
-ghost use Rattle.goto_lower.specs.Lowering.{variable_type, variable_store, first_code};
-ghost use Rattle.goto_lower.specs.Drafts.{next, added, after_statement, after_entry, after_items};
+ghost use Rattle.c_values.specs.Variables as variables;
+ghost use Rattle.goto_lower.specs.Lowering.{size_of, initial_store, first_code};
+ghost use Rattle.goto_lower.specs.Registers.{first_types};
+ghost use Rattle.goto_lower.specs.Drafts.{next, added, after_words, after_statement, after_entry, after_items};
 
 use crate::draft::Draft;
+use crate::operand::Operand;
+use c_types::IntegerType;
+use c_values::{drawn_count, word_count};
 use core_tree::{CoreItem, CoreStatement};
 use goto_prog::Operation;
 use std::alloc::AllocError;
 
 impl<'a> Draft<'a> {
-    // A write of a register into a variable.
-    fn store_variable(&mut self, line: u32, variable: u32, operand: usize) -> Result<(), AllocError>
-        ensures { OnOk result (self.new ≡ added self.old (variable_store self.old.function self.old.variables line variable operand ∷ []) []) }
+    // A drawn word of a variable, from an offset on.
+    #[tactic(auto, using(crate::proofs::DraftingStatements::word_adds))]
+    fn draw_word(&mut self, line: u32, variable: u32, offset: u32) -> Result<(), AllocError>
+        ensures { (k : ℕ) → OnOk result (after_words self.new k line variable (offset + 8) ≡ after_words self.old (suc k) line variable offset) }
     {
-        let type_ = self.variable_type(variable);
-        let block = variable as usize;
+        let count = drawn_count(self.size_of(variable), offset);
+        let into = self.next();
+        let operation = Operation::Draw {
+            into,
+            bits: 8 * count,
+        };
+        let word = self.set(line, IntegerType::UnsignedLong, operation)?;
         self.push(
             line,
             Operation::Store {
-                type_,
-                block,
-                operand,
+                block: variable as usize,
+                offset,
+                count,
+                operand: word.register,
             },
         )
     }
 
-    // The first value of a variable, drawn or 0.
-    fn first_value(&mut self, line: u32, variable: u32, drawn: bool) -> Result<(), AllocError>
-        ensures { OnOk result (self.new ≡ added self.old (first_code self.old.function self.old.variables line variable drawn (next self.old)) (variable_type self.old.variables variable ∷ [])) }
+    // The words of a variable, which are drawn.
+    #[tactic(auto, using(crate::proofs::DraftingStatements::words_left, crate::proofs::DraftingStatements::no_words))]
+    fn draw_words(&mut self, line: u32, variable: u32) -> Result<(), AllocError>
+        ensures { OnOk result (self.new ≡ after_words self.old (variables.word_count (size_of self.old.variables variable)) line variable 0) }
     {
-        let type_ = self.variable_type(variable);
-        let into = self.next();
-        let operation = if drawn {
-            Operation::Draw {
-                into,
-                bits: type_.width(),
-            }
-        } else {
-            Operation::Constant { into, bits: 0 }
-        };
-        let value = self.set(line, type_, operation)?;
-        self.store_variable(line, variable, value.register)
+        for word in 0..word_count(self.size_of(variable)) {
+            self.draw_word(line, variable, 8 * word)?;
+        }
+        Ok(())
+    }
+
+    // The first value of a variable: drawn, or each byte 0.
+    fn first_value(&mut self, line: u32, variable: u32, drawn: bool) -> Result<(), AllocError>
+        ensures { OnOk result (self.new ≡ added self.old (first_code self.old.function self.old.variables line variable drawn (next self.old)) (first_types self.old.variables variable drawn)) }
+    {
+        if drawn {
+            return self.draw_words(line, variable);
+        }
+        let size = self.size_of(variable);
+        let block = variable as usize;
+        self.push(line, Operation::Clear { block, size })
+    }
+
+    // A write of the value of an initializer into its variable.
+    fn initialize(&mut self, line: u32, variable: u32, value: Operand) -> Result<(), AllocError>
+        ensures { OnOk result (self.new ≡ added self.old (initial_store self.old.function self.old.variables line variable value.type_ value.register ∷ []) []) }
+    {
+        self.push(
+            line,
+            Operation::Store {
+                block: variable as usize,
+                offset: 0,
+                count: value.type_.size(),
+                operand: value.register,
+            },
+        )
     }
 
     // The first value of the variable that an item declares, if it does.
+    #[tactic(auto, using(crate::proofs::DraftingStatements::first_adds))]
     fn enter_item(&mut self, item: &CoreItem) -> Result<(), AllocError>
         ensures { (rest : Items) → OnOk result (after_entry self.new rest ≡ after_entry self.old (with_item item.now rest)) }
     {
@@ -87,7 +120,7 @@ impl<'a> Draft<'a> {
                 value,
             } => {
                 let value = self.expression(value)?;
-                self.store_variable(*line, *variable, value.register)
+                self.initialize(*line, *variable, value)
             }
             CoreItem::Statement { statement } => self.statement(statement),
         }

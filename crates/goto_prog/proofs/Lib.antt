@@ -1,2 +1,3 @@
 pub mod Registers
+pub mod Blocks
 pub mod Stepping

@@ -1,5 +1,5 @@
 -- The words of registers fit their types.
-use Rattle.std.proofs.Common.{◌≡◌, ℕ, zero, suc, ◌<◌, ◌^◌, Bool, true, false, ◌&&◌, ◌||◌, nat_lt, List, [], ◌∷◌, map, length, refl, sym, ap, subst, ◌∙◌, arith, get_or}
+use Rattle.std.proofs.Common.{◌≡◌, ℕ, zero, suc, ◌<◌, ◌≤◌, ◌^◌, Bool, true, false, ◌&&◌, ◌||◌, nat_lt, List, [], ◌∷◌, map, length, refl, sym, ap, subst, ◌∙◌, arith, get_or}
 use Rattle.std.specs.Prelude.{◌==◌, slice_set, slice_index_or, replicate, if◌then◌else◌}
 use Rattle.std.proofs.lemmas.Bool.{false≢true}
 use Rattle.std.proofs.lemmas.Bool.Decides.{nat_tests}
@@ -25,6 +25,20 @@ positive types.Long = refl
 positive types.UnsignedLong = refl
 positive types.LongLong = refl
 positive types.UnsignedLongLong = refl
+
+pub at_most_64 : (t : IntegerType) → width t ≤ 64
+at_most_64 types.Bool = omega arith
+at_most_64 types.Char = omega arith
+at_most_64 types.SignedChar = omega arith
+at_most_64 types.UnsignedChar = omega arith
+at_most_64 types.Short = omega arith
+at_most_64 types.UnsignedShort = omega arith
+at_most_64 types.Int = omega arith
+at_most_64 types.UnsignedInt = omega arith
+at_most_64 types.Long = omega arith
+at_most_64 types.UnsignedLong = omega arith
+at_most_64 types.LongLong = omega arith
+at_most_64 types.UnsignedLongLong = omega arith
 
 both_true : (a b : Bool) → a ≡ true → b ≡ true → (a && b) ≡ true
 both_true a b first second = λ i. first i && second i

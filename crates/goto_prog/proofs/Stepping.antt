@@ -27,14 +27,15 @@ use Rattle.goto_prog.specs.Threads.{behaving, final, ask}
 use Rattle.goto_prog.specs.CodeThread.{Listing, runs, code_program}
 use Rattle.goto_prog.specs.Fitting.{is_there, check_fits, operation_fits, code_fits}
 use Rattle.goto_prog.specs.Running.{Running, thread_of, is_calculation, is_action, acts, is_act, GoesOn, Stops}
-use Rattle.goto_prog.proofs.Registers.{both, test_below}
+use Rattle.goto_prog.proofs.Registers.{both, test_below, at_most_64}
 
 -- the number of a place makes no difference to behaviours
 pub free : (strict : Bool) (p line f : ℕ) (o : Operation) (ps : List (Memory → Behaviour)) (m : Memory) → operates behaving strict p line f o ps m ≡ operates behaving strict 0 line f o ps m
 free strict p line f (operations.Constant r bits) ps m = refl
 free strict p line f (operations.Copy r a) ps m = refl
-free strict p line f (operations.Load r t b) ps m = refl
-free strict p line f (operations.Store t b a) ps m = refl
+free strict p line f (operations.Load r t b offset) ps m = refl
+free strict p line f (operations.Store b offset count a) ps m = refl
+free strict p line f (operations.Clear b size) ps m = refl
 free strict p line f (operations.Convert r from to a) ps m = refl
 free strict p line f (operations.Sign r op t a) ps m = refl
 free strict p line f (operations.Arithmetic r op t u a b) ps m = refl
@@ -91,12 +92,12 @@ drop-past xs n none =
 
 -- ---- what the code keeps
 
-fits_drop : (rs bs : List IntegerType) (n : ℕ) (xs : List Instruction) → code_fits rs bs xs ≡ true → code_fits rs bs (drop n xs) ≡ true
+fits_drop : (rs : List IntegerType) (bs : List ℕ) (n : ℕ) (xs : List Instruction) → code_fits rs bs xs ≡ true → code_fits rs bs (drop n xs) ≡ true
 fits_drop rs bs zero xs h = h
 fits_drop rs bs (suc n) [] h = h
 fits_drop rs bs (suc n) (i ∷ xs) h = fits_drop rs bs n xs (both (operation_fits rs bs (length xs) i.operation) (code_fits rs bs xs) h).1
 
-pub fits_at : (rs bs : List IntegerType) (xs : List Instruction) (place : ℕ) (i : Instruction) → code_fits rs bs xs ≡ true → slice_get xs place ≡ Some i
+pub fits_at : (rs : List IntegerType) (bs : List ℕ) (xs : List Instruction) (place : ℕ) (i : Instruction) → code_fits rs bs xs ≡ true → slice_get xs place ≡ Some i
     → operation_fits rs bs (length (drop (place + 1) xs)) i.operation ≡ true
 fits_at rs bs xs place i h found =
     let within = slice_get_within xs place i found in
@@ -104,11 +105,12 @@ fits_at rs bs xs place i h found =
     let kept = subst (λ ys. code_fits rs bs ys ≡ true) front (fits_drop rs bs place xs h) in
     (both (operation_fits rs bs (length (drop (place + 1) xs)) i.operation) (code_fits rs bs (drop (place + 1) xs)) kept).0
 
-pub calculation_fits : (rs bs : List IntegerType) (n : ℕ) (o : Operation) → is_calculation o ≡ true → operation_fits rs bs n o ≡ true → operation_fits rs bs 0 o ≡ true
+pub calculation_fits : (rs : List IntegerType) (bs : List ℕ) (n : ℕ) (o : Operation) → is_calculation o ≡ true → operation_fits rs bs n o ≡ true → operation_fits rs bs 0 o ≡ true
 calculation_fits rs bs n (operations.Constant r bits) calculates h = h
 calculation_fits rs bs n (operations.Copy r a) calculates h = h
-calculation_fits rs bs n (operations.Load r t b) calculates h = h
-calculation_fits rs bs n (operations.Store t b a) calculates h = h
+calculation_fits rs bs n (operations.Load r t b offset) calculates h = h
+calculation_fits rs bs n (operations.Store b offset count a) calculates h = h
+calculation_fits rs bs n (operations.Clear b size) calculates h = h
 calculation_fits rs bs n (operations.Convert r from to a) calculates h = h
 calculation_fits rs bs n (operations.Sign r op t a) calculates h = h
 calculation_fits rs bs n (operations.Arithmetic r op t u a b) calculates h = h
@@ -171,8 +173,9 @@ module _ (r : Running) (i : Instruction) (found : slice_get r.code.instructions 
   calculates : (o : Operation) → is_calculation o ≡ true → operated o ≡ or_else behaving (strict_class o) i.line i.function (at behaving (behind r.strict r.code r.place) 0 (calculated o r.memory))
   calculates (operations.Constant q bits) h = plain _
   calculates (operations.Copy q a) h = plain _
-  calculates (operations.Load q t b) h = plain _
-  calculates (operations.Store t b a) h = plain _
+  calculates (operations.Load q t b offset) h = plain _
+  calculates (operations.Store b offset count a) h = plain _
+  calculates (operations.Clear b size) h = plain _
   calculates (operations.Convert q from to a) h = plain _
   calculates (operations.Sign q op t a) h = refl
   calculates (operations.Arithmetic q op t u a b) h = refl
@@ -316,20 +319,6 @@ draw_here r i q bits found code is = (draw_parts r i q bits found code is).1
 
 pub draw_width : (r : Running) (i : Instruction) (q bits : ℕ) → slice_get r.code.instructions r.place ≡ Some i → code_fits r.code.registers r.code.blocks r.code.instructions ≡ true → i.operation ≡ operations.Draw q bits → bits ≤ width (slice_index_or r.code.registers q types.Int)
 draw_width r i q bits found code is = (draw_parts r i q bits found code is).2
-
-at_most_64 : (t : IntegerType) → width t ≤ 64
-at_most_64 types.Bool = omega arith
-at_most_64 types.Char = omega arith
-at_most_64 types.SignedChar = omega arith
-at_most_64 types.UnsignedChar = omega arith
-at_most_64 types.Short = omega arith
-at_most_64 types.UnsignedShort = omega arith
-at_most_64 types.Int = omega arith
-at_most_64 types.UnsignedInt = omega arith
-at_most_64 types.Long = omega arith
-at_most_64 types.UnsignedLong = omega arith
-at_most_64 types.LongLong = omega arith
-at_most_64 types.UnsignedLongLong = omega arith
 
 pub draw_most : (r : Running) (i : Instruction) (q bits : ℕ) → slice_get r.code.instructions r.place ≡ Some i → code_fits r.code.registers r.code.blocks r.code.instructions ≡ true → i.operation ≡ operations.Draw q bits → bits ≤ 64
 draw_most r i q bits found code is = omega (arith, draw_width r i q bits found code is, at_most_64 (slice_index_or r.code.registers q types.Int))

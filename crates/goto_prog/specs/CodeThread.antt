@@ -20,10 +20,10 @@ use Rattle.goto_prog.specs.Threads.{behaving, ask, final}
 
 -- ---- threads
 
--- what contracts see of the code of a function
+-- what contracts see of the code of a function; the blocks are their sizes
 pub record Listing : Type 0 where
   pub registers : List IntegerType
-  pub blocks : List IntegerType
+  pub blocks : List ℕ
   pub instructions : List Instruction
   pub startable : Bool
 
@@ -160,8 +160,9 @@ module _ (program : Program) where
   operation_fine : (strict : Bool) (place line f : ℕ) (o : Operation) (ps : List (Memory → Behaviour)) (m : Memory) → AreFine ps → IsBehaviour program (operates behaving strict place line f o ps m)
   operation_fine strict place line f (operations.Constant r bits) ps m fine = at_fine ps 0 _ fine
   operation_fine strict place line f (operations.Copy r a) ps m fine = at_fine ps 0 _ fine
-  operation_fine strict place line f (operations.Load r t b) ps m fine = at_fine ps 0 _ fine
-  operation_fine strict place line f (operations.Store t b a) ps m fine = at_fine ps 0 _ fine
+  operation_fine strict place line f (operations.Load r t b offset) ps m fine = at_fine ps 0 _ fine
+  operation_fine strict place line f (operations.Store b offset count a) ps m fine = at_fine ps 0 _ fine
+  operation_fine strict place line f (operations.Clear b size) ps m fine = at_fine ps 0 _ fine
   operation_fine strict place line f (operations.Convert r from to a) ps m fine = at_fine ps 0 _ fine
   operation_fine strict place line f (operations.Sign r op t a) ps m fine = strict_fine strict (sign_check op t (register m a)) line f _ (at_fine ps 0 _ fine)
   operation_fine strict place line f (operations.Arithmetic r op t u a b) ps m fine = strict_fine strict (arithmetic_check op t u (register m a) (register m b)) line f _ (at_fine ps 0 _ fine)

@@ -1,10 +1,11 @@
--- What is true of each code: the registers and blocks that it names are there with the types of its operations, and its jumps stay within it.
-use Rattle.std.specs.Prelude.{ℕ, ◌^◌, Bool, true, false, ◌&&◌, List, [], ◌∷◌, nat_lt, nat_le, length, slice_index_or}
+-- What is true of each code: the registers that it names are there with the types of its operations, the bytes of blocks that it names are there, and its jumps stay within it.
+use Rattle.std.specs.Prelude.{ℕ, ◌^◌, ◌*◌, ◌==◌, Bool, true, false, ◌&&◌, List, [], ◌∷◌, nat_lt, nat_le, length, slice_index, slice_index_or}
 use Rattle.c_types.specs.declared.integers.IntegerType.{IntegerType}
 use Rattle.c_types.specs.declared.integers.IntegerType.TheVariants as types
-use Rattle.c_types.specs.Integers.{width, is_signed, same_integer}
+use Rattle.c_types.specs.Integers.{width, bytes, is_signed, same_integer}
 use Rattle.core_tree.specs.declared.operators.ArithmeticOperator.{ArithmeticOperator}
 use Rattle.core_tree.specs.declared.operators.ArithmeticOperator.TheVariants as arithmetics
+use Rattle.core_tree.specs.Typed.{is_within}
 use Rattle.c_values.specs.Numbers.{same_width, are_operands_of}
 use Rattle.goto_prog.specs.declared.code.Condition.{Condition}
 use Rattle.goto_prog.specs.declared.code.Condition.TheVariants as checks
@@ -20,9 +21,13 @@ is_there registers r = nat_lt r (length registers)
 abbrev pub is_register : List IntegerType → ℕ → IntegerType → Bool
 is_register registers r t = nat_lt r (length registers) && same_integer (slice_index_or registers r types.Int) t
 
--- a block that holds a value of this type, over the types of the blocks
-abbrev pub is_block : List IntegerType → ℕ → IntegerType → Bool
-is_block blocks b t = is_register blocks b t
+-- a register with so many bytes at least, and at least one
+abbrev pub has_bytes : List IntegerType → ℕ → ℕ → Bool
+has_bytes registers r count = nat_lt r (length registers) && nat_le 1 count && nat_le (8 * count) (width (slice_index_or registers r types.Int))
+
+-- a block of this size, over the sizes of the blocks
+abbrev pub is_block : List ℕ → ℕ → ℕ → Bool
+is_block blocks b size = nat_lt b (length blocks) && size == slice_index blocks b
 
 -- a register as wide as this type
 abbrev pub is_wide : List IntegerType → ℕ → IntegerType → Bool
@@ -45,11 +50,12 @@ check_fits registers (checks.Count t u count) = is_register registers count u
 check_fits registers (checks.LeftShift t u a count) = is_signed t && is_register registers a t && is_register registers count u
 
 -- with this many instructions behind it
-abbrev pub operation_fits : List IntegerType → List IntegerType → ℕ → Operation → Bool
+abbrev pub operation_fits : List IntegerType → List ℕ → ℕ → Operation → Bool
 operation_fits registers blocks behind (operations.Constant r bits) = is_there registers r && nat_lt bits (2 ^ width (slice_index_or registers r types.Int))
 operation_fits registers blocks behind (operations.Copy r a) = is_there registers a && is_register registers r (slice_index_or registers a types.Int)
-operation_fits registers blocks behind (operations.Load r t b) = is_register registers r t && is_block blocks b t
-operation_fits registers blocks behind (operations.Store t b a) = is_register registers a t && is_block blocks b t
+operation_fits registers blocks behind (operations.Load r t b offset) = is_register registers r t && is_within blocks b offset (bytes t)
+operation_fits registers blocks behind (operations.Store b offset count a) = has_bytes registers a count && is_within blocks b offset count
+operation_fits registers blocks behind (operations.Clear b size) = is_block blocks b size
 operation_fits registers blocks behind (operations.Convert r from to a) = is_register registers r to && is_register registers a from
 operation_fits registers blocks behind (operations.Sign r op t a) = is_register registers r t && is_register registers a t
 operation_fits registers blocks behind (operations.Arithmetic r op t u a b) = are_operands_of op t u && is_register registers r t && is_register registers a t && is_register registers b u
@@ -63,6 +69,6 @@ operation_fits registers blocks behind (operations.Assume a) = is_there register
 operation_fits registers blocks behind (operations.Draw r bits) = is_there registers r && nat_le 1 bits && nat_le bits (width (slice_index_or registers r types.Int))
 operation_fits registers blocks behind operations.Exit = true
 
-abbrev pub code_fits : List IntegerType → List IntegerType → List Instruction → Bool
+abbrev pub code_fits : List IntegerType → List ℕ → List Instruction → Bool
 code_fits registers blocks [] = true
 code_fits registers blocks (i ∷ code) = operation_fits registers blocks (length code) i.operation && code_fits registers blocks code

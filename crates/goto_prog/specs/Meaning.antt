@@ -11,7 +11,7 @@ use Rattle.actions.specs.declared.action.Next.TheVariants.{Ended, Blocked, Broke
 use Rattle.actions.specs.Behaviour.{word_64}
 use Rattle.core_tree.specs.Operations.{truth_bits, converted, unless, division_check, count_check, left_shift_check, arithmetic_check, arithmetic_value, sign_check, sign_value, compared}
 use Rattle.core_tree.specs.declared.operators.SignOperator.TheVariants as signs
-use Rattle.c_values.specs.Variables.{Variables, read_variable, write_variable}
+use Rattle.c_values.specs.Variables.{Variables, low_bytes, put_bytes, cleared, read_variable}
 use Rattle.goto_prog.specs.declared.code.Condition.{Condition}
 use Rattle.goto_prog.specs.declared.code.Condition.TheVariants as checks
 use Rattle.goto_prog.specs.declared.code.Operation.{Operation}
@@ -29,6 +29,9 @@ register m r = slice_index m.registers r
 
 abbrev pub with_register : Memory → ℕ → ℕ → Memory
 with_register m r bits = record m { registers = slice_set m.registers r bits }
+
+abbrev pub with_blocks : Memory → Variables → Memory
+with_blocks m blocks = record m { blocks = blocks }
 
 -- ---- checks
 
@@ -53,8 +56,9 @@ own_class _ m = None
 abbrev pub calculated : Operation → Memory → Memory
 calculated (operations.Constant r bits) m = with_register m r bits
 calculated (operations.Copy r a) m = with_register m r (register m a)
-calculated (operations.Load r t b) m = with_register m r (read_variable m.blocks b t)
-calculated (operations.Store t b a) m = record m { blocks = write_variable m.blocks b t (register m a) }
+calculated (operations.Load r t b offset) m = with_register m r (read_variable m.blocks b offset t)
+calculated (operations.Store b offset count a) m = with_blocks m (put_bytes m.blocks b offset (low_bytes count (register m a)))
+calculated (operations.Clear b size) m = with_blocks m (cleared m.blocks b size)
 calculated (operations.Convert r from to a) m = with_register m r (converted from to (register m a))
 calculated (operations.Sign r op t a) m = with_register m r (sign_value op t (register m a))
 calculated (operations.Arithmetic r op t u a b) m = with_register m r (arithmetic_value op t (register m a) (register m b))
@@ -92,8 +96,9 @@ module _ {R : Type 0} (o : Reading R) where
   abbrev pub operates : (strict : Bool) (place line function : ℕ) → Operation → List (Memory → R) → Memory → R
   operates strict place line f (operations.Constant r bits) ps m = at ps 0 (with_register m r bits)
   operates strict place line f (operations.Copy r a) ps m = at ps 0 (with_register m r (register m a))
-  operates strict place line f (operations.Load r t b) ps m = at ps 0 (with_register m r (read_variable m.blocks b t))
-  operates strict place line f (operations.Store t b a) ps m = at ps 0 (record m { blocks = write_variable m.blocks b t (register m a) })
+  operates strict place line f (operations.Load r t b offset) ps m = at ps 0 (with_register m r (read_variable m.blocks b offset t))
+  operates strict place line f (operations.Store b offset count a) ps m = at ps 0 (with_blocks m (put_bytes m.blocks b offset (low_bytes count (register m a))))
+  operates strict place line f (operations.Clear b size) ps m = at ps 0 (with_blocks m (cleared m.blocks b size))
   operates strict place line f (operations.Convert r from to a) ps m = at ps 0 (with_register m r (converted from to (register m a)))
   operates strict place line f (operations.Sign r op t a) ps m =
       or_else (if strict then sign_check op t (register m a) else None) line f (at ps 0 (with_register m r (sign_value op t (register m a))))

@@ -1,5 +1,5 @@
 -- A runner of code: where it stands, and what is true of it.
-use Rattle.std.specs.Prelude.{◌≡◌, ◌<◌, ◌≤◌, ℕ, ◌^◌, Bool, true, false, ◌&&◌, nat_lt, List, [], ◌∷◌, Option, Some, None, slice_get, length}
+use Rattle.std.specs.Prelude.{◌≡◌, ◌<◌, ◌≤◌, ℕ, ◌^◌, Bool, true, false, ◌&&◌, nat_lt, List, [], ◌∷◌, Option, Some, None, slice_get, length, map}
 use Rattle.c_types.specs.declared.integers.IntegerType.{IntegerType}
 use Rattle.c_types.specs.Integers.{width}
 use Rattle.actions.specs.declared.action.Next.{Next}
@@ -37,13 +37,15 @@ registers_fit (t ∷ ts) (x ∷ xs) = nat_lt x (2 ^ width t) && registers_fit ts
 pub record IsRunning (r : Running) : Type 0 where
   pub code : code_fits r.code.registers r.code.blocks r.code.instructions ≡ true
   pub registers : registers_fit r.code.registers r.memory.registers ≡ true
+  pub blocks : map length r.memory.blocks ≡ r.code.blocks
 
 -- an instruction that sets a register or a block
 abbrev pub is_calculation : Operation → Bool
 is_calculation (operations.Constant r bits) = true
 is_calculation (operations.Copy r a) = true
-is_calculation (operations.Load r t b) = true
-is_calculation (operations.Store t b a) = true
+is_calculation (operations.Load r t b offset) = true
+is_calculation (operations.Store b offset count a) = true
+is_calculation (operations.Clear b size) = true
 is_calculation (operations.Convert r from to a) = true
 is_calculation (operations.Sign r op t a) = true
 is_calculation (operations.Arithmetic r op t u a b) = true

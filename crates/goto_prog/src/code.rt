@@ -56,17 +56,24 @@ pub enum Operation {
         into: usize,
         operand: usize,
     },
-    /// Sets a register to the value that lies in a block.
+    /// Sets a register to the value of this type that lies at an offset of a block.
     Load {
         into: usize,
         type_: IntegerType,
         block: usize,
+        offset: u32,
     },
-    /// Writes the bytes of a register's word into a block.
+    /// Writes so many of the lowest bytes of a register's word into a block, from an offset on.
     Store {
-        type_: IntegerType,
         block: usize,
+        offset: u32,
+        count: u32,
         operand: usize,
+    },
+    /// Sets each byte of a block to 0, of which there are so many.
+    Clear {
+        block: usize,
+        size: u32,
     },
     /// Sets a register to another's word, converted (C11 6.3.1).
     Convert {

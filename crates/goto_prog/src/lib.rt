@@ -2,6 +2,7 @@
 //! the threads that run it.
 #![tactic(auto)]
 
+mod block;
 mod code;
 mod goto;
 mod listing;

@@ -5,13 +5,14 @@ use crate::code::Instruction;
 use c_types::IntegerType;
 use std::marker::Model;
 
-/// The code of a function: the types of its registers and of its blocks, its instructions, and whether a
-/// thread can be started in it. The registers and blocks that an instruction names are there with the
-/// types that it asks for, and each jump stays within the code or ends right behind it.
+/// The code of a function: the types of its registers, the sizes of its blocks in bytes, its instructions,
+/// and whether a thread can be started in it. The registers that an instruction names are there with the
+/// types that it asks for, the bytes of blocks that it names are there, and each jump stays within the code
+/// or ends right behind it.
 #[derive(Drop)]
 pub struct Code {
     registers: Vec<IntegerType>,
-    blocks: Vec<IntegerType>,
+    blocks: Vec<u32>,
     instructions: Vec<Instruction>,
     startable: bool,
 }
@@ -31,7 +32,7 @@ impl Model for Code {
 impl Code {
     pub fn new(
         registers: Vec<IntegerType>,
-        blocks: Vec<IntegerType>,
+        blocks: Vec<u32>,
         instructions: Vec<Instruction>,
         startable: bool,
     ) -> Code
@@ -53,8 +54,8 @@ impl Code {
         &self.registers
     }
 
-    /// The types of the blocks.
-    pub fn blocks(&self) -> &[IntegerType]
+    /// The sizes of the blocks in bytes.
+    pub fn blocks(&self) -> &[u32]
         ensures { result.now ≡ self.now.blocks }
     {
         &self.blocks

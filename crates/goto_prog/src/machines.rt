@@ -51,11 +51,12 @@ impl<'a> Machine for StrictThread<'a> {
     }
 
     fn advance(&mut self) -> Result<Next, AllocError> {
-        self.runner.settle()
+        Ok(self.runner.settle())
     }
 
     fn answer(&mut self, answer: &Answer) -> Result<(), AllocError> {
-        self.runner.take(answer)
+        self.runner.take(answer);
+        Ok(())
     }
 
     ghost valid = { λ s. is_thread s.strict s.functions s.code s.place s.memory };
@@ -103,11 +104,12 @@ impl<'a> Machine for PlainThread<'a> {
     }
 
     fn advance(&mut self) -> Result<Next, AllocError> {
-        self.runner.settle()
+        Ok(self.runner.settle())
     }
 
     fn answer(&mut self, answer: &Answer) -> Result<(), AllocError> {
-        self.runner.take(answer)
+        self.runner.take(answer);
+        Ok(())
     }
 
     ghost valid = { λ s. is_thread s.strict s.functions s.code s.place s.memory };
@@ -150,11 +152,12 @@ impl<'a> Machine for UnrolledThread<'a> {
     }
 
     fn advance(&mut self) -> Result<Next, AllocError> {
-        self.runner.settle()
+        Ok(self.runner.settle())
     }
 
     fn answer(&mut self, answer: &Answer) -> Result<(), AllocError> {
-        self.runner.take(answer)
+        self.runner.take(answer);
+        Ok(())
     }
 
     ghost valid = { λ s. is_thread s.strict s.functions s.code s.place s.memory };

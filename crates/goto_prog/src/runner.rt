@@ -1,19 +1,18 @@
-ghost use Rattle.c_types.specs.Integers.{width};
-ghost use Rattle.c_values.specs.Variables.{first_variables, read_variable, write_variable};
+ghost use Rattle.c_types.specs.Integers.{width, bytes};
+ghost use Rattle.c_values.specs.Variables.{first_variables, low_bytes, put_bytes, cleared, read_variable};
 ghost use Rattle.core_tree.specs.Operations.{arithmetic_value};
-ghost use Rattle.std.specs.Prelude.{◌≡◌, ◌==◌, ◌+◌, ◌<◌, ◌≤◌, ◌^◌, true, length, drop, IfSome, map, slice_index_or, IfOk, OnOk, OnErr, slice_get};
+ghost use Rattle.core_tree.specs.Typed.{is_within};
+ghost use Rattle.std.specs.Prelude.{◌≡◌, ◌==◌, ◌+◌, ◌<◌, ◌≤◌, ◌^◌, true, length, drop, IfSome, map, slice_index_or, IfOk, slice_get};
 ghost use Rattle.c_values.specs.Numbers.{typed, are_operands_of};
-ghost use Rattle.goto_prog.specs.Meaning.{register, with_register, own_class, calculated, check_class};
-ghost use Rattle.goto_prog.specs.Fitting.{code_fits, is_there, is_register, is_wide, is_block, check_fits, operation_fits};
+ghost use Rattle.goto_prog.specs.Meaning.{register, with_register, with_blocks, own_class, calculated, check_class};
+ghost use Rattle.goto_prog.specs.Fitting.{code_fits, is_there, is_register, is_wide, has_bytes, is_block, check_fits, operation_fits};
 ghost use Rattle.goto_prog.specs.Running.{begun, is_calculation};
 
+use crate::block::Block;
 use crate::code::{Condition, Instruction, Operation};
 use crate::listing::Code;
-use actions::Bytes;
 use c_types::IntegerType;
-use c_values::{
-    Number, broken_by, broken_sign, bytes_of, compare, read_block, signed_value, value,
-};
+use c_values::{Number, broken_by, broken_sign, compare, signed_value, value};
 use core_tree::{ArithmeticOperator, SignOperator};
 use std::alloc::{AllocError, Global};
 use std::marker::Model;
@@ -28,7 +27,7 @@ pub struct Runner<'a> {
     pub(crate) strict: bool,
     pub(crate) place: usize,
     registers: Vec<u64>,
-    blocks: Vec<Bytes>,
+    blocks: Vec<Block>,
 }
 
 impl<'a> Model for Runner<'a> {
@@ -43,7 +42,7 @@ impl<'a> Model for Runner<'a> {
 
 impl<'a> Runner<'a> {
     // At the start of code.
-    #[tactic(auto, using(crate::proofs::Registers::zeros_fit))]
+    #[tactic(auto, using(crate::proofs::Registers::zeros_fit, crate::proofs::Blocks::first_sizes))]
     pub fn new(
         alloc: Global,
         functions: &'a [Code],
@@ -110,26 +109,33 @@ impl<'a> Runner<'a> {
         self.registers[into] = number.bits();
     }
 
-    // The number in a block.
-    fn load(&self, block: usize, type_: IntegerType) -> Number
-        ensures { result ≡ typed type_ (read_variable self.now.memory.blocks block type_) }
+    // The number of a type at an offset of a block.
+    #[tactic(auto, using(crate::proofs::Blocks::block_there))]
+    fn load(&self, block: usize, offset: u32, type_: IntegerType) -> Number
+        requires { is_within self.now.code.blocks block offset (bytes type_) ≡ true }
+        ensures { result ≡ typed type_ (read_variable self.now.memory.blocks block offset type_) }
     {
-        match self.blocks.get(block) {
-            Some(bytes) => read_block(bytes.as_slice(), type_),
-            None => read_block(&[], type_),
-        }
+        self.blocks[block].number(offset, type_)
     }
 
-    // Writes a number into a block.
-    fn store(&mut self, block: usize, number: Number) -> Result<(), AllocError>
-        ensures ok { OnOk result (self.new ≡ record self.old { memory = record self.old.memory { blocks = write_variable self.old.memory.blocks block number.type number.bits } }) }
-        ensures err { OnErr result (self.new ≡ self.old) }
+    // Writes the lowest bytes of a register's word into a block.
+    #[tactic(auto, using(crate::proofs::Blocks::block_there, crate::proofs::Blocks::block_room, crate::proofs::Blocks::sizes_put))]
+    fn store(&mut self, block: usize, offset: u32, count: u32, from: usize)
+        requires from { has_bytes self.old.code.registers from count ≡ true }
+        requires within { is_within self.old.code.blocks block offset count ≡ true }
+        ensures { self.new ≡ record self.old { memory = with_blocks self.old.memory (put_bytes self.old.memory.blocks block offset (low_bytes count (register self.old.memory from))) } }
     {
-        let bytes = Bytes::new(bytes_of(self.alloc, number.type_of(), number.bits())?);
-        if block < self.blocks.len() {
-            self.blocks[block] = bytes;
-        }
-        Ok(())
+        let bits = self.word(from);
+        self.blocks[block].write(offset, count, bits);
+    }
+
+    // Sets each byte of a block to 0.
+    #[tactic(auto, using(crate::proofs::Blocks::clear_there, crate::proofs::Blocks::zeros_of, crate::proofs::Blocks::sizes_cleared))]
+    fn clear(&mut self, block: usize, size: u32)
+        requires { is_block self.old.code.blocks block size ≡ true }
+        ensures { self.new ≡ record self.old { memory = with_blocks self.old.memory (cleared self.old.memory.blocks block size) } }
+    {
+        self.blocks[block].clear();
     }
 
     // Sets a register to an operation's result.
@@ -163,27 +169,30 @@ impl<'a> Runner<'a> {
     }
 
     // Sets the register or the block that an operation sets.
-    pub fn calculate(&mut self, operation: Operation) -> Result<(), AllocError>
+    pub fn calculate(&mut self, operation: Operation)
         requires calculation { is_calculation operation ≡ true }
         requires fits { operation_fits self.old.code.registers self.old.code.blocks 0 operation ≡ true }
-        ensures ok { OnOk result (self.new ≡ record self.old { memory = calculated operation self.old.memory }) }
-        ensures err { OnErr result (self.new ≡ self.old) }
+        ensures { self.new ≡ record self.old { memory = calculated operation self.old.memory } }
     {
         match operation {
             Operation::Constant { into, bits } => self.put(into, bits),
             Operation::Copy { into, operand } => self.copy(into, operand),
-            Operation::Load { into, type_, block } => {
-                let number = self.load(block, type_);
+            Operation::Load {
+                into,
+                type_,
+                block,
+                offset,
+            } => {
+                let number = self.load(block, offset, type_);
                 self.set(into, number);
             }
             Operation::Store {
-                type_,
                 block,
+                offset,
+                count,
                 operand,
-            } => {
-                let number = self.number(operand, type_);
-                self.store(block, number)?;
-            }
+            } => self.store(block, offset, count, operand),
+            Operation::Clear { block, size } => self.clear(block, size),
             Operation::Convert {
                 into,
                 from,
@@ -243,7 +252,6 @@ impl<'a> Runner<'a> {
             Operation::Draw { into: _, bits: _ } => {}
             Operation::Exit => {}
         }
-        Ok(())
     }
 
     // The check that an operation of strict code breaks by itself.
@@ -373,12 +381,12 @@ fn zero_words(alloc: Global, types: &[IntegerType]) -> Result<Vec<u64>, AllocErr
 }
 
 // Zero bytes for each block.
-fn zero_blocks(alloc: Global, types: &[IntegerType]) -> Result<Vec<Bytes>, AllocError>
-    ensures { IfOk result (λ v. v.items ≡ first_variables types.now) }
+fn zero_blocks(alloc: Global, sizes: &[u32]) -> Result<Vec<Block>, AllocError>
+    ensures { IfOk result (λ v. v.items ≡ first_variables sizes.now) }
 {
     let mut blocks = Vec::new(alloc);
-    for type_ in types {
-        blocks.push(Bytes::new(bytes_of(alloc, *type_, 0)?))?;
+    for size in sizes {
+        blocks.push(Block::new(alloc, *size)?)?;
     }
     Ok(blocks)
 }

@@ -1,4 +1,4 @@
-ghost use Rattle.std.specs.Prelude.{◌≡◌, true, false, IfOk, OnErr, slice_get, Some, None, if◌then◌else◌};
+ghost use Rattle.std.specs.Prelude.{◌≡◌, true, false, slice_get, Some, None, if◌then◌else◌};
 ghost use Rattle.goto_prog.specs.Meaning.{own_class};
 ghost use Rattle.goto_prog.specs.Fitting.{code_fits};
 ghost use Rattle.goto_prog.specs.Running.{is_calculation, Steps, Stops};
@@ -6,25 +6,23 @@ ghost use Rattle.goto_prog.specs.Running.{is_calculation, Steps, Stops};
 use crate::code::{Condition, Instruction, Operation};
 use crate::runner::Runner;
 use actions::{Action, DrawBits, Next};
-use std::alloc::AllocError;
 use words::{Class, Word};
 
 impl<'a> Runner<'a> {
     // An instruction that sets a register or a block.
     #[tactic(auto, using(crate::proofs::Stepping::fits_here, crate::proofs::Stepping::room_here, crate::proofs::Stepping::goes_calculated, crate::proofs::Stepping::stops_calculated))]
-    fn calculation(&mut self, i: Instruction) -> Result<Option<Next>, AllocError>
+    fn calculation(&mut self, i: Instruction) -> Option<Next>
         requires found { slice_get self.old.code.instructions self.old.place ≡ Some i }
         requires code { code_fits self.old.code.registers self.old.code.blocks self.old.code.instructions ≡ true }
         requires calculation { is_calculation i.operation ≡ true }
-        ensures steps { IfOk result (Steps self.old self.new) }
-        ensures err { OnErr result (self.new ≡ self.old) }
+        ensures { Steps self.old self.new result }
     {
         if let Some(class) = self.broken_calculation(i) {
-            return Ok(Some(Next::Broken(class, i.line, i.function)));
+            return Some(Next::Broken(class, i.line, i.function));
         }
-        self.calculate(i.operation)?;
+        self.calculate(i.operation);
         self.pass(0);
-        Ok(None)
+        None
     }
 
     // The check that it breaks by itself in strict code.
@@ -120,31 +118,29 @@ impl<'a> Runner<'a> {
     }
 
     // One step: it goes on, or this is next.
-    pub fn step(&mut self) -> Result<Option<Next>, AllocError>
-        ensures steps { IfOk result (Steps self.old self.new) }
-        ensures err { OnErr result (self.new ≡ self.old) }
+    pub fn step(&mut self) -> Option<Next>
+        ensures { Steps self.old self.new result }
     {
         match self.instruction() {
             Some(i) => self.perform(i),
-            None => Ok(Some(Next::Ended(Word::new(0, 64)))),
+            None => Some(Next::Ended(Word::new(0, 64))),
         }
     }
 
     // The instruction at the place.
-    fn perform(&mut self, i: Instruction) -> Result<Option<Next>, AllocError>
+    fn perform(&mut self, i: Instruction) -> Option<Next>
         requires found { slice_get self.old.code.instructions self.old.place ≡ Some i }
         requires code { code_fits self.old.code.registers self.old.code.blocks self.old.code.instructions ≡ true }
-        ensures steps { IfOk result (Steps self.old self.new) }
-        ensures err { OnErr result (self.new ≡ self.old) }
+        ensures { Steps self.old self.new result }
     {
         match i.operation {
-            Operation::Skip { count } => Ok(self.skip(i, count)),
-            Operation::SkipIfZero { operand, count } => Ok(self.skip_if_zero(i, operand, count)),
-            Operation::Check { condition } => Ok(self.check(i, condition)),
-            Operation::Assert { operand } => Ok(self.assertion(i, operand)),
-            Operation::Assume { operand } => Ok(self.assumption(i, operand)),
-            Operation::Draw { into, bits } => Ok(Some(self.draw(i, into, bits))),
-            Operation::Exit => Ok(Some(self.exit(i))),
+            Operation::Skip { count } => self.skip(i, count),
+            Operation::SkipIfZero { operand, count } => self.skip_if_zero(i, operand, count),
+            Operation::Check { condition } => self.check(i, condition),
+            Operation::Assert { operand } => self.assertion(i, operand),
+            Operation::Assume { operand } => self.assumption(i, operand),
+            Operation::Draw { into, bits } => Some(self.draw(i, into, bits)),
+            Operation::Exit => Some(self.exit(i)),
             Operation::Constant { into: _, bits: _ } => self.calculation(i),
             Operation::Copy {
                 into: _,
@@ -154,12 +150,15 @@ impl<'a> Runner<'a> {
                 into: _,
                 type_: _,
                 block: _,
+                offset: _,
             } => self.calculation(i),
             Operation::Store {
-                type_: _,
                 block: _,
+                offset: _,
+                count: _,
                 operand: _,
             } => self.calculation(i),
+            Operation::Clear { block: _, size: _ } => self.calculation(i),
             Operation::Convert {
                 into: _,
                 from: _,

@@ -1,4 +1,4 @@
-ghost use Rattle.std.specs.Prelude.{◌≡◌, ◌∷◌, [], IfOk};
+ghost use Rattle.std.specs.Prelude.{◌≡◌, ◌≤◌, ◌∷◌, [], IfOk};
 
 use crate::code::{Condition, Instruction, Operation};
 use crate::goto::{Goto, Unrolled};
@@ -53,6 +53,8 @@ const INT: IntegerType = IntegerType::Int;
 
 const CHAR: IntegerType = IntegerType::SignedChar;
 
+const SHORT: IntegerType = IntegerType::UnsignedShort;
+
 fn registers(alloc: Global) -> Result<Vec<IntegerType>, AllocError>
     ensures { IfOk result (λ v. v.items ≡ IntegerType.Int ∷ IntegerType.Int ∷ IntegerType.Int ∷ IntegerType.Int ∷ IntegerType.Int ∷ IntegerType.SignedChar ∷ []) }
 {
@@ -79,8 +81,9 @@ fn values(alloc: Global, left: u32, right: u32) -> Result<Code, AllocError> {
         at_line(
             2,
             Operation::Store {
-                type_: INT,
                 block: 0,
+                offset: 0,
+                count: 4,
                 operand: 0
             }
         ),
@@ -89,7 +92,8 @@ fn values(alloc: Global, left: u32, right: u32) -> Result<Code, AllocError> {
             Operation::Load {
                 into: 2,
                 type_: INT,
-                block: 0
+                block: 0,
+                offset: 0
             }
         ),
         at_line(
@@ -167,7 +171,7 @@ fn values(alloc: Global, left: u32, right: u32) -> Result<Code, AllocError> {
         at_line(10, Operation::Draw { into: 2, bits: 32 }),
     ]?;
     let types = registers(alloc)?;
-    let blocks = Vec::from_slice(alloc, &[INT])?;
+    let blocks = Vec::from_slice(alloc, &[4])?;
     Ok(Code::new(types, blocks, instructions, false))
 }
 
@@ -241,6 +245,73 @@ fn checks(alloc: Global, left: u32, right: u32) -> Result<Code, AllocError> {
     Ok(Code::new(types, blocks, instructions, false))
 }
 
+// `bits` into the bytes 3 and 4 of an object of 12, the short at an offset is as expected, and none is left behind a clear.
+fn bytes(alloc: Global, bits: u64, at: u32, expected: u16) -> Result<Code, AllocError>
+    requires { at ≤ 10 }
+{
+    let instructions = vec![in alloc;
+        at_line(1, Operation::Constant { into: 0, bits }),
+        at_line(
+            2,
+            Operation::Store {
+                block: 0,
+                offset: 3,
+                count: 2,
+                operand: 0
+            }
+        ),
+        at_line(
+            3,
+            Operation::Load {
+                into: 1,
+                type_: SHORT,
+                block: 0,
+                offset: at
+            }
+        ),
+        at_line(
+            4,
+            Operation::Constant {
+                into: 2,
+                bits: expected as u64
+            }
+        ),
+        at_line(
+            4,
+            Operation::Compare {
+                into: 3,
+                operator: Comparison::Equal,
+                type_: SHORT,
+                left: 1,
+                right: 2
+            }
+        ),
+        at_line(5, Operation::Assert { operand: 3 }),
+        at_line(6, Operation::Clear { block: 0, size: 12 }),
+        at_line(
+            7,
+            Operation::Load {
+                into: 1,
+                type_: SHORT,
+                block: 0,
+                offset: 3
+            }
+        ),
+        at_line(
+            8,
+            Operation::IsZero {
+                into: 3,
+                operand: 1
+            }
+        ),
+        at_line(8, Operation::Assert { operand: 3 }),
+        at_line(9, Operation::Exit),
+    ]?;
+    let types = Vec::from_slice(alloc, &[IntegerType::UnsignedLong, SHORT, SHORT, INT])?;
+    let blocks = Vec::from_slice(alloc, &[12])?;
+    Ok(Code::new(types, blocks, instructions, false))
+}
+
 fn strict_next(alloc: Global, code: Code) -> Result<Told, AllocError> {
     let bounds = Bounds::new(1, Vec::new(alloc), true, 1, false);
     let functions = vec![in alloc; code]?;
@@ -306,6 +377,29 @@ fn checks_break_with_their_class(rt: HostRuntime) -> Result<(), Fail> {
     for (left, right, expected) in rows {
         assert_eq!(rt; strict_next(alloc, checks(alloc, left, right)?)?, expected);
         assert_eq!(rt; plain_next(alloc, checks(alloc, left, right)?)?, expected);
+    }
+    Ok(())
+}
+
+#[test]
+fn stores_and_loads_name_bytes(rt: HostRuntime) -> Result<(), Fail> {
+    let alloc = rt.alloc();
+    let bits = 578_437_695_752_307_201;
+    let wrong = Told::Breaks(Class::Assertion, 5);
+    let rows = [
+        (3, 513, Told::Exits),
+        (2, 256, Told::Exits),
+        (4, 2, Told::Exits),
+        (5, 0, Told::Exits),
+        (0, 513, wrong),
+        (3, 1, wrong),
+    ];
+    for (at, expected, told) in rows {
+        assert_eq!(rt;
+            strict_next(alloc, bytes(alloc, bits, at, expected)?)?,
+            told
+        );
+        assert_eq!(rt; plain_next(alloc, bytes(alloc, bits, at, expected)?)?, told);
     }
     Ok(())
 }

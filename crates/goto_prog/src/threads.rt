@@ -1,4 +1,4 @@
-ghost use Rattle.std.specs.Prelude.{◌≡◌, ℕ, true, [], IfOk, OnOk, OnErr, slice_get, Some};
+ghost use Rattle.std.specs.Prelude.{◌≡◌, ℕ, true, [], IfOk, slice_get, Some};
 ghost use Rattle.actions.specs.Behaviour.{accepts, answered, started};
 ghost use Rattle.goto_prog.specs.Meaning.{word_of};
 ghost use Rattle.goto_prog.specs.Fitting.{code_fits};
@@ -23,27 +23,25 @@ fn word_of(answer: &Answer) -> u64
 
 impl<'a> Runner<'a> {
     // Goes on to what is next.
-    pub fn settle(&mut self) -> Result<Next, AllocError>
+    pub fn settle(&mut self) -> Next
         ensures same { thread_of self.new ≡ thread_of self.old }
-        ensures next { IfOk result (λ next. next ≡ (thread_of self.old).behaves []) }
-        ensures acting { IfOk result (λ next. is_act next ≡ true → acts (slice_get self.new.code.instructions self.new.place) ≡ true) }
+        ensures next { result ≡ (thread_of self.old).behaves [] }
+        ensures acting { is_act result ≡ true → acts (slice_get self.new.code.instructions self.new.place) ≡ true }
     {
         loop {
-            if let Some(next) = self.step()? {
-                return Ok(next);
+            if let Some(next) = self.step() {
+                return next;
             }
         }
     }
 
     // Takes the answer to the action that is next.
-    pub fn take(&mut self, answer: &Answer) -> Result<(), AllocError>
+    pub fn take(&mut self, answer: &Answer)
         requires { accepts ((thread_of self.old).behaves []) answer.now ≡ true }
-        ensures ok { OnOk result (thread_of self.new ≡ answered (thread_of self.old) answer.now) }
-        ensures err { OnErr result (thread_of self.new ≡ thread_of self.old) }
+        ensures { thread_of self.new ≡ answered (thread_of self.old) answer.now }
     {
-        self.settle()?;
+        self.settle();
         self.receive(answer);
-        Ok(())
     }
 
     // The same, at the action.

@@ -1,7 +1,7 @@
 -- How much a file unrolls to: the counts, and the first that passes its limit.
-use Rattle.std.specs.Prelude.{◌≡◌, ℕ, ◌+◌, nat_lt, map, List, [], ◌∷◌, Option, Some, None, if◌then◌else◌}
+use Rattle.std.specs.Prelude.{◌≡◌, ℕ, ◌+◌, max, nat_lt, map, List, [], ◌∷◌, ◌++◌, Option, Some, None, if◌then◌else◌}
 use Rattle.core_tree.specs.declared.refusal.Limit.{Limit}
-use Rattle.core_tree.specs.declared.refusal.Limit.TheVariants.{Places, Threads, Actions, Objects}
+use Rattle.core_tree.specs.declared.refusal.Limit.TheVariants.{Places, Threads, Actions, Objects, ObjectBytes}
 use Rattle.core_tree.specs.Ranges.{Limits}
 use Rattle.core_tree.specs.Trees.{Expression, constant, read, convert, sign, is_zero, arithmetic, compare, logical, choice, assign, update, step, comma, assertion, assumption, draw, Statement, block, if_then, if_else, evaluate, returns, Items, done, declares, initializes, does, Procedure}
 use Rattle.c_profile.specs.Rules.{is_main}
@@ -48,6 +48,18 @@ abbrev pub places : List Procedure → ℕ
 places [] = 0
 places (f ∷ functions) = if is_main f then statement_places f.body else places functions
 
+-- ---- objects: each variable of a function is one
+
+-- the largest of these sizes
+abbrev pub largest : List ℕ → ℕ
+largest [] = 0
+largest (size ∷ sizes) = max size (largest sizes)
+
+-- the bytes of the file's largest object
+abbrev pub object_bytes : List Procedure → ℕ
+object_bytes [] = 0
+object_bytes (f ∷ functions) = max (largest f.variables) (object_bytes functions)
+
 -- ---- limits
 
 pub record Quantity : Type 0 where
@@ -68,9 +80,13 @@ abbrev pub first_passed : List Quantity → Option Limit
 first_passed [] = None
 first_passed (q ∷ qs) = if nat_lt q.most q.count then Some q.limit else first_passed qs
 
+-- what has a limit: what is counted, and behind it the bytes of an object
+abbrev pub limited : List Procedure → Limits → List Quantity
+limited functions bounds = quantities functions bounds ++ record { limit = ObjectBytes; most = 65536; count = object_bytes functions } ∷ []
+
 -- the first quantity that passes its limit
 abbrev pub passed : List Procedure → Limits → Option Limit
-passed functions bounds = first_passed (quantities functions bounds)
+passed functions bounds = first_passed (limited functions bounds)
 
 -- each count is cut at its limit plus 1, and those behind the first that passes its limit are 0
 abbrev pub cut_counts : List Quantity → List ℕ

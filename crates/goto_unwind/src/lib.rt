@@ -2,10 +2,11 @@
 #![tactic(auto)]
 
 mod counting;
+mod objects;
 #[cfg(test)]
 mod tests;
 mod trees;
 mod unrolling;
 
 pub use counting::{Counts, count};
-pub use unrolling::{UnwindError, unwind};
+pub use unrolling::{UnwindError, passed_limit, unwind};

@@ -1,27 +1,27 @@
 ghost use Rattle.std.specs.Prelude.{◌≡◌, ◌∷◌, [], true, IfOk};
-ghost use Rattle.c_types.specs.declared.integers.IntegerType.{IntegerType};
 ghost use Rattle.core_tree.specs.Trees.{items_of};
 ghost use Rattle.core_tree.specs.Typed.{are_typed_items};
 
 use crate::counting::{Counts, count};
-use crate::unrolling::unwind;
+use crate::unrolling::{UnwindError, unwind};
 use actions::Store;
 use c_profile::admit;
 use c_types::IntegerType;
-use core_tree::{Bounds, Core, CoreExpr, CoreItem, CoreStatement, Function, Name, Place};
+use core_tree::{Bounds, Core, CoreExpr, CoreItem, CoreStatement, Function, Limit, Name, Place};
 use goto_prog::{Code, Goto, Instruction, Operation};
 use std::alloc::{AllocError, Global};
 use std::test::*;
 
 // `char c; return c;`
 fn items(alloc: Global) -> Result<Vec<CoreItem>, AllocError>
-    ensures { IfOk result (λ items. are_typed_items (IntegerType.Char ∷ []) (items_of items.items) ≡ true) }
+    ensures { IfOk result (λ items. are_typed_items (1 ∷ []) (items_of items.items) ≡ true) }
 {
     let character = CoreExpr::Read {
         place: Place::Variable {
             line: 2,
             type_: IntegerType::Char,
             variable: 0,
+            offset: 0,
         },
     };
     let value = CoreExpr::Convert {
@@ -37,12 +37,11 @@ fn items(alloc: Global) -> Result<Vec<CoreItem>, AllocError>
     Ok(items)
 }
 
-// The file whose main has a character and this body.
-fn file(alloc: Global, items: Vec<CoreItem>) -> Result<Core, AllocError>
-    requires { are_typed_items (IntegerType.Char ∷ []) (items_of items.items) ≡ true }
+// The file whose main has variables of these sizes and this body.
+fn file(alloc: Global, variables: Vec<u32>, items: Vec<CoreItem>) -> Result<Core, AllocError>
+    requires { are_typed_items variables.items (items_of items.items) ≡ true }
 {
     let bytes = Vec::from_slice(alloc, b"main".as_slice())?;
-    let variables = Vec::from_slice(alloc, &[IntegerType::Char])?;
     let main = Function {
         name: Name { bytes },
         line: 1,
@@ -54,11 +53,23 @@ fn file(alloc: Global, items: Vec<CoreItem>) -> Result<Core, AllocError>
     Ok(Core::new(functions))
 }
 
+// The file whose main has the character.
+fn character(alloc: Global) -> Result<Core, AllocError> {
+    let variables = Vec::from_slice(alloc, &[1])?;
+    file(alloc, variables, items(alloc)?)
+}
+
+// The file whose main has an object of this size.
+fn object(alloc: Global, size: u32) -> Result<Core, AllocError> {
+    let variables = Vec::from_slice(alloc, &[4, size])?;
+    file(alloc, variables, Vec::new(alloc))
+}
+
 #[test]
 fn conversions_and_read_places_count(rt: HostRuntime) -> Result<(), Fail> {
     let alloc = rt.alloc();
     let bounds = Bounds::new(1, Vec::new(alloc), true, 1, false);
-    match admit(file(alloc, items(alloc)?)?) {
+    match admit(character(alloc)?) {
         Ok(admitted) => {
             // the block, the declaration, `return`, the conversion, the read and its place
             let expected = Counts {
@@ -92,12 +103,42 @@ fn code_without_loops_stays(rt: HostRuntime) -> Result<(), Fail> {
     let bounds = Bounds::new(1, Vec::new(alloc), true, 1, false);
     let functions = vec![in alloc; empty(alloc)?]?;
     let goto = Goto::new(functions, 0, Store::new(alloc));
-    match admit(file(alloc, items(alloc)?)?) {
+    match admit(character(alloc)?) {
         Ok(admitted) => {
             let unrolled = unwind(alloc, &admitted, &goto, &bounds)?;
             assert!(rt; unrolled.main().instructions() == goto.main().instructions());
         }
         Err(_) => assert!(rt; false),
+    }
+    Ok(())
+}
+
+// Whether the limit that is passed is that of the bytes of an object; None where none is.
+fn passed_bytes(alloc: Global, size: u32) -> Result<Option<bool>, AllocError> {
+    let bounds = Bounds::new(1, Vec::new(alloc), true, 1, false);
+    let functions = vec![in alloc; empty(alloc)?]?;
+    let goto = Goto::new(functions, 0, Store::new(alloc));
+    match admit(object(alloc, size)?) {
+        Ok(admitted) => match unwind(alloc, &admitted, &goto, &bounds) {
+            Ok(_) => Ok(None),
+            Err(UnwindError::Limit(limit)) => Ok(Some(limit == Limit::ObjectBytes)),
+            Err(UnwindError::Memory) => Ok(Some(false)),
+        },
+        Err(_) => Ok(Some(false)),
+    }
+}
+
+#[test]
+fn large_objects_pass_a_limit(rt: HostRuntime) -> Result<(), Fail> {
+    let alloc = rt.alloc();
+    let rows = [
+        (1, None),
+        (65_536, None),
+        (65_537, Some(true)),
+        (2_147_483_647, Some(true)),
+    ];
+    for (size, expected) in rows {
+        assert_eq!(rt; passed_bytes(alloc, size)?, expected);
     }
     Ok(())
 }

@@ -6,6 +6,7 @@ ghost use Rattle.goto_unwind.specs.Counts.{passed, HasCause};
 ghost use Rattle.goto_unwind.specs.declared.unrolling.UnwindError.TheVariants as errors;
 
 use crate::counting::main_places;
+use crate::objects::{MOST_OBJECT_BYTES, object_bytes};
 use crate::trees::MOST_PLACES;
 use c_profile::Admitted;
 use core_tree::{Bounds, Limit};
@@ -18,7 +19,8 @@ use thiserror::Error;
 pub enum UnwindError {
     #[error("out of memory")]
     Memory,
-    /// The first quantity that passes its limit, in the order places, threads, actions, objects.
+    /// The first quantity that passes its limit, in the order places, threads, actions, objects,
+    /// object-bytes.
     #[error("the file passes a limit")]
     Limit(Limit),
 }
@@ -39,12 +41,16 @@ impl<T: Drop> From<AllocFailed<T>> for UnwindError {
     }
 }
 
-// The first quantity that passes its limit.
-fn passed_limit(file: &Admitted, _bounds: &Bounds) -> Option<Limit>
+/// The first quantity of a file that passes its limit, in the order places, threads, actions, objects,
+/// object-bytes. It tells a file that is too large before its code is made. Takes no memory.
+pub fn passed_limit(file: &Admitted, _bounds: &Bounds) -> Option<Limit>
     ensures { result ≡ passed (view_core file.now) _bounds.now }
 {
-    if main_places(file.core().functions()) > MOST_PLACES {
+    let functions = file.core().functions();
+    if main_places(functions) > MOST_PLACES {
         Some(Limit::Places)
+    } else if object_bytes(functions) > MOST_OBJECT_BYTES {
+        Some(Limit::ObjectBytes)
     } else {
         None
     }

@@ -6,9 +6,11 @@ pub mod Sorted
 pub mod Stays
 pub mod Joining
 pub mod Setting
+pub mod Blocks
 pub mod Merging
 pub mod Noting
 pub mod Arriving
 pub mod Passing
+pub mod Writing
 pub mod Visiting
 pub mod Ranged

@@ -1,20 +1,15 @@
 -- Words of slots, and slots that meet.
-use Rattle.std.proofs.Common.{◌≡◌, ℕ, zero, suc, ◌+◌, ◌<◌, ◌^◌, Bool, true, false, ◌||◌, ◌&&◌, nat_lt, List, [], ◌∷◌, ◌++◌, length, map, Option, take, get_or, Some, None, inl, inr, refl, sym, ap, subst, ◌∙◌, arith}
-use Rattle.std.specs.Prelude.{not, ◌==◌, if◌then◌else◌, slice_index, slice_set, slice_index_or}
+use Rattle.std.proofs.Common.{◌≡◌, ℕ, suc, ◌+◌, ◌<◌, Bool, true, false, ◌||◌, ◌&&◌, nat_lt, List, [], ◌∷◌, ◌++◌, length, map, Option, take, get_or, Some, None, inl, inr, refl, sym, ap, subst, ◌∙◌, arith}
+use Rattle.std.specs.Prelude.{not, ◌==◌, if◌then◌else◌, slice_index, slice_index_or, replicate}
 use Rattle.std.specs.List.{All, filter}
-use Rattle.std.specs.Int.{Width, w8, w16, w32, w64, to_le_bytes, from_le_bytes}
-use Rattle.std.proofs.lemmas.Nat.{from_le_bytes-to_le_bytes_2, from_le_bytes-to_le_bytes_4, from_le_bytes-to_le_bytes_8}
 use Rattle.std.proofs.lemmas.List.{take_more, map_push, length-map, get_or-map, get_or_default}
-use Rattle.std.proofs.lemmas.List.Elements.{All-cons, All-head, All-tail, All-nil, All-push, All-get_or, All-filter}
+use Rattle.std.proofs.lemmas.List.Elements.{All-head, All-tail, All-nil, All-push, All-get_or, All-filter, All-replicate}
 use Rattle.std.proofs.lemmas.Bool.{cases_lt, cases_Bool}
 use Rattle.std.proofs.lemmas.Bool.Decides.{nat_tests}
 use Rattle.c_types.specs.declared.integers.IntegerType.{IntegerType}
 use Rattle.c_types.specs.declared.integers.IntegerType.TheVariants as types
-use Rattle.c_types.specs.Integers.{width as type_width, number_of, same_integer}
-use Rattle.c_values.specs.Variables.{Variables, storage, first_variables, read_variable}
-use Rattle.core_tree.specs.Operations.{read_bits}
-use Rattle.word_dag.specs.Fitting.{is_ordered}
-use Rattle.value_nodes.proofs.Made.{word_below}
+use Rattle.c_types.specs.Integers.{width as type_width, same_integer}
+use Rattle.c_values.specs.Variables.{Variables}
 use Rattle.goto_prog.proofs.Registers.{both, test_below}
 use Rattle.goto_prog.proofs.Registers.{same_widths as same_widths_of}
 use Rattle.word_dag.specs.declared.nodes.Id.{Id}
@@ -25,35 +20,22 @@ use Rattle.word_dag.specs.Growth.{Within, Extends, Makes}
 use Rattle.word_dag.proofs.Grown.{extends_itself, extends_more, within_stays, all_within_stays, map_stays, map_widths_stay}
 use Rattle.value_nodes.specs.Values.{IsWord, IsValue, IsTest}
 use Rattle.goto_prog.specs.Meaning.{Memory, register}
-use Rattle.goto_prog.specs.Fitting.{is_there, is_register, is_block}
+use Rattle.goto_prog.specs.Fitting.{is_there, is_register}
 use Rattle.goto_prog.specs.CodeThread.{Listing, first_memory}
 use Rattle.guarded_ssa.specs.declared.registers.Live.{Live}
-use Rattle.guarded_ssa.specs.declared.registers.Zeros.{Zeros}
 use Rattle.guarded_ssa.specs.declared.slots.Slot.{Slot}
 use Rattle.guarded_ssa.specs.Ways.{either, kept}
 use Rattle.guarded_ssa.specs.Reads.{Agree, Alike}
 use Rattle.guarded_ssa.specs.Registers.{ZerosIn, IsLive, AreLive, Merged, find, word_or_0, words_from, zero_of}
 use Rattle.guarded_ssa.proofs.Sorted.{kept_rise, kept_found, all_words, words_first, words_behind, words_joined, found, past, are_same}
 use Rattle.guarded_ssa.proofs.Joining.{zero_is}
+use Rattle.guarded_ssa.proofs.Blocks.{map_replicate, stored_zeros}
 use Rattle.guarded_ssa.proofs.Stays.{slot_stays, gone_stays, live_stay, found_stays, words_of_stay}
-use Rattle.guarded_ssa.specs.Held.{AreWords, Joined, SlotIn, stored, held, gone}
+use Rattle.guarded_ssa.specs.Held.{total, BytesIn, Joined, SlotIn, stored, held, gone}
 
 pub holds_bit : (b : Bool) → holds (bit_value b) ≡ b
 holds_bit true = refl
 holds_bit false = refl
-
--- ---- words
-
-pub words_length : (d : List Node) (ts : List IntegerType) (ids : List Id) → AreWords d ts ids → length ids ≡ length ts
-words_length d ts ids words = sym (length-map ids (width d)) ∙ ap length words.widths ∙ length-map ts type_width
-
-pub word_at : (d : List Node) (ts : List IntegerType) (ids : List Id) (r : ℕ) (id : Id) → AreWords d ts ids → r < length ts → id ≡ get_or ids r id → IsWord d id (type_width (slice_index_or ts r types.Int))
-word_at d ts ids r id words lt is =
-    let there : r < length ids = omega (arith, lt, words_length d ts ids words) in
-    record {
-      there = subst (Within d) (sym is) (All-get_or (Within d) ids r id there words.there);
-      width_is = ap (width d) is ∙ sym (get_or-map (width d) ids r id 0 there) ∙ ap (λ (ws : List ℕ). get_or ws r 0) words.widths ∙ get_or-map type_width ts r types.Int 0 lt;
-    }
 
 -- ---- a choice of words
 
@@ -113,9 +95,9 @@ pair_widths d e first second i z x one two alike lt =
       width_is = x.width_stays b b_there ∙ sym (get_or-map (width d) second i z 0 lt') ∙ ap (λ (ws : List ℕ). get_or ws i 0) alike ∙ get_or-map (width d) first i z 0 lt ∙ sym (x.width_stays a a_there);
     }
 
--- words of the same types, as they are lent
-pub same_widths : (d e : List Node) (ts : List IntegerType) (xs ys first second : List Id) → Extends d e → AreWords d ts xs → AreWords d ts ys → first ≡ xs → second ≡ ys → map (width e) second ≡ map (width e) first
-same_widths d e ts xs ys first second x one two p q =
+-- bytes of the same blocks, as they are lent
+pub same_widths : (d e : List Node) (sizes : List ℕ) (xs ys first second : List Id) → Extends d e → BytesIn d sizes xs → BytesIn d sizes ys → first ≡ xs → second ≡ ys → map (width e) second ≡ map (width e) first
+same_widths d e sizes xs ys first second x one two p q =
     ap (map (width e)) q ∙ map_widths_stay d e ys x two.there ∙ two.widths ∙ sym one.widths ∙ sym (map_widths_stay d e xs x one.there) ∙ ap (map (width e)) (sym p)
 
 pub joined_stays : (d e f g : List Node) (test : Id) (first second ids : List Id) → Extends d e → Extends f g → Within d test → All (Within d) first → All (Within d) second → Joined e f test first second ids → Joined d g test first second ids
@@ -142,32 +124,32 @@ module _ (x1 x2 : List ℕ) (b1 b2 : Variables) where
   meets false true rs bs p q = λ i. Some (memory (p i) (q i))
   meets false false rs bs p q = refl
 
-stored_chosen : (ts : List IntegerType) (h : Bool) (b1 b2 : List ℕ) → stored ts (if h then b1 else b2) ≡ (if h then stored ts b1 else stored ts b2)
-stored_chosen ts true b1 b2 = refl
-stored_chosen ts false b1 b2 = refl
+stored_chosen : (sizes : List ℕ) (h : Bool) (b1 b2 : List ℕ) → stored sizes (if h then b1 else b2) ≡ (if h then stored sizes b1 else stored sizes b2)
+stored_chosen sizes true b1 b2 = refl
+stored_chosen sizes false b1 b2 = refl
 
 module _ (d e : List Node) (code : Listing) (first second s : Slot) (one : SlotIn d code first) (two : SlotIn d code second)
     (guard : IsTest e s.guard (λ v. holds (value v d first.guard) || holds (value v d second.guard))) (zeros : ZerosIn e s.zeros)
     (registers : Merged d e code.registers first.guard first.registers.items second.registers.items s.registers.items)
-    (blocks : Joined d e first.guard first.blocks.items second.blocks.items s.blocks.items) where
+    (bytes : Joined d e first.guard first.bytes.items second.bytes.items s.bytes.items) where
   merged_in : SlotIn e code s
   merged_in = record {
     guard = record { there = guard.there; width_is = guard.width_is };
     zeros = zeros;
     registers = registers.live;
-    blocks = record { there = blocks.there; widths = blocks.widths ∙ one.blocks.widths };
+    bytes = record { there = bytes.there; widths = bytes.widths ∙ one.bytes.widths };
   }
 
   merged_gone : (v : ℕ → ℕ) → gone v e code s ≡ either (gone v d code first) (gone v d code second)
   merged_gone v =
       let h1 = holds (value v d first.guard) in
       let h2 = holds (value v d second.guard) in
-      let b1 = map (value v d) first.blocks.items in
-      let b2 = map (value v d) second.blocks.items in
+      let b1 = map (value v d) first.bytes.items in
+      let b2 = map (value v d) second.bytes.items in
       let g : holds (value v e s.guard) ≡ (h1 || h2) = ap holds (guard.value_is v) ∙ holds_bit (h1 || h2) in
       ap (λ b. if b then Some (held v e code s) else None) g
       ∙ meets (held v d code first).registers (held v d code second).registers (stored code.blocks b1) (stored code.blocks b2) h1 h2 (held v e code s).registers (held v e code s).blocks
-      (words_joined (value v d) (value v e) h1 first.registers.items second.registers.items s.registers.items 0 code.registers (registers.words v)) (ap (stored code.blocks) (blocks.values v) ∙ stored_chosen code.blocks h1 b1 b2)
+      (words_joined (value v d) (value v e) h1 first.registers.items second.registers.items s.registers.items 0 code.registers (registers.words v)) (ap (stored code.blocks) (bytes.values v) ∙ stored_chosen code.blocks h1 b1 b2)
 
 -- ---- one slot
 
@@ -182,37 +164,37 @@ under true false m = refl
 under false true m = refl
 under false false m = refl
 
-pub narrowed_in : (d e : List Node) (code : Listing) (s t : Slot) (f : (ℕ → ℕ) → Bool) → Extends d e → SlotIn d code s → IsTest e t.guard f → t.zeros ≡ s.zeros → t.registers.items ≡ s.registers.items → t.blocks.items ≡ s.blocks.items → SlotIn e code t
+pub narrowed_in : (d e : List Node) (code : Listing) (s t : Slot) (f : (ℕ → ℕ) → Bool) → Extends d e → SlotIn d code s → IsTest e t.guard f → t.zeros ≡ s.zeros → t.registers.items ≡ s.registers.items → t.bytes.items ≡ s.bytes.items → SlotIn e code t
 narrowed_in d e code s t f x h made z p q =
     let k = slot_stays d e x code s h in
     record {
       guard = record { there = made.there; width_is = made.width_is };
       zeros = subst (ZerosIn e) (sym z) k.zeros;
       registers = subst (AreLive e code.registers) (sym p) k.registers;
-      blocks = subst (AreWords e code.blocks) (sym q) k.blocks;
+      bytes = subst (BytesIn e code.blocks) (sym q) k.bytes;
     }
 
 pub narrowed_gone : (d e : List Node) (code : Listing) (s t : Slot) (test : Id) → Extends d e → SlotIn d code s → IsTest e t.guard (λ v. holds (value v d s.guard) && holds (value v d test))
-    → t.registers.items ≡ s.registers.items → t.blocks.items ≡ s.blocks.items → (v : ℕ → ℕ) → gone v e code t ≡ (if holds (value v d test) then gone v d code s else None)
+    → t.registers.items ≡ s.registers.items → t.bytes.items ≡ s.bytes.items → (v : ℕ → ℕ) → gone v e code t ≡ (if holds (value v d test) then gone v d code s else None)
 narrowed_gone d e code s t test x h made p q v =
     let g = holds (value v d s.guard) in
     let k = holds (value v d test) in
     let a : holds (value v e t.guard) ≡ (g && k) = ap holds (made.value_is v) ∙ holds_bit (g && k) in
     let b = ap (λ ls. words_from (value v e) ls 0 code.registers) p ∙ words_of_stay d e x v code.registers s.registers.items h.registers.words in
-    let c = ap (map (value v e)) q ∙ map_stays v d e s.blocks.items x h.blocks.there in
+    let c = ap (map (value v e)) q ∙ map_stays v d e s.bytes.items x h.bytes.there in
     let same : gone v e code t ≡ (if (g && k) then Some (held v d code s) else None) = (λ i. if a i then Some (record { registers = b i; blocks = stored code.blocks (c i) }) else None) in
     same ∙ under g k (held v d code s)
 
 -- the same memory elsewhere
-pub copied_in : (d : List Node) (code : Listing) (s t : Slot) → t.guard ≡ s.guard → t.zeros ≡ s.zeros → t.registers.items ≡ s.registers.items → t.blocks.items ≡ s.blocks.items → SlotIn d code s → SlotIn d code t
+pub copied_in : (d : List Node) (code : Listing) (s t : Slot) → t.guard ≡ s.guard → t.zeros ≡ s.zeros → t.registers.items ≡ s.registers.items → t.bytes.items ≡ s.bytes.items → SlotIn d code s → SlotIn d code t
 copied_in d code s t g z p q h = record {
   guard = subst (λ i. IsWord d i 1) (sym g) h.guard;
   zeros = subst (ZerosIn d) (sym z) h.zeros;
   registers = subst (AreLive d code.registers) (sym p) h.registers;
-  blocks = subst (AreWords d code.blocks) (sym q) h.blocks;
+  bytes = subst (BytesIn d code.blocks) (sym q) h.bytes;
 }
 
-pub copied_gone : (v : ℕ → ℕ) (d : List Node) (code : Listing) (s t : Slot) → t.guard ≡ s.guard → t.registers.items ≡ s.registers.items → t.blocks.items ≡ s.blocks.items → gone v d code t ≡ gone v d code s
+pub copied_gone : (v : ℕ → ℕ) (d : List Node) (code : Listing) (s t : Slot) → t.guard ≡ s.guard → t.registers.items ≡ s.registers.items → t.bytes.items ≡ s.bytes.items → gone v d code t ≡ gone v d code s
 copied_gone v d code s t g p q = λ i. if holds (value v d (g i)) then Some (record { registers = words_from (value v d) (p i) 0 code.registers; blocks = stored code.blocks (map (value v d) (q i)) }) else None
 
 -- the memory where a test of it holds too
@@ -221,45 +203,32 @@ kept_gone v d code s test b e = kept_by (holds (value v d s.guard)) (held v d co
 
 -- ---- at the start
 
-stored_zeros : (ts : List IntegerType) → stored ts (map (λ t. 0) ts) ≡ first_variables ts
-stored_zeros [] = refl
-stored_zeros (t ∷ ts) = ap (λ bs. to_le_bytes (storage t) 0 ∷ bs) (stored_zeros ts)
-
-zero_blocks : (d : List Node) (z : Zeros) (ts : List IntegerType) → ZerosIn d z → AreWords d ts (map (zero_of z) ts)
-zero_blocks d z [] h = record { there = All-nil (Within d); widths = refl }
-zero_blocks d z (t ∷ ts) h =
-    let first = zero_is d z t h in
-    let rest = zero_blocks d z ts h in
-    let a = first.width_is in
-    let b = rest.widths in
-    record { there = All-cons (Within d) (zero_of z t) (map (zero_of z) ts) first.there rest.there; widths = λ i. a i ∷ b i }
-
-zero_values : (v : ℕ → ℕ) (d : List Node) (z : Zeros) (ts : List IntegerType) → ZerosIn d z → map (value v d) (map (zero_of z) ts) ≡ map (λ t. 0) ts
-zero_values v d z [] h = refl
-zero_values v d z (t ∷ ts) h = let a = (zero_is d z t h).value_is v in let b = zero_values v d z ts h in λ i. a i ∷ b i
-
 no_words : (f : Id → ℕ) (k : ℕ) (ts : List IntegerType) → words_from f [] k ts ≡ map (λ t. 0) ts
 no_words f k [] = refl
 no_words f k (t ∷ ts) = ap (λ ws. 0 ∷ ws) (no_words f (suc k) ts)
 
-module _ (d e f : List Node) (code : Listing) (s : Slot) (bs : List IntegerType) (y : Extends e f) (made : Makes d e (Constant 1 1) s.guard) (zeros : ZerosIn f s.zeros)
-    (registers : s.registers.items ≡ []) (bs_is : bs ≡ code.blocks) (blocks : s.blocks.items ≡ map (zero_of s.zeros) bs) where
-  blocks_are : s.blocks.items ≡ map (zero_of s.zeros) code.blocks
-  blocks_are = blocks ∙ ap (map (zero_of s.zeros)) bs_is
+module _ (d e f : List Node) (code : Listing) (s : Slot) (bs : List ℕ) (n : ℕ) (y : Extends e f) (made : Makes d e (Constant 1 1) s.guard) (zeros : ZerosIn f s.zeros)
+    (registers : s.registers.items ≡ []) (bs_is : bs ≡ code.blocks) (n_is : n ≡ total bs) (bytes : s.bytes.items ≡ replicate n s.zeros.byte) where
+  size_is : n ≡ total code.blocks
+  size_is = n_is ∙ ap total bs_is
 
   pub started_in : SlotIn f code s
   started_in = record {
     guard = record { there = within_stays e f s.guard y made.there; width_is = y.width_stays s.guard made.there ∙ made.width_is };
     zeros = zeros;
     registers = subst (AreLive f code.registers) (sym registers) (record { rise = omega arith; words = All-nil (IsLive f code.registers) });
-    blocks = subst (AreWords f code.blocks) (sym blocks_are) (zero_blocks f s.zeros code.blocks zeros);
+    bytes = record {
+      there = subst (All (Within f)) (sym bytes) (All-replicate (Within f) n s.zeros.byte zeros.byte.there);
+      widths = ap (map (width f)) bytes ∙ map_replicate (width f) n s.zeros.byte ∙ (let w = zeros.byte.width_is in λ i. replicate (size_is i) (w i));
+    };
   }
 
   pub started_gone : (v : ℕ → ℕ) → gone v f code s ≡ Some (first_memory code)
   started_gone v =
       let a = y.value_stays v s.guard made.there ∙ made.value_is v in
       let b = ap (λ ls. words_from (value v f) ls 0 code.registers) registers ∙ no_words (value v f) 0 code.registers in
-      let c = ap (λ ids. stored code.blocks (map (value v f) ids)) blocks_are ∙ ap (stored code.blocks) (zero_values v f s.zeros code.blocks zeros) ∙ stored_zeros code.blocks in
+      let nodes = ap (map (value v f)) bytes ∙ map_replicate (value v f) n s.zeros.byte ∙ ap (replicate n) (zeros.byte.value_is v) in
+      let c = ap (stored code.blocks) nodes ∙ stored_zeros code.blocks n size_is in
       λ i. if holds (a i) then Some (record { registers = b i; blocks = c i }) else None
 
 -- where a test of a register holds
@@ -270,7 +239,7 @@ zero_holds v d e f code s operand node test x made is = ap holds (x.value_stays 
 pub other_holds : (v : ℕ → ℕ) (d e f : List Node) (test other : Id) (b : Bool) → Extends e f → holds (value v d test) ≡ b → IsTest e other (λ v. not (holds (value v d test))) → holds (value v f other) ≡ not b
 other_holds v d e f test other b x is made = ap holds (x.value_stays v other made.there ∙ made.value_is v) ∙ holds_bit (not (holds (value v d test))) ∙ ap not is
 
-pub side_gone : (v : ℕ → ℕ) (d e f g : List Node) (code : Listing) (s copy t : Slot) (test : Id) (keeps : Memory → Bool) → Extends d e → Extends f g → SlotIn d code s → SlotIn f code t → copy.guard ≡ s.guard → copy.registers.items ≡ s.registers.items → copy.blocks.items ≡ s.blocks.items
+pub side_gone : (v : ℕ → ℕ) (d e f g : List Node) (code : Listing) (s copy t : Slot) (test : Id) (keeps : Memory → Bool) → Extends d e → Extends f g → SlotIn d code s → SlotIn f code t → copy.guard ≡ s.guard → copy.registers.items ≡ s.registers.items → copy.bytes.items ≡ s.bytes.items
     → holds (value v e test) ≡ keeps (held v d code s) → gone v f code t ≡ (if holds (value v e test) then gone v e code copy else None) → gone v g code t ≡ kept keeps (gone v d code s)
 side_gone v d e f g code s copy t test keeps x y h k p q r is so =
     let a : gone v e code copy ≡ gone v d code s = copied_gone v e code s copy p q r ∙ gone_stays d e x v code s h in
@@ -278,13 +247,13 @@ side_gone v d e f g code s copy t test keeps x y h k p q r is so =
     let chosen : (if b then gone v e code copy else None) ≡ (if b then gone v d code s else None) = ap (λ w. if b then w else None) a in
     gone_stays f g y v code t k ∙ so ∙ chosen ∙ kept_gone v d code s keeps b is
 
--- ---- slots that meet, as the graph grows for the guard, the registers and the blocks
+-- ---- slots that meet, as the graph grows for the guard, the registers and the bytes
 
 module _ (d0 d1 d2 d3 : List Node) (code : Listing) (first second s : Slot) (ts : List IntegerType) (r1 r2 : List Live) (b1 b2 : List Id)
     (x : Extends d0 d1) (y : Extends d1 d2) (z : Extends d2 d3) (one : SlotIn d0 code first) (two : SlotIn d0 code second)
     (guard : IsTest d1 s.guard (λ v. holds (value v d0 first.guard) || holds (value v d0 second.guard))) (zeros : s.zeros ≡ first.zeros)
-    (ts_is : ts ≡ code.registers) (r1_is : r1 ≡ first.registers.items) (r2_is : r2 ≡ second.registers.items) (b1_is : b1 ≡ first.blocks.items) (b2_is : b2 ≡ second.blocks.items)
-    (registers : Merged d1 d2 ts first.guard r1 r2 s.registers.items) (blocks : Joined d2 d3 first.guard b1 b2 s.blocks.items) where
+    (ts_is : ts ≡ code.registers) (r1_is : r1 ≡ first.registers.items) (r2_is : r2 ≡ second.registers.items) (b1_is : b1 ≡ first.bytes.items) (b2_is : b2 ≡ second.bytes.items)
+    (registers : Merged d1 d2 ts first.guard r1 r2 s.registers.items) (bytes : Joined d2 d3 first.guard b1 b2 s.bytes.items) where
   grown_guard : IsTest d3 s.guard (λ v. holds (value v d0 first.guard) || holds (value v d0 second.guard))
   grown_guard =
       let g = extends_more d1 d2 d3 y z in
@@ -308,16 +277,16 @@ module _ (d0 d1 d2 d3 : List Node) (code : Listing) (first second s : Slot) (ts 
         found_stays d2 d3 z v code.registers r s.registers.items own_registers.live.words ∙ own_registers.words v r ∙ (λ k. if holds (t k) then p k else q k);
   }
 
-  grown_blocks : Joined d0 d3 first.guard first.blocks.items second.blocks.items s.blocks.items
-  grown_blocks =
-      joined_stays d0 d2 d3 d3 first.guard first.blocks.items second.blocks.items s.blocks.items (extends_more d0 d1 d2 x y) (extends_itself d3) one.guard.there one.blocks.there two.blocks.there
-      (subst (λ b. Joined d2 d3 first.guard first.blocks.items b s.blocks.items) b2_is (subst (λ b. Joined d2 d3 first.guard b b2 s.blocks.items) b1_is blocks))
+  grown_bytes : Joined d0 d3 first.guard first.bytes.items second.bytes.items s.bytes.items
+  grown_bytes =
+      joined_stays d0 d2 d3 d3 first.guard first.bytes.items second.bytes.items s.bytes.items (extends_more d0 d1 d2 x y) (extends_itself d3) one.guard.there one.bytes.there two.bytes.there
+      (subst (λ b. Joined d2 d3 first.guard first.bytes.items b s.bytes.items) b2_is (subst (λ b. Joined d2 d3 first.guard b b2 s.bytes.items) b1_is bytes))
 
   pub merged_from_in : SlotIn d3 code s
-  merged_from_in = merged_in d0 d3 code first second s one two grown_guard grown_zeros grown_registers grown_blocks
+  merged_from_in = merged_in d0 d3 code first second s one two grown_guard grown_zeros grown_registers grown_bytes
 
   pub merged_from_gone : (v : ℕ → ℕ) → gone v d3 code s ≡ either (gone v d0 code first) (gone v d0 code second)
-  merged_from_gone = merged_gone d0 d3 code first second s one two grown_guard grown_zeros grown_registers grown_blocks
+  merged_from_gone = merged_gone d0 d3 code first second s one two grown_guard grown_zeros grown_registers grown_bytes
 
 -- ---- the registers that are needed
 
@@ -325,7 +294,7 @@ keeps_read : (until : List ℕ) (place r : ℕ) → place < slice_index until r 
 keeps_read until place r lt = grind (arith, nat_tests)
 
 module _ (d : List Node) (code : Listing) (until : List ℕ) (place : ℕ) (s t : Slot) (own : List ℕ) (live : List Live) (size : length until ≡ length code.registers) (h : SlotIn d code s) (guard : t.guard ≡ s.guard) (zeros : t.zeros ≡ s.zeros)
-    (own_is : own ≡ until) (live_is : live ≡ s.registers.items) (registers : t.registers.items ≡ filter (λ l. nat_lt place (slice_index own l.register)) live) (blocks : t.blocks.items ≡ s.blocks.items) where
+    (own_is : own ≡ until) (live_is : live ≡ s.registers.items) (registers : t.registers.items ≡ filter (λ l. nat_lt place (slice_index own l.register)) live) (bytes : t.bytes.items ≡ s.bytes.items) where
   abbrev keeps : ℕ → Bool
   keeps r = nat_lt place (slice_index until r)
 
@@ -340,7 +309,7 @@ module _ (d : List Node) (code : Listing) (until : List ℕ) (place : ℕ) (s t 
       rise = kept_rise keeps 0 (length code.registers) s.registers.items h.registers.rise;
       words = All-filter (λ l. keeps l.register) (IsLive d code.registers) s.registers.items h.registers.words;
     });
-    blocks = subst (AreWords d code.blocks) (sym blocks) h.blocks;
+    bytes = subst (BytesIn d code.blocks) (sym bytes) h.bytes;
   }
 
   needed_agree : (v : ℕ → ℕ) → Agree until place (held v d code t) (held v d code s)
@@ -352,7 +321,7 @@ module _ (d : List Node) (code : Listing) (until : List ℕ) (place : ℕ) (s t 
               ∙ sym (words_first (value v d) s.registers.items r code.registers lt)
           | inr le ↦ words_behind (value v d) t.registers.items 0 r code.registers le ∙ sym (words_behind (value v d) s.registers.items 0 r code.registers le)
         ];
-    blocks = ap (λ ids. stored code.blocks (map (value v d) ids)) blocks;
+    blocks = ap (λ ids. stored code.blocks (map (value v d) ids)) bytes;
   }
 
   both_alike : (v : ℕ → ℕ) (b : Bool) → Alike until place (if b then Some (held v d code t) else None) (if b then Some (held v d code s) else None)
@@ -362,7 +331,7 @@ module _ (d : List Node) (code : Listing) (until : List ℕ) (place : ℕ) (s t 
   pub needed_alike : (v : ℕ → ℕ) → Alike until place (gone v d code t) (gone v d code s)
   needed_alike v = subst (λ g. Alike until place (if holds (value v d g) then Some (held v d code t) else None) (gone v d code s)) (sym guard) (both_alike v (holds (value v d s.guard)))
 
--- ---- the nodes of registers and blocks
+-- ---- the nodes of registers
 
 id_or : Id → Option Id → Id
 id_or i None = i
@@ -401,60 +370,6 @@ module _ (d : List Node) (code : Listing) (s : Slot) (r : ℕ) (h : SlotIn d cod
       let word = zero_is d s.zeros t h.zeros in
       subst TheWord (sym (at ∙ ap (zero_of s.zeros) t_is)) (record { there = word.there; width_is = word.width_is; value_is = λ v. word.value_is v ∙ sym (held_word v ∙ ap (word_or_0 (value v d)) is) })
 
-stored_at : (ts : List IntegerType) (ws : List ℕ) (b : ℕ) → b < length ts → b < length ws → slice_index_or (stored ts ws) b [] ≡ to_le_bytes (storage (slice_index_or ts b types.Int)) (slice_index ws b)
-stored_at [] ws b l k = absurd (omega (arith, l))
-stored_at (t ∷ ts) [] b l k = absurd (omega (arith, k))
-stored_at (t ∷ ts) (w ∷ ws) zero l k = refl
-stored_at (t ∷ ts) (w ∷ ws) (suc b) l k = stored_at ts ws b (omega (arith, l)) (omega (arith, k))
-
--- a write of a word into a block
-pub stored_set : (ts : List IntegerType) (ws : List ℕ) (b x : ℕ) (t : IntegerType) → (b < length ts → storage (slice_index_or ts b types.Int) ≡ storage t) → stored ts (slice_set ws b x) ≡ slice_set (stored ts ws) b (to_le_bytes (storage t) x)
-stored_set [] ws b x t e = refl
-stored_set (u ∷ ts) [] b x t e = refl
-stored_set (u ∷ ts) (w ∷ ws) zero x t e = let f = e (omega arith) in λ i. to_le_bytes (f i) x ∷ stored ts ws
-stored_set (u ∷ ts) (w ∷ ws) (suc b) x t e = ap (λ bs. to_le_bytes (storage u) w ∷ bs) (stored_set ts ws b x t (λ l. e (omega (arith, l))))
-
-storage_by : ℕ → Width
-storage_by n = if nat_lt n 4 then w8 else (if nat_lt n 6 then w16 else (if nat_lt n 8 then w32 else w64))
-
-storage_of_number : (t : IntegerType) → storage t ≡ storage_by (number_of t)
-unfolding storage_by
-storage_of_number types.Bool = refl
-storage_of_number types.Char = refl
-storage_of_number types.SignedChar = refl
-storage_of_number types.UnsignedChar = refl
-storage_of_number types.Short = refl
-storage_of_number types.UnsignedShort = refl
-storage_of_number types.Int = refl
-storage_of_number types.UnsignedInt = refl
-storage_of_number types.Long = refl
-storage_of_number types.UnsignedLong = refl
-storage_of_number types.LongLong = refl
-storage_of_number types.UnsignedLongLong = refl
-
-same_number : (m n : ℕ) → (m == n) ≡ true → m ≡ n
-same_number m n h = grind (arith, nat_tests)
-
-pub same_storage : (t u : IntegerType) → same_integer t u ≡ true → storage t ≡ storage u
-same_storage t u h = storage_of_number t ∙ ap storage_by (same_number (number_of t) (number_of u) h) ∙ sym (storage_of_number u)
-
-one_byte : (x : ℕ) → x < 2 ^ 8 → from_le_bytes w8 (to_le_bytes w8 x) ≡ x
-one_byte x h = omega (arith, h)
-
-bytes_back : (t : IntegerType) (x : ℕ) → x < 2 ^ type_width t → from_le_bytes (storage t) (to_le_bytes (storage t) x) ≡ x
-bytes_back types.Bool x h = one_byte x h
-bytes_back types.Char x h = one_byte x h
-bytes_back types.SignedChar x h = one_byte x h
-bytes_back types.UnsignedChar x h = one_byte x h
-bytes_back types.Short x h = from_le_bytes-to_le_bytes_2 x h
-bytes_back types.UnsignedShort x h = from_le_bytes-to_le_bytes_2 x h
-bytes_back types.Int x h = from_le_bytes-to_le_bytes_4 x h
-bytes_back types.UnsignedInt x h = from_le_bytes-to_le_bytes_4 x h
-bytes_back types.Long x h = from_le_bytes-to_le_bytes_8 x h
-bytes_back types.UnsignedLong x h = from_le_bytes-to_le_bytes_8 x h
-bytes_back types.LongLong x h = from_le_bytes-to_le_bytes_8 x h
-bytes_back types.UnsignedLongLong x h = from_le_bytes-to_le_bytes_8 x h
-
 pub is_typed : (ts : List IntegerType) (r : ℕ) (t : IntegerType) → is_register ts r t ≡ true → (r < length ts) × (same_integer (slice_index_or ts r types.Int) t ≡ true)
 is_typed ts r t h =
     let parts = both (nat_lt r (length ts)) (same_integer (slice_index_or ts r types.Int) t) h in (test_below r (length ts) parts.0, parts.1)
@@ -462,27 +377,9 @@ is_typed ts r t h =
 pub number_word : (d : List Node) (ts : List IntegerType) (r : ℕ) (t : IntegerType) (id : Id) → is_register ts r t ≡ true → IsWord d id (type_width (slice_index_or ts r types.Int)) → IsWord d id (type_width t)
 number_word d ts r t id h word = record { there = word.there; width_is = word.width_is ∙ same_widths_of (slice_index_or ts r types.Int) t (is_typed ts r t h).1 }
 
-pub block_word : (d : List Node) (code : Listing) (s : Slot) (b : ℕ) (t : IntegerType) (id : Id) → SlotIn d code s → is_block code.blocks b t ≡ true → id ≡ get_or s.blocks.items b id → IsWord d id (type_width t)
-block_word d code s b t id h there is = number_word d code.blocks b t id there (word_at d code.blocks s.blocks.items b id h.blocks (is_typed code.blocks b t there).0 is)
-
-pub block_value : (v : ℕ → ℕ) (d : List Node) (code : Listing) (s : Slot) (b : ℕ) (t : IntegerType) (id : Id) → is_ordered d ≡ true → SlotIn d code s → is_block code.blocks b t ≡ true → id ≡ get_or s.blocks.items b id
-    → read_variable (held v d code s).blocks b t ≡ read_bits t (value v d id)
-block_value v d code s b t id ordered h there is =
-    let parts = is_typed code.blocks b t there in
-    let lt : b < length s.blocks.items = omega (arith, parts.0, words_length d code.blocks s.blocks.items h.blocks) in
-    let ws = map (value v d) s.blocks.items in
-    let lt' : b < length ws = omega (arith, lt, length-map s.blocks.items (value v d)) in
-    let at : slice_index ws b ≡ value v d id = get_or-map (value v d) s.blocks.items b id 0 lt ∙ ap (value v d) (sym is) in
-    let w = same_storage (slice_index_or code.blocks b types.Int) t parts.1 in
-    let bytes : slice_index_or (stored code.blocks ws) b [] ≡ to_le_bytes (storage t) (value v d id) = stored_at code.blocks ws b parts.0 lt' ∙ (λ i. to_le_bytes (w i) (at i)) in
-    ap (λ bs. read_bits t (from_le_bytes (storage t) bs)) bytes ∙ ap (read_bits t) (bytes_back t (value v d id) (word_below v d id (type_width t) ordered (block_word d code s b t id h there is)))
-
 pub result_word : (d : List Node) (ts : List IntegerType) (r : ℕ) (t : IntegerType) (i : Id) (f g : (ℕ → ℕ) → ℕ) → is_register ts r t ≡ true → IsValue d i (type_width t) f → ((v : ℕ → ℕ) → f v ≡ g v) → IsValue d i (type_width (slice_index_or ts r types.Int)) g
 result_word d ts r t i f g h made same = record {
   there = made.there;
   width_is = made.width_is ∙ sym (same_widths_of (slice_index_or ts r types.Int) t (is_typed ts r t h).1);
   value_is = λ v. made.value_is v ∙ same v;
 }
-
-pub block_within : (d : List Node) (code : Listing) (s : Slot) (b : ℕ) (t : IntegerType) → SlotIn d code s → is_block code.blocks b t ≡ true → b < length s.blocks.items
-block_within d code s b t h there = let parts = is_typed code.blocks b t there in omega (arith, parts.0, words_length d code.blocks s.blocks.items h.blocks)

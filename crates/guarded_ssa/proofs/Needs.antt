@@ -6,7 +6,7 @@ use Rattle.actions.specs.declared.action.Action.TheVariants as actions
 use Rattle.actions.specs.declared.action.Next.TheVariants.{Blocked, Broken}
 use Rattle.core_tree.specs.Operations.{truth_bits, converted, unless, division_check, arithmetic_check, sign_check, count_check, left_shift_check, arithmetic_value, sign_value, compared}
 use Rattle.core_tree.specs.declared.operators.SignOperator.TheVariants as signs
-use Rattle.c_values.specs.Variables.{Variables, read_variable, write_variable}
+use Rattle.c_values.specs.Variables.{Variables, low_bytes, put_bytes, cleared, read_variable}
 use Rattle.goto_prog.specs.declared.code.Condition.{Condition}
 use Rattle.goto_prog.specs.declared.code.Condition.TheVariants as checks
 use Rattle.goto_prog.specs.declared.code.Operation.{Operation}
@@ -110,10 +110,12 @@ module _ (until : List ℕ) where
     agree_calculated : (o : Operation) → AreRead until place o → Agree until (suc place) (calculated o m) (calculated o n)
     agree_calculated (operations.Constant r bits) read = agree_set r bits bits refl
     agree_calculated (operations.Copy r a) read = agree_set r _ _ (agree.needed a read.0)
-    agree_calculated (operations.Load r t b) read = agree_set r _ _ (ap (λ (bs : Variables). read_variable bs b t) agree.blocks)
-    agree_calculated (operations.Store t b a) read =
+    agree_calculated (operations.Load r t b offset) read = agree_set r _ _ (ap (λ (bs : Variables). read_variable bs b offset t) agree.blocks)
+    agree_calculated (operations.Store b offset count a) read =
         let p = agree.needed a read.0 in let q = agree.blocks in
-        record { size = agree.size; needed = λ k l. agree.needed k (read_later place k l); blocks = λ i. write_variable (q i) b t (p i) }
+        record { size = agree.size; needed = λ k l. agree.needed k (read_later place k l); blocks = λ i. put_bytes (q i) b offset (low_bytes count (p i)) }
+    agree_calculated (operations.Clear b size) read =
+        record { size = agree.size; needed = λ k l. agree.needed k (read_later place k l); blocks = ap (λ (bs : Variables). cleared bs b size) agree.blocks }
     agree_calculated (operations.Convert r from to a) read = agree_set r _ _ (ap (converted from to) (agree.needed a read.0))
     agree_calculated (operations.Sign r op t a) read = agree_set r _ _ (ap (sign_value op t) (agree.needed a read.0))
     agree_calculated (operations.Arithmetic r op t u a b) read =
@@ -164,8 +166,9 @@ module _ (until : List ℕ) where
     leaves_alike operations.Exit read = k
     leaves_alike (operations.Constant r bits) read = goes_on (operations.Constant r bits) read
     leaves_alike (operations.Copy r a) read = goes_on (operations.Copy r a) read
-    leaves_alike (operations.Load r t b) read = goes_on (operations.Load r t b) read
-    leaves_alike (operations.Store t b a) read = goes_on (operations.Store t b a) read
+    leaves_alike (operations.Load r t b offset) read = goes_on (operations.Load r t b offset) read
+    leaves_alike (operations.Store b offset count a) read = goes_on (operations.Store b offset count a) read
+    leaves_alike (operations.Clear b size) read = goes_on (operations.Clear b size) read
     leaves_alike (operations.Convert r from to a) read = goes_on (operations.Convert r from to a) read
     leaves_alike (operations.Sign r op t a) read = goes_on (operations.Sign r op t a) read
     leaves_alike (operations.Arithmetic r op t u a b) read = goes_on (operations.Arithmetic r op t u a b) read

@@ -1,9 +1,8 @@
 -- What operations reached with a slot tell, and where they lead.
-use Rattle.std.proofs.Common.{◌≡◌, ℕ, zero, suc, ◌+◌, ◌<◌, ◌^◌, nat_lt, Bool, true, false, List, [], ◌∷◌, ◌++◌, length, map, Option, Some, None, is_some, refl, sym, ap, subst, ◌∙◌, arith, append_assoc}
-use Rattle.std.specs.Prelude.{not, ◌&&◌, ◌==◌, if◌then◌else◌, slice_set, slice_index_or}
+use Rattle.std.proofs.Common.{◌≡◌, ℕ, suc, ◌+◌, ◌^◌, nat_lt, Bool, true, false, List, [], ◌∷◌, ◌++◌, length, map, Option, Some, None, is_some, refl, sym, ap, subst, ◌∙◌, arith, append_assoc}
+use Rattle.std.specs.Prelude.{not, ◌&&◌, ◌==◌, if◌then◌else◌, slice_index_or}
 use Rattle.std.specs.List.{All}
-use Rattle.std.proofs.lemmas.List.{map-set}
-use Rattle.std.proofs.lemmas.List.Elements.{All-push, All-set}
+use Rattle.std.proofs.lemmas.List.Elements.{All-push}
 use Rattle.words.specs.declared.check.Class.{Class}
 use Rattle.words.specs.declared.check.Class.TheVariants as classes
 use Rattle.words.specs.BitVector.{word}
@@ -13,14 +12,15 @@ use Rattle.actions.specs.declared.action.Answer.TheVariants as answers
 use Rattle.actions.specs.declared.action.Next.TheVariants.{Blocked, Broken}
 use Rattle.c_types.specs.declared.integers.IntegerType.{IntegerType}
 use Rattle.c_types.specs.declared.integers.IntegerType.TheVariants as types
-use Rattle.c_types.specs.Integers.{width as type_width, is_signed, same_integer}
+use Rattle.c_types.specs.Integers.{width as type_width, bytes, is_signed, same_integer}
 use Rattle.core_tree.specs.declared.operators.ArithmeticOperator.{ArithmeticOperator}
 use Rattle.core_tree.specs.declared.operators.ArithmeticOperator.TheVariants as arithmetics
+use Rattle.core_tree.specs.Typed.{is_within}
 use Rattle.core_tree.specs.Operations.{unless, arithmetic_check}
 use Rattle.word_dag.specs.declared.nodes.Id.{Id}
 use Rattle.word_dag.specs.declared.nodes.Node.{Node}
-use Rattle.word_dag.specs.Meaning.{width, value, holds}
-use Rattle.word_dag.specs.Growth.{Within, Extends, Makes}
+use Rattle.word_dag.specs.Meaning.{value, holds}
+use Rattle.word_dag.specs.Growth.{Extends, Makes}
 use Rattle.word_dag.proofs.Grown.{extends_itself, extends_more, within_stays}
 use Rattle.value_nodes.specs.Values.{IsWord, IsTest}
 use Rattle.goto_prog.specs.declared.code.Condition.{Condition}
@@ -28,7 +28,7 @@ use Rattle.goto_prog.specs.declared.code.Condition.TheVariants as checks
 use Rattle.goto_prog.specs.declared.code.Operation.{Operation}
 use Rattle.goto_prog.specs.declared.code.Operation.TheVariants as operations
 use Rattle.goto_prog.specs.Meaning.{Memory, register, with_register, check_class, calculated}
-use Rattle.goto_prog.specs.Fitting.{is_there, is_register, is_wide, is_ranged, is_block, check_fits, operation_fits}
+use Rattle.goto_prog.specs.Fitting.{is_there, is_register, is_wide, is_ranged, check_fits, operation_fits}
 use Rattle.c_values.specs.Numbers.{are_operands_of}
 use Rattle.goto_prog.specs.CodeThread.{Listing}
 use Rattle.goto_prog.specs.Running.{is_calculation}
@@ -39,31 +39,20 @@ use Rattle.guarded_ssa.specs.declared.pass.Pass.{Pass}
 use Rattle.guarded_ssa.specs.Ways.{Seen, asked, stopped, Ways, arrived, updated, kept, on, breaks, tells, leaves}
 use Rattle.guarded_ssa.specs.Forms.{IsBit, EventIn, FormIn, kind_seen, event_seen, seen}
 use Rattle.guarded_ssa.specs.Reads.{AllAlike}
-use Rattle.guarded_ssa.specs.Held.{AreWords, SlotIn, PendingIn, PassIn, Arrives, Tells, Passes, held, stored, gone, ways}
-use Rattle.guarded_ssa.specs.Registers.{ZerosIn, AreLive, Written, find, word_or_0, words_from}
+use Rattle.guarded_ssa.specs.Held.{BytesIn, SlotIn, PendingIn, PassIn, Arrives, Tells, Passes, held, stored, gone, ways}
+use Rattle.guarded_ssa.specs.Registers.{ZerosIn, AreLive, Written, find, word_or_0}
 use Rattle.guarded_ssa.proofs.Sorted.{registers_set, if_true, if_false}
 use Rattle.guarded_ssa.specs.Results.{sets_register, into_of, result_of, class_of}
 use Rattle.guarded_ssa.proofs.Needs.{all_alike_itself, all_alike_more, arrived_alike, alike_itself}
 use Rattle.guarded_ssa.proofs.Stays.{slot_stays, gone_stays, seen_stays, ways_stay}
 use Rattle.std.proofs.lemmas.Bool.{false≢true}
-use Rattle.goto_prog.proofs.Registers.{both, same_widths}
+use Rattle.goto_prog.proofs.Registers.{both}
 use Rattle.word_dag.specs.declared.nodes.Node.TheVariants.{Variable, ZeroExtend}
-use Rattle.guarded_ssa.proofs.Merging.{stored_set, same_storage, is_typed, holds_bit}
+use Rattle.guarded_ssa.proofs.Merging.{holds_bit}
 
--- ---- a slot with a register or a block set
+-- ---- a slot with a register set
 
-typed_set : (ts : List IntegerType) (r : ℕ) → r < length ts → slice_set (map type_width ts) r (type_width (slice_index_or ts r types.Int)) ≡ map type_width ts
-typed_set [] r lt = absurd (omega (arith, lt))
-typed_set (t ∷ ts) zero lt = refl
-typed_set (t ∷ ts) (suc r) lt = ap (λ ws. type_width t ∷ ws) (typed_set ts r (omega (arith, lt)))
-
-words_set : (d : List Node) (ts : List IntegerType) (ids : List Id) (r : ℕ) (id : Id) → AreWords d ts ids → Within d id → width d id ≡ type_width (slice_index_or ts r types.Int) → r < length ts → AreWords d ts (slice_set ids r id)
-words_set d ts ids r id words there wide lt = record {
-  there = All-set (Within d) ids r id there words.there;
-  widths = map-set (width d) ids r id ∙ (λ i. slice_set (words.widths i) r (wide i)) ∙ typed_set ts r lt;
-}
-
-updated_by : (b : Bool) (m n : Memory) (f : Memory → Memory) → n ≡ f m → (if b then Some n else None) ≡ updated f (if b then Some m else None)
+pub updated_by : (b : Bool) (m n : Memory) (f : Memory → Memory) → n ≡ f m → (if b then Some n else None) ≡ updated f (if b then Some m else None)
 updated_by true m n f e = ap Some e
 updated_by false m n f e = refl
 
@@ -71,15 +60,15 @@ set_word : (f : Id → ℕ) (b : Bool) (id : Id) (x : Option Id) → word_or_0 f
 set_word f true id x = refl
 set_word f false id x = refl
 
-pub put_in : (d : List Node) (code : Listing) (s t : Slot) (ts : List IntegerType) (r : ℕ) (id : Id) → ts ≡ code.registers → SlotIn d code s → Written d ts s.registers.items r id t.registers.items → t.guard ≡ s.guard → t.zeros ≡ s.zeros → t.blocks.items ≡ s.blocks.items → SlotIn d code t
+pub put_in : (d : List Node) (code : Listing) (s t : Slot) (ts : List IntegerType) (r : ℕ) (id : Id) → ts ≡ code.registers → SlotIn d code s → Written d ts s.registers.items r id t.registers.items → t.guard ≡ s.guard → t.zeros ≡ s.zeros → t.bytes.items ≡ s.bytes.items → SlotIn d code t
 put_in d code s t ts r id same h written g z q = record {
   guard = subst (λ i. IsWord d i 1) (sym g) h.guard;
   zeros = subst (ZerosIn d) (sym z) h.zeros;
   registers = subst (λ us. AreLive d us t.registers.items) same written.live;
-  blocks = subst (AreWords d code.blocks) (sym q) h.blocks;
+  bytes = subst (BytesIn d code.blocks) (sym q) h.bytes;
 }
 
-pub put_gone : (v : ℕ → ℕ) (d : List Node) (code : Listing) (s t : Slot) (r : ℕ) (id : Id) → t.guard ≡ s.guard → ((k : ℕ) → find t.registers.items k ≡ (if r == k then Some id else find s.registers.items k)) → t.blocks.items ≡ s.blocks.items
+pub put_gone : (v : ℕ → ℕ) (d : List Node) (code : Listing) (s t : Slot) (r : ℕ) (id : Id) → t.guard ≡ s.guard → ((k : ℕ) → find t.registers.items k ≡ (if r == k then Some id else find s.registers.items k)) → t.bytes.items ≡ s.bytes.items
     → gone v d code t ≡ updated (λ m. with_register m r (value v d id)) (gone v d code s)
 put_gone v d code s t r id g p q =
     let f = value v d in
@@ -90,34 +79,10 @@ put_gone v d code s t r id g p q =
     (λ i. if holds (value v d (g i)) then Some (record { registers = a i; blocks = stored code.blocks (map (value v d) (q i)) }) else None) in
     same ∙ updated_by (holds (value v d s.guard)) (held v d code s) (with_register (held v d code s) r (value v d id)) (λ m. with_register m r (value v d id)) refl
 
-pub store_in : (d : List Node) (code : Listing) (s t : Slot) (b : ℕ) (type : IntegerType) (id : Id) → SlotIn d code s → is_register code.blocks b type ≡ true → IsWord d id (type_width type)
-    → t.guard ≡ s.guard → t.zeros ≡ s.zeros → t.registers.items ≡ s.registers.items → t.blocks.items ≡ slice_set s.blocks.items b id → SlotIn d code t
-store_in d code s t b type id h there word g z p q =
-    let parts = is_typed code.blocks b type there in
-    record {
-      guard = subst (λ i. IsWord d i 1) (sym g) h.guard;
-      zeros = subst (ZerosIn d) (sym z) h.zeros;
-      registers = subst (AreLive d code.registers) (sym p) h.registers;
-      blocks = subst (AreWords d code.blocks) (sym q) (words_set d code.blocks s.blocks.items b id h.blocks word.there (word.width_is ∙ sym (same_widths (slice_index_or code.blocks b types.Int) type parts.1)) parts.0);
-    }
-
-pub store_gone : (v : ℕ → ℕ) (d : List Node) (code : Listing) (s t : Slot) (b operand : ℕ) (type : IntegerType) (id : Id) → is_register code.blocks b type ≡ true → value v d id ≡ register (held v d code s) operand
-    → t.guard ≡ s.guard → t.registers.items ≡ s.registers.items → t.blocks.items ≡ slice_set s.blocks.items b id → gone v d code t ≡ updated (calculated (operations.Store type b operand)) (gone v d code s)
-store_gone v d code s t b operand type id there is g p q =
-    let parts = is_typed code.blocks b type there in
-    let ws = map (value v d) s.blocks.items in
-    let a = ap (map (value v d)) q ∙ map-set (value v d) s.blocks.items b id ∙ ap (slice_set ws b) is in
-    let x = register (held v d code s) operand in
-    let c = ap (stored code.blocks) a ∙ stored_set code.blocks ws b x type (λ l. same_storage (slice_index_or code.blocks b types.Int) type parts.1) in
-    let n : Memory = calculated (operations.Store type b operand) (held v d code s) in
-    let same : gone v d code t ≡ (if holds (value v d s.guard) then Some n else None) =
-    (λ i. if holds (value v d (g i)) then Some (record { registers = words_from (value v d) (p i) 0 code.registers; blocks = c i }) else None) in
-    same ∙ updated_by (holds (value v d s.guard)) (held v d code s) n (calculated (operations.Store type b operand)) refl
-
 result_is : (o : Operation) (m : Memory) → sets_register o ≡ true → calculated o m ≡ with_register m (into_of o) (result_of o m)
 result_is (operations.Constant r bits) m h = refl
 result_is (operations.Copy r a) m h = refl
-result_is (operations.Load r t b) m h = refl
+result_is (operations.Load r t b offset) m h = refl
 result_is (operations.Convert r from to a) m h = refl
 result_is (operations.Sign r op t a) m h = refl
 result_is (operations.Arithmetic r op t u a b) m h = refl
@@ -128,10 +93,10 @@ result_is _ m h = absurd (false≢true h)
 register_there : (rs : List IntegerType) (r : ℕ) (t : IntegerType) → is_register rs r t ≡ true → is_there rs r ≡ true
 register_there rs r t h = (both (is_there rs r) (same_integer (slice_index_or rs r types.Int) t) h).0
 
-pub into_there : (rs bs : List IntegerType) (o : Operation) → sets_register o ≡ true → operation_fits rs bs 0 o ≡ true → is_there rs (into_of o) ≡ true
+pub into_there : (rs : List IntegerType) (bs : List ℕ) (o : Operation) → sets_register o ≡ true → operation_fits rs bs 0 o ≡ true → is_there rs (into_of o) ≡ true
 into_there rs bs (operations.Constant r bits) h fits = (both (is_there rs r) (nat_lt bits (2 ^ type_width (slice_index_or rs r types.Int))) fits).0
 into_there rs bs (operations.Copy r a) h fits = register_there rs r (slice_index_or rs a types.Int) (both (is_there rs a) (is_register rs r (slice_index_or rs a types.Int)) fits).1
-into_there rs bs (operations.Load r t b) h fits = register_there rs r t (both (is_register rs r t) (is_block bs b t) fits).0
+into_there rs bs (operations.Load r t b offset) h fits = register_there rs r t (both (is_register rs r t) (is_within bs b offset (bytes t)) fits).0
 into_there rs bs (operations.Convert r from to a) h fits = register_there rs r to (both (is_register rs r to) (is_register rs a from) fits).0
 into_there rs bs (operations.Sign r op t a) h fits = register_there rs r t (both (is_register rs r t) (is_register rs a t) fits).0
 into_there rs bs (operations.Arithmetic r op t u a b) h fits =
@@ -160,8 +125,9 @@ assigned_gone v d e code s t o r id x h sets is value_is so =
 leads_on : (o : Operation) → is_calculation o ≡ true → (v : ℕ → ℕ) (place : ℕ) (w : Option Memory) (ws : Ways) → leaves v place o w ws ≡ arrived 0 (updated (calculated o) w) ws
 leads_on (operations.Constant r bits) h v place w ws = refl
 leads_on (operations.Copy r a) h v place w ws = refl
-leads_on (operations.Load r t b) h v place w ws = refl
-leads_on (operations.Store t b a) h v place w ws = refl
+leads_on (operations.Load r t b offset) h v place w ws = refl
+leads_on (operations.Store b offset count a) h v place w ws = refl
+leads_on (operations.Clear b size) h v place w ws = refl
 leads_on (operations.Convert r from to a) h v place w ws = refl
 leads_on (operations.Sign r op t a) h v place w ws = refl
 leads_on (operations.Arithmetic r op t u a b) h v place w ws = refl
@@ -172,8 +138,9 @@ leads_on _ h v place w ws = absurd (false≢true h)
 silent : (o : Operation) → is_calculation o ≡ true → (v : ℕ → ℕ) (place line f : ℕ) (m : Memory) → tells v place line f o m ≡ []
 silent (operations.Constant r bits) h v place line f m = refl
 silent (operations.Copy r a) h v place line f m = refl
-silent (operations.Load r t b) h v place line f m = refl
-silent (operations.Store t b a) h v place line f m = refl
+silent (operations.Load r t b offset) h v place line f m = refl
+silent (operations.Store b offset count a) h v place line f m = refl
+silent (operations.Clear b size) h v place line f m = refl
 silent (operations.Convert r from to a) h v place line f m = refl
 silent (operations.Sign r op t a) h v place line f m = refl
 silent (operations.Arithmetic r op t u a b) h v place line f m = refl

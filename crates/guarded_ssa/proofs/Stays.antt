@@ -29,14 +29,14 @@ use Rattle.guarded_ssa.specs.Ways.{asked, stopped}
 use Rattle.guarded_ssa.specs.Forms.{IsBit, KindIn, EventIn, FormIn, kind_seen, event_seen, seen}
 use Rattle.guarded_ssa.specs.Registers.{ZerosIn, IsLive, AreLive, find, word_or_0, words_from}
 use Rattle.guarded_ssa.proofs.Sorted.{found, past, words_same}
-use Rattle.guarded_ssa.specs.Held.{AreWords, SlotIn, PendingIn, PassIn, stored, gone, way, ways}
+use Rattle.guarded_ssa.specs.Held.{BytesIn, SlotIn, PendingIn, PassIn, stored, gone, way, ways}
 
 module _ (d e : List Node) (x : Extends d e) where
   pub word_stays : (i : Id) (w : ℕ) → IsWord d i w → IsWord e i w
   word_stays i w h = record { there = within_stays d e i x h.there; width_is = x.width_stays i h.there ∙ h.width_is }
 
-  pub words_stay : (types : List IntegerType) (ids : List Id) → AreWords d types ids → AreWords e types ids
-  words_stay types ids h = record { there = all_within_stays d e ids x h.there; widths = map_widths_stay d e ids x h.there ∙ h.widths }
+  pub bytes_stay : (sizes : List ℕ) (ids : List Id) → BytesIn d sizes ids → BytesIn e sizes ids
+  bytes_stay sizes ids h = record { there = all_within_stays d e ids x h.there; widths = map_widths_stay d e ids x h.there ∙ h.widths }
 
   zeros_stay : (z : Zeros) → ZerosIn d z → ZerosIn e z
   zeros_stay z h = record { byte = zero_stays z.byte 8 h.byte; short = zero_stays z.short 16 h.short; int = zero_stays z.int 32 h.int; long = zero_stays z.long 64 h.long }
@@ -68,14 +68,14 @@ module _ (d e : List Node) (x : Extends d e) where
     guard = word_stays s.guard 1 h.guard;
     zeros = zeros_stay s.zeros h.zeros;
     registers = live_stay code.registers s.registers.items h.registers;
-    blocks = words_stay code.blocks s.blocks.items h.blocks;
+    bytes = bytes_stay code.blocks s.bytes.items h.bytes;
   }
 
   pub gone_stays : (v : ℕ → ℕ) (code : Listing) (s : Slot) → SlotIn d code s → gone v e code s ≡ gone v d code s
   gone_stays v code s h =
       let p = x.value_stays v s.guard h.guard.there in
       let q = words_of_stay v code.registers s.registers.items h.registers.words in
-      let r = map_stays v d e s.blocks.items x h.blocks.there in
+      let r = map_stays v d e s.bytes.items x h.bytes.there in
       λ i. if holds (p i) then Some (record { registers = q i; blocks = stored code.blocks (r i) }) else None
 
   pending_stays : (code : Listing) (s : Option Slot) → PendingIn d code s → PendingIn e code s

@@ -89,8 +89,9 @@ module _ (v : ℕ → ℕ) where
   pub leaves_none : (place : ℕ) (o : Operation) (ws : Ways) → leaves v place o None ws ≡ ws
   leaves_none place (operations.Constant r bits) ws = arrived_none 0 ws
   leaves_none place (operations.Copy r a) ws = arrived_none 0 ws
-  leaves_none place (operations.Load r t b) ws = arrived_none 0 ws
-  leaves_none place (operations.Store t b a) ws = arrived_none 0 ws
+  leaves_none place (operations.Load r t b offset) ws = arrived_none 0 ws
+  leaves_none place (operations.Store b offset count a) ws = arrived_none 0 ws
+  leaves_none place (operations.Clear b size) ws = arrived_none 0 ws
   leaves_none place (operations.Convert r from to a) ws = arrived_none 0 ws
   leaves_none place (operations.Sign r op t a) ws = arrived_none 0 ws
   leaves_none place (operations.Arithmetic r op t u a b) ws = arrived_none 0 ws
@@ -135,8 +136,9 @@ module _ (v : ℕ → ℕ) where
     step : (line f from : ℕ) (o : Operation) → read (tells v from line f o m ++ told v place code (leaves v from o (Some m) ws)) end ≡ operates (running v) false from line f o (places (running v) false place code) m
     step line f from (operations.Constant r bits) = goes 0 (calculated (operations.Constant r bits) m)
     step line f from (operations.Copy r a) = goes 0 (calculated (operations.Copy r a) m)
-    step line f from (operations.Load r t b) = goes 0 (calculated (operations.Load r t b) m)
-    step line f from (operations.Store t b a) = goes 0 (calculated (operations.Store t b a) m)
+    step line f from (operations.Load r t b offset) = goes 0 (calculated (operations.Load r t b offset) m)
+    step line f from (operations.Store b offset count a) = goes 0 (calculated (operations.Store b offset count a) m)
+    step line f from (operations.Clear b size) = goes 0 (calculated (operations.Clear b size) m)
     step line f from (operations.Convert r t u a) = goes 0 (calculated (operations.Convert r t u a) m)
     step line f from (operations.Sign r op t a) = goes 0 (calculated (operations.Sign r op t a) m)
     step line f from (operations.Arithmetic r op t u a b) = goes 0 (calculated (operations.Arithmetic r op t u a b) m)

@@ -1,9 +1,6 @@
 -- What the nodes of a slot hold under a valuation.
-use Rattle.std.specs.Prelude.{◌≡◌, length, ℕ, suc, List, [], ◌∷◌, ◌++◌, Option, Some, None, map, All, if◌then◌else◌}
-use Rattle.std.specs.Int.{to_le_bytes}
-use Rattle.c_types.specs.declared.integers.IntegerType.{IntegerType}
-use Rattle.c_types.specs.Integers.{width as type_width}
-use Rattle.c_values.specs.Variables.{Variables, storage}
+use Rattle.std.specs.Prelude.{◌≡◌, ◌+◌, length, ℕ, suc, List, [], ◌∷◌, ◌++◌, Option, Some, None, map, take, drop, replicate, All, if◌then◌else◌}
+use Rattle.c_values.specs.Variables.{Variables}
 use Rattle.word_dag.specs.declared.nodes.Id.{Id}
 use Rattle.word_dag.specs.declared.nodes.Node.{Node}
 use Rattle.word_dag.specs.Meaning.{width, value, holds}
@@ -21,20 +18,33 @@ use Rattle.guarded_ssa.specs.Reads.{AllAlike, Covers}
 use Rattle.guarded_ssa.specs.Registers.{ZerosIn, AreLive, words_from}
 use Rattle.guarded_ssa.specs.Forms.{FormIn, event_seen, seen}
 
--- a node for each of these types, of its width
-pub record AreWords (d : List Node) (types : List IntegerType) (ids : List Id) : Type 0 where
-  pub there : All (Within d) ids
-  pub widths : map (width d) ids ≡ map type_width types
+-- how many bytes blocks of these sizes have
+abbrev pub total : List ℕ → ℕ
+total [] = 0
+total (n ∷ sizes) = n + total sizes
 
--- the blocks of these types with these words
-abbrev pub stored : List IntegerType → List ℕ → Variables
-stored [] words = []
-stored (t ∷ types) [] = []
-stored (t ∷ types) (w ∷ words) = to_le_bytes (storage t) w ∷ stored types words
+-- a node of 8 bits for each byte of blocks of these sizes
+pub record BytesIn (d : List Node) (sizes : List ℕ) (ids : List Id) : Type 0 where
+  pub there : All (Within d) ids
+  pub widths : map (width d) ids ≡ replicate (total sizes) 8
+
+-- the blocks of these sizes, whose bytes stand one block behind the other
+abbrev pub stored : List ℕ → List ℕ → Variables
+stored [] bytes = []
+stored (n ∷ sizes) bytes = take n bytes ∷ stored sizes (drop n bytes)
+
+-- where each block begins, the first of them at this place
+abbrev pub starts_from : ℕ → List ℕ → List ℕ
+starts_from place [] = []
+starts_from place (n ∷ sizes) = place ∷ starts_from (place + n) sizes
+
+-- nodes in the place of as many from the one at this place on
+abbrev pub nodes_put : ℕ → List Id → List Id → List Id
+nodes_put place new old = take place old ++ (new ++ drop (place + length new) old)
 
 module _ (v : ℕ → ℕ) (d : List Node) (code : Listing) where
   abbrev pub held : Slot → Memory
-  held s = record { registers = words_from (value v d) s.registers.items 0 code.registers; blocks = stored code.blocks (map (value v d) s.blocks.items) }
+  held s = record { registers = words_from (value v d) s.registers.items 0 code.registers; blocks = stored code.blocks (map (value v d) s.bytes.items) }
 
   -- the memory with which the slot is reached, if it is
   abbrev pub gone : Slot → Option Memory
@@ -51,7 +61,7 @@ pub record SlotIn (d : List Node) (code : Listing) (s : Slot) : Type 0 where
   pub guard : IsWord d s.guard 1
   pub zeros : ZerosIn d s.zeros
   pub registers : AreLive d code.registers s.registers.items
-  pub blocks : AreWords d code.blocks s.blocks.items
+  pub bytes : BytesIn d code.blocks s.bytes.items
 
 abbrev pub PendingIn : List Node → Listing → Option Slot → Type 0
 PendingIn d code None = Unit {0}

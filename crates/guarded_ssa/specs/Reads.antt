@@ -28,8 +28,9 @@ second_checked (checks.LeftShift t u a count) = Some count
 abbrev pub first_read : Operation → Option ℕ
 first_read (operations.Constant r bits) = None
 first_read (operations.Copy r a) = Some a
-first_read (operations.Load r t b) = None
-first_read (operations.Store t b a) = Some a
+first_read (operations.Load r t b offset) = None
+first_read (operations.Store b offset count a) = Some a
+first_read (operations.Clear b size) = None
 first_read (operations.Convert r from to a) = Some a
 first_read (operations.Sign r op t a) = Some a
 first_read (operations.Arithmetic r op t u a b) = Some a
@@ -46,8 +47,9 @@ first_read operations.Exit = None
 abbrev pub second_read : Operation → Option ℕ
 second_read (operations.Constant r bits) = None
 second_read (operations.Copy r a) = None
-second_read (operations.Load r t b) = None
-second_read (operations.Store t b a) = None
+second_read (operations.Load r t b offset) = None
+second_read (operations.Store b offset count a) = None
+second_read (operations.Clear b size) = None
 second_read (operations.Convert r from to a) = None
 second_read (operations.Sign r op t a) = None
 second_read (operations.Arithmetic r op t u a b) = Some b

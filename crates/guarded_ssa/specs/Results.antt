@@ -13,7 +13,7 @@ use Rattle.goto_prog.specs.Meaning.{Memory, register}
 abbrev pub sets_register : Operation → Bool
 sets_register (operations.Constant r bits) = true
 sets_register (operations.Copy r a) = true
-sets_register (operations.Load r t b) = true
+sets_register (operations.Load r t b offset) = true
 sets_register (operations.Convert r from to a) = true
 sets_register (operations.Sign r op t a) = true
 sets_register (operations.Arithmetic r op t u a b) = true
@@ -24,7 +24,7 @@ sets_register _ = false
 abbrev pub into_of : Operation → ℕ
 into_of (operations.Constant r bits) = r
 into_of (operations.Copy r a) = r
-into_of (operations.Load r t b) = r
+into_of (operations.Load r t b offset) = r
 into_of (operations.Convert r from to a) = r
 into_of (operations.Sign r op t a) = r
 into_of (operations.Arithmetic r op t u a b) = r
@@ -35,7 +35,7 @@ into_of _ = 0
 abbrev pub result_of : Operation → Memory → ℕ
 result_of (operations.Constant r bits) m = bits
 result_of (operations.Copy r a) m = register m a
-result_of (operations.Load r t b) m = read_variable m.blocks b t
+result_of (operations.Load r t b offset) m = read_variable m.blocks b offset t
 result_of (operations.Convert r from to a) m = converted from to (register m a)
 result_of (operations.Sign r op t a) m = sign_value op t (register m a)
 result_of (operations.Arithmetic r op t u a b) m = arithmetic_value op t (register m a) (register m b)

@@ -2,6 +2,7 @@
 //! the events whose guards are true tell the run that they give.
 #![tactic(auto)]
 
+mod bytes;
 mod forming;
 mod forms;
 mod liveness;

@@ -1,15 +1,19 @@
 ghost use Rattle.std.specs.Prelude.{◌≡◌, ◌<◌, ◌^◌, ◌+◌, length, IfOk};
+ghost use Rattle.guarded_ssa.specs.Held.{starts_from};
 ghost use Rattle.guarded_ssa.specs.Reads.{first_checked, second_checked, first_read, second_read, IsRead, Later, Covers};
 
+use crate::bytes::starts;
 use goto_prog::{Code, Condition, Operation};
 use std::alloc::{AllocError, Global};
 
-// Code, and for each of its registers the place behind the last instruction that reads it.
+// Code, for each of its registers the place behind the last instruction that reads it, and where each of its
+// blocks begins among the bytes of all.
 #[derive(Drop)]
 pub struct Plan<'a> {
     pub alloc: Global,
     pub code: &'a Code,
     pub until: Vec<usize>,
+    pub starts: Vec<usize>,
 }
 
 // The registers that a condition reads.
@@ -53,8 +57,9 @@ fn reads(operation: Operation) -> (Option<usize>, Option<usize>)
             (Some(operand), None)
         }
         Operation::Store {
-            type_: _,
             block: _,
+            offset: _,
+            count: _,
             operand,
         } => (Some(operand), None),
         Operation::Convert {
@@ -92,7 +97,9 @@ fn reads(operation: Operation) -> (Option<usize>, Option<usize>)
             into: _,
             type_: _,
             block: _,
+            offset: _,
         }
+        | Operation::Clear { block: _, size: _ }
         | Operation::Skip { count: _ }
         | Operation::Draw { into: _, bits: _ }
         | Operation::Exit => (None, None),
@@ -116,14 +123,21 @@ impl<'a> Plan<'a> {
     pub fn new(alloc: Global, code: &'a Code) -> Result<Plan<'a>, AllocError>
         ensures code { IfOk result (λ p. p.code.now ≡ code.now) }
         ensures size { IfOk result (λ p. length p.until.items ≡ length code.now.registers) }
+        ensures starts { IfOk result (λ p. p.starts.items ≡ starts_from 0 code.now.blocks) }
         ensures covers { IfOk result (λ p. Covers p.until.items 0 code.now.instructions) }
     {
+        let starts = starts(alloc, code.blocks())?;
         let mut until = vec![in alloc; 0; code.registers().len()]?;
         for (place, instruction) in code.instructions().iter().enumerate() {
             let (first, second) = reads(instruction.operation);
             mark(&mut until, first, place);
             mark(&mut until, second, place);
         }
-        Ok(Plan { alloc, code, until })
+        Ok(Plan {
+            alloc,
+            code,
+            until,
+            starts,
+        })
     }
 }

@@ -29,7 +29,7 @@ ghost use Rattle.goto_prog.specs.Fitting.{is_there, is_register, check_fits, ope
 ghost use Rattle.goto_prog.specs.Running.{is_calculation};
 ghost use Rattle.guarded_ssa.specs.Forms.{EventIn};
 ghost use Rattle.goto_prog.specs.CodeThread.{first_memory};
-ghost use Rattle.guarded_ssa.specs.Held.{SlotIn, PassIn, Arrives, Tells, Passes, Visits, ways};
+ghost use Rattle.guarded_ssa.specs.Held.{SlotIn, PassIn, Arrives, Tells, Passes, Visits, ways, starts_from};
 
 use crate::forms::{Event, EventKind};
 use crate::liveness::Plan;
@@ -145,6 +145,7 @@ impl Pass {
         i: Instruction,
         slot: Slot,
     ) -> Result<(), AllocError>
+        requires starts { plan.now.starts.items ≡ starts_from 0 plan.now.code.now.blocks }
         requires until { length plan.now.until.items ≡ length plan.now.code.now.registers }
         requires room { place + length self.old.pending.items < 2 ^ 64 }
         requires within { PassIn dag.old plan.now.code.now self.old }
@@ -368,6 +369,7 @@ impl Pass {
         i: Instruction,
         slot: Slot,
     ) -> Result<(), AllocError>
+        requires starts { plan.now.starts.items ≡ starts_from 0 plan.now.code.now.blocks }
         requires until { length plan.now.until.items ≡ length plan.now.code.now.registers }
         requires room { place + length self.old.pending.items < 2 ^ 64 }
         requires within { PassIn dag.old plan.now.code.now self.old }
@@ -396,12 +398,15 @@ impl Pass {
                 into: _,
                 type_: _,
                 block: _,
+                offset: _,
             }
             | Operation::Store {
-                type_: _,
                 block: _,
+                offset: _,
+                count: _,
                 operand: _,
             }
+            | Operation::Clear { block: _, size: _ }
             | Operation::Convert {
                 into: _,
                 from: _,
@@ -444,6 +449,7 @@ impl Pass {
         place: usize,
         i: Instruction,
     ) -> Result<(), AllocError>
+        requires starts { plan.now.starts.items ≡ starts_from 0 plan.now.code.now.blocks }
         requires until { length plan.now.until.items ≡ length plan.now.code.now.registers }
         requires room { place + length self.old.pending.items < 2 ^ 64 }
         requires next { 0 < length self.old.pending.items }

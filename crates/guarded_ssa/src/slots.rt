@@ -18,7 +18,7 @@ ghost use Rattle.std.specs.Prelude.{
 ghost use Rattle.word_dag.specs.Growth.{Within, Extends};
 ghost use Rattle.word_dag.specs.Meaning.{width, value, holds};
 ghost use Rattle.value_nodes.specs.Values.{IsWord};
-ghost use Rattle.goto_prog.specs.Fitting.{is_there, is_register, is_block, operation_fits};
+ghost use Rattle.goto_prog.specs.Fitting.{is_there, operation_fits};
 ghost use Rattle.goto_prog.specs.Running.{is_calculation};
 ghost use Rattle.c_types.specs.Integers.{width as type_width};
 ghost use Rattle.guarded_ssa.specs.Results.{sets_register, into_of};
@@ -26,9 +26,9 @@ ghost use Rattle.goto_prog.specs.Meaning.{register, with_register, calculated};
 ghost use Rattle.goto_prog.specs.CodeThread.{first_memory};
 ghost use Rattle.guarded_ssa.specs.Ways.{either as either_way, kept, updated};
 ghost use Rattle.guarded_ssa.specs.Reads.{Alike};
-ghost use Rattle.guarded_ssa.specs.Registers.{zero_of};
-ghost use Rattle.guarded_ssa.specs.Held.{SlotIn, PendingIn, Joined, gone, way};
+ghost use Rattle.guarded_ssa.specs.Held.{SlotIn, PendingIn, Joined, gone, way, starts_from};
 
+use crate::bytes::size_of_all;
 use crate::liveness::Plan;
 use crate::registers;
 use crate::registers::{Live, Zeros};
@@ -39,24 +39,14 @@ use value_nodes::{both, chosen, either, inverse, zero_test};
 use word_dag::{Dag, Id, Node};
 
 // The memory with which a place is reached, where the guard is true: the registers that are set, in rising
-// order, while the others are 0, and a node for each block, of the width of its type.
+// order, while the others are 0, and the bytes of the blocks, one block behind the other, a node of 8 bits
+// each.
 #[derive(Drop)]
 pub struct Slot {
     pub guard: Id,
     pub zeros: Zeros,
     pub registers: Vec<Live>,
-    pub blocks: Vec<Id>,
-}
-
-// The nodes of blocks that are 0.
-fn blocks(alloc: Global, zeros: Zeros, types: &[IntegerType]) -> Result<Vec<Id>, AllocError>
-    ensures { IfOk result (λ r. r.items ≡ map (zero_of zeros) types.now) }
-{
-    let mut ids = Vec::with_capacity(alloc, types.len())?;
-    for type_ in types {
-        ids.push(zeros.of(*type_))?;
-    }
-    Ok(ids)
+    pub bytes: Vec<Id>,
 }
 
 // For each two words one that is the first where the test is true, else the second.
@@ -91,12 +81,13 @@ impl Slot {
     {
         let guard = dag.make(Node::Constant(1, 1))?;
         let zeros = Zeros::new(dag)?;
-        let blocks = blocks(alloc, zeros, code.blocks())?;
+        let size = size_of_all(code.blocks())?;
+        let bytes = vec![in alloc; zeros.byte; size]?;
         Ok(Slot {
             guard,
             zeros,
             registers: Vec::new(alloc),
-            blocks,
+            bytes,
         })
     }
 
@@ -119,12 +110,12 @@ impl Slot {
             &first.registers,
             &second.registers,
         )?;
-        let blocks = joined(plan.alloc, dag, first.guard, &first.blocks, &second.blocks)?;
+        let bytes = joined(plan.alloc, dag, first.guard, &first.bytes, &second.bytes)?;
         Ok(Slot {
             guard,
             zeros: first.zeros,
             registers,
-            blocks,
+            bytes,
         })
     }
 
@@ -154,7 +145,7 @@ impl Slot {
             guard: self.guard,
             zeros: self.zeros,
             registers,
-            blocks: self.blocks,
+            bytes: self.bytes,
         })
     }
 
@@ -163,13 +154,13 @@ impl Slot {
         ensures guard { IfOk result (λ s. s.guard ≡ self.now.guard) }
         ensures zeros { IfOk result (λ s. s.zeros ≡ self.now.zeros) }
         ensures registers { IfOk result (λ s. s.registers.items ≡ self.now.registers.items) }
-        ensures blocks { IfOk result (λ s. s.blocks.items ≡ self.now.blocks.items) }
+        ensures bytes { IfOk result (λ s. s.bytes.items ≡ self.now.bytes.items) }
     {
         Ok(Slot {
             guard: self.guard,
             zeros: self.zeros,
             registers: self.registers.to_vec(alloc)?,
-            blocks: self.blocks.to_vec(alloc)?,
+            bytes: self.bytes.to_vec(alloc)?,
         })
     }
 
@@ -186,7 +177,7 @@ impl Slot {
             guard,
             zeros: self.zeros,
             registers: self.registers,
-            blocks: self.blocks,
+            bytes: self.bytes,
         })
     }
 
@@ -228,32 +219,13 @@ impl Slot {
             guard: self.guard,
             zeros: self.zeros,
             registers,
-            blocks: self.blocks,
+            bytes: self.bytes,
         })
-    }
-
-    // The memory with a register's word written into a block.
-    fn stored(
-        mut self,
-        dag: &Dag,
-        plan: &Plan,
-        type_: IntegerType,
-        block: usize,
-        operand: usize,
-    ) -> Slot
-        requires within { SlotIn dag.now plan.now.code.now self }
-        requires operand { is_register plan.now.code.now.registers operand type_ ≡ true }
-        requires block { is_block plan.now.code.now.blocks block type_ ≡ true }
-        ensures within { SlotIn dag.now plan.now.code.now result }
-        ensures gone { (v : ℕ → ℕ) → gone v dag.now plan.now.code.now result ≡ updated (calculated (Operation.Store type_ block operand)) (gone v dag.now plan.now.code.now self) }
-    {
-        let id = self.number(dag, plan, operand, type_);
-        self.blocks[block] = id;
-        self
     }
 
     // The memory with a register set to what an operation gives.
     fn assigned(self, dag: &mut Dag, plan: &Plan, operation: Operation) -> Result<Slot, AllocError>
+        requires starts { plan.now.starts.items ≡ starts_from 0 plan.now.code.now.blocks }
         requires within { SlotIn dag.old plan.now.code.now self }
         requires fits { operation_fits plan.now.code.now.registers plan.now.code.now.blocks 0 operation ≡ true }
         requires sets { sets_register operation ≡ true }
@@ -274,6 +246,7 @@ impl Slot {
         plan: &Plan,
         operation: Operation,
     ) -> Result<Slot, AllocError>
+        requires starts { plan.now.starts.items ≡ starts_from 0 plan.now.code.now.blocks }
         requires within { SlotIn dag.old plan.now.code.now self }
         requires fits { operation_fits plan.now.code.now.registers plan.now.code.now.blocks 0 operation ≡ true }
         requires calculation { is_calculation operation ≡ true }
@@ -283,10 +256,12 @@ impl Slot {
     {
         match operation {
             Operation::Store {
-                type_,
                 block,
+                offset,
+                count,
                 operand,
-            } => Ok(self.stored(dag, plan, type_, block, operand)),
+            } => self.stored(dag, plan, block, offset, count, operand),
+            Operation::Clear { block, size } => self.cleared(dag, plan, block, size),
             Operation::Constant { into: _, bits: _ }
             | Operation::Copy {
                 into: _,
@@ -296,6 +271,7 @@ impl Slot {
                 into: _,
                 type_: _,
                 block: _,
+                offset: _,
             }
             | Operation::Convert {
                 into: _,
@@ -344,6 +320,7 @@ fn into_of(operation: Operation) -> usize
             into,
             type_: _,
             block: _,
+            offset: _,
         } => into,
         Operation::Convert {
             into,

@@ -1,3 +1,6 @@
+ghost use Rattle.std.specs.Prelude.{◌≡◌, true, [], ◌∷◌, IfOk};
+ghost use Rattle.goto_prog.specs.Fitting.{code_fits};
+
 use super::*;
 use actions::Store;
 use c_types::IntegerType;
@@ -30,8 +33,9 @@ fn choice(alloc: Global) -> Result<Code, AllocError> {
         at(
             2,
             Operation::Store {
-                type_: IntegerType::Int,
                 block: 0,
+                offset: 0,
+                count: 4,
                 operand: 1
             }
         ),
@@ -40,7 +44,8 @@ fn choice(alloc: Global) -> Result<Code, AllocError> {
             Operation::Load {
                 into: 2,
                 type_: IntegerType::Int,
-                block: 0
+                block: 0,
+                offset: 0
             }
         ),
         at(3, Operation::Constant { into: 1, bits: 7 }),
@@ -58,7 +63,7 @@ fn choice(alloc: Global) -> Result<Code, AllocError> {
         at(4, Operation::Exit),
     ]?;
     let registers = vec![in alloc; IntegerType::Int, IntegerType::Int, IntegerType::Int]?;
-    let blocks = vec![in alloc; IntegerType::Int]?;
+    let blocks = vec![in alloc; 4]?;
     Ok(Code::new(registers, blocks, instructions, true))
 }
 
@@ -101,6 +106,219 @@ fn one_sided(alloc: Global) -> Result<Code, AllocError> {
         IntegerType::Int,
     ]?;
     let blocks = Vec::new(alloc);
+    Ok(Code::new(registers, blocks, instructions, true))
+}
+
+// `unsigned long x = <input>`, whose bytes 3 and 4 are written over bytes 0 and 1: `assert(x == 0x0807060504030504);`.
+// A block of three bytes stands in front, which is written and cleared: `assert(!y[1]);`
+fn pieces(alloc: Global) -> Result<Code, AllocError> {
+    let long = IntegerType::UnsignedLong;
+    let short = IntegerType::UnsignedShort;
+    let byte = IntegerType::UnsignedChar;
+    let int = IntegerType::Int;
+    let at = |line: u32, operation: Operation| Instruction {
+        line,
+        function: 0,
+        operation,
+    };
+    let instructions = vec![in alloc;
+        at(1, Operation::Draw { into: 0, bits: 64 }),
+        at(
+            2,
+            Operation::Store {
+                block: 1,
+                offset: 0,
+                count: 8,
+                operand: 0
+            }
+        ),
+        at(
+            3,
+            Operation::Store {
+                block: 0,
+                offset: 1,
+                count: 2,
+                operand: 0
+            }
+        ),
+        at(
+            4,
+            Operation::Load {
+                into: 1,
+                type_: short,
+                block: 1,
+                offset: 3
+            }
+        ),
+        at(
+            5,
+            Operation::Store {
+                block: 1,
+                offset: 0,
+                count: 2,
+                operand: 1
+            }
+        ),
+        at(6, Operation::Clear { block: 0, size: 3 }),
+        at(
+            7,
+            Operation::Load {
+                into: 0,
+                type_: long,
+                block: 1,
+                offset: 0
+            }
+        ),
+        at(
+            7,
+            Operation::Constant {
+                into: 2,
+                bits: 0x0807_0605_0403_0504
+            }
+        ),
+        at(
+            7,
+            Operation::Compare {
+                into: 4,
+                operator: Comparison::Equal,
+                type_: long,
+                left: 0,
+                right: 2
+            }
+        ),
+        at(7, Operation::Assert { operand: 4 }),
+        at(
+            8,
+            Operation::Load {
+                into: 3,
+                type_: byte,
+                block: 0,
+                offset: 1
+            }
+        ),
+        at(
+            8,
+            Operation::IsZero {
+                into: 4,
+                operand: 3
+            }
+        ),
+        at(8, Operation::Assert { operand: 4 }),
+    ]?;
+    let registers = vec![in alloc; long, short, long, byte, int]?;
+    let blocks = vec![in alloc; 3, 8]?;
+    Ok(Code::new(registers, blocks, instructions, true))
+}
+
+// Draws each word of a block of 4,096 bytes, in front of other code.
+fn drawn_first(rest: Vec<Instruction>) -> Result<Vec<Instruction>, AllocError>
+    requires { code_fits (IntegerType.UnsignedLong ∷ IntegerType.Int ∷ IntegerType.Int ∷ IntegerType.Int ∷ []) (4096 ∷ []) rest.items ≡ true }
+    ensures { IfOk result (λ r. code_fits (IntegerType.UnsignedLong ∷ IntegerType.Int ∷ IntegerType.Int ∷ IntegerType.Int ∷ []) (4096 ∷ []) r.items ≡ true) }
+{
+    let mut code = rest;
+    for word in 0..512 {
+        let store = Operation::Store {
+            block: 0,
+            offset: 8 * word,
+            count: 8,
+            operand: 0,
+        };
+        let draw = Operation::Draw { into: 0, bits: 64 };
+        code.insert(
+            0,
+            Instruction {
+                line: 1,
+                function: 0,
+                operation: store,
+            },
+        )?;
+        code.insert(
+            0,
+            Instruction {
+                line: 1,
+                function: 0,
+                operation: draw,
+            },
+        )?;
+    }
+    Ok(code)
+}
+
+// A drawn structure of 4,096 bytes with members of type int at 100 and 4,092, and one that stands across two
+// words: `if (x.a) x.b = 7; if (x.b) x.c = x.a; assert(x.c);`
+fn large(alloc: Global) -> Result<Code, AllocError> {
+    let int = IntegerType::Int;
+    let at = |line: u32, operation: Operation| Instruction {
+        line,
+        function: 0,
+        operation,
+    };
+    let rest = vec![in alloc;
+        at(
+            2,
+            Operation::Load {
+                into: 1,
+                type_: int,
+                block: 0,
+                offset: 100
+            }
+        ),
+        at(
+            2,
+            Operation::SkipIfZero {
+                operand: 1,
+                count: 2
+            }
+        ),
+        at(2, Operation::Constant { into: 2, bits: 7 }),
+        at(
+            2,
+            Operation::Store {
+                block: 0,
+                offset: 206,
+                count: 4,
+                operand: 2
+            }
+        ),
+        at(
+            3,
+            Operation::Load {
+                into: 3,
+                type_: int,
+                block: 0,
+                offset: 206
+            }
+        ),
+        at(
+            3,
+            Operation::SkipIfZero {
+                operand: 3,
+                count: 1
+            }
+        ),
+        at(
+            3,
+            Operation::Store {
+                block: 0,
+                offset: 4092,
+                count: 4,
+                operand: 1
+            }
+        ),
+        at(
+            4,
+            Operation::Load {
+                into: 2,
+                type_: int,
+                block: 0,
+                offset: 4092
+            }
+        ),
+        at(4, Operation::Assert { operand: 2 }),
+    ]?;
+    let instructions = drawn_first(rest)?;
+    let registers = vec![in alloc; IntegerType::UnsignedLong, int, int, int]?;
+    let blocks = vec![in alloc; 4096]?;
     Ok(Code::new(registers, blocks, instructions, true))
 }
 
@@ -183,5 +401,45 @@ fn registers_set_on_one_side(rt: HostRuntime) -> Result<(), Fail> {
         assert_eq!(rt; events.len(), 2);
         assert_eq!(rt; told(&words, events[1]), *second, "input {input}");
     }
+    Ok(())
+}
+
+#[test]
+fn bytes_of_blocks(rt: HostRuntime) -> Result<(), Fail> {
+    let alloc = rt.alloc();
+    let store = Store::new(alloc);
+    let unrolled = Unrolled::new(vec![in alloc; pieces(alloc)?]?, 0, store);
+    let mut dag = Dag::new(alloc);
+    let forms = threads(alloc, &unrolled, &mut dag)?;
+    // The input, and what the first assertion tells.
+    let rows = [
+        (0x0807_0605_0403_0201, None),
+        (0x0807_0605_0403_ffff, None),
+        (0x0807_0605_0403_0504, None),
+        (0x0907_0605_0403_0201, Some("breaks")),
+        (0x0807_0605_1403_0201, Some("breaks")),
+    ];
+    for (input, first) in rows.iter() {
+        let valuation = Valuation::from_values(vec![in alloc; *input]?);
+        let words = dag.words(alloc, &valuation)?;
+        let events = forms[0].events();
+        assert_eq!(rt; events.len(), 3);
+        assert_eq!(rt; told(&words, events[1]), *first, "input {input}");
+        assert_eq!(rt; told(&words, events[2]), None, "input {input}");
+    }
+    Ok(())
+}
+
+// The words of the block are made, and cut into bytes; the code behind them makes a few nodes for each of the
+// bytes that it writes, reads and joins.
+#[test]
+fn nodes_of_a_large_block(rt: HostRuntime) -> Result<(), Fail> {
+    let alloc = rt.alloc();
+    let store = Store::new(alloc);
+    let unrolled = Unrolled::new(vec![in alloc; large(alloc)?]?, 0, store);
+    let mut dag = Dag::new(alloc);
+    let forms = threads(alloc, &unrolled, &mut dag)?;
+    assert_eq!(rt; forms[0].events().len(), 513);
+    assert!(rt; dag.len() <= 4096 + 2 * 512 + 60);
     Ok(())
 }

@@ -1,14 +1,13 @@
 ghost use Rattle.std.specs.Prelude.{◌≡◌, ℕ, true, ◌+◌, slice_index_or, is_some, IfOk};
 ghost use Rattle.c_types.specs.Integers.{width as type_width};
-ghost use Rattle.core_tree.specs.Operations.{read_bits, converted, sign_value, arithmetic_value};
-ghost use Rattle.c_values.specs.Variables.{read_variable};
+ghost use Rattle.core_tree.specs.Operations.{converted, sign_value, arithmetic_value};
 ghost use Rattle.c_values.specs.Numbers.{are_operands_of};
 ghost use Rattle.word_dag.specs.Growth.{Within, Extends};
 ghost use Rattle.word_dag.specs.Meaning.{value};
 ghost use Rattle.value_nodes.specs.Values.{IsWord, IsValue, IsTest};
-ghost use Rattle.goto_prog.specs.Fitting.{is_there, is_register, is_wide, is_block, check_fits, operation_fits};
+ghost use Rattle.goto_prog.specs.Fitting.{is_there, is_register, is_wide, check_fits, operation_fits};
 ghost use Rattle.goto_prog.specs.Meaning.{register, check_class};
-ghost use Rattle.guarded_ssa.specs.Held.{SlotIn, held};
+ghost use Rattle.guarded_ssa.specs.Held.{SlotIn, held, starts_from};
 ghost use Rattle.guarded_ssa.specs.Results.{sets_register, into_of, result_of, class_of};
 
 use crate::liveness::Plan;
@@ -58,37 +57,6 @@ impl Slot {
         ensures value { (v : ℕ → ℕ) → value v dag.now result ≡ register (held v dag.now plan.now.code.now self.now) r }
     {
         self.register(dag, plan, r)
-    }
-
-    // The node of a block of a type.
-    pub fn block(&self, dag: &Dag, plan: &Plan, b: usize, type_: IntegerType) -> Id
-        requires within { SlotIn dag.now plan.now.code.now self.now }
-        requires there { is_block plan.now.code.now.blocks b type_ ≡ true }
-        ensures word { IsWord dag.now result (type_width type_) }
-        ensures value { (v : ℕ → ℕ) → read_variable (held v dag.now plan.now.code.now self.now).blocks b type_ ≡ read_bits type_ (value v dag.now result) }
-    {
-        let _ = dag.nodes();
-        self.blocks[b]
-    }
-
-    // What a load from a block gives.
-    fn loaded(
-        &self,
-        dag: &mut Dag,
-        plan: &Plan,
-        b: usize,
-        type_: IntegerType,
-    ) -> Result<Id, AllocError>
-        requires within { SlotIn dag.old plan.now.code.now self.now }
-        requires there { is_block plan.now.code.now.blocks b type_ ≡ true }
-        ensures extends { Extends dag.old dag.new }
-        ensures made { IfOk result (λ i. IsValue dag.new i (type_width type_) (λ v. read_variable (held v dag.old plan.now.code.now self.now).blocks b type_)) }
-    {
-        let id = self.block(dag, plan, b, type_);
-        match type_ {
-            IntegerType::Bool => converted(dag, type_, type_, id),
-            _ => Ok(id),
-        }
     }
 
     // What a conversion gives.
@@ -162,6 +130,7 @@ impl Slot {
 
     // What an operation gives a register.
     pub fn result(&self, dag: &mut Dag, plan: &Plan, operation: Operation) -> Result<Id, AllocError>
+        requires starts { plan.now.starts.items ≡ starts_from 0 plan.now.code.now.blocks }
         requires within { SlotIn dag.old plan.now.code.now self.now }
         requires fits { operation_fits plan.now.code.now.registers plan.now.code.now.blocks 0 operation ≡ true }
         requires sets { sets_register operation ≡ true }
@@ -179,7 +148,8 @@ impl Slot {
                 into: _,
                 type_,
                 block,
-            } => self.loaded(dag, plan, block, type_),
+                offset,
+            } => self.loaded(dag, plan, block, offset, type_),
             Operation::Convert {
                 into,
                 from,

@@ -1,9 +1,14 @@
 -- The bytes of words as nodes.
-use Rattle.std.proofs.Common.{◌≡◌, ◌<◌, ◌≤◌, ◌+◌, ◌-◌, ◌*◌, ◌/◌, ◌%◌, ◌^◌, ℕ, zero, suc, List, [], ◌∷◌, ◌++◌, length, get_or, map, refl, sym, ◌∙◌, ap, subst, arith, add-one}
-use Rattle.std.specs.Prelude.{All, slice_index}
-use Rattle.std.specs.Int.{byte_at, byte_worth, bytes_low_first}
-use Rattle.std.proofs.lemmas.List.{map_push, get_or-map}
-use Rattle.std.proofs.lemmas.List.Elements.{All-push}
+use Rattle.std.proofs.Common.{◌≡◌, ◌<◌, ◌≤◌, ◌+◌, ◌-◌, ◌*◌, ◌/◌, ◌%◌, ◌^◌, ℕ, zero, suc, true, false, List, [], ◌∷◌, ◌++◌, length, take, drop, get_or, map, refl, sym, ◌∙◌, ap, subst, arith, add-one}
+use Rattle.std.specs.Prelude.{slice_index}
+use Rattle.std.specs.Int.{byte_at, byte_worth, bytes_low_first, sum_through, from_le_bytes}
+use Rattle.std.proofs.lemmas.List.{map_push, get_or-map, get_or-take, take-map, drop-map, length-take-le, length-drop}
+use Rattle.std.proofs.lemmas.List.Elements.{All-push, All-take, All-drop}
+use Rattle.c_types.specs.declared.integers.IntegerType.{IntegerType}
+use Rattle.c_types.specs.declared.integers.IntegerType.TheVariants as types
+use Rattle.c_types.specs.Integers.{width as type_width, bytes as object_bytes, same_integer}
+use Rattle.core_tree.specs.Operations.{truth_bits, is_true}
+use Rattle.c_values.specs.Variables.{storage, low_bytes, number_at}
 use Rattle.std.proofs.Math.Nat.{pow-suc}
 use Rattle.words.proofs.Powers.{pow_split}
 use Rattle.words.specs.Operators.{low_bits, logical_shift}
@@ -16,6 +21,7 @@ use Rattle.word_dag.proofs.Grown.{extends_itself, extends_more, map_stays}
 use Rattle.value_nodes.specs.Values.{IsWord, IsValue, AreBytes}
 use Rattle.value_nodes.specs.Bytes.{AreBytesOf, sum_of_bytes}
 use Rattle.value_nodes.proofs.Made.{word_stays}
+use Rattle.value_nodes.proofs.Conversions.{to_bool, to_other, bool_width}
 
 -- ---- numbers
 
@@ -39,6 +45,12 @@ one_more_byte i zero n = let same : i ≡ i + 0 = omega arith in ap (λ j. byte_
 one_more_byte i (suc k) n =
     let same : suc i + k ≡ i + suc k = omega arith in
     ap (λ bs. byte_at i n ∷ bs) (one_more_byte (suc i) k n ∙ ap (λ j. bytes_low_first (suc i) k n ++ byte_at j n ∷ []) same)
+
+-- the first bytes of more
+take_bytes : (i k n x : ℕ) → k ≤ n → take k (bytes_low_first i n x) ≡ bytes_low_first i k x
+take_bytes i zero n x h = refl
+take_bytes i (suc k) zero x h = absurd (omega (arith, h))
+take_bytes i (suc k) (suc n) x h = ap (λ bs. byte_at i x ∷ bs) (take_bytes (suc i) k n x (omega (arith, h)))
 
 -- ---- a byte of a word
 
@@ -79,6 +91,12 @@ storing_more d e f ids more a i k there s x made is =
             ∙ ap (λ j. bytes_low_first 0 j (value v d a)) (sym (add-one k));
       };
     }
+
+pub stored_all : (d e : List Node) (ids : List Id) (a : Id) (k n w : ℕ) → k ≡ n → 8 * n ≤ w → w ≤ 64 → Storing d e ids a k → AreBytesOf e ids (λ v. low_bytes n (value v d a))
+stored_all d e ids a k n w done h l s = record {
+  words = s.bytes.words;
+  values_are = λ v. s.bytes.values_are v ∙ ap (λ i. bytes_low_first 0 i (value v d a)) done ∙ sym (take_bytes 0 n 8 (value v d a) (omega (arith, h, l)));
+}
 
 -- ---- a word of bytes
 
@@ -126,3 +144,78 @@ joining_more d e f bytes word i next k all j l is x m =
             ∙ ap (sum_of_bytes xs) (sym (add-one k));
       };
     }
+
+-- ---- a read of a block
+
+bytes_through : (xs : List ℕ) (k : ℕ) → sum_of_bytes xs (suc k) ≡ sum_through (λ i. byte_worth i (slice_index xs i)) k
+bytes_through xs zero = let plain : 0 + slice_index xs 0 ≡ slice_index xs 0 = omega arith in plain
+bytes_through xs (suc k) = ap (λ n. n + byte_worth (suc k) (slice_index xs (suc k))) (bytes_through xs k)
+
+bytes_are : (t : IntegerType) (xs : List ℕ) → sum_of_bytes xs (object_bytes t) ≡ from_le_bytes (storage t) xs
+bytes_are types.Bool xs = bytes_through xs 0
+bytes_are types.Char xs = bytes_through xs 0
+bytes_are types.SignedChar xs = bytes_through xs 0
+bytes_are types.UnsignedChar xs = bytes_through xs 0
+bytes_are types.Short xs = bytes_through xs 1
+bytes_are types.UnsignedShort xs = bytes_through xs 1
+bytes_are types.Int xs = bytes_through xs 3
+bytes_are types.UnsignedInt xs = bytes_through xs 3
+bytes_are types.Long xs = bytes_through xs 7
+bytes_are types.UnsignedLong xs = bytes_through xs 7
+bytes_are types.LongLong xs = bytes_through xs 7
+bytes_are types.UnsignedLongLong xs = bytes_through xs 7
+
+width_of_bytes : (t : IntegerType) → 8 * object_bytes t ≡ type_width t
+width_of_bytes types.Bool = refl
+width_of_bytes types.Char = refl
+width_of_bytes types.SignedChar = refl
+width_of_bytes types.UnsignedChar = refl
+width_of_bytes types.Short = refl
+width_of_bytes types.UnsignedShort = refl
+width_of_bytes types.Int = refl
+width_of_bytes types.UnsignedInt = refl
+width_of_bytes types.Long = refl
+width_of_bytes types.UnsignedLong = refl
+width_of_bytes types.LongLong = refl
+width_of_bytes types.UnsignedLongLong = refl
+
+-- what the first bytes say doesn't hang on those behind them
+first_bytes : (xs : List ℕ) (n k : ℕ) → k ≤ n → sum_of_bytes (take n xs) k ≡ sum_of_bytes xs k
+first_bytes xs n zero h = refl
+first_bytes xs n (suc k) h =
+    let rest = first_bytes xs n k (omega (arith, h)) in
+    let here = get_or-take n xs k 0 (omega (arith, h)) in
+    λ i. rest i + byte_worth k (here i)
+
+pub section_bytes : (d : List Node) (block section : List Id) (offset n : ℕ) → section ≡ take n (drop offset block) → AreBytes d block → AreBytes d section
+section_bytes d block section offset n is all =
+    subst (AreBytes d) (sym is) (All-take (λ i. IsWord d i 8) n (drop offset block) (All-drop (λ i. IsWord d i 8) offset block all))
+
+pub section_length : (block section : List Id) (offset n : ℕ) → section ≡ take n (drop offset block) → offset + n ≤ length block → length section ≡ n
+section_length block section offset n is h = ap length is ∙ length-take-le n (drop offset block) (omega (arith, h, length-drop offset block))
+
+module _ (d e : List Node) (t : IntegerType) (block section : List Id) (word : Id) (offset n : ℕ)
+    (made : IsValue e word (8 * length section) (λ v. sum_of_bytes (map (value v d) section) (length section))) (is : section ≡ take n (drop offset block)) (size : n ≡ object_bytes t) (h : offset + object_bytes t ≤ length block) where
+  long : length section ≡ object_bytes t
+  long = section_length block section offset n is (omega (arith, h, size)) ∙ size
+
+  -- the word that the bytes of an object are
+  word_value : (v : ℕ → ℕ) → value v e word ≡ from_le_bytes (storage t) (drop offset (map (value v d) block))
+  word_value v =
+      let xs = drop offset (map (value v d) block) in
+      let same : map (value v d) section ≡ take n xs = ap (map (value v d)) is ∙ sym (take-map (value v d) n (drop offset block)) ∙ ap (take n) (sym (drop-map (value v d) offset block)) in
+      made.value_is v ∙ (λ i. sum_of_bytes (same i) (long i)) ∙ first_bytes xs n (object_bytes t) (omega (arith, size)) ∙ bytes_are t xs
+
+  pub loaded_plain : same_integer t types.Bool ≡ false → IsValue e word (type_width t) (λ v. number_at t offset (map (value v d) block))
+  loaded_plain other = record {
+    there = made.there;
+    width_is = made.width_is ∙ ap (λ k. 8 * k) long ∙ width_of_bytes t;
+    value_is = λ v. word_value v ∙ to_other (same_integer t types.Bool) _ _ other;
+  }
+
+  pub loaded_truth : (f : List Node) (i : Id) → same_integer t types.Bool ≡ true → IsValue f i 8 (λ v. truth_bits (is_true (value v e word))) → IsValue f i (type_width t) (λ v. number_at t offset (map (value v d) block))
+  loaded_truth f i bool truth = record {
+    there = truth.there;
+    width_is = truth.width_is ∙ bool_width t bool;
+    value_is = λ v. truth.value_is v ∙ ap (λ x. truth_bits (is_true x)) (word_value v) ∙ to_bool (same_integer t types.Bool) _ _ bool;
+  }

@@ -1,5 +1,5 @@
 -- Checks as nodes.
-use Rattle.std.proofs.Common.{◌≡◌, ◌<◌, ◌≤◌, ◌-◌, ◌^◌, ℕ, Bool, true, false, not, ◌&&◌, ◌||◌, nat_lt, nat_le, List, Option, Some, None, refl, sym, ◌∙◌, ap, subst, arith, lit≤, inl, inr}
+use Rattle.std.proofs.Common.{◌≡◌, ◌<◌, ◌≤◌, ◌-◌, ◌^◌, ℕ, Bool, true, false, not, ◌&&◌, ◌||◌, nat_lt, List, Some, None, refl, sym, ◌∙◌, ap, subst, arith, lit≤, inl, inr}
 use Rattle.std.specs.Prelude.{◌==◌, pos, int_le, int_lt, is_some, if◌then◌else◌}
 use Rattle.std.proofs.lemmas.Bool.{cases_lt}
 use Rattle.std.proofs.lemmas.Bool.Decides.{nat_tests}
@@ -18,7 +18,7 @@ use Rattle.word_dag.specs.declared.nodes.Node.TheVariants.{Fits}
 use Rattle.word_dag.specs.declared.nodes.FitsTest.TheVariants.{LeftShift}
 use Rattle.word_dag.specs.Meaning.{width, value, holds, bit_value}
 use Rattle.word_dag.specs.Fitting.{is_ordered}
-use Rattle.word_dag.specs.Growth.{Within, Extends, Makes}
+use Rattle.word_dag.specs.Growth.{Extends, Makes}
 use Rattle.word_dag.proofs.Truth.{holds_bit}
 use Rattle.value_nodes.specs.Values.{IsWord, IsTest}
 use Rattle.value_nodes.proofs.Made.{word_below, inverse_of_test}

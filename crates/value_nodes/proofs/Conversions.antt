@@ -1,7 +1,7 @@
 -- Conversions as nodes.
-use Rattle.std.proofs.Common.{◌≡◌, ◌<◌, ◌≤◌, ◌^◌, ◌/◌, ℕ, Bool, true, false, not, List, refl, sym, ◌∙◌, ap, subst, arith}
+use Rattle.std.proofs.Common.{◌≡◌, ◌≤◌, ℕ, Bool, true, false, List, refl, sym, ◌∙◌, ap, subst, arith}
 use Rattle.std.specs.Prelude.{if◌then◌else◌}
-use Rattle.words.specs.Operators.{low_bits, logical_shift, wrapped, sign_extension}
+use Rattle.words.specs.Operators.{low_bits, logical_shift, sign_extension}
 use Rattle.word_dag.specs.declared.nodes.Id.{Id}
 use Rattle.word_dag.specs.declared.nodes.Node.{Node}
 use Rattle.word_dag.specs.declared.nodes.Node.TheVariants.{Cut, SignExtend, ZeroExtend}
@@ -11,16 +11,16 @@ use Rattle.word_dag.specs.Growth.{Makes}
 use Rattle.c_types.specs.declared.integers.IntegerType.{IntegerType}
 use Rattle.c_types.specs.declared.integers.IntegerType.TheVariants as types
 use Rattle.c_types.specs.Integers.{width as type_width, is_signed, same_integer}
-use Rattle.core_tree.specs.Operations.{number, converted, truth_bits, is_true}
+use Rattle.core_tree.specs.Operations.{converted, truth_bits, is_true}
 use Rattle.c_values.proofs.Conversions.{wrapped_narrower, wrapped_signed, wrapped_wider}
 use Rattle.value_nodes.specs.Values.{IsWord, IsValue}
 use Rattle.value_nodes.proofs.Made.{value_made, word_below}
 
-to_bool : (b : Bool) (x y : ℕ) → b ≡ true → x ≡ (if b then x else y)
+pub to_bool : (b : Bool) (x y : ℕ) → b ≡ true → x ≡ (if b then x else y)
 to_bool true x y h = refl
 to_bool false x y h = cc
 
-to_other : (b : Bool) (x y : ℕ) → b ≡ false → y ≡ (if b then x else y)
+pub to_other : (b : Bool) (x y : ℕ) → b ≡ false → y ≡ (if b then x else y)
 to_other true x y h = cc
 to_other false x y h = refl
 
@@ -28,7 +28,7 @@ pub unshifted : (a : ℕ) → logical_shift a 0 ≡ a
 unfolding logical_shift
 unshifted a = omega arith
 
-bool_width : (t : IntegerType) → same_integer t types.Bool ≡ true → 8 ≡ type_width t
+pub bool_width : (t : IntegerType) → same_integer t types.Bool ≡ true → 8 ≡ type_width t
 bool_width types.Bool h = refl
 bool_width types.Char h = refl
 bool_width types.SignedChar h = refl

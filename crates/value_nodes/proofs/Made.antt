@@ -10,14 +10,14 @@ use Rattle.word_dag.specs.declared.nodes.Id.{Id}
 use Rattle.word_dag.specs.declared.nodes.Node.{Node}
 use Rattle.word_dag.specs.declared.nodes.Node.TheVariants.{Not, Binary, Compare, ZeroExtend}
 use Rattle.word_dag.specs.declared.nodes.BinaryOperator.TheVariants.{And, Or}
-use Rattle.word_dag.specs.Meaning.{width, value, widths, values, node_width, node_value, bit_value, holds}
+use Rattle.word_dag.specs.Meaning.{value, widths, values, node_width, node_value, bit_value, holds}
 use Rattle.word_dag.specs.declared.nodes.Comparison.{Comparison}
 use Rattle.word_dag.specs.declared.nodes.Comparison.TheVariants.{SignedLess, UnsignedLess}
 use Rattle.word_dag.specs.Meaning.{comparison_value}
 use Rattle.word_dag.proofs.Truth.{holds_bit, bit_holds}
 use Rattle.word_dag.specs.Fitting.{is_ordered}
 use Rattle.word_dag.proofs.Bounds.{value_below}
-use Rattle.word_dag.specs.Growth.{Within, Extends, Makes}
+use Rattle.word_dag.specs.Growth.{Extends, Makes}
 use Rattle.value_nodes.specs.Values.{IsWord, IsValue, IsTest}
 
 pub value_made : (d e : List Node) (n : Node) (i : Id) (w : ℕ) (f : (ℕ → ℕ) → ℕ)

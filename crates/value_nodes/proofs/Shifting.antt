@@ -1,5 +1,5 @@
 -- Shifts by a count of another width.
-use Rattle.std.proofs.Common.{◌≡◌, ◌<◌, ◌≤◌, ◌^◌, ◌%◌, ◌/◌, ℕ, zero, suc, Bool, true, false, nat_lt, List, refl, sym, ◌∙◌, ap, subst, arith}
+use Rattle.std.proofs.Common.{◌≡◌, ◌<◌, ◌^◌, ◌%◌, ℕ, zero, suc, Bool, true, false, nat_lt, List, sym, ◌∙◌, ap, subst, arith}
 use Rattle.std.specs.Prelude.{if◌then◌else◌}
 use Rattle.std.proofs.Math.Nat.{mod-eq_of_lt}
 use Rattle.std.proofs.lemmas.Bool.Decides.{nat_tests}
@@ -7,7 +7,7 @@ use Rattle.words.specs.Operators.{low_bits, logical_shift}
 use Rattle.std.proofs.Math.Pow.{pow-lt}
 use Rattle.word_dag.specs.declared.nodes.Id.{Id}
 use Rattle.word_dag.specs.declared.nodes.Node.{Node}
-use Rattle.word_dag.specs.declared.nodes.Node.TheVariants.{Constant, Cut, ZeroExtend, Shift, Compare}
+use Rattle.word_dag.specs.declared.nodes.Node.TheVariants.{Constant, Cut, Shift, Compare}
 use Rattle.word_dag.specs.declared.nodes.ShiftKind.{ShiftKind}
 use Rattle.word_dag.specs.declared.nodes.Comparison.TheVariants.{UnsignedLess}
 use Rattle.word_dag.specs.Meaning.{value, width, shift_value, holds, bit_value}

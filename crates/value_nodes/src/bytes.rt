@@ -1,8 +1,8 @@
-ghost use Rattle.std.specs.Prelude.{◌≡◌, ◌+◌, ◌*◌, ◌<◌, ◌≤◌, ◌/◌, ℕ, IfOk, map, length};
+ghost use Rattle.std.specs.Prelude.{◌≡◌, ◌+◌, ◌*◌, ◌<◌, ◌≤◌, ℕ, IfOk, map, length, take, drop};
 ghost use Rattle.std.specs.Int.{byte_at, to_le_bytes, from_le_bytes};
-ghost use Rattle.c_types.specs.Integers.{width as type_width, same_integer};
+ghost use Rattle.c_types.specs.Integers.{width as type_width, bytes as object_bytes, same_integer};
 ghost use Rattle.core_tree.specs.Operations.{read_bits, truth_bits, is_true};
-ghost use Rattle.c_values.specs.Variables.{storage};
+ghost use Rattle.c_values.specs.Variables.{storage, low_bytes, number_at};
 ghost use Rattle.word_dag.specs.Growth.{Extends};
 ghost use Rattle.word_dag.specs.Meaning.{value};
 ghost use Rattle.value_nodes.specs.Values.{IsWord, IsValue, AreBytes};
@@ -25,21 +25,23 @@ fn byte_of(dag: &mut Dag, a: Id, width: u32, place: usize) -> Result<Id, AllocEr
     Ok(id)
 }
 
-/// The bytes of an object that holds this number, the lowest first, each a node of 8 bits (C11 6.2.6.1).
+/// The lowest bytes of a number, so many, the lowest first, each a node of 8 bits (C11 6.2.6.1).
 pub fn stored(
     alloc: Global,
     dag: &mut Dag,
     type_: IntegerType,
     a: Id,
+    count: usize,
 ) -> Result<Vec<Id>, AllocError>
-    requires { IsWord dag.old a (type_width type_) }
+    requires word { IsWord dag.old a (type_width type_) }
+    requires within { 8 * count ≤ type_width type_ }
     ensures extends { Extends dag.old dag.new }
-    ensures made { IfOk result (λ ids. AreBytesOf dag.new ids.items (λ v. to_le_bytes (storage type_) (value v dag.old a))) }
+    ensures made { IfOk result (λ ids. AreBytesOf dag.new ids.items (λ v. low_bytes count (value v dag.old a))) }
 {
-    let count = type_.width() as usize / 8;
+    let width = type_.width();
     let mut bytes = Vec::with_capacity(alloc, count)?;
     for place in 0..count {
-        let id = byte_of(dag, a, type_.width(), place)?;
+        let id = byte_of(dag, a, width, place)?;
         bytes.push(id)?;
     }
     Ok(bytes)
@@ -60,14 +62,21 @@ fn joined(dag: &mut Dag, bytes: &[Id]) -> Result<Id, AllocError>
     Ok(word)
 }
 
-/// The number that a read of an object of the type gives, from its bytes: any nonzero _Bool is 1.
-pub fn loaded(dag: &mut Dag, type_: IntegerType, bytes: &[Id]) -> Result<Id, AllocError>
-    requires length { length bytes.now ≡ type_width type_ / 8 }
-    requires bytes { AreBytes dag.old bytes.now }
+/// The number that a read of an object of the type at an offset gives, from the bytes of a block: any
+/// nonzero _Bool is 1.
+pub fn loaded(
+    dag: &mut Dag,
+    type_: IntegerType,
+    offset: usize,
+    block: &[Id],
+) -> Result<Id, AllocError>
+    requires within { offset + object_bytes type_ ≤ length block.now }
+    requires bytes { AreBytes dag.old block.now }
     ensures extends { Extends dag.old dag.new }
-    ensures made { IfOk result (λ i. IsValue dag.new i (type_width type_) (λ v. read_bits type_ (from_le_bytes (storage type_) (map (value v dag.old) bytes.now)))) }
+    ensures made { IfOk result (λ i. IsValue dag.new i (type_width type_) (λ v. number_at type_ offset (map (value v dag.old) block.now))) }
 {
-    let word = joined(dag, bytes)?;
+    let size = type_.size() as usize;
+    let word = joined(dag, &block[offset..offset + size])?;
     if is_bool(type_) {
         let id = truth_of(dag, word)?;
         return Ok(id);

@@ -57,14 +57,46 @@ fn operations_give_what_c_gives(rt: HostRuntime) -> Result<(), Fail> {
     Ok(())
 }
 
-#[test]
-fn bytes_give_the_number_back(rt: HostRuntime) -> Result<(), Fail> {
+// What a read of a type at an offset gives, in the bytes of 0x0102_0304.
+fn read_back(rt: &HostRuntime, type_: IntegerType, offset: u32) -> Result<u64, Fail> {
     let mut dag = Dag::new(rt.alloc());
     let number = dag.make(Node::Constant(16_909_060, 32))?;
-    let bytes = stored(rt.alloc(), &mut dag, IntegerType::Int, number)?;
-    assert_eq!(rt; bytes.len(), 4);
+    let bytes = stored(rt.alloc(), &mut dag, IntegerType::Int, number, 4)?;
+    let offset = offset as usize;
+    if offset + type_.size() as usize > bytes.len() {
+        return Ok(0);
+    }
+    let word = loaded(&mut dag, type_, offset, &bytes)?;
+    let value = value_of(rt, &dag, word)?;
+    Ok(value)
+}
+
+#[test]
+fn bytes_give_the_number_back(rt: HostRuntime) -> Result<(), Fail> {
+    // The type, the offset, and the number.
+    let rows = [
+        (IntegerType::Int, 0, 16_909_060),
+        (IntegerType::Short, 1, 515),
+        (IntegerType::UnsignedChar, 3, 1),
+        (IntegerType::Bool, 2, 1),
+    ];
+    for (type_, offset, wanted) in rows.iter() {
+        assert_eq!(rt;
+            read_back(&rt, *type_, *offset)?,
+            *wanted,
+            "offset {offset}"
+        );
+    }
+    Ok(())
+}
+
+#[test]
+fn the_lowest_bytes_alone(rt: HostRuntime) -> Result<(), Fail> {
+    let mut dag = Dag::new(rt.alloc());
+    let number = dag.make(Node::Constant(16_909_060, 32))?;
+    let bytes = stored(rt.alloc(), &mut dag, IntegerType::Int, number, 2)?;
+    assert_eq!(rt; bytes.len(), 2);
     assert_eq!(rt; value_of(&rt, &dag, bytes[0])?, 4);
-    let whole = loaded(&mut dag, IntegerType::Int, &bytes)?;
-    assert_eq!(rt; value_of(&rt, &dag, whole)?, 16_909_060);
+    assert_eq!(rt; value_of(&rt, &dag, bytes[1])?, 3);
     Ok(())
 }

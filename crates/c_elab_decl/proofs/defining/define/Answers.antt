@@ -7,4 +7,4 @@ pub take_variables-requires : goal.take_variables-requires
 take_variables-requires c =
     let d = c.args.definition.now in
     (body_there c.args.scope.now c.declare.new.self c.typed_body.new.scope d.line (tree d.body) (view_statement c.in_ok-body.body) c.requires
-    (record { known = c.prove_there.ensures.there; built = c.prove_there.ensures.built_in }) c.in_ok-declare.ensures.declared c.in_ok-body.ensures.gives).known
+    (record { known = c.prove_there.ensures.there; few = c.prove_there.ensures.built_in; complete = c.prove_there.ensures.complete; built = c.prove_there.ensures.built }) c.in_ok-declare.ensures.declared c.in_ok-body.ensures.gives).known

@@ -4,7 +4,7 @@ use Rattle.std.proofs.lemmas.List.{append-nil, drop_all}
 use Rattle.c_tree.specs.declared.declaration.Initializer.{Initializer}
 use Rattle.c_tree.specs.Declarations.{initials_of, view_initializer}
 use Rattle.c_tree.proofs.DeclarationViews.{view_braces}
-use Rattle.core_tree.specs.declared.expression.CoreExpr.{CoreExpr}
+use Rattle.c_elab_expr.specs.declared.operands.CoreOperand.{CoreOperand}
 use Rattle.c_elab_expr.specs.Nodes.{◌>>=◌}
 use Rattle.c_elab_expr.specs.Typing.{Fault}
 use Rattle.c_elab_decl.specs.Initializers.{only, typed_initial, typed_initials}
@@ -36,23 +36,23 @@ typed_initial-returns-in_ok-typed_initials-in-List t c =
 pub typed_initials-loop-initializer-init : goal.typed_initials-loop-initializer-init
 typed_initials-loop-initializer-init t c =
     let whole = typed_initials c.args.scope.now (initials_of c.args.initializers.now) in
-    ap (λ (vs : List (Option CoreExpr)). values_first (views vs) whole) c.new-values.ensures.items ∙ none_first whole
+    ap (λ (vs : List (Option CoreOperand)). values_first (views vs) whole) c.new-operands.ensures.items ∙ none_first whole
 
-pub typed_initials-returns-in_err-value : goal.typed_initials-returns-in_err-value
-typed_initials-returns-in_err-value t c =
+pub typed_initials-returns-in_err-operand : goal.typed_initials-returns-in_err-operand
+typed_initials-returns-in_err-operand t c =
     let p = err_from_is_err_and c.from_residual.result c.from_residual.ensures.1 in
     let s = c.args.scope.now in
     let is = c.args.initializers.now in
     let k = c.loop-initializer.initializer-index in
     let i = c.initializer-item.result in
-    let e = c.in_err-value.field-0.0 in
-    let vs = views c.loop-initializer.values.items in
+    let e = c.in_err-operand.field-0.0 in
+    let vs = views c.loop-initializer.operands.items in
     let whole = typed_initials s (initials_of is) in
     gives_err _ _ p.0 e whole p.1 p.2
     (fails_on e (typed_initial s (view_initializer i)) whole
     (λ f bad. sym c.loop-initializer.invariant ∙ ap (λ xs. values_first vs (typed_initials s xs)) (initials_at is k i (omega arith) c.initializer-item.is)
     ∙ value_fails s (view_initializer i) (initials_of (drop (k + 1) is)) vs f bad)
-    c.in_err-value.ensures)
+    c.in_err-operand.ensures)
 
 pub typed_initials-loop-initializer-preserved : goal.typed_initials-loop-initializer-preserved
 typed_initials-loop-initializer-preserved t c =
@@ -60,14 +60,14 @@ typed_initials-loop-initializer-preserved t c =
     let is = c.args.initializers.now in
     let k = c.loop-initializer.initializer-index in
     let i = c.initializer-item.result in
-    sym (ap (λ xs. values_first (views c.loop-initializer.values.items) (typed_initials s xs)) (initials_at is k i (omega arith) c.initializer-item.is)
-    ∙ value_more s (view_initializer i) (initials_of (drop (k + 1) is)) c.in_ok-value.value c.loop-initializer.values.items c.push.new.self.items c.in_ok-value.ensures c.in_ok-push.ensures.items)
+    sym (ap (λ xs. values_first (views c.loop-initializer.operands.items) (typed_initials s xs)) (initials_at is k i (omega arith) c.initializer-item.is)
+    ∙ value_more s (view_initializer i) (initials_of (drop (k + 1) is)) c.in_ok-operand.operand c.loop-initializer.operands.items c.push.new.self.items c.in_ok-operand.ensures c.in_ok-push.ensures.items)
     ∙ c.loop-initializer.invariant
 
 pub typed_initials-returns : goal.typed_initials-returns
 typed_initials-returns t c =
     let s = c.args.scope.now in
-    let vs = views c.loop-initializer.values.items in
+    let vs = views c.loop-initializer.operands.items in
     let is = c.args.initializers.now in
     sym c.loop-initializer.invariant ∙ ap (λ (xs : List Initializer). values_first vs (typed_initials s (initials_of xs))) (drop_all c.loop-initializer.initializer-index is (omega arith))
     ∙ ap Ok (append-nil vs)

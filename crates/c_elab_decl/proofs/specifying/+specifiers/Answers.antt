@@ -8,7 +8,7 @@ use Rattle.c_tree.specs.Declarations.{view_part, parts_of, members_of}
 use Rattle.c_tree.proofs.DeclarationViews.{view_record}
 use Rattle.c_elab_expr.specs.Nodes.{◌>>=◌}
 use Rattle.c_elab_expr.specs.Typing.{Fault, Gives}
-use Rattle.c_elab_decl.specs.Specifiers.{Parted, Fields, is_none, said_before, typed_line, typed_record, typed_part, typed_parts, typed_members, view_parted, view_fields}
+use Rattle.c_elab_decl.specs.Specifiers.{Parted, Fields, is_none, said_before, typed_line, typed_record, typed_part, typed_parts, typed_members, view_parted}
 use Rattle.c_elab_decl.proofs.Lists.{parts_at, members_at}
 use Rattle.c_elab_decl.proofs.Steps.{fails_on, gives_err}
 use Rattle.c_elab_decl.proofs.specifying.+specifiers.Goals as goal

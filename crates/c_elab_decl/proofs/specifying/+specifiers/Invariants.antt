@@ -1,12 +1,12 @@
 use Rattle.std.proofs.Common.{◌≡◌, ◌≤◌, length, drop}
 use Rattle.c_tree.specs.Declarations.{parts_of, members_of}
-use Rattle.c_elab_decl.specs.Specifiers.{typed_parts, typed_members, view_parted, view_fields}
+use Rattle.c_elab_decl.specs.Specifiers.{typed_parts, typed_members, view_parted, view_typed}
 use Rattle.c_elab_decl.proofs.specifying.+specifiers.Given as goal
 
 abbrev pub invariant-typed_members-loop-member : goal.invariant-typed_members-loop-member
 invariant-typed_members-loop-member l = record {
-  gives : typed_members l.region (view_fields l.types.items l.names l.scope) (members_of (drop l.member-index l.members))
-      ≡ typed_members l.region (view_fields l.initial.types.items l.initial.names l.initial.scope) (members_of l.members);
+  gives : typed_members l.region (view_typed l.fields.items l.names l.scope) (members_of (drop l.member-index l.members))
+      ≡ typed_members l.region (view_typed l.initial.fields.items l.initial.names l.initial.scope) (members_of l.members);
   within : l.region.outer ≤ length l.scope.bindings;
   grows : length l.initial.scope.records.declared ≤ length l.scope.records.declared;
 }

@@ -131,7 +131,7 @@ typed_statement-returns-in_ok-items-in-Block-clause-gives t c =
     ap (λ (k : ℕ). typed_items k s items) (sym c.len-outer.ensures) ∙ ap (λ (is : List Item). typed_items c.len-outer.result s (trees is)) (sym c.deref.ensures.value) in
     let left : c.leave.new.self ≡ record u { bindings = drop (length u.bindings - length s.bindings) u.bindings } =
     c.leave.ensures ∙ ap (λ (k : ℕ). record u { bindings = drop (length u.bindings - k) u.bindings }) c.len-outer.ensures in
-    shape ∙ block_typed s u c.in-Block.line items v (record { known = c.prove_there.ensures.there; built = c.prove_there.ensures.built_in }) (given ∙ c.in_ok-items-in-Block.ensures.gives)
+    shape ∙ block_typed s u c.in-Block.line items v (record { known = c.prove_there.ensures.there; few = c.prove_there.ensures.built_in; complete = c.prove_there.ensures.complete; built = c.prove_there.ensures.built }) (given ∙ c.in_ok-items-in-Block.ensures.gives)
     ∙ ap (λ (x : Scoped). Ok (view_statement (Block v), x)) (sym left)
 
 pub typed_statement-returns-in_ok-items-in-Block-clause-names : goal.typed_statement-returns-in_ok-items-in-Block-clause-names
@@ -144,4 +144,4 @@ typed_statement-returns-in_ok-items-in-Block-clause-names t c =
     ap (λ (k : ℕ). typed_items k s items) (sym c.len-outer.ensures) ∙ ap (λ (is : List Item). typed_items c.len-outer.result s (trees is)) (sym c.deref.ensures.value) in
     let left : c.leave.new.self ≡ record u { bindings = drop (length u.bindings - length s.bindings) u.bindings } =
     c.leave.ensures ∙ ap (λ (k : ℕ). record u { bindings = drop (length u.bindings - k) u.bindings }) c.len-outer.ensures in
-    ap (λ (x : Scoped). x.bindings) left ∙ block_left s u items v (record { known = c.prove_there.ensures.there; built = c.prove_there.ensures.built_in }) (given ∙ c.in_ok-items-in-Block.ensures.gives)
+    ap (λ (x : Scoped). x.bindings) left ∙ block_left s u items v (record { known = c.prove_there.ensures.there; few = c.prove_there.ensures.built_in; complete = c.prove_there.ensures.complete; built = c.prove_there.ensures.built }) (given ∙ c.in_ok-items-in-Block.ensures.gives)

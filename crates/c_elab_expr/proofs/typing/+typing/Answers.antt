@@ -12,12 +12,12 @@ use Rattle.c_tree.specs.Tree.{Declared, inside, view_type_part, view_core, view_
 use Rattle.c_tree.proofs.Views.{view_call, view_cast, view_sizeof_type, view_inside, depth_within, suffix_within}
 use Rattle.c_types.specs.Types.{Records}
 use Rattle.c_types.specs.Types.{view as type_view}
-use Rattle.core_tree.specs.declared.expression.CoreExpr.{CoreExpr}
-use Rattle.core_tree.specs.Trees.{Expression, view}
+use Rattle.c_elab_expr.specs.declared.operands.CoreOperand.{CoreOperand}
+use Rattle.c_elab_expr.specs.Operands.{Operand, view_operand, cast_operand}
 use Rattle.c_elab_expr.specs.Scopes.{Scoped}
-use Rattle.c_elab_expr.specs.Typing.{Fault, Gives, GivesNode, Adds, on_line, called, callee, typed, typed_arguments, lengths, suffix_lengths, behind}
+use Rattle.c_elab_expr.specs.Typing.{Fault, Gives, GivesNode, Adds, on_line, called, callee, typed, typed_arguments, operand, lengths, suffix_lengths, behind}
 use Rattle.c_elab_expr.proofs.Arguments.{fails_on, front, argument_fails, argument_typed, call_fails, call_typed}
-use Rattle.c_elab_expr.specs.Nodes.{◌>>=◌, cast_node}
+use Rattle.c_elab_expr.specs.Nodes.{◌>>=◌}
 use Rattle.c_elab_expr.specs.Types.{type_size}
 use Rattle.c_elab_expr.proofs.Parts.{suffix_more, suffix_fails, inside_adds}
 use Rattle.c_elab_expr.proofs.Casts.{named_type, cast_name_fails, cast_fails, cast_typed, size_name_fails, size_fails, size_typed}
@@ -28,8 +28,8 @@ typed_arguments-returns-in_err-argument t c =
     let p = err_from_is_err_and c.from_residual.result c.from_residual.ensures.1 in
     let scope = c.args.scope.now in
     let es = c.args.exprs.now in
-    rw (p.1, p.2) (fails_on c.in_err-argument.field-0.0 (typed scope (tree c.expr-item.result)) (typed_arguments scope (trees es))
-    (λ f bad. argument_fails scope es c.loop-expr.expr-index c.expr-item.result (map view c.loop-expr.arguments.items) (typed_arguments scope (trees es)) f (omega arith) c.expr-item.is c.loop-expr.invariant bad)
+    rw (p.1, p.2) (fails_on c.in_err-argument.field-0.0 (operand scope (tree c.expr-item.result)) (typed_arguments scope (trees es))
+    (λ f bad. argument_fails scope es c.loop-expr.expr-index c.expr-item.result (map view_operand c.loop-expr.arguments.items) (typed_arguments scope (trees es)) f (omega arith) c.expr-item.is c.loop-expr.invariant bad)
     c.in_err-argument.ensures)
 
 pub typed_arguments-loop-expr-preserved : goal.typed_arguments-loop-expr-preserved
@@ -38,14 +38,14 @@ typed_arguments-loop-expr-preserved t c =
     let es = c.args.exprs.now in
     let before = c.loop-expr.arguments.items in
     let argument = c.in_ok-argument.argument in
-    let items : map view c.push.new.self.items ≡ map view before ++ view argument ∷ [] =
-    ap (λ (xs : List CoreExpr). map view xs) c.in_ok-push.ensures.items ∙ map-append view before (argument ∷ []) in
-    ap (λ (xs : List Expression). front xs (typed_arguments scope (trees (drop (c.loop-expr.expr-index + 1) es)))) items
-    ∙ argument_typed scope es c.loop-expr.expr-index c.expr-item.result (map view before) (typed_arguments scope (trees es)) (view argument) (omega arith) c.expr-item.is c.loop-expr.invariant c.in_ok-argument.ensures
+    let items : map view_operand c.push.new.self.items ≡ map view_operand before ++ view_operand argument ∷ [] =
+    ap (λ (xs : List CoreOperand). map view_operand xs) c.in_ok-push.ensures.items ∙ map-append view_operand before (argument ∷ []) in
+    ap (λ (xs : List Operand). front xs (typed_arguments scope (trees (drop (c.loop-expr.expr-index + 1) es)))) items
+    ∙ argument_typed scope es c.loop-expr.expr-index c.expr-item.result (map view_operand before) (typed_arguments scope (trees es)) (view_operand argument) (omega arith) c.expr-item.is c.loop-expr.invariant c.in_ok-argument.ensures
 
 front_none : (scope : Scoped) (es : List Expr) → front [] (typed_arguments scope (trees es)) ≡ typed_arguments scope (trees es)
 front_none scope es = by_result (typed_arguments scope (trees es)) where
-  by_result : (r : Result (List Expression) Fault) → front [] r ≡ r
+  by_result : (r : Result (List Operand) Fault) → front [] r ≡ r
   by_result (Ok xs) = refl
   by_result (Err f) = refl
 
@@ -53,12 +53,12 @@ pub typed_arguments-loop-expr-init : goal.typed_arguments-loop-expr-init
 typed_arguments-loop-expr-init t c =
     let scope = c.args.scope.now in
     let es = c.args.exprs.now in
-    ap (λ (xs : List CoreExpr). front (map view xs) (typed_arguments scope (trees es))) c.new-arguments.ensures.items ∙ front_none scope es
+    ap (λ (xs : List CoreOperand). front (map view_operand xs) (typed_arguments scope (trees es))) c.new-arguments.ensures.items ∙ front_none scope es
 
 pub typed_arguments-returns : goal.typed_arguments-returns
 typed_arguments-returns t c =
     let scope = c.args.scope.now in
-    let xs = map view c.loop-expr.arguments.items in
+    let xs = map view_operand c.loop-expr.arguments.items in
     let none : drop c.loop-expr.expr-index c.args.exprs.now ≡ [] = drop_all c.loop-expr.expr-index c.args.exprs.now (omega arith) in
     sym c.loop-expr.invariant ∙ ap (λ (es : List Expr). front xs (typed_arguments scope (trees es))) none ∙ ap Ok (append-nil xs)
 
@@ -72,7 +72,7 @@ typed_expr-returns-in_err-arguments-in-Call t c =
     let same_f = ap tree c.deref-in-Call.ensures in
     let same_args = ap trees c.deref-in-Call-2.ensures.value in
     let m = c.in_ok-callee-in-Call.callee in
-    let means : callee scope f (typed scope f) ≡ Ok m = ap (λ (x : Tree). callee scope x (typed scope x)) (sym same_f) ∙ c.in_ok-callee-in-Call.ensures in
+    let means : callee scope f (operand scope f) ≡ Ok m = ap (λ (x : Tree). callee scope x (operand scope x)) (sym same_f) ∙ c.in_ok-callee-in-Call.ensures in
     rw (p.1, p.2) (fails_on c.in_err-arguments-in-Call.field-0.0 (typed_arguments scope (trees c.deref-in-Call-2.result.now)) (typed scope (tree c.args.expr.now))
     (λ bad e. ap (typed scope) shape ∙ call_fails scope f args m bad means (ap (typed_arguments scope) (sym same_args) ∙ e))
     c.in_err-arguments-in-Call.ensures)
@@ -86,18 +86,18 @@ typed_expr-returns-in_ok-arguments-in-Call t c =
     let same_f = ap tree c.deref-in-Call.ensures in
     let same_args = ap trees c.deref-in-Call-2.ensures.value in
     let m = c.in_ok-callee-in-Call.callee in
-    let xs = map view c.in_ok-arguments-in-Call.arguments.items in
-    let means : callee scope f (typed scope f) ≡ Ok m = ap (λ (x : Tree). callee scope x (typed scope x)) (sym same_f) ∙ c.in_ok-callee-in-Call.ensures in
+    let xs = map view_operand c.in_ok-arguments-in-Call.arguments.items in
+    let means : callee scope f (operand scope f) ≡ Ok m = ap (λ (x : Tree). callee scope x (operand scope x)) (sym same_f) ∙ c.in_ok-callee-in-Call.ensures in
     let typing : typed_arguments scope args ≡ Ok xs = ap (typed_arguments scope) (sym same_args) ∙ c.in_ok-arguments-in-Call.ensures in
     let node = called m xs in
     let line : on_line (first_line (tree c.deref-in-Call-3.result.now)) node ≡ on_line (first_line f) node = ap (λ (e : Expr). on_line (first_line (tree e)) node) c.deref-in-Call-3.ensures in
     let same : on_line (first_line (tree c.deref-in-Call-3.result.now)) node ≡ typed scope (tree c.args.expr.now) = line ∙ sym (ap (typed scope) shape ∙ call_typed scope f args m xs means typing) in
-    subst (λ (r : Result Expression Fault). Gives view c.placed-in-Call.result r) same (c.placed-in-Call.ensures node c.called.ensures)
+    subst (λ (r : Result Operand Fault). Gives view_operand c.placed-in-Call.result r) same (c.placed-in-Call.ensures node c.called.ensures)
 
 -- ---- measures
 
-pub typed_arguments-typed_expr-requires : goal.typed_arguments-typed_expr-requires
-typed_arguments-typed_expr-requires t c =
+pub typed_arguments-used_expr-requires : goal.typed_arguments-used_expr-requires
+typed_arguments-used_expr-requires t c =
     let below = depth_within c.args.exprs.now c.loop-expr.expr-index c.expr-item.result (omega arith) in
     let e = ap (λ (e : Expr). depth (tree e)) c.expr-item.is in
     (omega (arith, below, e), tt)
@@ -200,8 +200,8 @@ typed_expr-returns-in_err-core-in-Cast t c =
     let name = c.in-Cast.type_name.value in
     let shape = ap tree c.in-Cast.is ∙ view_cast c.in-Cast.line c.in-Cast.type_name c.in-Cast.operand in
     let same = ap (named_type s) c.deref-in-Cast.ensures in
-    let other = ap (λ (e : Expr). typed s (tree e)) c.deref-in-Cast-2.ensures in
-    rw (p.1, p.2) (fails_on c.in_err-core-in-Cast.field-0.0 (typed s (tree c.deref-in-Cast-2.result.now)) (typed s (tree c.args.expr.now))
+    let other = ap (λ (e : Expr). operand s (tree e)) c.deref-in-Cast-2.ensures in
+    rw (p.1, p.2) (fails_on c.in_err-core-in-Cast.field-0.0 (operand s (tree c.deref-in-Cast-2.result.now)) (typed s (tree c.args.expr.now))
     (λ f bad. ap (typed s) shape ∙ cast_fails s c.in-Cast.line (map view_type_part name.specifiers.items) (view_declarator name.declarator) (tree c.in-Cast.operand.value) (type_view c.in_ok-type_-in-Cast.type_) f
     (sym same ∙ c.in_ok-type_-in-Cast.ensures) (sym other ∙ bad))
     c.in_err-core-in-Cast.ensures)
@@ -212,13 +212,13 @@ typed_expr-returns-in_ok-core-in-Cast t c =
     let name = c.in-Cast.type_name.value in
     let shape = ap tree c.in-Cast.is ∙ view_cast c.in-Cast.line c.in-Cast.type_name c.in-Cast.operand in
     let same = ap (named_type s) c.deref-in-Cast.ensures in
-    let other = ap (λ (e : Expr). typed s (tree e)) c.deref-in-Cast-2.ensures in
+    let other = ap (λ (e : Expr). operand s (tree e)) c.deref-in-Cast-2.ensures in
     let u = type_view c.in_ok-type_-in-Cast.type_ in
-    let x = view c.in_ok-core-in-Cast.core in
-    let whole : on_line c.in-Cast.line (cast_node u x) ≡ typed s (tree c.args.expr.now) =
+    let x = view_operand c.in_ok-core-in-Cast.core in
+    let whole : on_line c.in-Cast.line (cast_operand u x) ≡ typed s (tree c.args.expr.now) =
     sym (ap (typed s) shape ∙ cast_typed s c.in-Cast.line (map view_type_part name.specifiers.items) (view_declarator name.declarator) (tree c.in-Cast.operand.value) u x
     (sym same ∙ c.in_ok-type_-in-Cast.ensures) (sym other ∙ c.in_ok-core-in-Cast.ensures)) in
-    subst (λ (r : Result Expression Fault). Gives view c.placed_at-in-Cast.result r) whole (c.placed_at-in-Cast.ensures (cast_node u x) c.cast_node.ensures)
+    subst (λ (r : Result Operand Fault). Gives view_operand c.placed_at-in-Cast.result r) whole (c.placed_at-in-Cast.ensures (cast_operand u x) c.cast_operand.ensures)
 
 pub typed_expr-returns-in_err-type_-in-SizeofType : goal.typed_expr-returns-in_err-type_-in-SizeofType
 typed_expr-returns-in_err-type_-in-SizeofType t c =
@@ -257,4 +257,4 @@ typed_expr-returns-in_ok-size-in-SizeofType t c =
     ap (typed s) shape
     ∙ size_typed s c.in-SizeofType.line (map view_type_part name.specifiers.items) (view_declarator name.declarator) u c.in_ok-size-in-SizeofType.size
     (sym same ∙ c.in_ok-type_-in-SizeofType.ensures) (c.in_ok-size-in-SizeofType.ensures size node)
-    ∙ ap Ok (sym c.size_node.ensures)
+    ∙ ap Ok (sym c.sized.ensures)

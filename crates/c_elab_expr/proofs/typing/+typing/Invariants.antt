@@ -1,13 +1,13 @@
 use Rattle.std.proofs.Common.{◌≡◌, ◌+◌, ◌*◌, drop, map}
 use Rattle.c_tree.specs.Tree.{view as tree, views_of as trees}
 use Rattle.c_tree.specs.Tree.{view_declarator, view_suffix, no_suffix, suffixes_of, depth, depth_of, declared_depth, suffixes_depth}
-use Rattle.core_tree.specs.Trees.{view}
+use Rattle.c_elab_expr.specs.Operands.{view_operand}
 use Rattle.c_elab_expr.specs.Typing.{typed_arguments, suffix_lengths, behind}
 use Rattle.c_elab_expr.proofs.Arguments.{front}
 use Rattle.c_elab_expr.proofs.typing.+typing.Given as goal
 
 abbrev pub invariant-typed_arguments-loop-expr : goal.invariant-typed_arguments-loop-expr
-invariant-typed_arguments-loop-expr l = front (map view l.arguments.items) (typed_arguments l.scope (trees (drop l.expr-index l.exprs))) ≡ typed_arguments l.scope (trees l.exprs)
+invariant-typed_arguments-loop-expr l = front (map view_operand l.arguments.items) (typed_arguments l.scope (trees (drop l.expr-index l.exprs))) ≡ typed_arguments l.scope (trees l.exprs)
 
 abbrev pub invariant-add_suffixes-loop-suffix : goal.invariant-add_suffixes-loop-suffix
 invariant-add_suffixes-loop-suffix l =
@@ -17,22 +17,22 @@ abbrev pub decreases-typed_expr : goal.decreases-typed_expr
 decreases-typed_expr l = 8 * depth (tree l.expr.now)
 
 abbrev pub decreases-callee : goal.decreases-callee
-decreases-callee l = 8 * depth (tree l.function.now) + 1
+decreases-callee l = 8 * depth (tree l.function.now) + 2
 
 abbrev pub decreases-operand_size : goal.decreases-operand_size
 decreases-operand_size l = 8 * depth (tree l.operand.now) + 1
 
 abbrev pub decreases-typed_arguments : goal.decreases-typed_arguments
-decreases-typed_arguments l = 8 * depth_of (trees l.exprs.now) + 1
+decreases-typed_arguments l = 8 * depth_of (trees l.exprs.now) + 2
 
 abbrev pub decreases-bound : goal.decreases-bound
-decreases-bound l = 8 * depth (tree l.expr.now) + 1
+decreases-bound l = 8 * depth (tree l.expr.now) + 2
 
 abbrev pub decreases-add_suffix : goal.decreases-add_suffix
-decreases-add_suffix l = 8 * suffixes_depth (view_suffix l.suffix.now no_suffix) + 2
+decreases-add_suffix l = 8 * suffixes_depth (view_suffix l.suffix.now no_suffix) + 3
 
 abbrev pub decreases-add_suffixes : goal.decreases-add_suffixes
-decreases-add_suffixes l = 8 * suffixes_depth (suffixes_of l.suffixes.now) + 3
+decreases-add_suffixes l = 8 * suffixes_depth (suffixes_of l.suffixes.now) + 4
 
 abbrev pub decreases-add_lengths : goal.decreases-add_lengths
 decreases-add_lengths l = 8 * declared_depth (view_declarator l.declarator.now) + 5
@@ -42,3 +42,6 @@ decreases-lengths l = 8 * declared_depth (view_declarator l.declarator.now) + 6
 
 abbrev pub decreases-type_named : goal.decreases-type_named
 decreases-type_named l = 8 * declared_depth (view_declarator l.name.now.declarator) + 7
+
+abbrev pub decreases-used_expr : goal.decreases-used_expr
+decreases-used_expr l = 8 * depth (tree l.expr.now) + 1

@@ -14,6 +14,6 @@ operate-requires c =
     let l = c.args.look.now in
     let n = c.in-Arithmetic in
     let P : CoreExpr → Type 0 = λ e. FitsIn l (finish_of (view e)) in
-    let fit = operates_fit l.types.now (items_behind l) (values_on l) n.line n.operator (subst P n.is c.requires) in
+    let fit = operates_fit l.sizes.now (items_behind l) (values_on l) n.line n.operator (subst P n.is c.requires) in
     ap (λ (x : TypedNumber). are_operands_of n.operator x.type c.top_of-x.result.type) c.second_of.ensures
     ∙ ap (λ (y : TypedNumber). are_operands_of n.operator (second (values_on l)).type y.type) c.top_of-x.ensures ∙ fit

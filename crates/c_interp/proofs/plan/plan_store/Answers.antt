@@ -7,5 +7,5 @@ use Rattle.c_interp.proofs.plan.plan_store.Goals as goal
 pub retyped-value-requires : goal.retyped-value-requires
 retyped-value-requires c =
     let l = c.args.look.now in
-    let fit = stores_fit l.types.now (items_behind l) (values_on l) c.args.place c.requires in
+    let fit = stores_fit l.sizes.now (items_behind l) (values_on l) c.args.place c.requires in
     ap (λ n. width n.type) c.top_of-number.ensures ∙ fit ∙ ap width (sym c.type_of_place.ensures)

@@ -5,4 +5,4 @@ use Rattle.c_interp.proofs.tests.file.Goals as goal
 
 pub new-requires-clause-typed : goal.new-requires-clause-typed
 new-requires-clause-typed c =
-    one_typed _ _ (items_of c.args.items.items) c.in_ok-functions.ensures c.in_ok-variables.ensures.items (view_block c.args.items) c.requires
+    one_typed _ _ c.args.sizes (items_of c.args.items.items) c.in_ok-functions.ensures c.in_ok-variables.ensures.items (view_block c.args.items) c.requires

@@ -13,7 +13,7 @@ use Rattle.goto_prog.proofs.tests.checks.Goals as goal
 abbrev registers : List IntegerType
 registers = types.Int ∷ types.Int ∷ types.Int ∷ types.Int ∷ types.Int ∷ types.SignedChar ∷ []
 
-abbrev blocks : List IntegerType
+abbrev blocks : List ℕ
 blocks = []
 
 abbrev line : ℕ → Operation → Instruction

@@ -14,8 +14,8 @@ use Rattle.goto_prog.proofs.tests.values.Goals as goal
 abbrev registers : List IntegerType
 registers = types.Int ∷ types.Int ∷ types.Int ∷ types.Int ∷ types.Int ∷ types.SignedChar ∷ []
 
-abbrev blocks : List IntegerType
-blocks = types.Int ∷ []
+abbrev blocks : List ℕ
+blocks = 4 ∷ []
 
 abbrev line : ℕ → Operation → Instruction
 line n o = record { line = n; function = 7; operation = o }
@@ -24,8 +24,8 @@ abbrev listed : ℕ → ℕ → List Instruction
 listed left right =
     line 1 (operations.Constant 0 left)
     ∷ line 1 (operations.Constant 1 right)
-    ∷ line 2 (operations.Store types.Int 0 0)
-    ∷ line 2 (operations.Load 2 types.Int 0)
+    ∷ line 2 (operations.Store 0 0 4 0)
+    ∷ line 2 (operations.Load 2 types.Int 0 0)
     ∷ line 3 (operations.Convert 5 types.Int types.SignedChar 2)
     ∷ line 3 (operations.Convert 2 types.SignedChar types.Int 5)
     ∷ line 4 (operations.Sign 2 signs.Minus types.Int 2)

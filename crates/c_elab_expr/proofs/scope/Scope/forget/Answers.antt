@@ -11,7 +11,7 @@ invariant_of-self c =
     let rest = c.pop.new.self.items in
     let bound = c.in-Some.bound in
     let b = binding bound.name.items bound.meaning in
-    let variables = c.self.inside.variables.items in
+    let variables = length (map view_named c.self.inside.variables.items) in
     let types = length (map view_named c.self.inside.types.items) in
     let records = length c.self.inside.layouts.declared in
     let split : environment bounds ≡ b ∷ environment rest = ap environment c.in-Some.ensures.items ∙ environment_push rest bound in
@@ -26,6 +26,8 @@ invariant_of-self c =
       others,
       c.self.invariant.3,
       c.self.invariant.4,
+      c.self.invariant.5,
+      c.self.invariant.6,
     )
 
 pub unreachable-requires : goal.unreachable-requires

@@ -4,4 +4,4 @@ use Rattle.c_interp.specs.View.{running_of, state_of}
 use Rattle.c_interp.proofs.thread.Thread.next.Goals as goal
 
 pub returns : goal.returns
-returns c = c.next_of.ensures ∙ halt_next (running_of c.args.self.now) (state_of c.args.self.now) c.args.plan c.requires
+returns c = c.next_of.ensures ∙ halt_next (running_of c.args.self.now) (state_of c.args.self.now) c.args.halt c.requires

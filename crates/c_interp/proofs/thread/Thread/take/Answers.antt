@@ -1,6 +1,6 @@
 use Rattle.std.proofs.Common.{◌≡◌, [], ◌∷◌, subst}
 use Rattle.actions.specs.Behaviour.{answered}
-use Rattle.c_interp.specs.declared.task.Plan.{Plan}
+use Rattle.c_interp.specs.declared.task.Halt.{Halt}
 use Rattle.c_interp.specs.Items.{state, left}
 use Rattle.c_interp.specs.Tasks.{values_in}
 use Rattle.c_interp.specs.Halts.{leave_after}
@@ -13,7 +13,7 @@ returns-in-Leaves-clause-ok c =
     let o = c.args.self.now in
     let u = c.leave.new.self in
     let a = c.args.answer.now in
-    let P : Plan → Type 0 = λ p. Halts o p in
+    let P : Halt → Type 0 = λ p. Halts o p in
     let halts = subst P c.in-Leaves.is c.requires.halts in
     let s = state (left ∷ []) (values_in o.numbers.items) o.variables.items in
     let b = leave_after (running_of o) (state_of o) a c.in-Leaves.field-0 halts c.requires.accepts in

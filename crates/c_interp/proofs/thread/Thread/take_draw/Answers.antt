@@ -27,15 +27,15 @@ apply-requires-clause-step c =
     let m = c.make_room.new.self in
     let D : Running → State → Type 0 = λ r s. IsDraw (move r s) c.args.bits c.args.line in
     let d = subst (D (running_of m)) (sym c.make_room.ensures.state) (subst (λ r. D r (state_of o)) (sym c.make_room.ensures.running) c.requires.draw) in
-    let w : AnswersDraw (behind (items_in m.tasks.items)) (values_in m.numbers.items) m.variables.items (move (running_of m) (state_of m)) c.args.answer.now c.in_ok-change.change = search rules in
-    fits_drawn (running_of m) (state_of m) c.args.answer.now c.in_ok-change.change c.args.bits c.args.line m.typed d w
+    let w : AnswersDraw (behind (items_in m.tasks.items)) (values_in m.numbers.items) m.variables.items (move (running_of m) (state_of m)) c.args.answer.now c.in-Goes.change = search rules in
+    fits_drawn (running_of m) (state_of m) c.args.answer.now c.in-Goes.change c.args.bits c.args.line m.typed d w
 
 pub returns-clause-ok : goal.returns-clause-ok
 returns-clause-ok c =
     let o = c.args.self.now in
     let m = c.make_room.new.self in
     let u = c.apply.new.self in
-    let x = c.in_ok-change.change in
+    let x = c.in-Goes.change in
     let D : Running → State → Type 0 = λ r s. IsDraw (move r s) c.args.bits c.args.line in
     let A : Running → State → Type 0 = λ r s. accepts (behaves r s []) c.args.answer.now ≡ true in
     let d = subst (D (running_of m)) (sym c.make_room.ensures.state) (subst (λ r. D r (state_of o)) (sym c.make_room.ensures.running) c.requires.draw) in

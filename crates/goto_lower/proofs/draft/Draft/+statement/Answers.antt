@@ -9,7 +9,7 @@ use Rattle.goto_lower.proofs.draft.Draft.+statement.Goals as goal
 pub item-returns-in_ok-value-in-Initialize : goal.item-returns-in_ok-value-in-Initialize
 item-returns-in_ok-value-in-Initialize t c =
     let i = c.in-Initialize in
-    rw c.in-Initialize.is (λ rest. ok_maps _ _ _ (λ same. initialize_adds c.args.self.now c.expression.new.self c.store_variable.new.self (view i.value) c.in_ok-value-in-Initialize.value i.line i.variable i.drawn rest c.in_ok-value-in-Initialize.ensures same) c.store_variable.ensures)
+    rw c.in-Initialize.is (λ rest. ok_maps _ _ _ (λ same. initialize_adds c.args.self.now c.expression.new.self c.initialize.new.self (view i.value) c.in_ok-value-in-Initialize.value i.line i.variable i.drawn rest c.in_ok-value-in-Initialize.ensures same) c.initialize.ensures)
 
 pub item-returns-in-Statement : goal.item-returns-in-Statement
 item-returns-in-Statement t c =

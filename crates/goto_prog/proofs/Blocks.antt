@@ -1,0 +1,100 @@
+-- The blocks keep their sizes.
+use Rattle.std.proofs.Common.{◌≡◌, ℕ, ◌+◌, ◌*◌, ◌<◌, ◌≤◌, true, ◌&&◌, nat_lt, List, [], ◌∷◌, ◌++◌, map, length, take, drop, refl, sym, ap, subst, ◌∙◌, arith, get_or}
+use Rattle.std.specs.Prelude.{◌==◌, nat_le, slice_set, slice_index, slice_index_or}
+use Rattle.std.specs.Int.{w64, to_le_bytes}
+use Rattle.std.proofs.Math.ListN.{get_or-map}
+use Rattle.std.proofs.Math.Seq.{map-set_same}
+use Rattle.std.proofs.lemmas.Bool.Decides.{nat_tests}
+use Rattle.std.proofs.lemmas.List.{get_or_default, length-map, length-append, length-take-le, length-drop, length-replicate}
+use Rattle.c_types.specs.declared.integers.IntegerType.{IntegerType}
+use Rattle.c_types.specs.declared.integers.IntegerType.TheVariants as types
+use Rattle.c_types.specs.Integers.{width}
+use Rattle.core_tree.specs.Typed.{is_within}
+use Rattle.c_values.specs.Variables.{low_bytes, put_at, zeros, block_of, first_variables}
+use Rattle.goto_prog.specs.Fitting.{has_bytes, is_block, is_there}
+use Rattle.goto_prog.proofs.Registers.{both, test_below, at_most_64}
+
+test_within : (m n : ℕ) → nat_le m n ≡ true → m ≤ n
+test_within m n h = grind (arith, nat_tests)
+
+equal_sizes : (m n : ℕ) → (m == n) ≡ true → m ≡ n
+equal_sizes m n h = grind (arith, nat_tests)
+
+-- ---- a register with so many bytes
+
+eight : (count w : ℕ) → 8 * count ≤ w → w ≤ 64 → count ≤ 8
+eight count w few most = omega (arith, few, most)
+
+pub bytes_there : (rs : List IntegerType) (r count : ℕ) → has_bytes rs r count ≡ true → is_there rs r ≡ true
+bytes_there rs r count has =
+    let w = width (slice_index_or rs r types.Int) in
+    (both (nat_lt r (length rs)) (nat_le 1 count) (both (nat_lt r (length rs) && nat_le 1 count) (nat_le (8 * count) w) has).0).0
+
+pub bytes_few : (rs : List IntegerType) (r count : ℕ) → has_bytes rs r count ≡ true → count ≤ 8
+bytes_few rs r count has =
+    let t = slice_index_or rs r types.Int in
+    eight count (width t) (test_within (8 * count) (width t) (both (nat_lt r (length rs) && nat_le 1 count) (nat_le (8 * count) (width t)) has).1) (at_most_64 t)
+
+-- ---- sizes
+
+-- a block has its size
+size_at : (sizes : List ℕ) (blocks : List (List ℕ)) (b : ℕ) → map length blocks ≡ sizes → slice_index sizes b ≡ length (block_of blocks b)
+size_at sizes blocks b same = ap (λ xs. slice_index xs b) (sym same) ∙ get_or-map length blocks b []
+
+there_among : (sizes : List ℕ) (blocks : List (List ℕ)) (b : ℕ) → map length blocks ≡ sizes → nat_lt b (length sizes) ≡ true → b < length blocks
+there_among sizes blocks b same lt =
+    let there = test_below b (length sizes) lt in
+    let count : length blocks ≡ length sizes = sym (length-map blocks length) ∙ ap length same in
+    omega (arith, there, count)
+
+pub block_there : (sizes : List ℕ) (blocks : List (List ℕ)) (b offset count : ℕ) → map length blocks ≡ sizes → is_within sizes b offset count ≡ true → b < length blocks
+block_there sizes blocks b offset count same within =
+    there_among sizes blocks b same (both (nat_lt b (length sizes)) (nat_le (offset + count) (slice_index sizes b)) within).0
+
+room : (sizes : List ℕ) (blocks : List (List ℕ)) (b offset count : ℕ) → map length blocks ≡ sizes → is_within sizes b offset count ≡ true → offset + count ≤ length (block_of blocks b)
+room sizes blocks b offset count same within =
+    let fits = test_within (offset + count) (slice_index sizes b) (both (nat_lt b (length sizes)) (nat_le (offset + count) (slice_index sizes b)) within).1 in
+    subst (λ n. offset + count ≤ n) (size_at sizes blocks b same) fits
+
+-- a block that is there is the same whatever stands for one that isn't
+pub block_room : (sizes : List ℕ) (blocks : List (List ℕ)) (b offset count : ℕ) (d : List ℕ) → map length blocks ≡ sizes → is_within sizes b offset count ≡ true → offset + count ≤ length (get_or blocks b d)
+block_room sizes blocks b offset count d same within =
+    subst (λ (block : List ℕ). offset + count ≤ length block) (get_or_default blocks b [] d (block_there sizes blocks b offset count same within)) (room sizes blocks b offset count same within)
+
+low_count : (count bits : ℕ) → count ≤ 8 → length (low_bytes count bits) ≡ count
+low_count count bits few = length-take-le count (to_le_bytes w64 bits) few
+
+put_size : (at : ℕ) (new old : List ℕ) → at + length new ≤ length old → length (put_at at new old) ≡ length old
+put_size at new old fits =
+    let front = length-take-le at old (omega (arith, fits)) in
+    let rest = length-append new (drop (at + length new) old) in
+    let all = length-append (take at old) (new ++ drop (at + length new) old) in
+    omega (arith, fits, front, rest, all, length-drop (at + length new) old)
+
+-- a write leaves the sizes
+pub sizes_put : (sizes : List ℕ) (blocks : List (List ℕ)) (b offset count bits : ℕ) (d : List ℕ) → map length blocks ≡ sizes → is_within sizes b offset count ≡ true → count ≤ 8
+    → map length (slice_set blocks b (put_at offset (low_bytes count bits) (get_or blocks b d))) ≡ sizes
+sizes_put sizes blocks b offset count bits d same within few =
+    let block = get_or blocks b d in
+    let fits = subst (λ n. offset + n ≤ length block) (sym (low_count count bits few)) (block_room sizes blocks b offset count d same within) in
+    map-set_same length blocks b (put_at offset (low_bytes count bits) block) d (put_size offset (low_bytes count bits) block fits) ∙ same
+
+pub clear_there : (sizes : List ℕ) (blocks : List (List ℕ)) (b size : ℕ) → map length blocks ≡ sizes → is_block sizes b size ≡ true → b < length blocks
+clear_there sizes blocks b size same is = there_among sizes blocks b same (both (nat_lt b (length sizes)) (size == slice_index sizes b) is).0
+
+clear_size : (sizes : List ℕ) (blocks : List (List ℕ)) (b size : ℕ) → map length blocks ≡ sizes → is_block sizes b size ≡ true → length (block_of blocks b) ≡ size
+clear_size sizes blocks b size same is =
+    sym (equal_sizes size (slice_index sizes b) (both (nat_lt b (length sizes)) (size == slice_index sizes b) is).1 ∙ size_at sizes blocks b same)
+
+-- the bytes of a block that is cleared
+pub zeros_of : (sizes : List ℕ) (blocks : List (List ℕ)) (b size : ℕ) (d : List ℕ) → map length blocks ≡ sizes → is_block sizes b size ≡ true → zeros (length (get_or blocks b d)) ≡ zeros size
+zeros_of sizes blocks b size d same is =
+    ap (λ (block : List ℕ). zeros (length block)) (get_or_default blocks b d [] (clear_there sizes blocks b size same is)) ∙ ap zeros (clear_size sizes blocks b size same is)
+
+pub sizes_cleared : (sizes : List ℕ) (blocks : List (List ℕ)) (b : ℕ) (d : List ℕ) → map length blocks ≡ sizes → map length (slice_set blocks b (zeros (length (get_or blocks b d)))) ≡ sizes
+sizes_cleared sizes blocks b d same =
+    map-set_same length blocks b (zeros (length (get_or blocks b d))) d (length-replicate (length (get_or blocks b d)) 0) ∙ same
+
+pub first_sizes : (sizes : List ℕ) → map length (first_variables sizes) ≡ sizes
+first_sizes [] = refl
+first_sizes (size ∷ sizes) = λ k. length-replicate {A = ℕ} size 0 k ∷ first_sizes sizes k

@@ -1,0 +1,56 @@
+ghost use Rattle.std.specs.Prelude.{◌≡◌, ◌+◌, ◌≤◌, length, IfOk};
+ghost use Rattle.c_values.specs.Variables.{low_bytes, put_at, zeros, number_at};
+ghost use Rattle.c_values.specs.Numbers.{typed};
+
+use c_types::IntegerType;
+use c_values::{Number, read_block, write_block};
+use std::alloc::{AllocError, Global};
+use std::marker::Model;
+
+// The bytes of a block.
+#[derive(Drop)]
+pub struct Block {
+    bytes: Vec<u8>,
+}
+
+impl Model for Block {
+    ghost use Rattle.std.specs.Prelude.{List, ℕ};
+
+    ghost Value = { List ℕ };
+
+    ghost view = { λ b. b.bytes.items };
+}
+
+impl Block {
+    // So many bytes that are 0.
+    pub fn new(alloc: Global, size: u32) -> Result<Block, AllocError>
+        ensures { IfOk result (λ b. b ≡ zeros size) }
+    {
+        Ok(Block {
+            bytes: vec![in alloc; 0; size as usize]?,
+        })
+    }
+
+    // The number of a type at an offset.
+    pub fn number(&self, offset: u32, type_: IntegerType) -> Number
+        ensures { result ≡ typed type_ (number_at type_ offset self.now) }
+    {
+        read_block(&self.bytes, offset as usize, type_)
+    }
+
+    // Writes the lowest bytes of a word, so many, from an offset on.
+    pub fn write(&mut self, offset: u32, count: u32, bits: u64)
+        requires few { count ≤ 8 }
+        requires within { offset + count ≤ length self.old }
+        ensures { self.new ≡ put_at offset (low_bytes count bits) self.old }
+    {
+        write_block(&mut self.bytes, offset as usize, count as usize, bits);
+    }
+
+    // Sets each byte to 0.
+    pub fn clear(&mut self)
+        ensures { self.new ≡ zeros (length self.old) }
+    {
+        self.bytes.fill(0);
+    }
+}
