@@ -174,8 +174,8 @@ impl Store {
         }
     }
 
-    // The first class that an access of n bytes breaks.
-    fn break_of(&self, writes: bool, p: u64, n: usize) -> Option<Class>
+    /// The first class that an access of n bytes breaks.
+    pub fn break_of(&self, writes: bool, p: u64, n: usize) -> Option<Class>
         ensures { result ≡ break_in self.now writes p n }
     {
         if object_of(p) == 0 {

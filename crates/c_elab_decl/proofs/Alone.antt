@@ -1,5 +1,5 @@
 -- Lists of specifiers and declarators that are more than a tag alone, and what is among names.
-use Rattle.std.proofs.Common.{◌≡◌, ℕ, Bool, true, false, List, [], ◌∷◌, length, Option, None, map, refl, ap, ◌∙◌}
+use Rattle.std.proofs.Common.{◌≡◌, ℕ, Bool, true, false, List, [], ◌∷◌, length, None, map, refl, ap}
 use Rattle.std.specs.Prelude.{◌==◌, ◌||◌, ◌++◌, Vec, if◌then◌else◌}
 use Rattle.std.specs.List.{list_any}
 use Rattle.std.specs.Str.{bytes_eq}
@@ -8,7 +8,7 @@ use Rattle.std.proofs.lemmas.List.{map-append}
 use Rattle.c_tree.specs.declared.declaration.Specifier.{Specifier}
 use Rattle.c_tree.specs.declared.declaration.InitDeclarator.{InitDeclarator}
 use Rattle.c_tree.specs.Declarations.{Declarators, parts_of, declarators_of}
-use Rattle.c_elab_decl.specs.Names.{among, with_name}
+use Rattle.c_elab_decl.specs.Names.{among}
 use Rattle.c_elab_decl.specs.Specifiers.{lone_tag}
 
 pub not_one : (parts : List Specifier) (ds : Declarators) → (length parts ≡ 1 → ⊥) → None ≡ lone_tag (parts_of parts) ds

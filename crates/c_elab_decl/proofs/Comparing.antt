@@ -3,9 +3,8 @@ use Rattle.std.proofs.Common.{◌≡◌, ◌+◌, ℕ, ℤ, pos, negsuc, Bool, t
 use borrow.Author.Tests.{leb-true, le-leb, ltb-true, lt-ltb}
 use Rattle.words.specs.Operators.{fits_width}
 use Rattle.std.proofs.lemmas.Bool.{eqb-true}
-use Rattle.std.specs.Prelude.{◌==◌, ◌&&◌, nat_le, int_le}
+use Rattle.std.specs.Prelude.{◌==◌, nat_le, int_le}
 use Rattle.c_types.specs.Types.{CType, void, integer, aggregate, array}
-use Rattle.c_types.specs.Integers.{same_integer}
 use Rattle.c_elab_expr.proofs.Variables.{both, and}
 use Rattle.c_elab_expr.proofs.Types.{one_integer_type, same_integer_refl}
 use Rattle.c_elab_decl.specs.Declarators.{same_ctype}

@@ -1,6 +1,6 @@
 -- One variable, item or definition more: what is made goes before what is behind.
-use Rattle.std.proofs.Common.{◌≡◌, ◌<◌, ◌+◌, ◌-◌, ℕ, Bool, true, false, List, [], ◌∷◌, ◌++◌, length, get_or, drop, Option, Some, None, Result, Ok, Err, codes, refl, ap, sym, subst, ◌∙◌, arith}
-use Rattle.std.specs.Prelude.{◌==◌, if◌then◌else◌, Vec}
+use Rattle.std.proofs.Common.{◌≡◌, ◌<◌, ◌+◌, ◌-◌, ℕ, Bool, false, List, [], ◌∷◌, ◌++◌, length, get_or, drop, Option, Result, Ok, Err, codes, refl, ap, sym, subst, ◌∙◌, arith}
+use Rattle.std.specs.Prelude.{Vec}
 use Rattle.std.specs.Global.{Global}
 use Rattle.std.proofs.lemmas.List.{append_assoc, drop_more, drop_at, length-append, map-append}
 use Rattle.c_tree.specs.declared.statement.Item.{Item}
@@ -14,7 +14,7 @@ use Rattle.core_tree.specs.declared.statement.CoreItem.{CoreItem}
 use Rattle.core_tree.specs.declared.statement.CoreItem as codes
 use Rattle.core_tree.specs.declared.statement.CoreStatement.{CoreStatement, Block}
 use Rattle.core_tree.specs.declared.functions.Function.{Function}
-use Rattle.core_tree.specs.Trees.{Expression, Procedure, with_item, items_of, view_statement, view_function, view_core}
+use Rattle.core_tree.specs.Trees.{Expression, Procedure, with_item, items_of, view_statement, view_function, view_functions}
 use Rattle.core_tree.specs.Trees as cores
 use Rattle.core_tree.proofs.Views.{view_block}
 use Rattle.c_elab_expr.specs.declared.fault.TypingError.{TypingError}
@@ -22,15 +22,14 @@ use Rattle.c_elab_expr.specs.declared.fault.TypingError.TheVariants as errors
 use Rattle.c_elab_expr.specs.Scopes.{Environment, Named, Scoped, sizes}
 use Rattle.c_elab_expr.specs.Nodes.{◌>>=◌}
 use Rattle.c_elab_expr.specs.Types.{declared_line}
-use Rattle.c_elab_expr.specs.Typing.{Fault, fault, on_line, Fails}
+use Rattle.c_elab_expr.specs.Typing.{Fault, on_line, Fails}
 use Rattle.c_elab_decl.specs.declared.regions.Region.{Region}
 use Rattle.c_elab_decl.specs.Regions.{earlier}
-use Rattle.c_elab_decl.specs.Initializers.{initializer_of}
-use Rattle.c_elab_decl.specs.Declarators.{Typed, variable_type, with_variable, declared_item, in_front, typed_variable}
-use Rattle.c_elab_decl.specs.Specifiers.{parts_line}
+use Rattle.c_elab_decl.specs.Initializers.{Value, initializer_of}
+use Rattle.c_elab_decl.specs.Declarators.{Typed, variable_type, of_type, within_initializer, with_variable, declared_item, in_front, typed_variable}
 use Rattle.c_elab_decl.specs.Statements.{typed_statement, typed_items}
-use Rattle.c_elab_decl.specs.Files.{in_file, on_external, told_on, typed_outside, function_node, with_function, main, outside, typed_externals}
-use Rattle.c_elab_decl.specs.Steps.{prepend, items_first, functions_first, Step, FunctionStep}
+use Rattle.c_elab_decl.specs.Files.{in_file, typed_outside, function_node, with_function, main, outside, typed_externals}
+use Rattle.c_elab_decl.specs.Steps.{prepend, items_first, TypedFunctions, functions_first, Step, FunctionStep}
 use Rattle.c_elab_decl.proofs.Steps.{fails_on}
 use Rattle.c_elab_decl.proofs.Growing.{Inner, There}
 use Rattle.c_elab_decl.proofs.WellTyped.{items_done}
@@ -66,38 +65,32 @@ behind_fails before now whole behind e same bad =
 
 -- ---- variables
 
-abbrev pub typed_as : Named → CType → Named
-typed_as base t = record { type = t; constant = base.constant }
-
 -- what stands behind the type of a variable, and behind its value
-abbrev behind_value : Scoped → Scoped → ℕ → (Scoped → Typed) → Result (Option Expression) Fault → Typed
+abbrev behind_value : Scoped → Scoped → ℕ → (Scoped → Typed) → Result (Option Value) Fault → Typed
 behind_value s u line behind r = r >>= λ x. in_front (declared_item line (length s.variables) x) (behind u)
 
-abbrev behind_type : Scoped → Named → Declared → Option Initial → (Scoped → Typed) → Result CType Fault → Typed
+abbrev behind_type : Scoped → Named → Declared → Option Initial → (Scoped → Typed) → Result (CType × Bool) Fault → Typed
 behind_type s base d i behind r = r >>= λ t.
-    behind_value s (with_variable s (name_of d) (typed_as base t)) (declared_line d) behind (initializer_of (declared_line d) (with_variable s (name_of d) (typed_as base t)) t i)
+    behind_value s (with_variable s (name_of d) (of_type base t.0)) (declared_line d) behind (initializer_of false (declared_line d) (within_initializer t.1 s (name_of d) (of_type base t.0)) t.0 i)
 
 pub type_fails : (r : Region) (s : Scoped) (base : Named) (d : Declared) (i : Option Initial) (behind : Scoped → Typed) (f : Fault)
     → variable_type r s base.type d i ≡ Err f → typed_variable r s base d i behind ≡ Err f
 type_fails r s base d i behind f bad = ap (behind_type s base d i behind) bad
 
-pub value_fails : (r : Region) (s u : Scoped) (base : Named) (d : Declared) (i : Option Initial) (behind : Scoped → Typed) (t : CType) (line : ℕ) (f : Fault)
-    → variable_type r s base.type d i ≡ Ok t → u ≡ with_variable s (name_of d) (typed_as base t) → line ≡ declared_line d → initializer_of line u t i ≡ Err f → typed_variable r s base d i behind ≡ Err f
-value_fails r s u base d i behind t line f good scope at bad =
-    ap (behind_type s base d i behind) good
-    ∙ ap (behind_value s (with_variable s (name_of d) (typed_as base t)) (declared_line d) behind)
-    (ap (λ (l : ℕ). initializer_of l (with_variable s (name_of d) (typed_as base t)) t i) (sym at) ∙ ap (λ (x : Scoped). initializer_of line x t i) (sym scope) ∙ bad)
+pub value_fails : (r : Region) (s : Scoped) (base : Named) (d : Declared) (i : Option Initial) (behind : Scoped → Typed) (t : CType × Bool) (f : Fault)
+    → variable_type r s base.type d i ≡ Ok t → initializer_of false (declared_line d) (within_initializer t.1 s (name_of d) (of_type base t.0)) t.0 i ≡ Err f → typed_variable r s base d i behind ≡ Err f
+value_fails r s base d i behind t f good bad =
+    ap (behind_type s base d i behind) good ∙ ap (behind_value s (with_variable s (name_of d) (of_type base t.0)) (declared_line d) behind) bad
 
-pub variable_typed : (r : Region) (s u : Scoped) (base : Named) (d : Declared) (i : Option Initial) (behind : Scoped → Typed) (t : CType) (line : ℕ)
-    (x : Option Expression) (variable : ℕ) (before now : List CoreItem) (item : CoreItem)
-    → variable_type r s base.type d i ≡ Ok t → u ≡ with_variable s (name_of d) (typed_as base t) → line ≡ declared_line d → initializer_of line u t i ≡ Ok x
+pub variable_typed : (r : Region) (s u : Scoped) (base : Named) (d : Declared) (i : Option Initial) (behind : Scoped → Typed) (t : CType × Bool) (line : ℕ)
+    (x : Option Value) (variable : ℕ) (before now : List CoreItem) (item : CoreItem)
+    → variable_type r s base.type d i ≡ Ok t → u ≡ with_variable s (name_of d) (of_type base t.0) → line ≡ declared_line d
+    → initializer_of false (declared_line d) (within_initializer t.1 s (name_of d) (of_type base t.0)) t.0 i ≡ Ok x
     → variable ≡ length s.variables → ((rest : cores.Items) → with_item item rest ≡ declared_item line variable x rest) → now ≡ before ++ item ∷ []
     → items_first before (typed_variable r s base d i behind) ≡ items_first now (behind u)
 variable_typed r s u base d i behind t line x variable before now item good scope at value number is items =
-    let w = with_variable s (name_of d) (typed_as base t) in
-    ap (items_first before) (ap (behind_type s base d i behind) good
-    ∙ ap (behind_value s w (declared_line d) behind)
-    (ap (λ (l : ℕ). initializer_of l w t i) (sym at) ∙ ap (λ (y : Scoped). initializer_of line y t i) (sym scope) ∙ value))
+    let w = with_variable s (name_of d) (of_type base t.0) in
+    ap (items_first before) (ap (behind_type s base d i behind) good ∙ ap (behind_value s w (declared_line d) behind) value)
     ∙ one_first before item (declared_item (declared_line d) (length s.variables) x) (behind w)
     (λ rest. is rest ∙ ap (λ (v : ℕ). declared_item line v x rest) number ∙ ap (λ (l : ℕ). declared_item l (length s.variables) x rest) at)
     ∙ ap (λ (xs : List CoreItem). items_first xs (behind w)) (sym items)
@@ -147,58 +140,50 @@ block_fails s line items f e = ap (λ (r : Typed). r >>= λ x. Ok (cores.block x
 
 -- ---- what stands in a file
 
--- code tells a fault on the line of its external declaration
-pub told : {A : Type 0} (e : TypingError) (line : ℕ) (r : Result A Fault) → Fails e r → Fails (told_on e line) (on_external line r)
-told errors.Memory line r h = tt
-told (errors.Typing at rule) line r h = along (rule == 0) refl where
-  along : (b : Bool) → (rule == 0) ≡ b → Fails (if b then errors.Typing line 0 else errors.Typing at rule) (on_external line r)
-  along true e = ap (on_external line) h ∙ ap (λ (b : Bool). Err (if b then fault line 0 else fault at rule)) e
-  along false e = ap (on_external line) h ∙ ap (λ (b : Bool). Err (if b then fault line 0 else fault at rule)) e
+abbrev definition_body : Scoped → ℕ → Externals → Result (cores.Statement × Scoped) Fault → TypedFunctions
+definition_body s name_line rest r = r >>= λ x. typed_externals (outside x.1) rest >>= λ y. Ok (main name_line (sizes x.1) x.0 ∷ y.0, y.1)
 
-abbrev definition_body : Scoped → ℕ → Externals → Result (cores.Statement × Scoped) Fault → Result (List Procedure) Fault
-definition_body s name_line rest r = r >>= λ x. typed_externals (outside x.1) rest >>= λ fs. Ok (main name_line (sizes x.1) x.0 ∷ fs)
-
-abbrev named_main : Scoped → ℕ → ℕ → Statement → Externals → Result (Unit {0}) Fault → Result (List Procedure) Fault
-named_main s line name_line body rest r = r >>= λ new. definition_body s name_line rest (on_external line (typed_statement (with_function s (codes "main")) body))
+abbrev named_main : Scoped → ℕ → ℕ → Statement → Externals → Result (Unit {0}) Fault → TypedFunctions
+named_main s line name_line body rest r = r >>= λ new. definition_body s name_line rest (typed_statement (with_function s (codes "main")) body)
 
 pub main_fails : (s : Scoped) (line name_line : ℕ) (body : Statement) (rest : Externals) (f : Fault) → on_line name_line (function_node (earlier in_file s (codes "main"))) ≡ Err f
     → typed_externals s (defines line name_line body rest) ≡ Err f
 main_fails s line name_line body rest f e = ap (named_main s line name_line body rest) e
 
 pub body_fails : (s t : Scoped) (line name_line : ℕ) (body : Statement) (rest : Externals) (f : Fault) (u : Unit {0}) → on_line name_line (function_node (earlier in_file s (codes "main"))) ≡ Ok u
-    → t ≡ with_function s (codes "main") → on_external line (typed_statement t body) ≡ Err f → typed_externals s (defines line name_line body rest) ≡ Err f
+    → t ≡ with_function s (codes "main") → typed_statement t body ≡ Err f → typed_externals s (defines line name_line body rest) ≡ Err f
 body_fails s t line name_line body rest f u e now bad =
-    ap (named_main s line name_line body rest) e ∙ ap (definition_body s name_line rest) (ap (λ (x : Scoped). on_external line (typed_statement x body)) (sym now) ∙ bad)
+    ap (named_main s line name_line body rest) e ∙ ap (definition_body s name_line rest) (ap (λ (x : Scoped). typed_statement x body) (sym now) ∙ bad)
 
-pub outside_fails : (s : Scoped) (parts : Parts) (ds : Declarators) (rest : Externals) (f : Fault) → on_external (parts_line parts) (typed_outside s parts ds) ≡ Err f
+pub outside_fails : (s : Scoped) (parts : Parts) (ds : Declarators) (rest : Externals) (f : Fault) → typed_outside s parts ds ≡ Err f
     → typed_externals s (declared parts ds rest) ≡ Err f
 outside_fails s parts ds rest f e = ap (λ (r : Result Scoped Fault). r >>= λ t. typed_externals t rest) e
 
-pub outside_more : (s t : Scoped) (parts : Parts) (ds : Declarators) (rest : Externals) → on_external (parts_line parts) (typed_outside s parts ds) ≡ Ok t
+pub outside_more : (s t : Scoped) (parts : Parts) (ds : Declarators) (rest : Externals) → typed_outside s parts ds ≡ Ok t
     → typed_externals s (declared parts ds rest) ≡ typed_externals t rest
 outside_more s t parts ds rest e = ap (λ (r : Result Scoped Fault). r >>= λ x. typed_externals x rest) e
 
-front_function : (before : List Procedure) (p : Procedure) (r : Result (List Procedure) Fault) → functions_first before (r >>= λ fs. Ok (p ∷ fs)) ≡ functions_first (before ++ p ∷ []) r
-front_function before p (Ok fs) = ap Ok (sym (append_assoc before (p ∷ []) fs))
+front_function : (before : List Procedure) (p : Procedure) (r : TypedFunctions) → functions_first before (r >>= λ x. Ok (p ∷ x.0, x.1)) ≡ functions_first (before ++ p ∷ []) r
+front_function before p (Ok x) = ap (λ (fs : List Procedure). Ok (fs, x.1)) (sym (append_assoc before (p ∷ []) x.0))
 front_function before p (Err f) = refl
 
 pub definition_typed : (s t x v : Scoped) (line name_line : ℕ) (body : Statement) (rest : Externals) (u : Unit {0}) (c : cores.Statement) (before now : List Function) (f : Function)
-    → on_line name_line (function_node (earlier in_file s (codes "main"))) ≡ Ok u → t ≡ with_function s (codes "main") → on_external line (typed_statement t body) ≡ Ok (c, x) → v ≡ outside x
+    → on_line name_line (function_node (earlier in_file s (codes "main"))) ≡ Ok u → t ≡ with_function s (codes "main") → typed_statement t body ≡ Ok (c, x) → v ≡ outside x
     → view_function f ≡ main name_line (sizes x) c → now ≡ before ++ f ∷ []
-    → functions_first (view_core before) (typed_externals s (defines line name_line body rest)) ≡ functions_first (view_core now) (typed_externals v rest)
+    → functions_first (view_functions before) (typed_externals s (defines line name_line body rest)) ≡ functions_first (view_functions now) (typed_externals v rest)
 definition_typed s t x v line name_line body rest u c before now f e scope good behind function items =
-    ap (functions_first (view_core before)) (ap (named_main s line name_line body rest) e
-    ∙ ap (definition_body s name_line rest) (ap (λ (w : Scoped). on_external line (typed_statement w body)) (sym scope) ∙ good))
-    ∙ front_function (view_core before) (main name_line (sizes x) c) (typed_externals (outside x) rest)
-    ∙ ap (λ (p : Procedure). functions_first (view_core before ++ p ∷ []) (typed_externals (outside x) rest)) (sym function)
-    ∙ ap (λ (fs : List Procedure). functions_first fs (typed_externals (outside x) rest)) (sym (ap view_core items ∙ map-append view_function before (f ∷ [])))
-    ∙ ap (λ (w : Scoped). functions_first (view_core now) (typed_externals w rest)) (sym behind)
+    ap (functions_first (view_functions before)) (ap (named_main s line name_line body rest) e
+    ∙ ap (definition_body s name_line rest) (ap (λ (w : Scoped). typed_statement w body) (sym scope) ∙ good))
+    ∙ front_function (view_functions before) (main name_line (sizes x) c) (typed_externals (outside x) rest)
+    ∙ ap (λ (p : Procedure). functions_first (view_functions before ++ p ∷ []) (typed_externals (outside x) rest)) (sym function)
+    ∙ ap (λ (fs : List Procedure). functions_first fs (typed_externals (outside x) rest)) (sym (ap view_functions items ∙ map-append view_function before (f ∷ [])))
+    ∙ ap (λ (w : Scoped). functions_first (view_functions now) (typed_externals w rest)) (sym behind)
 
-pub functions_fail : (before : List Procedure) (whole : Result (List Procedure) Fault) (f : Fault) → functions_first before whole ≡ Err f → whole ≡ Err f
+pub functions_fail : (before : List Procedure) (whole : TypedFunctions) (f : Fault) → functions_first before whole ≡ Err f → whole ≡ Err f
 functions_fail before (Ok fs) f e = let none : ⊥ = cc in absurd none
 functions_fail before (Err g) f e = let same : g ≡ f = cc in ap Err same
 
-pub no_functions_first : (whole : Result (List Procedure) Fault) → functions_first [] whole ≡ whole
+pub no_functions_first : (whole : TypedFunctions) → functions_first [] whole ≡ whole
 no_functions_first (Ok fs) = refl
 no_functions_first (Err f) = refl
 
@@ -217,6 +202,6 @@ fault_step r e f before now whole behind p q h = subst (λ (x : Result (Unit {0}
 pub memory_step : (r : Result (Unit {0}) TypingError) (e : TypingError) (before now : List CoreItem) (whole behind : Typed) → r ≡ Err e → e ≡ errors.Memory → Step r before now whole behind
 memory_step r e before now whole behind p q = fault_step r e errors.Memory before now whole behind p q tt
 
-pub fault_function : (r : Result (Unit {0}) TypingError) (e f : TypingError) (before now : List Function) (whole behind : Result (List Procedure) Fault)
+pub fault_function : (r : Result (Unit {0}) TypingError) (e f : TypingError) (before now : List Function) (whole behind : TypedFunctions)
     → r ≡ Err e → e ≡ f → Fails f whole → FunctionStep r before now whole behind
 fault_function r e f before now whole behind p q h = subst (λ (x : Result (Unit {0}) TypingError). FunctionStep x before now whole behind) (sym (p ∙ ap Err q)) h

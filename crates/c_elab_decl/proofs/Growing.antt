@@ -1,23 +1,25 @@
 -- A scope that declarations go on from: more names, variables, typedefs, structs and unions, and what names mean is there.
-use Rattle.std.proofs.Common.{◌≡◌, ◌≤◌, ◌+◌, ℕ, Bool, true, false, List, [], ◌∷◌, ◌++◌, length, get_or, refl, ap, sym, ◌∙◌, arith}
-use Rattle.std.specs.Prelude.{◌&&◌, nat_lt, nat_le, slice_index}
-use Rattle.std.proofs.lemmas.List.{append_assoc, append-nil, get_or_append_left, get_or_push, length-append, length-map}
-use borrow.Author.Tests.{lt-ltb, ltb-true}
+use Rattle.std.proofs.Common.{◌≡◌, ◌≤◌, ◌<◌, ◌+◌, ◌-◌, ◌==◌, ℕ, zero, suc, Bool, true, false, List, [], ◌∷◌, ◌++◌, length, map, Option, Some, None, refl, ap, sym, subst, ◌∙◌, arith}
+use Rattle.std.specs.Prelude.{◌&&◌, nat_lt, nat_le, slice_get, slice_index, slice_set, ◌||◌, not, if◌then◌else◌}
+use Rattle.std.proofs.lemmas.List.{append_assoc, append-nil, get_or_append_left, get_or_push, length-append, length-map, length-set, map-append}
+use Rattle.std.proofs.lemmas.Option.{same_Some, slice_get_within}
+use borrow.Author.Tests.{lt-ltb, ltb-true, le-leb, leb-true}
 use Rattle.c_types.specs.declared.types.RecordKind.{RecordKind}
 use Rattle.c_types.specs.Integers.{bytes}
-use Rattle.c_types.specs.Types.{CType, Records}
+use Rattle.c_types.specs.Types.{CType, Completed}
 use Rattle.c_types.specs.Layouts.{is_completed, is_complete, fits, size_of, with_completed, IsBuilt}
 use Rattle.c_types.specs.Layouts as layouts
 use Rattle.core_tree.specs.declared.expression.Place.{Place}
 use Rattle.core_tree.specs.declared.expression.Place.TheVariants as places
-use Rattle.core_tree.specs.Trees.{Expression, constant, read, convert, sign, is_zero, arithmetic, compare, logical, choice, assign, update, step, comma, assertion, assumption, draw}
-use Rattle.core_tree.specs.Typed.{is_within, is_place, is_typed}
+use Rattle.c_types.proofs.Records.{same_type}
+use Rattle.core_tree.specs.Trees.{Expression, constant, read, convert, sign, is_zero, arithmetic, compare, logical, choice, assign, update, step, comma, assertion, assumption, draw, part, discard, discard_structure, Structure, copy, load, choose, put, store, follow, section, list, string, Parts, no_part, number_part, structure_part}
+use Rattle.core_tree.specs.Typed.{size_of as bytes_of, Sizes, is_within, is_in_object, is_place, is_typed, is_structure, are_parts}
 use Rattle.c_elab_expr.specs.declared.meaning.Meaning.{Meaning}
-use Rattle.c_elab_expr.specs.declared.meaning.Meaning.TheVariants.{Typedef}
+use Rattle.c_elab_expr.specs.declared.meaning.Meaning.TheVariants.{Object, Typedef}
 use Rattle.c_elab_expr.specs.Members.{Members}
-use Rattle.c_elab_expr.specs.Scopes.{Environment, binding, Named, Scoped, are_there, is_known, are_known, are_complete, sizes, sizes_of}
-use Rattle.c_elab_expr.proofs.Variables.{both, and, are_there_wider, complete_more, sizes_more, variables_later}
-use Rattle.c_elab_decl.specs.Declarators.{with_typedef, with_variable}
+use Rattle.c_elab_expr.specs.Scopes.{Environment, binding, Named, Lasting, Linked, Scoped, are_there, is_known, are_known, are_complete, sizes, object_at, lasting_size, all_sizes}
+use Rattle.c_elab_expr.proofs.Variables.{both, and, are_there_wider, complete_more, sizes_more, complete_later, variables_later}
+use Rattle.c_elab_decl.specs.Declarators.{with_typedef, with_variable, changed_by, changed_object}
 use Rattle.c_elab_decl.specs.Tags.{with_record}
 
 -- ---- lists
@@ -31,13 +33,50 @@ grows_refl xs = ([], sym (append-nil xs))
 pub grows_trans : (xs ys zs : List ℕ) → Grows xs ys → Grows ys zs → Grows xs zs
 grows_trans xs ys zs g h = (g.0 ++ h.0, h.1 ∙ ap (λ (l : List ℕ). l ++ h.0) g.1 ∙ append_assoc xs g.0 h.0)
 
-within_more : (vs more : List ℕ) (v offset count : ℕ) → is_within vs v offset count ≡ true → is_within (vs ++ more) v offset count ≡ true
-within_more vs more v offset count h =
-    let parts = both (nat_lt v (length vs)) (nat_le (offset + count) (slice_index vs v)) h in
-    let below = ltb-true v (length vs) parts.0 in
-    let long = length-append vs more in
-    and (nat_lt v (length (vs ++ more))) (nat_le (offset + count) (slice_index (vs ++ more) v)) (lt-ltb v (length (vs ++ more)) (omega arith))
-    (ap (λ (n : ℕ). nat_le (offset + count) n) (get_or_append_left vs more 0 v below) ∙ parts.1)
+-- at least as many numbers, none of which is less
+abbrev pub Under : List ℕ → List ℕ → Type 0
+Under [] ys = Unit {0}
+Under (x ∷ xs) [] = ⊥
+Under (x ∷ xs) (y ∷ ys) = (x ≤ y) × Under xs ys
+
+pub under_refl : (xs : List ℕ) → Under xs xs
+under_refl [] = tt
+under_refl (x ∷ xs) = (omega arith, under_refl xs)
+
+pub under_trans : (xs ys zs : List ℕ) → Under xs ys → Under ys zs → Under xs zs
+under_trans [] ys zs g h = tt
+under_trans (x ∷ xs) [] zs g h = absurd g
+under_trans (x ∷ xs) (y ∷ ys) [] g h = absurd h
+under_trans (x ∷ xs) (y ∷ ys) (z ∷ zs) g h = let a = g.0 in let b = h.0 in (omega (arith, a, b), under_trans xs ys zs g.1 h.1)
+
+pub under_append : (xs ys : List ℕ) → Under xs (xs ++ ys)
+under_append [] ys = tt
+under_append (x ∷ xs) ys = (omega arith, under_append xs ys)
+
+under_length : (xs ys : List ℕ) → Under xs ys → length xs ≤ length ys
+under_length [] ys u = omega arith
+under_length (x ∷ xs) [] u = absurd u
+under_length (x ∷ xs) (y ∷ ys) u = let rest = under_length xs ys u.1 in omega (arith, rest)
+
+under_at : (xs ys : List ℕ) (v : ℕ) → Under xs ys → v < length xs → slice_index xs v ≤ slice_index ys v
+under_at [] ys v u h = let none : ⊥ = omega (arith, h) in absurd none
+under_at (x ∷ xs) [] v u h = absurd u
+under_at (x ∷ xs) (y ∷ ys) zero u h = u.0
+under_at (x ∷ xs) (y ∷ ys) (suc v) u h = under_at xs ys v u.1 (omega (arith, h))
+
+-- the sizes of the same variables and more, and of the same objects, larger ones and more
+pub record Wider (a b : Sizes) : Type 0 where
+  pub variables : Grows a.variables b.variables
+  pub objects : Under a.objects b.objects
+
+pub wider_refl : (a : Sizes) → Wider a a
+wider_refl a = record { variables = grows_refl a.variables; objects = under_refl a.objects }
+
+pub wider_trans : (a b c : Sizes) → Wider a b → Wider b c → Wider a c
+wider_trans a b c g h = record {
+  variables = grows_trans a.variables b.variables c.variables g.variables h.variables;
+  objects = under_trans a.objects b.objects c.objects g.objects h.objects;
+}
 
 abbrev pub Inner : Environment → Environment → Type 0
 Inner outer inner = (more : Environment) × (inner ≡ more ++ outer)
@@ -48,10 +87,24 @@ inner_refl a = ([], refl)
 pub inner_trans : (a b c : Environment) → Inner a b → Inner b c → Inner a c
 inner_trans a b c g h = (h.0 ++ g.0, h.1 ∙ ap (λ (l : Environment). h.0 ++ l) g.1 ∙ sym (append_assoc h.0 g.0 a))
 
--- ---- trees among more variables
+-- ---- trees among more variables and objects
 
-place_more : (vs more : List ℕ) (p : Place) → is_place vs p ≡ true → is_place (vs ++ more) p ≡ true
-place_more vs more (places.Variable line t v offset) h = within_more vs more v offset (bytes t) h
+within_more : (vs ws : List ℕ) (v offset count : ℕ) → Grows vs ws → is_within vs v offset count ≡ true → is_within ws v offset count ≡ true
+within_more vs ws v offset count g h =
+    let parts = both (nat_lt v (length vs)) (nat_le (offset + count) (slice_index vs v)) h in
+    let below = ltb-true v (length vs) parts.0 in
+    let long = ap (λ (l : List ℕ). length l) g.1 ∙ length-append vs g.0 in
+    let same : slice_index ws v ≡ slice_index vs v = ap (λ (l : List ℕ). slice_index l v) g.1 ∙ get_or_append_left vs g.0 0 v below in
+    and (nat_lt v (length ws)) (nat_le (offset + count) (slice_index ws v)) (lt-ltb v (length ws) (omega (arith, below, long))) (ap (λ (n : ℕ). nat_le (offset + count) n) same ∙ parts.1)
+
+within_larger : (vs ws : List ℕ) (v offset count : ℕ) → Under vs ws → is_within vs v offset count ≡ true → is_within ws v offset count ≡ true
+within_larger vs ws v offset count u h =
+    let parts = both (nat_lt v (length vs)) (nat_le (offset + count) (slice_index vs v)) h in
+    let below = ltb-true v (length vs) parts.0 in
+    let long = under_length vs ws u in
+    let room = leb-true (offset + count) (slice_index vs v) parts.1 in
+    let more = under_at vs ws v u below in
+    and (nat_lt v (length ws)) (nat_le (offset + count) (slice_index ws v)) (lt-ltb v (length ws) (omega (arith, below, long))) (le-leb (offset + count) (slice_index ws v) (omega (arith, room, more)))
 
 two : (a b c : Bool) → (b ≡ true → c ≡ true) → (a && b) ≡ true → (a && c) ≡ true
 two true b c h e = h e
@@ -60,26 +113,60 @@ two false b c h e = e
 both_more : (a b c d : Bool) → (a ≡ true → c ≡ true) → (b ≡ true → d ≡ true) → (a && b) ≡ true → (c && d) ≡ true
 both_more a b c d h g e = let parts = both a b e in and c d (h parts.0) (g parts.1)
 
-pub typed_more : (vs more : List ℕ) (x : Expression) → is_typed vs x ≡ true → is_typed (vs ++ more) x ≡ true
-typed_more vs more (constant line t bits) h = h
-typed_more vs more (read p) h = place_more vs more p h
-typed_more vs more (convert to e) h = two _ _ _ (typed_more vs more e) h
-typed_more vs more (sign line op e) h = two _ _ _ (typed_more vs more e) h
-typed_more vs more (is_zero line e) h = two _ _ _ (typed_more vs more e) h
-typed_more vs more (arithmetic line op a b) h = both_more _ _ _ _ (two _ _ _ (typed_more vs more a)) (typed_more vs more b) h
-typed_more vs more (compare line op a b) h = both_more _ _ _ _ (two _ _ _ (typed_more vs more a)) (typed_more vs more b) h
-typed_more vs more (logical line op a b) h = both_more _ _ _ _ (two _ _ _ (typed_more vs more a)) (typed_more vs more b) h
-typed_more vs more (choice line test a b) h = both_more _ _ _ _ (both_more _ _ _ _ (two _ _ _ (typed_more vs more test)) (typed_more vs more a)) (typed_more vs more b) h
-typed_more vs more (assign line p e) h = both_more _ _ _ _ (both_more _ _ _ _ (place_more vs more p) (λ g. g)) (typed_more vs more e) h
-typed_more vs more (update line p op t e) h = both_more _ _ _ _ (both_more _ _ _ _ (place_more vs more p) (λ g. g)) (typed_more vs more e) h
-typed_more vs more (step line p op before) h = place_more vs more p h
-typed_more vs more (comma line a b) h = both_more _ _ _ _ (typed_more vs more a) (typed_more vs more b) h
-typed_more vs more (assertion line e) h = two _ _ _ (typed_more vs more e) h
-typed_more vs more (assumption line e) h = two _ _ _ (typed_more vs more e) h
-typed_more vs more (draw line t) h = h
+module _ (few many : Sizes) (wide : Wider few many) where
+  variable_more : (v offset count : ℕ) → is_within few.variables v offset count ≡ true → is_within many.variables v offset count ≡ true
+  variable_more v offset count h = within_more few.variables many.variables v offset count wide.variables h
 
-pub typed_grows : (vs ws : List ℕ) (x : Expression) → Grows vs ws → is_typed vs x ≡ true → is_typed ws x ≡ true
-typed_grows vs ws x g h = ap (λ (l : List ℕ). is_typed l x) g.1 ∙ typed_more vs g.0 x h
+  object_more : (k offset count : ℕ) → is_in_object few.objects k offset count ≡ true → is_in_object many.objects k offset count ≡ true
+  object_more k offset count h = two _ _ _ (within_larger few.objects many.objects (k - 1) offset count wide.objects) h
+
+  place_more : (p : Place) → is_place few p ≡ true → is_place many p ≡ true
+  place_more (places.Variable line t v offset) h = variable_more v offset (bytes t) h
+  place_more (places.Object line t k offset) h = object_more k offset (bytes t) h
+
+  mutual
+    pub typed_more : (x : Expression) → is_typed few x ≡ true → is_typed many x ≡ true
+    typed_more (constant line t bits) h = h
+    typed_more (read p) h = place_more p h
+    typed_more (convert to e) h = two _ _ _ (typed_more e) h
+    typed_more (sign line op e) h = two _ _ _ (typed_more e) h
+    typed_more (is_zero line e) h = two _ _ _ (typed_more e) h
+    typed_more (arithmetic line op a b) h = both_more _ _ _ _ (two _ _ _ (typed_more a)) (typed_more b) h
+    typed_more (compare line op a b) h = both_more _ _ _ _ (two _ _ _ (typed_more a)) (typed_more b) h
+    typed_more (logical line op a b) h = both_more _ _ _ _ (two _ _ _ (typed_more a)) (typed_more b) h
+    typed_more (choice line test a b) h = both_more _ _ _ _ (both_more _ _ _ _ (two _ _ _ (typed_more test)) (typed_more a)) (typed_more b) h
+    typed_more (assign line p e) h = both_more _ _ _ _ (both_more _ _ _ _ (place_more p) (λ g. g)) (typed_more e) h
+    typed_more (update line p op t e) h = both_more _ _ _ _ (both_more _ _ _ _ (place_more p) (λ g. g)) (typed_more e) h
+    typed_more (step line p op before) h = place_more p h
+    typed_more (comma line a b) h = both_more _ _ _ _ (typed_more a) (typed_more b) h
+    typed_more (assertion line e) h = two _ _ _ (typed_more e) h
+    typed_more (assumption line e) h = two _ _ _ (typed_more e) h
+    typed_more (draw line t) h = h
+    typed_more (part line t offset a) h = two _ _ _ (structure_more a) h
+    typed_more (discard line e) h = two _ _ _ (typed_more e) h
+    typed_more (discard_structure a) h = structure_more a h
+
+    pub structure_more : (a : Structure) → is_structure few a ≡ true → is_structure many a ≡ true
+    structure_more (copy line v offset size) h = variable_more v offset size h
+    structure_more (load line k offset size) h = object_more k offset size h
+    structure_more (choose line test a b) h = both_more _ _ _ _ (both_more _ _ _ _ (two _ _ _ (typed_more test)) (structure_more a)) (structure_more b) h
+    structure_more (put line v offset a) h = both_more _ _ _ _ (variable_more v offset (bytes_of a)) (structure_more a) h
+    structure_more (store line k offset a) h = both_more _ _ _ _ (object_more k offset (bytes_of a)) (structure_more a) h
+    structure_more (follow line e a) h = both_more _ _ _ _ (typed_more e) (structure_more a) h
+    structure_more (section line offset size a) h = two _ _ _ (structure_more a) h
+    structure_more (list line size ps) h = two _ _ _ (parts_more size ps) h
+    structure_more (string line size text) h = h
+
+    parts_more : (size : ℕ) (ps : Parts) → are_parts few size ps ≡ true → are_parts many size ps ≡ true
+    parts_more size no_part h = h
+    parts_more size (number_part offset e rest) h = both_more _ _ _ _ (two _ _ _ (typed_more e)) (parts_more size rest) h
+    parts_more size (structure_part offset a rest) h = both_more _ _ _ _ (two _ _ _ (structure_more a)) (parts_more size rest) h
+
+pub typed_grows : (few many : Sizes) (x : Expression) → Wider few many → is_typed few x ≡ true → is_typed many x ≡ true
+typed_grows few many x g h = typed_more few many g x h
+
+pub structure_grows : (few many : Sizes) (a : Structure) → Wider few many → is_structure few a ≡ true → is_structure many a ≡ true
+structure_grows few many a g h = structure_more few many g a h
 
 -- ---- scopes
 
@@ -95,19 +182,21 @@ pub record There (s : Scoped) : Type 0 where
 pub record Follows (s t : Scoped) : Type 0 where
   pub names : Inner s.bindings t.bindings
   pub variables : length s.variables ≤ length t.variables
-  pub sizes : There s → Grows (sizes s) (sizes t)
+  pub objects : length s.objects ≤ length t.objects
+  pub sizes : There s → Wider (all_sizes s) (all_sizes t)
   pub types : length s.types ≤ length t.types
   pub records : length s.records.declared ≤ length t.records.declared
   pub there : There s → There t
 
 pub follows_refl : (s : Scoped) → Follows s s
-follows_refl s = record { names = inner_refl s.bindings; variables = omega arith; sizes = λ h. grows_refl (sizes s); types = omega arith; records = omega arith; there = λ h. h }
+follows_refl s = record { names = inner_refl s.bindings; variables = omega arith; objects = omega arith; sizes = λ h. wider_refl (all_sizes s); types = omega arith; records = omega arith; there = λ h. h }
 
 pub follows_trans : (s t u : Scoped) → Follows s t → Follows t u → Follows s u
 follows_trans s t u f g = record {
   names = inner_trans s.bindings t.bindings u.bindings f.names g.names;
   variables = omega (arith, f.variables, g.variables);
-  sizes = λ h. grows_trans (sizes s) (sizes t) (sizes u) (f.sizes h) (g.sizes (f.there h));
+  objects = omega (arith, f.objects, g.objects);
+  sizes = λ h. wider_trans (all_sizes s) (all_sizes t) (all_sizes u) (f.sizes h) (g.sizes (f.there h));
   types = omega (arith, f.types, g.types);
   records = omega (arith, f.records, g.records);
   there = λ h. g.there (f.there h);
@@ -129,8 +218,8 @@ pub there_behind : (s t : Scoped) → Follows s t → There s → There (record 
 there_behind s t f h =
     let now = f.there h in
     record {
-      known = are_there_wider (length s.variables) (length t.variables) (length s.types) (length t.types) (length s.records.declared) (length t.records.declared) s.bindings
-          f.variables f.types f.records h.known;
+      known = are_there_wider (length s.variables) (length t.variables) (length s.objects) (length t.objects) (length s.types) (length t.types)
+          (length s.records.declared) (length t.records.declared) s.bindings f.variables f.objects f.types f.records h.known;
       few = now.few;
       complete = now.complete;
       built = now.built;
@@ -143,7 +232,8 @@ binding_settles s name m h = record {
   follows = record {
     names = (binding name m ∷ [], refl);
     variables = omega arith;
-    sizes = λ g. grows_refl (sizes s);
+    objects = omega arith;
+    sizes = λ g. wider_refl (all_sizes s);
     types = omega arith;
     records = omega arith;
     there = λ g. record { known = and (is_known s m) (are_known s) h g.known; few = g.few; complete = g.complete; built = g.built };
@@ -158,12 +248,13 @@ record_settles s kind =
       follows = record {
         names = inner_refl s.bindings;
         variables = omega arith;
-        sizes = λ g. grows_refl (sizes s);
+        objects = omega arith;
+        sizes = λ g. wider_refl (all_sizes s);
         types = omega arith;
         records = omega (arith, long);
         there = λ g. record {
-          known = are_there_wider (length s.variables) (length s.variables) (length s.types) (length s.types) (length s.records.declared) (length (s.records.declared ++ kind ∷ [])) s.bindings
-              (omega arith) (omega arith) (omega (arith, long)) g.known;
+          known = are_there_wider (length s.variables) (length s.variables) (length s.objects) (length s.objects) (length s.types) (length s.types)
+              (length s.records.declared) (length (s.records.declared ++ kind ∷ [])) s.bindings (omega arith) (omega arith) (omega arith) (omega (arith, long)) g.known;
           few = g.few;
           complete = g.complete;
           built = g.built;
@@ -172,6 +263,25 @@ record_settles s kind =
       same = refl;
     }
 
+-- an object is no smaller where another struct or union is completed
+lasting_later : (done : List Completed) (c : Completed) (o : Lasting) → is_completed done c.place ≡ false → lasting_size done o ≤ lasting_size (c ∷ done) o
+lasting_later done c o before = by o.unknown_length (is_complete done o.named.type) refl where
+  size_if : List Completed → Bool → Bool → ℕ
+  size_if done unknown complete = if unknown || not complete then 0 else size_of done o.named.type
+
+  by : (u b : Bool) → is_complete done o.named.type ≡ b → size_if done u b ≤ size_if (c ∷ done) u (is_complete (c ∷ done) o.named.type)
+  by true b e = omega arith
+  by false false e = omega arith
+  by false true e =
+      let same = same_type done c o.named.type before e in
+      let size = same.size in
+      rw (complete_later done c o.named.type e) (omega (arith, size))
+
+objects_later : (done : List Completed) (c : Completed) (objects : List Lasting) → is_completed done c.place ≡ false
+    → Under (map (lasting_size done) objects) (map (lasting_size (c ∷ done)) objects)
+objects_later done c [] before = tt
+objects_later done c (o ∷ objects) before = (lasting_later done c o before, objects_later done c objects before)
+
 -- one that wasn't complete is completed
 pub completed_settles : (s : Scoped) (p : ℕ) (kind : RecordKind) (ts : List CType) (ms : List Members) → is_completed s.records.done p ≡ false → layouts.are_complete s.records.done ts ≡ true
     → fits s.records.done kind ts ≡ true → Settles s (record s { records = with_completed s.records p kind ts; members = ms })
@@ -179,7 +289,11 @@ completed_settles s p kind ts ms before complete fit = record {
   follows = record {
     names = inner_refl s.bindings;
     variables = omega arith;
-    sizes = λ g. ([], (variables_later s.records.done (record { place = p; kind = kind; members = ts }) s.variables before g.complete).1 ∙ sym (append-nil (sizes s)));
+    objects = omega arith;
+    sizes = λ g. record {
+      variables = ([], (variables_later s.records.done (record { place = p; kind = kind; members = ts }) s.variables before g.complete).1 ∙ sym (append-nil (sizes s)));
+      objects = objects_later s.records.done (record { place = p; kind = kind; members = ts }) s.objects before;
+    };
     types = omega arith;
     records = omega arith;
     there = λ g. record {
@@ -202,14 +316,15 @@ typedef_settles s name n =
       follows = record {
         names = (binding name (Typedef (length s.types)) ∷ [], refl);
         variables = omega arith;
-        sizes = λ g. grows_refl (sizes s);
+        objects = omega arith;
+        sizes = λ g. wider_refl (all_sizes s);
         types = omega (arith, long);
         records = omega arith;
         there = λ g. record {
-          known = and (nat_lt (length s.types) (length (s.types ++ n ∷ []))) (are_there (length s.variables) (length (s.types ++ n ∷ [])) (length s.records.declared) s.bindings)
+          known = and (nat_lt (length s.types) (length (s.types ++ n ∷ []))) (are_there (length s.variables) (length s.objects) (length (s.types ++ n ∷ [])) (length s.records.declared) s.bindings)
               (last (length s.types) (length (s.types ++ n ∷ [])) (omega (arith, long)))
-              (are_there_wider (length s.variables) (length s.variables) (length s.types) (length (s.types ++ n ∷ [])) (length s.records.declared) (length s.records.declared) s.bindings
-              (omega arith) (omega (arith, long)) (omega arith) g.known);
+              (are_there_wider (length s.variables) (length s.variables) (length s.objects) (length s.objects) (length s.types) (length (s.types ++ n ∷ []))
+              (length s.records.declared) (length s.records.declared) s.bindings (omega arith) (omega arith) (omega (arith, long)) (omega arith) g.known);
           few = omega (arith, long, g.few);
           complete = g.complete;
           built = g.built;
@@ -239,16 +354,114 @@ variable_follows s name n complete =
     record {
       names = (_ ∷ [], refl);
       variables = omega (arith, long);
-      sizes = λ g. (size_of s.records.done n.type ∷ [], sizes_more s.records.done s.variables n);
+      objects = omega arith;
+      sizes = λ g. record { variables = (size_of s.records.done n.type ∷ [], sizes_more s.records.done s.variables n); objects = under_refl (all_sizes s).objects };
       types = omega arith;
       records = omega arith;
       there = λ g. record {
-        known = and (nat_lt (length s.variables) (length (s.variables ++ n ∷ []))) (are_there (length (s.variables ++ n ∷ [])) (length s.types) (length s.records.declared) s.bindings)
+        known = and (nat_lt (length s.variables) (length (s.variables ++ n ∷ []))) (are_there (length (s.variables ++ n ∷ [])) (length s.objects) (length s.types) (length s.records.declared) s.bindings)
             (last (length s.variables) (length (s.variables ++ n ∷ [])) (omega (arith, long)))
-            (are_there_wider (length s.variables) (length (s.variables ++ n ∷ [])) (length s.types) (length s.types) (length s.records.declared) (length s.records.declared) s.bindings
-            (omega (arith, long)) (omega arith) (omega arith) g.known);
+            (are_there_wider (length s.variables) (length (s.variables ++ n ∷ [])) (length s.objects) (length s.objects) (length s.types) (length s.types)
+            (length s.records.declared) (length s.records.declared) s.bindings (omega (arith, long)) (omega arith) (omega arith) (omega arith) g.known);
         few = g.few;
         complete = complete_more s.records.done s.variables n g.complete complete;
         built = g.built;
       };
     }
+
+-- ---- objects that live as long as the program
+
+-- one more
+pub object_settles : (s : Scoped) (o : Lasting) (linked : List Linked) → Settles s (record s { objects = s.objects ++ o ∷ []; linked = linked })
+object_settles s o linked =
+    let long = length-append s.objects (o ∷ []) in
+    let size = lasting_size s.records.done in
+    record {
+      follows = record {
+        names = inner_refl s.bindings;
+        variables = omega arith;
+        objects = omega (arith, long);
+        sizes = λ g. record {
+          variables = grows_refl (sizes s);
+          objects = subst (Under (map size s.objects)) (sym (map-append size s.objects (o ∷ []))) (under_append (map size s.objects) (size o ∷ []));
+        };
+        types = omega arith;
+        records = omega arith;
+        there = λ g. record {
+          known = are_there_wider (length s.variables) (length s.variables) (length s.objects) (length (s.objects ++ o ∷ [])) (length s.types) (length s.types)
+              (length s.records.declared) (length s.records.declared) s.bindings (omega arith) (omega (arith, long)) (omega arith) (omega arith) g.known;
+          few = g.few;
+          complete = g.complete;
+          built = g.built;
+        };
+      };
+      same = refl;
+    }
+
+set_under : (size : Lasting → ℕ) (objects : List Lasting) (i : ℕ) (o p : Lasting) → slice_get objects i ≡ Some o → size o ≤ size p → Under (map size objects) (map size (slice_set objects i p))
+set_under size [] i o p h le = tt
+set_under size (q ∷ objects) zero o p h le = let same : q ≡ o = same_Some q o h in (rw same le, under_refl (map size objects))
+set_under size (q ∷ objects) (suc i) o p h le = (omega arith, set_under size objects i o p h le)
+
+object_set : (s : Scoped) (i : ℕ) (o p : Lasting) → slice_get s.objects i ≡ Some o → lasting_size s.records.done o ≤ lasting_size s.records.done p
+    → Settles s (record s { objects = slice_set s.objects i p })
+object_set s i o p h le =
+    let long = length-set s.objects i p in
+    record {
+      follows = record {
+        names = inner_refl s.bindings;
+        variables = omega arith;
+        objects = omega (arith, long);
+        sizes = λ g. record { variables = grows_refl (sizes s); objects = set_under (lasting_size s.records.done) s.objects i o p h le };
+        types = omega arith;
+        records = omega arith;
+        there = λ g. record {
+          known = are_there_wider (length s.variables) (length s.variables) (length s.objects) (length (slice_set s.objects i p)) (length s.types) (length s.types)
+              (length s.records.declared) (length s.records.declared) s.bindings (omega arith) (omega (arith, long)) (omega arith) (omega arith) g.known;
+          few = g.few;
+          complete = g.complete;
+          built = g.built;
+        };
+      };
+      same = refl;
+    }
+
+object_get : (s : Scoped) (k : ℕ) (o : Lasting) → object_at s k ≡ Some o → slice_get s.objects (k - 1) ≡ Some o
+object_get s k o h = by (k == 0) h where
+  by : (b : Bool) → (if b then None else slice_get s.objects (k - 1)) ≡ Some o → slice_get s.objects (k - 1) ≡ Some o
+  by true e = let none : ⊥ = cc in absurd none
+  by false e = e
+
+-- one that is known better, and no smaller
+pub changed_settles : (s : Scoped) (k : ℕ) (f : Lasting → Lasting) → ((o : Lasting) → lasting_size s.records.done o ≤ lasting_size s.records.done (f o)) → Settles s (changed_object s k f)
+changed_settles s k f le = by (object_at s k) refl where
+  by : (x : Option Lasting) → object_at s k ≡ x → Settles s (record s { objects = changed_by s.objects k f x })
+  by None e = settles_refl s
+  by (Some o) e = object_set s (k - 1) o (f o) (object_get s k o e) (le o)
+
+above_zero : (k : ℕ) → (k == 0) ≡ false → 1 ≤ k
+above_zero zero h = let none : ⊥ = cc in absurd none
+above_zero (suc k) h = omega arith
+
+-- the number of an object that is there
+pub object_known : (s : Scoped) (k : ℕ) (o : Lasting) → object_at s k ≡ Some o → is_known s (Object k) ≡ true
+object_known s k o h = by (k == 0) refl h where
+  by : (b : Bool) → (k == 0) ≡ b → (if b then None else slice_get s.objects (k - 1)) ≡ Some o → is_known s (Object k) ≡ true
+  by true is e = let none : ⊥ = cc in absurd none
+  by false is e =
+      let low = above_zero k is in
+      let within = slice_get_within s.objects (k - 1) o e in
+      and (nat_le 1 k) (nat_le k (length s.objects)) (le-leb 1 k low) (le-leb k (length s.objects) (omega (arith, low, within)))
+
+-- also where one is known better
+pub changed_known : (s : Scoped) (k : ℕ) (f : Lasting → Lasting) (o : Lasting) → object_at s k ≡ Some o → is_known (changed_object s k f) (Object k) ≡ true
+changed_known s k f o h =
+    let before = both (nat_le 1 k) (nat_le k (length s.objects)) (object_known s k o h) in
+    let long : length (changed_by s.objects k f (object_at s k)) ≡ length s.objects = ap (λ (x : Option Lasting). length (changed_by s.objects k f x)) h ∙ length-set s.objects (k - 1) (f o) in
+    and (nat_le 1 k) (nat_le k (length (changed_by s.objects k f (object_at s k)))) before.0 (ap (λ (n : ℕ). nat_le k n) long ∙ before.1)
+
+-- the next object is there behind it
+pub next_known : (s : Scoped) (o : Lasting) → (nat_le 1 (length s.objects + 1) && nat_le (length s.objects + 1) (length (s.objects ++ o ∷ []))) ≡ true
+next_known s o =
+    let long = length-append s.objects (o ∷ []) in
+    and _ _ (le-leb 1 (length s.objects + 1) (omega arith)) (le-leb (length s.objects + 1) (length (s.objects ++ o ∷ [])) (omega (arith, long)))

@@ -5,5 +5,9 @@ pub mod Comparing
 pub mod Growing
 pub mod Values
 pub mod Settling
+pub mod Objects
+pub mod Initialized
 pub mod WellTyped
+pub mod Statics
+pub mod ObjectSteps
 pub mod Fronts

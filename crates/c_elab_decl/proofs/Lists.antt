@@ -1,11 +1,12 @@
 -- Lists of the tree from a place on.
-use Rattle.std.proofs.Common.{◌≡◌, ◌<◌, ◌+◌, ℕ, List, length, get_or, drop, ap, sym, ◌∙◌}
+use Rattle.std.proofs.Common.{◌≡◌, ◌<◌, ◌+◌, ℕ, suc, List, [], ◌∷◌, length, get_or, drop, refl, ap, sym, ◌∙◌}
 use Rattle.std.proofs.lemmas.List.{drop_more}
 use Rattle.c_tree.specs.declared.declaration.Specifier.{Specifier}
 use Rattle.c_tree.specs.declared.declaration.MemberDeclaration.{MemberDeclaration}
 use Rattle.c_tree.specs.declared.declaration.InitDeclarator.{InitDeclarator}
 use Rattle.c_tree.specs.declared.declaration.Initializer.{Initializer}
 use Rattle.c_tree.specs.Declarations.{part, initials, view_part, parts_of, view_member, members_of, view_init_declarator, declarators_of, view_initializer, initials_of}
+use Rattle.c_elab_decl.specs.Initializers.{count}
 
 pub parts_at : (ss : List Specifier) (i : ℕ) (s : Specifier) → i < length ss → s ≡ get_or ss i s → parts_of (drop i ss) ≡ part (view_part s) (parts_of (drop (i + 1) ss))
 parts_at ss i s h e = ap parts_of (drop_more ss i s h) ∙ ap (λ (x : Specifier). part (view_part x) (parts_of (drop (i + 1) ss))) (sym e)
@@ -18,3 +19,7 @@ declarators_at ds i d h e = ap declarators_of (drop_more ds i d h) ∙ ap (λ (x
 
 pub initials_at : (is : List Initializer) (k : ℕ) (i : Initializer) → k < length is → i ≡ get_or is k i → initials_of (drop k is) ≡ initials (view_initializer i) (initials_of (drop (k + 1) is))
 initials_at is k i h e = ap initials_of (drop_more is k i h) ∙ ap (λ (x : Initializer). initials (view_initializer x) (initials_of (drop (k + 1) is))) (sym e)
+
+pub counted : (is : List Initializer) → count (initials_of is) ≡ length is
+counted [] = refl
+counted (i ∷ is) = ap suc (counted is)

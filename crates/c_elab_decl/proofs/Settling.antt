@@ -1,6 +1,6 @@
 -- Specifiers, typedefs and objects leave a scope that goes on from the one before, without more variables.
-use Rattle.std.proofs.Common.{◌≡◌, ◌≤◌, ◌+◌, ℕ, Bool, true, false, List, [], ◌∷◌, ◌++◌, length, Option, Some, None, Result, Ok, Err, refl, ap, sym, subst, ◌∙◌, arith}
-use Rattle.std.specs.Prelude.{◌&&◌, if◌then◌else◌, nat_lt}
+use Rattle.std.proofs.Common.{◌≡◌, ◌≤◌, ◌+◌, ℕ, Bool, true, false, List, [], ◌∷◌, ◌++◌, length, Option, Some, None, Result, Ok, Err, refl, sym, subst, ◌∙◌, arith}
+use Rattle.std.specs.Prelude.{◌&&◌, ◌||◌, not, is_some, if◌then◌else◌}
 use Rattle.std.proofs.lemmas.List.{length-append}
 use Rattle.c_tree.specs.declared.specifier.TagKind.{TagKind}
 use Rattle.c_tree.specs.declared.specifier.TagKind.TheVariants as tag_kinds
@@ -8,27 +8,26 @@ use Rattle.c_tree.specs.Tree.{TypePart, qualified, word, tagged, typedef_name, D
 use Rattle.c_tree.specs.Declarations.{Enumerated, Initial, Part, type_part, storage, function, structure, enumeration, Parts, no_part, part, Members, no_member, members, Declarators, none_declared, declarator, name_of}
 use Rattle.c_types.specs.declared.types.RecordKind.{RecordKind}
 use Rattle.c_types.specs.declared.types.RecordKind.TheVariants.{Struct, Union}
-use Rattle.c_types.specs.Types.{CType, Records}
+use Rattle.c_types.specs.Types.{CType, Completed, Records}
 use Rattle.c_types.specs.Layouts.{is_completed, are_complete, fits, kind_at}
 use Rattle.c_elab_expr.specs.declared.meaning.Meaning.{Meaning}
-use Rattle.c_elab_expr.specs.declared.meaning.Meaning.TheVariants.{Variable, Assert, Assume, Draw, Function, Typedef, Enumerator, Record, Enumeration}
+use Rattle.c_elab_expr.specs.declared.meaning.Meaning.TheVariants.{Object, Enumerator, Record, Enumeration}
 use Rattle.c_elab_expr.specs.Members.{Field, field_types}
-use Rattle.c_elab_expr.specs.Scopes.{Named, Scoped, tag_of}
-use Rattle.c_elab_expr.specs.Nodes.{◌>>=◌}
+use Rattle.c_elab_expr.specs.Scopes.{Named, Lasting, Scoped, tag_of, object_at, is_known, lasting_size}
 use Rattle.c_elab_expr.specs.Types.{nothing_said, specified_type, declared_line}
 use Rattle.c_elab_expr.specs.Typing.{Fault, on_line, lengths}
-use Rattle.c_elab_expr.proofs.WellTyped.{Holds, bind, given, refused}
+use Rattle.c_elab_expr.proofs.WellTyped.{Holds, bind, given, refused, on_same_line}
 use Rattle.c_elab_decl.specs.declared.regions.Region.{Region}
 use Rattle.c_elab_decl.specs.declared.regions.Role.{Role}
 use Rattle.c_elab_decl.specs.declared.regions.Role.TheVariants as roles
 use Rattle.c_elab_decl.specs.Regions.{earlier, earlier_tag}
-use Rattle.c_elab_decl.specs.Initializers.{no_initializer}
+use Rattle.c_elab_decl.specs.Initializers.{Value, bytes_said, initializer_of, no_initializer}
 use Rattle.c_elab_decl.specs.Enumerations.{enumerator_value, enumerator_node, typed_enumerator, typed_enumerators}
-use Rattle.c_elab_decl.specs.Declarators.{typedef_type, with_typedef, typed_typedef, typed_typedefs, typed_objects}
-use Rattle.c_elab_decl.specs.Tags.{kind_of, is_kind, with_record, with_tagged, new_tag, found_tag, tag_named, forward_tag, Opened, new_record, open_tag, opened, reopened, fitting, members_fit, already, completed, closed, closed_scope, enumeration_tag, enumeration_closed}
+use Rattle.c_elab_decl.specs.Declarators.{typedef_type, with_typedef, typed_typedef, typed_typedefs, is_open, lasting_type, is_again, is_linked_to, linked_object, may_again, lasting_again, lasting_node, declared_again, first_declared, with_object, changed_object, added_object, declared_object, initialized_object, may_define, counted_by, element_of, typed_object, typed_objects}
+use Rattle.c_elab_decl.specs.Tags.{kind_of, is_kind, with_record, with_tagged, new_tag, found_tag, forward_tag, Opened, new_record, open_tag, opened, reopened, fitting, members_fit, already, completed, closed, closed_scope, enumeration_tag, enumeration_closed}
 use Rattle.c_elab_decl.specs.Specifiers.{Fields, member_type, typed_member, typed_fields, is_none, has_untagged, with_anonymous, is_anonymous, Parted, with_type_part, fields_within, fields_out, with_members, typed_enumeration, said_before, fields_behind, typed_line, typed_part, typed_parts, typed_members, lone_tag, with_lone, Specification, typed_specifiers, parts_line}
 use Rattle.c_elab_decl.specs.Statements.{typed_others}
-use Rattle.c_elab_decl.proofs.Growing.{Follows, Settles, settles_refl, settles_trans, binding_settles, record_settles, completed_settles, typedef_settles, last}
+use Rattle.c_elab_decl.proofs.Growing.{Settles, settles_refl, settles_trans, binding_settles, record_settles, completed_settles, typedef_settles, object_settles, changed_settles, changed_known, next_known, last}
 
 pub trivially : {A E : Type 0} (r : Result A E) → Holds (λ (x : A). Unit {0}) r
 trivially r x e = tt
@@ -223,12 +222,81 @@ typedefs_settle r s base (declarator d i rest) =
     bind (Settles s) (Settles s) (typed_typedef r s base d i) _ (typed_typedef_settles r s base d i) (λ t f.
     weaken (Settles t) (Settles s) (typed_typedefs r t base rest) (typedefs_settle r t base rest) (λ u g. settles_trans s t u f g))
 
-objects_settle : (s : Scoped) (ds : Declarators) → Holds (Settles s) (typed_objects s ds)
-objects_settle s none_declared = given (Settles s) s (settles_refl s)
-objects_settle s (declarator d i rest) =
-    bind (λ (ls : List (Option ℕ)). Unit {0}) (Settles s) (lengths s d) _ (trivially _) (λ ls _. refused (Settles s) _)
+-- an object is no smaller behind one more declarator of it
+again_larger : (done : List Completed) (o : Lasting) (x : CType × Bool) (defines : Bool) → lasting_size done o ≤ lasting_size done (declared_again o x defines)
+again_larger done o x defines = by o.unknown_length refl where
+  by : (u : Bool) → o.unknown_length ≡ u → lasting_size done o ≤ lasting_size done (declared_again o x defines)
+  by true e = rw e (omega arith)
+  by false e = rw e (omega arith)
+
+again_settles : (s : Scoped) (k : ℕ) (x : CType × Bool) (defines : Bool) → Settles s (changed_object s k (λ o. declared_again o x defines))
+again_settles s k x defines = changed_settles s k (λ o. declared_again o x defines) (λ o. again_larger s.records.done o x defines)
+
+initialized_settles : (s : Scoped) (k : ℕ) (v : Option Value) → Settles s (initialized_object s k v)
+initialized_settles s k None = settles_refl s
+initialized_settles s k (Some v) = changed_settles s k (λ o. record o { bytes = Some (bytes_said v) }) (λ o. omega arith)
+
+-- its object is there where the name is linked to one
+abbrev pub IsLinked : Scoped → Option ℕ → Type 0
+IsLinked s None = Unit {0}
+IsLinked s (Some k) = (o : Lasting) × (object_at s k ≡ Some o)
+
+again_linked : (s : Scoped) (constant : Bool) (k : ℕ) (r : Result (CType × Bool) ℕ) (i : Option Initial) → Holds (λ x. IsLinked s (Some k)) (lasting_again s constant k r i)
+again_linked s constant k (Err rule) i = refused _ 2
+again_linked s constant k (Ok x) i = by (object_at s k) refl where
+  node : (b : Bool) (o : Lasting) → object_at s k ≡ Some o → Holds {E = ℕ} (λ x. IsLinked s (Some k)) (if b then Ok x else Err 2)
+  node true o e = given (λ x. IsLinked s (Some k)) x (o, e)
+  node false o e = refused _ 2
+
+  by : (a : Option Lasting) → object_at s k ≡ a → Holds {E = ℕ} (λ x. IsLinked s (Some k)) (if may_again a constant x i then Ok x else Err 2)
+  by None e = refused _ 2
+  by (Some o) e = node (is_again o constant x i) o e
+
+pub node_linked : (s : Scoped) (constant : Bool) (m : Option Meaning) (linked : Option ℕ) (r : Result (CType × Bool) ℕ) (i : Option Initial)
+    → Holds (λ x. IsLinked s linked) (lasting_node s constant m linked r i)
+node_linked s constant m None r i = λ x e. tt
+node_linked s constant m (Some k) r i = by (is_linked_to (Some k) m) where
+  by : (b : Bool) → Holds {E = ℕ} (λ x. IsLinked s (Some k)) (if b then lasting_again s constant k r i else Err 2)
+  by true = again_linked s constant k r i
+  by false = refused _ 2
+
+declared_object_settles : (s : Scoped) (has_linkage constant : Bool) (name : List ℕ) (linked : Option ℕ) (x : CType × Bool) (defines : Bool) (line : ℕ) → IsLinked s linked
+    → Settles s (declared_object s has_linkage constant name linked x defines line).1
+declared_object_settles s has_linkage constant name (Some k) x defines line h =
+    let t = changed_object s k (λ o. declared_again o x defines) in
+    let known : is_known t (Object k) ≡ true = changed_known s k (λ o. declared_again o x defines) h.0 h.1 in
+    settles_trans s t (with_object t name k) (again_settles s k x defines) (binding_settles t name (Object k) known)
+declared_object_settles s has_linkage constant name None x defines line h =
+    let o = first_declared constant x defines line in
+    let t = added_object s has_linkage name o in
+    settles_trans s t (with_object t name (length s.objects + 1)) (object_settles s o t.linked) (binding_settles t name (Object (length s.objects + 1)) (next_known s o))
+
+typed_object_settles : (r : Region) (is_extern : Bool) (s : Scoped) (base : Named) (d : Declared) (i : Option Initial) → Holds (Settles s) (typed_object r is_extern s base d i)
+typed_object_settles r is_extern s base d i =
+    let name = name_of d in
+    let line = declared_line d in
+    let linked = linked_object r is_extern s name in
+    let defines = not is_extern || is_some i in
+    bind (λ (ls : List (Option ℕ)). Unit {0}) (Settles s) (lengths s d) _ (trivially _) (λ ls _.
+    let node = lasting_node s base.constant (earlier r s name) linked (lasting_type s.records.done base.type is_extern i ls) i in
+    bind (λ x. IsLinked s linked) (Settles s) (on_line line node) _ (on_same_line (λ x. IsLinked s linked) line node (node_linked s base.constant (earlier r s name) linked (lasting_type s.records.done base.type is_extern i ls) i)) (λ x there.
+    bind (λ (u : Unit {0}). Unit {0}) (Settles s) (may_define line r is_extern i) _ (trivially _) (λ u _.
+    let y = declared_object s (r.is_file || is_extern) base.constant name linked (counted_by (is_some i && is_open ls) x (element_of x.0)) defines line in
+    let z = changed_object y.1 y.0 (λ o. declared_again o x defines) in
+    bind (λ (v : Option Value). Unit {0}) (Settles s) (initializer_of true line y.1 x.0 i) _ (trivially _) (λ v _.
+    given (Settles s) (initialized_object z y.0 v)
+    (settles_trans s y.1 (initialized_object z y.0 v)
+    (declared_object_settles s (r.is_file || is_extern) base.constant name linked (counted_by (is_some i && is_open ls) x (element_of x.0)) defines line there)
+    (settles_trans y.1 z (initialized_object z y.0 v) (again_settles y.1 y.0 x defines) (initialized_settles z y.0 v)))))))
+
+objects_settle : (r : Region) (is_extern : Bool) (s : Scoped) (base : Named) (ds : Declarators) → Holds (Settles s) (typed_objects r is_extern s base ds)
+objects_settle r is_extern s base none_declared = given (Settles s) s (settles_refl s)
+objects_settle r is_extern s base (declarator d i rest) =
+    bind (Settles s) (Settles s) (typed_object r is_extern s base d i) _ (typed_object_settles r is_extern s base d i) (λ t f.
+    weaken (Settles t) (Settles s) (typed_objects r is_extern t base rest) (objects_settle r is_extern t base rest) (λ u g. settles_trans s t u f g))
 
 pub others_settle : (r : Region) (x : Specification) (role : Role) (ds : Declarators) → Holds (Settles x.scope) (typed_others r x role ds)
 others_settle r x roles.Typedef ds = typedefs_settle r x.scope x.type ds
-others_settle r x roles.Lasting ds = objects_settle x.scope ds
-others_settle r x roles.Automatic ds = objects_settle x.scope ds
+others_settle r x roles.Extern ds = objects_settle r true x.scope x.type ds
+others_settle r x roles.Lasting ds = objects_settle r false x.scope x.type ds
+others_settle r x roles.Automatic ds = objects_settle r false x.scope x.type ds

@@ -1,37 +1,47 @@
--- Typed initializers, one behind the other.
-use Rattle.std.proofs.Common.{◌≡◌, List, [], ◌∷◌, ◌++◌, Option, Result, Ok, Err, map, option_map, refl, ap, sym, ◌∙◌}
-use Rattle.std.proofs.lemmas.List.{append_assoc, append-nil, map-append}
+-- Items of braces, one behind the other.
+use Rattle.std.proofs.Common.{◌≡◌, ℕ, suc, Bool, List, [], ◌∷◌, ◌++◌, length, Result, Ok, Err, map, reverse, refl, ap, sym, ◌∙◌, arith}
+use Rattle.std.proofs.lemmas.List.{append_assoc, length-append, map-append, reverse-append}
 use Rattle.c_tree.specs.Declarations.{Initial, Initials, initials}
-use Rattle.c_elab_expr.specs.declared.operands.CoreOperand.{CoreOperand}
-use Rattle.c_elab_expr.specs.Operands.{Operand, view_operand}
+use Rattle.c_types.specs.Types.{CType}
+use Rattle.core_tree.specs.declared.expression.CorePart.{CorePart}
+use Rattle.core_tree.specs.Trees.{with_part, parts_of}
 use Rattle.c_elab_expr.specs.Scopes.{Scoped}
 use Rattle.c_elab_expr.specs.Nodes.{◌>>=◌}
 use Rattle.c_elab_expr.specs.Typing.{Fault}
-use Rattle.c_elab_decl.specs.Initializers.{typed_initial, typed_initials}
+use Rattle.c_elab_decl.specs.declared.items.Made.{Made as CodeMade}
+use Rattle.c_elab_decl.specs.Initializers.{Made, slot, slot_type, typed_initial, typed_initials, view_made}
 
-abbrev pub Values : Type 0
-Values = List (Option Operand)
+abbrev pub views : List CodeMade → List Made
+views xs = map view_made xs
 
-abbrev pub views : List (Option CoreOperand) → Values
-views vs = map (option_map view_operand) vs
+abbrev pub items_first : List Made → Result (List Made) Fault → Result (List Made) Fault
+items_first xs r = r >>= λ ys. Ok (xs ++ ys)
 
-abbrev pub values_first : Values → Result Values Fault → Result Values Fault
-values_first vs r = r >>= λ xs. Ok (vs ++ xs)
-
-pub none_first : (r : Result Values Fault) → values_first [] r ≡ r
+pub none_first : (r : Result (List Made) Fault) → items_first [] r ≡ r
 none_first (Ok xs) = refl
 none_first (Err f) = refl
 
-value_first : (vs : Values) (x : Option Operand) (r : Result Values Fault) → values_first vs (r >>= λ xs. Ok (x ∷ xs)) ≡ values_first (vs ++ x ∷ []) r
-value_first vs x (Ok xs) = ap Ok (sym (append_assoc vs (x ∷ []) xs))
-value_first vs x (Err f) = refl
+item_first : (xs : List Made) (x : Made) (r : Result (List Made) Fault) → items_first xs (r >>= λ ys. Ok (x ∷ ys)) ≡ items_first (xs ++ x ∷ []) r
+item_first xs x (Ok ys) = ap Ok (sym (append_assoc xs (x ∷ []) ys))
+item_first xs x (Err f) = refl
 
-pub value_more : (s : Scoped) (i : Initial) (rest : Initials) (v : Option CoreOperand) (before now : List (Option CoreOperand)) → typed_initial s i ≡ Ok (option_map view_operand v) → now ≡ before ++ v ∷ []
-    → values_first (views before) (typed_initials s (initials i rest)) ≡ values_first (views now) (typed_initials s rest)
-value_more s i rest v before now e items =
-    ap (λ (r : Result (Option Operand) Fault). values_first (views before) (r >>= λ x. typed_initials s rest >>= λ xs. Ok (x ∷ xs))) e
-    ∙ value_first (views before) (option_map view_operand v) (typed_initials s rest)
-    ∙ ap (λ (vs : Values). values_first vs (typed_initials s rest)) (sym (ap views items ∙ map-append (option_map view_operand) before (v ∷ [])))
+-- one item more: it is the one with the number of those before it
+pub item_more : (lasting : Bool) (s : Scoped) (t : CType) (i : Initial) (rest : Initials) (x : CodeMade) (n : ℕ) (before now : List CodeMade)
+    → typed_initial lasting s (slot_type (slot s.records t n)) i ≡ Ok (view_made x) → now ≡ before ++ x ∷ []
+    → items_first (views before) (typed_initials lasting s t n (initials i rest)) ≡ items_first (views now) (typed_initials lasting s t (suc n) rest)
+item_more lasting s t i rest x n before now e items =
+    ap (λ (r : Result Made Fault). items_first (views before) (r >>= λ y. typed_initials lasting s t (suc n) rest >>= λ ys. Ok (y ∷ ys))) e
+    ∙ item_first (views before) (view_made x) (typed_initials lasting s t (suc n) rest)
+    ∙ ap (λ (xs : List Made). items_first xs (typed_initials lasting s t (suc n) rest)) (sym (ap views items ∙ map-append view_made before (x ∷ [])))
 
-pub value_fails : (s : Scoped) (i : Initial) (rest : Initials) (vs : Values) (f : Fault) → typed_initial s i ≡ Err f → values_first vs (typed_initials s (initials i rest)) ≡ Err f
-value_fails s i rest vs f e = ap (λ (r : Result (Option Operand) Fault). values_first vs (r >>= λ x. typed_initials s rest >>= λ xs. Ok (x ∷ xs))) e
+pub item_fails : (lasting : Bool) (s : Scoped) (t : CType) (i : Initial) (rest : Initials) (xs : List Made) (n : ℕ) (f : Fault) → typed_initial lasting s (slot_type (slot s.records t n)) i ≡ Err f
+    → items_first xs (typed_initials lasting s t n (initials i rest)) ≡ Err f
+item_fails lasting s t i rest xs n f e = ap (λ (r : Result Made Fault). items_first xs (r >>= λ y. typed_initials lasting s t (suc n) rest >>= λ ys. Ok (y ∷ ys))) e
+
+pub one_longer : (before now : List CodeMade) (x : CodeMade) → now ≡ before ++ x ∷ [] → length now ≡ suc (length before)
+one_longer before now x e = let long = length-append before (x ∷ []) in let same = ap (λ (xs : List CodeMade). length xs) e in omega (arith, long, same)
+
+-- ---- parts, of which the last stands first
+
+pub part_first : (parts : List CorePart) (p : CorePart) → parts_of (reverse (parts ++ p ∷ [])) ≡ with_part p (parts_of (reverse parts))
+part_first parts p = ap parts_of (reverse-append parts (p ∷ []))

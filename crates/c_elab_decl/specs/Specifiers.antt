@@ -191,7 +191,7 @@ typed_record r alone p kind tag ms =
 abbrev pub role_of : Bool → List StorageClass → Role
 role_of is_file [] = if is_file then roles.Lasting else roles.Automatic
 role_of is_file (storage_classes.Typedef ∷ rest) = roles.Typedef
-role_of is_file (storage_classes.Extern ∷ rest) = roles.Lasting
+role_of is_file (storage_classes.Extern ∷ rest) = roles.Extern
 role_of is_file (storage_classes.Static ∷ rest) = roles.Lasting
 role_of is_file (storage_classes.Auto ∷ rest) = if is_file then roles.Lasting else roles.Automatic
 role_of is_file (storage_classes.Register ∷ rest) = if is_file then roles.Lasting else roles.Automatic

@@ -1,14 +1,14 @@
 -- The typed statements of a function, or the first broken rule: parts come before what they are parts of, from left to right
 -- (C11 6.7, 6.8).
-use Rattle.std.specs.Prelude.{ℕ, false, length, Result, Ok, Err}
+use Rattle.std.specs.Prelude.{true, ℕ, false, length, Result, Ok, Err}
 use Rattle.c_tree.specs.Declarations.{Parts, Declarators}
 use Rattle.c_tree.specs.Statements.{Statement, block, if_then, if_else, evaluate, return_nothing, return_value, Items, done, declares, does}
 use Rattle.c_types.specs.declared.integers.IntegerType.TheVariants as types
 use Rattle.core_tree.specs.Trees as cores
 use Rattle.c_elab_expr.specs.Scopes.{Scoped}
 use Rattle.c_elab_expr.specs.Nodes.{◌>>=◌, as_type}
-use Rattle.c_elab_expr.specs.Operands.{Operand, value, object, number}
-use Rattle.c_elab_expr.specs.Typing.{Fault, fault, on_line, untyped, operand}
+use Rattle.c_elab_expr.specs.Operands.{number, dropped}
+use Rattle.c_elab_expr.specs.Typing.{Fault, fault, on_line, operand}
 use Rattle.c_elab_decl.specs.declared.regions.Region.{Region}
 use Rattle.c_elab_decl.specs.declared.regions.Role.{Role}
 use Rattle.c_elab_decl.specs.declared.regions.Role.TheVariants as roles
@@ -20,11 +20,13 @@ use Rattle.c_elab_decl.specs.Specifiers.{Specification, typed_specifiers}
 -- declarators that make no variables of the function, by their role
 abbrev pub typed_others : Region → Specification → Role → Declarators → Result Scoped Fault
 typed_others r x roles.Typedef ds = typed_typedefs r x.scope x.type ds
-typed_others r x roles.Lasting ds = typed_objects x.scope ds
-typed_others r x roles.Automatic ds = typed_objects x.scope ds
+typed_others r x roles.Extern ds = typed_objects r true x.scope x.type ds
+typed_others r x roles.Lasting ds = typed_objects r false x.scope x.type ds
+typed_others r x roles.Automatic ds = typed_objects r false x.scope x.type ds
 
 abbrev pub typed_by : Region → Specification → Role → Declarators → (Scoped → Typed) → Typed
 typed_by r x roles.Typedef ds behind = typed_others r x roles.Typedef ds >>= behind
+typed_by r x roles.Extern ds behind = typed_others r x roles.Extern ds >>= behind
 typed_by r x roles.Lasting ds behind = typed_others r x roles.Lasting ds >>= behind
 typed_by r x roles.Automatic ds behind = typed_variables r x.scope x.type ds behind
 
@@ -35,11 +37,6 @@ typed_declaration r s parts ds behind = do
   typed_by r x x.role ds behind
 
 -- ---- statements
-
--- an expression statement of struct or union type has no typing yet
-abbrev pub evaluated : Operand → Result cores.Expression Fault
-evaluated (value e constant) = Ok e
-evaluated (object line v offset t constant) = Err untyped
 
 abbrev pub in_block : ℕ → Region
 in_block outer = record { outer = outer; is_file = false }
@@ -63,8 +60,7 @@ abbrev mutual
     Ok (cores.if_else line e y.0 z.0, z.1)
   typed_statement s (evaluate e) = do
     x ← operand s e
-    y ← evaluated x
-    Ok (cores.evaluate y, s)
+    Ok (cores.evaluate (dropped s.records.done x), s)
   typed_statement s (return_nothing line) = Err (fault line 16)
   typed_statement s (return_value line e) = do
     x ← operand s e

@@ -7,7 +7,7 @@ use Rattle.c_tree.specs.declared.declaration.RecordKind.TheVariants as tree_kind
 use Rattle.c_types.specs.declared.integers.IntegerType.TheVariants as types
 use Rattle.c_types.specs.declared.types.RecordKind.{RecordKind}
 use Rattle.c_types.specs.declared.types.RecordKind.TheVariants.{Struct, Union}
-use Rattle.c_types.specs.Types.{CType, integer, aggregate, Completed, Records}
+use Rattle.c_types.specs.Types.{CType, integer, aggregate, Records}
 use Rattle.c_types.specs.Layouts.{is_completed, are_complete, fits, with_completed, kind_at}
 use Rattle.c_elab_expr.specs.declared.meaning.Meaning.{Meaning}
 use Rattle.c_elab_expr.specs.declared.meaning.Meaning.TheVariants.{Record, Enumeration}

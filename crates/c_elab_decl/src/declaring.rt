@@ -10,7 +10,8 @@ ghost use Rattle.c_elab_decl.specs.Statements.{typed_others, typed_by, typed_dec
 ghost use Rattle.c_elab_decl.specs.Files.{in_file, typed_outside};
 ghost use Rattle.c_elab_decl.specs.Steps.{Step};
 
-use crate::naming::{typed_objects, typed_typedefs};
+use crate::lasting::typed_objects;
+use crate::naming::typed_typedefs;
 use crate::regions::{Region, Role};
 use crate::specifying::{Base, typed_specifiers};
 use crate::variables::typed_variables;
@@ -33,8 +34,9 @@ fn typed_others(
 {
     match base.role {
         Role::Typedef => typed_typedefs(alloc, &base.named, declarators, region, scope),
-        Role::Lasting => typed_objects(alloc, declarators, scope),
-        Role::Automatic => typed_objects(alloc, declarators, scope),
+        Role::Extern => typed_objects(alloc, &base.named, declarators, region, true, scope),
+        Role::Lasting => typed_objects(alloc, &base.named, declarators, region, false, scope),
+        Role::Automatic => typed_objects(alloc, &base.named, declarators, region, false, scope),
     }
 }
 
@@ -56,6 +58,7 @@ fn typed_by(
 {
     match base.role {
         Role::Typedef => typed_others(alloc, base, declarators, region, scope),
+        Role::Extern => typed_others(alloc, base, declarators, region, scope),
         Role::Lasting => typed_others(alloc, base, declarators, region, scope),
         Role::Automatic => typed_variables(alloc, &base.named, declarators, region, scope, items),
     }

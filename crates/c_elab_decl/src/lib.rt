@@ -5,15 +5,17 @@ mod declaring;
 mod defining;
 mod enumerating;
 mod initializing;
+mod items;
+mod lasting;
 mod names;
 mod naming;
 mod places;
 mod regions;
+mod said;
+mod slots;
 mod specifying;
 mod stating;
 mod tagging;
-#[cfg(test)]
-mod tests;
 mod variables;
 
 pub use defining::elaborate;

@@ -6,13 +6,11 @@ ghost use Rattle.c_tree.specs.Declarations.{view_initializer, view_init_declarat
 ghost use Rattle.c_types.specs.Types.{CType, view};
 ghost use Rattle.c_elab_expr.specs.Scopes.{view_named};
 ghost use Rattle.c_elab_expr.specs.Typing.{Gives, on_line};
-ghost use Rattle.c_elab_decl.specs.Declarators.{same_ctype, same_flag, is_named, is_typedef_of, typedef_node, typedef_type, typed_typedef, typed_typedefs, typed_objects};
+ghost use Rattle.c_elab_decl.specs.Declarators.{same_ctype, same_flag, is_named, is_typedef_of, typedef_node, typedef_type, typed_typedef, typed_typedefs};
 
 use crate::initializing::no_initializer;
 use crate::regions::{Region, earlier};
-use c_elab_expr::{
-    Meaning, QualifiedType, Scope, TypingError, array_type, declared_line, lengths, untyped,
-};
+use c_elab_expr::{Meaning, QualifiedType, Scope, TypingError, array_type, declared_line, lengths};
 use c_tree::{Declarator, DeclaratorCore, InitDeclarator};
 use c_types::{Ty, same};
 use std::alloc::{AllocError, Global};
@@ -31,13 +29,13 @@ pub fn name_of(declarator: &Declarator) -> &[u8]
     }
 }
 
-fn same_ctype(a: &Ty, b: &Ty) -> bool
+pub fn same_ctype(a: &Ty, b: &Ty) -> bool
     ensures { result ≡ same_ctype (view a.now) (view b.now) }
 {
     same(a, b)
 }
 
-fn same_flag(a: bool, b: bool) -> bool
+pub fn same_flag(a: bool, b: bool) -> bool
     ensures { result ≡ same_flag a b }
 {
     a == b
@@ -156,21 +154,4 @@ pub fn typed_typedefs(
         typed_typedef(alloc, base, declarator, region, scope)?;
     }
     Ok(())
-}
-
-/// Objects that live as long as the program have no typing yet.
-pub fn typed_objects(
-    alloc: Global,
-    declarators: &[InitDeclarator],
-    scope: &Scope,
-) -> Result<(), TypingError>
-    ensures { Gives (λ u. scope.now) result (typed_objects scope.now (declarators_of declarators.now)) }
-{
-    match declarators {
-        [] => Ok(()),
-        [first, ..] => {
-            let _lengths = lengths(alloc, &first.declarator, scope)?;
-            Err(untyped())
-        }
-    }
 }

@@ -18,7 +18,9 @@ pub struct Region {
 pub enum Role {
     /// Names of types.
     Typedef,
-    /// Objects that live as long as the program.
+    /// Objects that live as long as the program, which are defined here or elsewhere.
+    Extern,
+    /// Objects that live as long as the program, which are defined here.
     Lasting,
     /// Variables of a function.
     Automatic,

@@ -426,7 +426,7 @@ fn role_of(is_file: bool, storage: &[StorageClass]) -> Role
     match storage {
         [] => default_role(is_file),
         [StorageClass::Typedef, ..] => Role::Typedef,
-        [StorageClass::Extern, ..] => Role::Lasting,
+        [StorageClass::Extern, ..] => Role::Extern,
         [StorageClass::Static, ..] => Role::Lasting,
         [StorageClass::Auto, ..] => default_role(is_file),
         [StorageClass::Register, ..] => default_role(is_file),

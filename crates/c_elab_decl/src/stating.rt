@@ -3,36 +3,19 @@
 ghost use Rattle.std.specs.Prelude.{◌≡◌, ◌≤◌, length, OnOk};
 ghost use Rattle.c_tree.specs.Statements.{view_statement as tree};
 ghost use Rattle.c_tree.specs.Statements.{Items, view_item, items_of as trees};
-ghost use Rattle.core_tree.specs.Trees.{view, view_statement, items_of};
-ghost use Rattle.c_elab_expr.specs.Operands.{view_operand};
+ghost use Rattle.core_tree.specs.Trees.{view_statement, items_of};
 ghost use Rattle.c_elab_expr.specs.Typing.{Gives};
-ghost use Rattle.c_elab_decl.specs.Statements.{evaluated, typed_statement, typed_items};
+ghost use Rattle.c_elab_decl.specs.Statements.{typed_statement, typed_items};
 ghost use Rattle.c_elab_decl.specs.Steps.{Step};
 
 use crate::declaring::declare;
 use crate::places::number_on;
 use crate::regions::Region;
-use c_elab_expr::{CoreOperand, Scope, TypingError, as_type, operand, untyped};
+use c_elab_expr::{Scope, TypingError, as_type, dropped, operand};
 use c_tree::{Item, Stmt};
 use c_types::IntegerType;
-use core_tree::{CoreExpr, CoreItem, CoreStatement};
+use core_tree::{CoreItem, CoreStatement};
 use std::alloc::Global;
-
-// An expression statement of struct or union type has no typing yet.
-fn evaluated(operand: CoreOperand) -> Result<CoreExpr, TypingError>
-    ensures { Gives view result (evaluated (view_operand operand)) }
-{
-    match operand {
-        CoreOperand::Value { value, constant: _ } => Ok(value),
-        CoreOperand::Object {
-            line: _,
-            variable: _,
-            offset: _,
-            type_: _,
-            constant: _,
-        } => Err(untyped()),
-    }
-}
 
 /// A statement. The scope keeps its names and gets the statement's variables.
 #[cycle(statement)]
@@ -82,7 +65,7 @@ pub fn typed_statement(
         Stmt::Evaluate { expression } => {
             let operand = operand(alloc, expression, scope)?;
             Ok(CoreStatement::Evaluate {
-                expression: evaluated(operand)?,
+                expression: dropped(alloc, operand, scope.layouts())?,
             })
         }
         Stmt::ReturnNothing { line } => Err(TypingError::Typing {

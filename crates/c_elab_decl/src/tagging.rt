@@ -3,7 +3,7 @@
 ghost use Rattle.std.specs.Prelude.{◌≡◌, ◌≤◌, ◌<◌, length, option_map, false, Ok, IfOk, OnOk};
 ghost use Rattle.c_tree.specs.Tree.{view_name};
 ghost use Rattle.c_types.specs.Types.{view};
-ghost use Rattle.c_types.specs.Layouts.{kind_at, is_completed};
+ghost use Rattle.c_types.specs.Layouts.{is_completed};
 ghost use Rattle.c_elab_expr.specs.Members.{view_fields};
 ghost use Rattle.c_elab_expr.specs.Scopes.{plain, view_named};
 ghost use Rattle.c_elab_expr.specs.Typing.{GivesNode};
@@ -11,6 +11,7 @@ ghost use Rattle.c_elab_decl.specs.Regions.{earlier_tag};
 ghost use Rattle.c_elab_decl.specs.Tags.{kind_of, is_kind, with_record, with_tagged, new_tag, tag_named, forward_tag, new_record, open_tag, opened, reopened, closed_type, completed, closed, enumeration_closed, view_opened, GivesNamed};
 
 use crate::regions::{Region, earlier_tag};
+use crate::slots::kind_at;
 use c_elab_expr::{Broken, Field, Meaning, QualifiedType, Scope, tag_type};
 use c_tree::{Name, TagKind};
 use c_types::{IntegerType, LayoutError, RecordKind, Ty};
@@ -43,18 +44,6 @@ fn is_kind(a: RecordKind, b: RecordKind) -> bool
         (RecordKind::Struct, RecordKind::Union) => false,
         (RecordKind::Union, RecordKind::Struct) => false,
         (RecordKind::Union, RecordKind::Union) => true,
-    }
-}
-
-// The record at a place is a struct or a union.
-fn kind_at(place: u32, scope: &Scope) -> RecordKind
-    ensures { result ≡ kind_at scope.now.records place }
-{
-    let layouts = scope.layouts();
-    if (place as usize) < layouts.len() {
-        layouts.kind(place)
-    } else {
-        RecordKind::Struct
     }
 }
 
@@ -184,7 +173,7 @@ fn open_tag(
             })
         }
         Some(Meaning::Record { place }) => {
-            if is_kind(kind_at(place, scope), kind) {
+            if is_kind(kind_at(place, scope.layouts()), kind) {
                 Ok(Braces {
                     place,
                     clashes: false,

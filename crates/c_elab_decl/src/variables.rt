@@ -1,51 +1,67 @@
 //! Variables of a function.
 
-ghost use Rattle.std.specs.Prelude.{◌≡◌, ◌≤◌, ℕ, length, option_map, OnOk, IfOk, Ok, Result};
+ghost use Rattle.std.specs.Prelude.{◌≡◌, ◌≤◌, ℕ, false, length, option_map, OnOk, IfOk, IfErr, Ok, Result};
 ghost use Rattle.c_tree.specs.Tree.{view_declarator};
 ghost use Rattle.c_tree.specs.Declarations.{Declarators, view_initializer, view_init_declarator, declarators_of};
 ghost use Rattle.c_types.specs.Types.{CType, view as type_view};
-ghost use Rattle.core_tree.specs.Trees.{Items, view, with_item};
+ghost use Rattle.core_tree.specs.Trees.{Items, with_item};
 ghost use Rattle.c_elab_expr.specs.Scopes.{Scoped, view_named};
 ghost use Rattle.c_elab_expr.specs.Types.{type_size};
 ghost use Rattle.c_elab_expr.specs.Typing.{Gives, on_line};
-ghost use Rattle.c_elab_decl.specs.Declarators.{Typed, declared_item, behind_open, given_lengths, complete_type, sized_type, initialized_type, variable_type, typed_variable, typed_variables};
+ghost use Rattle.c_tree.specs.Declarations.{name_of};
+ghost use Rattle.c_elab_expr.specs.Types.{declared_line};
+ghost use Rattle.c_elab_expr.specs.declared.fault.TypingError.{TypingError as SpecError};
+ghost use Rattle.c_elab_decl.specs.Files.{with_function};
+ghost use Rattle.c_elab_decl.specs.Declarators.{Typed, with_variable, within_initializer, is_open, said_lengths, given_lengths, complete_type, sized_type, variable_type, of_type, declared_item, typed_variable, typed_variables};
+ghost use Rattle.c_elab_decl.specs.Initializers.{view_value, initializer_of};
 ghost use Rattle.c_elab_decl.specs.Steps.{Step};
 
-use crate::initializing::initializer_of;
+use crate::initializing::{elements_said, initializer_of};
+use crate::items::Value;
 use crate::naming::name_of;
 use crate::regions::{Region, earlier};
 use c_elab_expr::{
-    Broken, QualifiedType, Scope, TypingError, array_type, declared_line, lengths, type_size,
-    untyped,
+    Broken, Meaning, QualifiedType, Scope, TypingError, array_type, declared_line, lengths,
+    type_size,
 };
 use c_tree::{Declarator, InitDeclarator, Initializer};
 use c_types::{Layouts, MOST_BYTES, Ty, is_complete};
-use core_tree::{CoreExpr, CoreItem, names_variable};
-use std::alloc::Global;
+use core_tree::{CoreItem, names_variable, structure_names_variable};
+use std::alloc::{AllocError, Global};
 
 // More variables than this have no memory.
 const VARIABLES: usize = 0x7fff_ffff;
 
-// `[]` stands for the outermost length where an initializer says it.
-fn given_lengths<'a>(
-    initializer: &Option<Initializer>,
-    lengths: &'a [Option<u64>],
-) -> &'a [Option<u64>]
-    ensures { result.now ≡ given_lengths (option_map view_initializer initializer.now) lengths.now }
+// Whether `[]` is the outermost length.
+pub fn is_open(lengths: &[Option<u64>]) -> bool
+    ensures { result ≡ is_open lengths.now }
 {
-    match initializer {
-        None => lengths,
-        Some(_) => behind_open(lengths),
+    !lengths.is_empty() && lengths[0].is_none()
+}
+
+fn say_lengths(length: u64, lengths: &mut Vec<Option<u64>>)
+    ensures { lengths.new.items ≡ said_lengths length lengths.old.items }
+{
+    if is_open(lengths) {
+        lengths[0] = Some(length);
     }
 }
 
-fn behind_open(lengths: &[Option<u64>]) -> &[Option<u64>]
-    ensures { result.now ≡ behind_open lengths.now }
+// `[]` stands for as many elements as an initializer says.
+pub fn give_lengths(
+    alloc: Global,
+    initializer: &Option<Initializer>,
+    lengths: &mut Vec<Option<u64>>,
+) -> Result<(), AllocError>
+    ensures { OnOk result (lengths.new.items ≡ given_lengths (option_map view_initializer initializer.now) lengths.old.items) }
 {
-    if lengths.is_empty() || lengths[0].is_some() {
-        lengths
-    } else {
-        &lengths[1..]
+    match initializer {
+        None => Ok(()),
+        Some(initializer) => {
+            let length = elements_said(alloc, initializer)?;
+            say_lengths(length, lengths);
+            Ok(())
+        }
     }
 }
 
@@ -61,7 +77,7 @@ pub fn complete_type(type_: Ty, layouts: &Layouts, line: u32) -> Result<Ty, Typi
 }
 
 // The bytes of a type that a variable may have, or the lowest rule on the line.
-fn sized_type(type_: &Ty, layouts: &Layouts, line: u32) -> Result<u32, TypingError>
+pub fn sized_type(type_: &Ty, layouts: &Layouts, line: u32) -> Result<u32, TypingError>
     ensures gives { Gives (λ n. type_view type_.now) result (on_line line (sized_type layouts.now.done (type_view type_.now))) }
     ensures sized { IfOk result (λ n. type_size layouts.now.done (type_view type_.now) ≡ Ok n) }
 {
@@ -78,61 +94,144 @@ fn sized_type(type_: &Ty, layouts: &Layouts, line: u32) -> Result<u32, TypingErr
     }
 }
 
-// Arrays with an initializer have no typing yet.
-fn initialized_type(
-    initializer: &Option<Initializer>,
-    lengths: &[Option<u64>],
-) -> Result<(), TypingError>
-    ensures { (t : CType) → Gives (λ u. t) result (initialized_type (option_map view_initializer initializer.now) lengths.now t) }
-{
-    match initializer {
-        None => Ok(()),
-        Some(_) => {
-            if lengths.is_empty() {
-                Ok(())
-            } else {
-                Err(untyped())
-            }
-        }
-    }
+/// The type of a variable, its size, and whether its initializer says how many elements it has.
+#[derive(Drop)]
+struct Object {
+    type_: Ty,
+    size: u32,
+    counted: bool,
 }
 
-// The type of a variable, and its size.
+// The type of a variable.
 fn variable_type(
     alloc: Global,
     base: &Ty,
     declared: &InitDeclarator,
     region: Region,
     scope: &Scope,
-) -> Result<(Ty, u32), TypingError>
+) -> Result<Object, TypingError>
     requires { region.outer ≤ length scope.now.bindings }
-    ensures gives { Gives (λ p. type_view p.0) result (variable_type region scope.now (type_view base.now) (view_declarator declared.now.declarator) (option_map view_initializer declared.now.initializer)) }
-    ensures sized { IfOk result (λ p. type_size scope.now.records.done (type_view p.0) ≡ Ok p.1) }
+    ensures gives { Gives (λ o. (type_view o.type_, o.counted)) result (variable_type region scope.now (type_view base.now) (view_declarator declared.now.declarator) (option_map view_initializer declared.now.initializer)) }
+    ensures sized { IfOk result (λ o. type_size scope.now.records.done (type_view o.type_) ≡ Ok o.size) }
 {
-    let lengths = lengths(alloc, &declared.declarator, scope)?;
+    let mut lengths = lengths(alloc, &declared.declarator, scope)?;
     let line = declared_line(&declared.declarator);
     if earlier(name_of(&declared.declarator), region, scope).is_some() {
         return Err(TypingError::Typing { line, rule: 2 });
     }
     let element = base.copied(alloc)?;
-    let given = given_lengths(&declared.initializer, &lengths);
-    let type_ = array_type(alloc, element, given, scope.layouts(), line)?;
+    let counted = is_open(&lengths);
+    give_lengths(alloc, &declared.initializer, &mut lengths)?;
+    let type_ = array_type(alloc, element, &lengths, scope.layouts(), line)?;
     let size = sized_type(&type_, scope.layouts(), line)?;
-    initialized_type(&declared.initializer, &lengths)?;
-    Ok((type_, size))
+    Ok(Object {
+        type_,
+        size,
+        counted,
+    })
 }
 
-fn declared_item(line: u32, variable: u32, value: Option<CoreExpr>) -> CoreItem
-    ensures { (rest : Items) → with_item result rest ≡ declared_item line variable (option_map view value) rest }
+fn declared_item(line: u32, variable: u32, value: Option<Value>) -> CoreItem
+    ensures { (rest : Items) → with_item result rest ≡ declared_item line variable (option_map view_value value) rest }
 {
     match value {
         None => CoreItem::Declare { line, variable },
-        Some(value) => CoreItem::Initialize {
+        Some(Value::Number { value }) => CoreItem::Initialize {
             line,
             variable,
             drawn: names_variable(variable, &value),
             value,
         },
+        Some(Value::Structure { value }) => CoreItem::InitializeStructure {
+            line,
+            variable,
+            drawn: structure_names_variable(variable, &value),
+            value,
+        },
+    }
+}
+
+// Declares a variable of this type.
+fn declare(
+    alloc: Global,
+    base: &QualifiedType,
+    name: &[u8],
+    object: &Object,
+    scope: &mut Scope,
+) -> Result<u32, TypingError>
+    requires { type_size scope.old.records.done (type_view object.now.type_) ≡ Ok object.now.size }
+    ensures number { IfOk result (λ v. v ≡ length scope.old.variables) }
+    ensures declared { OnOk result (scope.new ≡ with_variable scope.old name.now (of_type (view_named base.now) (type_view object.now.type_))) }
+    ensures memory { IfErr result (λ e. e ≡ TypingError.Memory) }
+{
+    if scope.variable_count() > VARIABLES {
+        return Err(TypingError::Memory);
+    }
+    let named = QualifiedType {
+        type_: object.type_.copied(alloc)?,
+        constant: base.constant,
+    };
+    Ok(scope.declare_variable(alloc, name, named, object.size)?)
+}
+
+// The value of an array whose length its initializer says, within which its name means no object.
+fn open_value(
+    alloc: Global,
+    line: u32,
+    name: &[u8],
+    type_: &Ty,
+    initializer: &Option<Initializer>,
+    scope: &mut Scope,
+) -> Result<Option<Value>, TypingError>
+    ensures gives { Gives (option_map view_value) result (initializer_of false line (with_function scope.old name.now) (type_view type_.now) (option_map view_initializer initializer.now)) }
+    ensures same { OnOk result (scope.new ≡ scope.old) }
+{
+    let outer = scope.len();
+    scope.declare(alloc, name, Meaning::Function)?;
+    let value = initializer_of(alloc, false, line, type_, initializer, scope)?;
+    scope.leave(outer);
+    Ok(value)
+}
+
+// The variable's number and its value.
+fn initialized(
+    alloc: Global,
+    base: &QualifiedType,
+    declared: &InitDeclarator,
+    object: &Object,
+    scope: &mut Scope,
+) -> Result<(u32, Option<Value>), TypingError>
+    requires { type_size scope.old.records.done (type_view object.now.type_) ≡ Ok object.now.size }
+    ensures gives { let n = of_type (view_named base.now) (type_view object.now.type_) in Gives (λ p. option_map view_value p.1) result
+        (initializer_of false (declared_line (view_declarator declared.now.declarator)) (within_initializer object.now.counted scope.old (name_of (view_declarator declared.now.declarator)) n) (type_view object.now.type_)
+        (option_map view_initializer declared.now.initializer)) }
+    ensures number { IfOk result (λ p. p.0 ≡ length scope.old.variables) }
+    ensures declared { OnOk result (scope.new ≡ with_variable scope.old (name_of (view_declarator declared.now.declarator)) (of_type (view_named base.now) (type_view object.now.type_))) }
+{
+    let name = name_of(&declared.declarator);
+    let line = declared_line(&declared.declarator);
+    if object.counted {
+        let value = open_value(
+            alloc,
+            line,
+            name,
+            &object.type_,
+            &declared.initializer,
+            scope,
+        )?;
+        let variable = declare(alloc, base, name, object, scope)?;
+        Ok((variable, value))
+    } else {
+        let variable = declare(alloc, base, name, object, scope)?;
+        let value = initializer_of(
+            alloc,
+            false,
+            line,
+            &object.type_,
+            &declared.initializer,
+            scope,
+        )?;
+        Ok((variable, value))
     }
 }
 
@@ -152,18 +251,9 @@ fn typed_variable(
         (behind scope.new) }
     ensures within { OnOk result (region.outer ≤ length scope.new.bindings) }
 {
-    let declarator = &declared.declarator;
-    let (type_, size) = variable_type(alloc, &base.type_, declared, region, scope)?;
-    if scope.variable_count() > VARIABLES {
-        return Err(TypingError::Memory);
-    }
-    let named = QualifiedType {
-        type_: type_.copied(alloc)?,
-        constant: base.constant,
-    };
-    let variable = scope.declare_variable(alloc, name_of(declarator), named, size)?;
-    let line = declared_line(declarator);
-    let value = initializer_of(alloc, line, &type_, &declared.initializer, scope)?;
+    let object = variable_type(alloc, &base.type_, declared, region, scope)?;
+    let (variable, value) = initialized(alloc, base, declared, &object, scope)?;
+    let line = declared_line(&declared.declarator);
     items.push(declared_item(line, variable, value))?;
     Ok(())
 }

@@ -15,7 +15,7 @@ abbrev pub named_type : Scoped → TypeName → Result CType Fault
 named_type s n = type_name s (map view_type_part n.specifiers.items) (view_declarator n.declarator) (lengths s (view_declarator n.declarator))
 
 abbrev cast_of : Scoped → ℕ → Result CType Fault → Result Operand Fault → Result Operand Fault
-cast_of s line t x = t >>= λ u. x >>= λ y. on_line line (cast_operand u y)
+cast_of s line t x = t >>= λ u. x >>= λ y. on_line line (cast_operand s.records.done line u y)
 
 pub cast_name_fails : (s : Scoped) (line : ℕ) (parts : List TypePart) (d : Declared) (e : Tree) (f : Fault) → type_name s parts d (lengths s d) ≡ Err f → typed s (cast line parts d e) ≡ Err f
 cast_name_fails s line parts d e f h = ap (λ (r : Result CType Fault). cast_of s line r (operand s e)) h
@@ -25,7 +25,7 @@ pub cast_fails : (s : Scoped) (line : ℕ) (parts : List TypePart) (d : Declared
 cast_fails s line parts d e t f h g = ap (λ (r : Result CType Fault). cast_of s line r (operand s e)) h ∙ ap (λ (r : Result Operand Fault). cast_of s line (Ok t) r) g
 
 pub cast_typed : (s : Scoped) (line : ℕ) (parts : List TypePart) (d : Declared) (e : Tree) (t : CType) (x : Operand) → type_name s parts d (lengths s d) ≡ Ok t → operand s e ≡ Ok x
-    → typed s (cast line parts d e) ≡ on_line line (cast_operand t x)
+    → typed s (cast line parts d e) ≡ on_line line (cast_operand s.records.done line t x)
 cast_typed s line parts d e t x h g = ap (λ (r : Result CType Fault). cast_of s line r (operand s e)) h ∙ ap (λ (r : Result Operand Fault). cast_of s line (Ok t) r) g
 
 abbrev size_after : Scoped → ℕ → Result CType Fault → Result Operand Fault

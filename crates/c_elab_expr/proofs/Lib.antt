@@ -1,4 +1,5 @@
 pub mod Entries
+pub mod Links
 pub mod Words
 pub mod Elements
 pub mod Parts

@@ -9,7 +9,7 @@ use Rattle.c_types.specs.declared.types.ValueType.TheVariants.{Void, Integer}
 use Rattle.c_types.specs.Integers.{rank, width, is_signed, number_of, promoted, unsigned_of, mixed_type, common_by, common_type, same_integer, same_type}
 use Rattle.core_tree.specs.declared.operators.ArithmeticOperator.{ArithmeticOperator}
 use Rattle.core_tree.specs.Trees.{Expression, convert}
-use Rattle.core_tree.specs.Typed.{type_of, is_integer, is_promoted, is_shift, are_operands, is_typed}
+use Rattle.core_tree.specs.Typed.{Sizes, type_of, is_integer, is_promoted, is_shift, are_operands, is_typed}
 use Rattle.c_elab_expr.specs.Nodes.{as_type, left_type, right_type}
 use Rattle.c_elab_expr.proofs.Variables.{and}
 
@@ -123,8 +123,8 @@ type_as t e = by_same (same_type (type_of e) (Integer t)) refl where
   by_same true same = one_type (type_of e) t same
   by_same false same = refl
 
-pub typed_as : (variables : _) (t u : IntegerType) (e : Expression) → type_of e ≡ Integer u → is_typed variables e ≡ true → is_typed variables (as_type t e) ≡ true
-typed_as variables t u e is good = by_same (same_type (type_of e) (Integer t)) where
-  by_same : (s : Bool) → is_typed variables (if s then e else convert t e) ≡ true
+pub typed_as : (sizes : Sizes) (t u : IntegerType) (e : Expression) → type_of e ≡ Integer u → is_typed sizes e ≡ true → is_typed sizes (as_type t e) ≡ true
+typed_as sizes t u e is good = by_same (same_type (type_of e) (Integer t)) where
+  by_same : (s : Bool) → is_typed sizes (if s then e else convert t e) ≡ true
   by_same true = good
-  by_same false = and (is_integer (type_of e)) (is_typed variables e) (ap is_integer is) good
+  by_same false = and (is_integer (type_of e)) (is_typed sizes e) (ap is_integer is) good

@@ -1,15 +1,15 @@
 -- What names mean stays there, and variables keep their sizes, where more is declared and completed.
 use Rattle.std.proofs.Common.{◌≡◌, ◌≤◌, ◌==◌, ℕ, Bool, true, false, List, [], ◌∷◌, ◌++◌, length, Option, Some, None, Result, Ok, Err, refl, sym, ap, ap₂, ◌∙◌, arith}
-use Rattle.std.specs.Prelude.{◌&&◌, nat_lt, IfSome, if◌then◌else◌}
+use Rattle.std.specs.Prelude.{◌&&◌, nat_lt, nat_le, IfSome, if◌then◌else◌}
 use Rattle.std.proofs.lemmas.List.{length-append, map-append}
-use borrow.Author.Tests.{ltb-true, lt-ltb}
+use borrow.Author.Tests.{ltb-true, lt-ltb, leb-true, le-leb}
 use Rattle.c_types.specs.declared.types.RecordKind.{RecordKind}
 use Rattle.c_types.specs.Types.{CType, void, integer, aggregate, array, Completed}
 use Rattle.c_types.specs.Layouts.{is_completed, is_complete, is_sized, size_of}
 use Rattle.c_types.proofs.Records.{same_type}
 use Rattle.c_elab_expr.specs.declared.meaning.Meaning.{Meaning}
-use Rattle.c_elab_expr.specs.declared.meaning.Meaning.TheVariants.{Variable, Assert, Assume, Draw, Function, Typedef, Enumerator, Record, Enumeration}
-use Rattle.c_elab_expr.specs.Scopes.{Named, Environment, is_called, meaning_in, is_there, are_there, are_complete, sizes_of}
+use Rattle.c_elab_expr.specs.declared.meaning.Meaning.TheVariants.{Variable, Object, Assert, Assume, Draw, Function, Typedef, Enumerator, Record, Enumeration}
+use Rattle.c_elab_expr.specs.Scopes.{Named, Lasting, Environment, is_called, meaning_in, is_there, are_there, are_complete, sizes_of}
 use Rattle.c_elab_expr.specs.Types.{type_size}
 
 pub both : (a b : Bool) → (a && b) ≡ true → (a ≡ true) × (b ≡ true)
@@ -24,51 +24,65 @@ and false b e f = e
 below : (n few many : ℕ) → few ≤ many → nat_lt n few ≡ true → nat_lt n many ≡ true
 below n few many h e = let less = ltb-true n few e in lt-ltb n many (omega arith)
 
-there_wider : (variables more types others records greater : ℕ) (m : Meaning) → variables ≤ more → types ≤ others → records ≤ greater
-    → is_there variables types records m ≡ true → is_there more others greater m ≡ true
-there_wider variables more types others records greater (Variable v) k h g e = below v variables more k e
-there_wider variables more types others records greater Assert k h g e = refl
-there_wider variables more types others records greater Assume k h g e = refl
-there_wider variables more types others records greater (Draw t) k h g e = refl
-there_wider variables more types others records greater Function k h g e = refl
-there_wider variables more types others records greater (Typedef n) k h g e = below n types others h e
-there_wider variables more types others records greater (Enumerator bits) k h g e = refl
-there_wider variables more types others records greater (Record p) k h g e = below p records greater g e
-there_wider variables more types others records greater Enumeration k h g e = refl
+-- the number of an object
+numbered : (k few many : ℕ) → few ≤ many → (nat_le 1 k && nat_le k few) ≡ true → (nat_le 1 k && nat_le k many) ≡ true
+numbered k few many h e =
+    let parts = both (nat_le 1 k) (nat_le k few) e in
+    let within = leb-true k few parts.1 in
+    and (nat_le 1 k) (nat_le k many) parts.0 (le-leb k many (omega (arith, within)))
 
-pub are_there_wider : (variables more types others records greater : ℕ) (env : Environment) → variables ≤ more → types ≤ others → records ≤ greater
-    → are_there variables types records env ≡ true → are_there more others greater env ≡ true
-are_there_wider variables more types others records greater [] k h g e = refl
-are_there_wider variables more types others records greater (b ∷ bs) k h g e =
-    let parts = both (is_there variables types records b.meaning) (are_there variables types records bs) e in
-    and (is_there more others greater b.meaning) (are_there more others greater bs) (there_wider variables more types others records greater b.meaning k h g parts.0)
-    (are_there_wider variables more types others records greater bs k h g parts.1)
+there_wider : (variables more objects further types others records greater : ℕ) (m : Meaning) → variables ≤ more → objects ≤ further → types ≤ others → records ≤ greater
+    → is_there variables objects types records m ≡ true → is_there more further others greater m ≡ true
+there_wider variables more objects further types others records greater (Variable v) k l h g e = below v variables more k e
+there_wider variables more objects further types others records greater (Object n) k l h g e = numbered n objects further l e
+there_wider variables more objects further types others records greater Assert k l h g e = refl
+there_wider variables more objects further types others records greater Assume k l h g e = refl
+there_wider variables more objects further types others records greater (Draw t) k l h g e = refl
+there_wider variables more objects further types others records greater Function k l h g e = refl
+there_wider variables more objects further types others records greater (Typedef n) k l h g e = below n types others h e
+there_wider variables more objects further types others records greater (Enumerator bits) k l h g e = refl
+there_wider variables more objects further types others records greater (Record p) k l h g e = below p records greater g e
+there_wider variables more objects further types others records greater Enumeration k l h g e = refl
+
+pub are_there_wider : (variables more objects further types others records greater : ℕ) (env : Environment) → variables ≤ more → objects ≤ further → types ≤ others → records ≤ greater
+    → are_there variables objects types records env ≡ true → are_there more further others greater env ≡ true
+are_there_wider variables more objects further types others records greater [] k l h g e = refl
+are_there_wider variables more objects further types others records greater (b ∷ bs) k l h g e =
+    let parts = both (is_there variables objects types records b.meaning) (are_there variables objects types records bs) e in
+    and (is_there more further others greater b.meaning) (are_there more further others greater bs) (there_wider variables more objects further types others records greater b.meaning k l h g parts.0)
+    (are_there_wider variables more objects further types others records greater bs k l h g parts.1)
 
 -- what a name or a tag means is there
-meant : (variables types records : ℕ) (x : Bool) (m : Meaning) (others : Option Meaning) → is_there variables types records m ≡ true
-    → IfSome others (λ n. is_there variables types records n ≡ true) → IfSome (if x then Some m else others) (λ n. is_there variables types records n ≡ true)
-meant variables types records true m others h g = h
-meant variables types records false m others h g = g
+meant : (variables objects types records : ℕ) (x : Bool) (m : Meaning) (others : Option Meaning) → is_there variables objects types records m ≡ true
+    → IfSome others (λ n. is_there variables objects types records n ≡ true) → IfSome (if x then Some m else others) (λ n. is_there variables objects types records n ≡ true)
+meant variables objects types records true m others h g = h
+meant variables objects types records false m others h g = g
 
-pub meant_there : (variables types records : ℕ) (tags : Bool) (env : Environment) (name : List ℕ) → are_there variables types records env ≡ true
-    → IfSome (meaning_in tags None env name) (λ m. is_there variables types records m ≡ true)
-meant_there variables types records tags [] name e = tt
-meant_there variables types records tags (b ∷ bs) name e =
-    let parts = both (is_there variables types records b.meaning) (are_there variables types records bs) e in
-    meant variables types records (is_called tags name b) b.meaning (meaning_in tags None bs name) parts.0 (meant_there variables types records tags bs name parts.1)
+pub meant_there : (variables objects types records : ℕ) (tags : Bool) (env : Environment) (name : List ℕ) → are_there variables objects types records env ≡ true
+    → IfSome (meaning_in tags None env name) (λ m. is_there variables objects types records m ≡ true)
+meant_there variables objects types records tags [] name e = tt
+meant_there variables objects types records tags (b ∷ bs) name e =
+    let parts = both (is_there variables objects types records b.meaning) (are_there variables objects types records bs) e in
+    meant variables objects types records (is_called tags name b) b.meaning (meaning_in tags None bs name) parts.0 (meant_there variables objects types records tags bs name parts.1)
 
--- where one typedef or one struct or union more is declared
-pub one_type_more : (variables : ℕ) (types others : List Named) (t : Named) (records : ℕ) (env : Environment) → others ≡ types ++ t ∷ []
-    → are_there variables (length types) records env ≡ true → 9 ≤ length types → (are_there variables (length others) records env ≡ true) × (9 ≤ length others)
-one_type_more variables types others t records env e h few =
+-- where one object, one typedef or one struct or union more is declared
+pub one_object_more : (variables : ℕ) (objects others : List Lasting) (o : Lasting) (types records : ℕ) (env : Environment) → others ≡ objects ++ o ∷ []
+    → are_there variables (length objects) types records env ≡ true → are_there variables (length others) types records env ≡ true
+one_object_more variables objects others o types records env e h =
+    let long = ap (λ (os : List Lasting). length os) e ∙ length-append objects (o ∷ []) in
+    are_there_wider variables variables (length objects) (length others) types types records records env (omega arith) (omega (arith, long)) (omega arith) (omega arith) h
+
+pub one_type_more : (variables objects : ℕ) (types others : List Named) (t : Named) (records : ℕ) (env : Environment) → others ≡ types ++ t ∷ []
+    → are_there variables objects (length types) records env ≡ true → 9 ≤ length types → (are_there variables objects (length others) records env ≡ true) × (9 ≤ length others)
+one_type_more variables objects types others t records env e h few =
     let long = ap (λ (ts : List Named). length ts) e ∙ length-append types (t ∷ []) in
-    (are_there_wider variables variables (length types) (length others) records records env (omega arith) (omega (arith, long)) (omega arith) h, omega (arith, long, few))
+    (are_there_wider variables variables objects objects (length types) (length others) records records env (omega arith) (omega arith) (omega (arith, long)) (omega arith) h, omega (arith, long, few))
 
-pub one_record_more : (variables types : ℕ) (records others : List RecordKind) (kind : RecordKind) (env : Environment) → others ≡ records ++ kind ∷ []
-    → are_there variables types (length records) env ≡ true → are_there variables types (length others) env ≡ true
-one_record_more variables types records others kind env e h =
+pub one_record_more : (variables objects types : ℕ) (records others : List RecordKind) (kind : RecordKind) (env : Environment) → others ≡ records ++ kind ∷ []
+    → are_there variables objects types (length records) env ≡ true → are_there variables objects types (length others) env ≡ true
+one_record_more variables objects types records others kind env e h =
     let long = ap (λ (ks : List RecordKind). length ks) e ∙ length-append records (kind ∷ []) in
-    are_there_wider variables variables types types (length records) (length others) env (omega arith) (omega arith) (omega (arith, long)) h
+    are_there_wider variables variables objects objects types types (length records) (length others) env (omega arith) (omega arith) (omega arith) (omega (arith, long)) h
 
 -- ---- the function's variables
 

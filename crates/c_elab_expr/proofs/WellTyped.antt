@@ -1,6 +1,6 @@
 -- What typing gives is well typed.
-use Rattle.std.proofs.Common.{◌≡◌, ◌≤◌, ◌<◌, ◌+◌, ◌^◌, ◌%◌, ℕ, zero, suc, Bool, true, false, List, [], ◌∷◌, length, map, Option, Some, None, Result, Ok, Err, refl, ap, sym, subst, ◌∙◌, arith}
-use Rattle.std.specs.Prelude.{◌&&◌, ◌||◌, if◌then◌else◌, nat_lt, nat_le, slice_get, slice_index}
+use Rattle.std.proofs.Common.{◌≡◌, ◌≤◌, ◌+◌, ◌-◌, ◌^◌, ◌%◌, ℕ, zero, suc, Bool, true, false, List, [], ◌∷◌, length, map, Option, Some, None, Result, Ok, Err, refl, ap, sym, subst, ◌∙◌, arith, eq-eqb, eqb-true}
+use Rattle.std.specs.Prelude.{◌||◌, ◌==◌, if◌then◌else◌, nat_lt, nat_le, slice_get, slice_index}
 use Rattle.std.specs.List.{list_all}
 use borrow.Author.Tests.{lt-ltb, le-leb, ltb-true, leb-true}
 use Rattle.c_lexer.specs.declared.token.Constant.{Constant}
@@ -16,7 +16,7 @@ use Rattle.c_tree.specs.Tree.{Tree, Trees, constant, character, strings, name, p
 use Rattle.c_types.specs.declared.integers.IntegerType.{IntegerType}
 use Rattle.c_types.specs.declared.types.ValueType.{ValueType}
 use Rattle.c_types.specs.declared.types.ValueType.TheVariants.{Void, Integer}
-use Rattle.c_types.specs.Integers.{width, promoted, common_type, same_type}
+use Rattle.c_types.specs.Integers.{width, bytes, promoted, common_type, same_type}
 use Rattle.core_tree.specs.declared.operators.ArithmeticOperator.{ArithmeticOperator}
 use Rattle.core_tree.specs.declared.operators.Comparison.{Comparison}
 use Rattle.core_tree.specs.declared.operators.LogicalOperator.{LogicalOperator}
@@ -26,18 +26,21 @@ use Rattle.core_tree.specs.declared.expression.Place.{Place}
 use Rattle.c_types.specs.Types.{CType, Completed}
 use Rattle.c_types.specs.Types as ctypes
 use Rattle.c_types.specs.Layouts.{IsBuilt, size_of}
-use Rattle.core_tree.specs.Trees.{Expression}
+use Rattle.core_tree.specs.Trees.{Expression, Structure}
 use Rattle.core_tree.specs.Trees as cores
-use Rattle.core_tree.specs.Typed.{type_of, place_type, is_integer, is_promoted, are_operands, is_within, is_typed}
+use Rattle.core_tree.specs.Typed.{Sizes, type_of, place_type, is_integer, is_promoted, are_operands, is_within, is_typed, is_structure}
+use Rattle.core_tree.specs.Typed as typed_trees
 use Rattle.c_elab_expr.specs.declared.meaning.Meaning.{Meaning}
-use Rattle.c_elab_expr.specs.declared.meaning.Meaning.TheVariants.{Variable, Assert, Assume, Draw, Function, Typedef, Enumerator, Record, Enumeration}
+use Rattle.c_elab_expr.specs.declared.meaning.Meaning.TheVariants.{Variable, Object, Assert, Assume, Draw, Function, Typedef, Enumerator, Record, Enumeration}
+use Rattle.c_elab_expr.specs.declared.operands.Home.{Home}
+use Rattle.c_elab_expr.specs.declared.operands.Home.TheVariants as homes
 use Rattle.c_elab_expr.specs.Members.{found, members_in, part_at}
-use Rattle.c_elab_expr.specs.Scopes.{Named, Scoped, meaning_of, sizes, sizes_of}
-use Rattle.c_elab_expr.specs.Nodes.{Node, ◌>>=◌, required, integer_of, integer, as_type, place_of, target_of, constant_type, constant_node, character_node, size_node, value_size, discarded, cast_node, sign_node, not_node, step_node, unary_node, postfix_node, left_type, right_type, arithmetic_node, compare_node, logical_node, binary_node, chosen, choice_node, assign_node, operator_of, update_node, assignment_node}
-use Rattle.c_elab_expr.specs.Operands.{Operand, value, object, OperandNode, computed, valued, number, is_array, used, place_operand, variable_node, name_node, member_node, operand_bytes, cast_operand, unary_operand, postfix_operand, binary_operand, same_record, choice_record, choice_operand, assign_record, assign_value, assign_operand, comma_operand, one_integer, no_arguments, call_node, is_typed_operand}
+use Rattle.c_elab_expr.specs.Scopes.{Named, Lasting, Scoped, meaning_of, sizes_of, object_at, is_incomplete, lasting_size, all_sizes}
+use Rattle.c_elab_expr.specs.Nodes.{Node, ◌>>=◌, required, integer_of, integer, as_type, place_of, target_of, constant_type, constant_node, character_node, size_node, discarded, cast_node, sign_node, not_node, step_node, unary_node, postfix_node, left_type, right_type, arithmetic_node, compare_node, logical_node, binary_node, chosen, choice_node, assign_node, operator_of, update_node, assignment_node}
+use Rattle.c_elab_expr.specs.Operands.{Operand, value, object, structure, number_place, held_value, put_value, is_home, computed, valued, number, same_record, record_value, dropped, is_array, used, place_operand, variable_node, lasting_node, name_node, part_operand, member_node, operand_bytes, cast_record, cast_operand, unary_operand, postfix_operand, binary_operand, choice_record, choice_value, choice_operand, assign_record, assign_value, assign_operand, comma_operand, one_integer, no_arguments, call_node, is_typed_operand}
 use Rattle.c_elab_expr.specs.Types.{type_size}
 use Rattle.c_elab_expr.specs.Strings.{strings_of, strings_length}
-use Rattle.c_elab_expr.specs.Typing.{Fault, on_line, sized, used_on, callee, called, type_name, operand_size, typed, typed_arguments, operand, lengths}
+use Rattle.c_elab_expr.specs.Typing.{Fault, on_line, bare_line, sized, used_on, callee, called, type_name, operand_size, typed, typed_arguments, operand, lengths}
 use Rattle.c_elab_expr.proofs.Variables.{both, and}
 use Rattle.c_elab_expr.proofs.Types.{same_type_refl, promoted_is, common_promoted, operands_fit, type_as, typed_as}
 use Rattle.c_elab_expr.proofs.Parted.{part_within}
@@ -89,15 +92,41 @@ place_is (cores.comma line a b) = refused (Is _) 9
 place_is (cores.assertion line e) = refused (Is _) 9
 place_is (cores.assumption line e) = refused (Is _) 9
 place_is (cores.draw line t) = refused (Is _) 9
+place_is (cores.part line t offset a) = refused (Is _) 9
+place_is (cores.discard line e) = refused (Is _) 9
+place_is (cores.discard_structure a) = refused (Is _) 9
 
 -- a place that may be changed is a place
 target_is : (is_const : Bool) (e : Expression) → Holds (Is e) (required 9 (target_of is_const e))
 target_is true e = refused (Is e) 9
 target_is false e = place_is e
 
+-- struct and union types are one where they have one place
+one_record : (t u : CType) → same_record t u ≡ true → t ≡ u
+one_record ctypes.void u h = let none : ⊥ = cc in absurd none
+one_record (ctypes.integer t) u h = let none : ⊥ = cc in absurd none
+one_record (ctypes.aggregate p) ctypes.void h = let none : ⊥ = cc in absurd none
+one_record (ctypes.aggregate p) (ctypes.integer t) h = let none : ⊥ = cc in absurd none
+one_record (ctypes.aggregate p) (ctypes.aggregate q) h = ap ctypes.aggregate (eqb-true p q h)
+one_record (ctypes.aggregate p) (ctypes.array element n) h = let none : ⊥ = cc in absurd none
+one_record (ctypes.array element n) u h = let none : ⊥ = cc in absurd none
+
+-- what lies in a part lies in the whole
+part_in : (xs : List ℕ) (v offset at n m : ℕ) → at + m ≤ offset + n → is_within xs v offset n ≡ true → is_within xs v at m ≡ true
+part_in xs v offset at n m inner h =
+    let parts = both (nat_lt v (length xs)) (nat_le (offset + n) (slice_index xs v)) h in
+    let all = leb-true (offset + n) (slice_index xs v) parts.1 in
+    and _ _ parts.0 (le-leb (at + m) (slice_index xs v) (omega (arith, all, inner)))
+
+home_part : (sizes : Sizes) (v : Home) (offset at n m : ℕ) → at + m ≤ offset + n → is_home sizes v offset n ≡ true → is_home sizes v at m ≡ true
+home_part sizes (homes.Variable v) offset at n m inner h = part_in sizes.variables v offset at n m inner h
+home_part sizes (homes.Object k) offset at n m inner h =
+    let parts = both (nat_le 1 k) (is_within sizes.objects (k - 1) offset n) h in
+    and _ _ parts.0 (part_in sizes.objects (k - 1) offset at n m inner parts.1)
+
 module _ (scope : Scoped) where
   abbrev Good : Expression → Type 0
-  Good e = is_typed (sizes scope) e ≡ true
+  Good e = is_typed (all_sizes scope) e ≡ true
 
   abbrev Fits : Operand → Type 0
   Fits x = is_typed_operand scope x ≡ true
@@ -122,28 +151,28 @@ module _ (scope : Scoped) where
   size_good : (line n : ℕ) → Good (size_node line n)
   size_good line n = lt-ltb (n % 2 ^ 64) (2 ^ 64) (omega arith)
 
-  discarded_good : (t : ValueType) (e : Expression) → Good e → Holds Good (discarded t e)
-  discarded_good Void e h = given Good e h
-  discarded_good (Integer t) e h = refused Good 0
+  discarded_good : (line : ℕ) (t : ValueType) (e : Expression) → type_of e ≡ t → Good e → Good (discarded line t e)
+  discarded_good line Void e is h = h
+  discarded_good line (Integer t) e is h = and _ _ (ap is_integer is) h
 
-  cast_good : (t : CType) (e : Expression) → Good e → Holds Good (cast_node t e)
-  cast_good ctypes.void e h = discarded_good (type_of e) e h
-  cast_good (ctypes.integer t) e h = bind (λ u. type_of e ≡ Integer u) Good (integer 7 e) _ (integer_is 7 e) (λ u is. given Good _ (and _ _ (ap is_integer is) h))
-  cast_good (ctypes.aggregate p) e h = refused Good 7
-  cast_good (ctypes.array element n) e h = refused Good 7
+  cast_good : (line : ℕ) (t : CType) (e : Expression) → Good e → Holds Good (cast_node line t e)
+  cast_good line ctypes.void e h = given Good _ (discarded_good line (type_of e) e refl h)
+  cast_good line (ctypes.integer t) e h = bind (λ u. type_of e ≡ Integer u) Good (integer 7 e) _ (integer_is 7 e) (λ u is. given Good _ (and _ _ (ap is_integer is) h))
+  cast_good line (ctypes.aggregate p) e h = refused Good 7
+  cast_good line (ctypes.array element n) e h = refused Good 7
 
   -- ---- operators
 
   sign_good : (line : ℕ) (op : SignOperator) (e : Expression) → Good e → Holds Good (sign_node line op e)
   sign_good line op e h = bind (λ t. type_of e ≡ Integer t) Good (integer 7 e) _ (integer_is 7 e) (λ t is.
-      given Good _ (and _ _ (ap is_promoted (type_as (promoted t) e) ∙ promoted_is t) (typed_as (sizes scope) (promoted t) t e is h)))
+      given Good _ (and _ _ (ap is_promoted (type_as (promoted t) e) ∙ promoted_is t) (typed_as (all_sizes scope) (promoted t) t e is h)))
 
   not_good : (line : ℕ) (e : Expression) → Good e → Holds Good (not_node line e)
   not_good line e h = bind (λ t. type_of e ≡ Integer t) Good (integer 7 e) _ (integer_is 7 e) (λ t is. given Good _ (and _ _ (ap is_integer is) h))
 
   step_good : (is_const : Bool) (line : ℕ) (op : StepOperator) (before : Bool) (e : Expression) → Good e → Holds Good (step_node is_const line op before e)
   step_good is_const line op before e h = bind (λ t. type_of e ≡ Integer t) Good (integer 7 e) _ (integer_is 7 e) (λ t is.
-      bind (Is e) Good (required 9 (target_of is_const e)) _ (target_is is_const e) (λ p place. given Good _ (ap (is_typed (sizes scope)) (sym place) ∙ h)))
+      bind (Is e) Good (required 9 (target_of is_const e)) _ (target_is is_const e) (λ p place. given Good _ (ap (is_typed (all_sizes scope)) (sym place) ∙ h)))
 
   unary_good : (is_const : Bool) (line : ℕ) (op : UnaryOp) (e : Expression) → Good e → Holds Good (unary_node is_const line op e)
   unary_good is_const line unaries.Increment e h = step_good is_const line _ true e h
@@ -168,7 +197,7 @@ module _ (scope : Scoped) where
       given Good _ (and _ _ (and _ _
       (ap (λ (x : ValueType). are_operands op x (type_of (as_type (right_type op t u) b))) (type_as (left_type op t u) a)
       ∙ ap (are_operands op (Integer (left_type op t u))) (type_as (right_type op t u) b) ∙ operands_fit op t u)
-      (typed_as (sizes scope) (left_type op t u) t a is h)) (typed_as (sizes scope) (right_type op t u) u b is_b g)))
+      (typed_as (all_sizes scope) (left_type op t u) t a is h)) (typed_as (all_sizes scope) (right_type op t u) u b is_b g)))
 
   compare_good : (line : ℕ) (op : Comparison) (a b : Expression) → Good a → Good b → Holds Good (compare_node line op a b)
   compare_good line op a b h g = pair Good 7 a b _ (λ t u is is_b.
@@ -176,7 +205,7 @@ module _ (scope : Scoped) where
       given Good _ (and _ _ (and _ _ (and _ _
       (ap is_promoted (type_as c a) ∙ common_promoted t u)
       (ap (λ (x : ValueType). same_type x (type_of (as_type c b))) (type_as c a) ∙ ap (same_type (Integer c)) (type_as c b) ∙ same_type_refl (Integer c)))
-      (typed_as (sizes scope) c t a is h)) (typed_as (sizes scope) c u b is_b g)))
+      (typed_as (all_sizes scope) c t a is h)) (typed_as (all_sizes scope) c u b is_b g)))
 
   logical_good : (line : ℕ) (op : LogicalOperator) (a b : Expression) → Good a → Good b → Holds Good (logical_node line op a b)
   logical_good line op a b h g = pair Good 7 a b _ (λ t u is is_b. given Good _ (and _ _ (and _ _ (and _ _ (ap is_integer is) (ap is_integer is_b)) h) g))
@@ -210,7 +239,7 @@ module _ (scope : Scoped) where
       let c = common_type t u in
       given Good _ (and _ _ (and _ _ (and _ _ (and _ _ i
       (ap (λ (x : ValueType). same_type x (type_of (as_type c b))) (type_as c a) ∙ ap (same_type (Integer c)) (type_as c b) ∙ same_type_refl (Integer c)))
-      h) (typed_as (sizes scope) c t a p g)) (typed_as (sizes scope) c u b q k))
+      h) (typed_as (all_sizes scope) c t a p g)) (typed_as (all_sizes scope) c u b q k))
 
   choice_good : (line : ℕ) (test a b : Expression) → Good test → Good a → Good b → Holds Good (choice_node line test a b)
   choice_good line test a b h g k = bind (λ t. type_of test ≡ Integer t) Good (integer 7 test) _ (integer_is 7 test) (λ t is.
@@ -219,18 +248,18 @@ module _ (scope : Scoped) where
   assign_good : (is_const : Bool) (line : ℕ) (place v : Expression) → Good place → Good v → Holds Good (assign_node is_const line place v)
   assign_good is_const line place v h g = pair Good 8 place v _ (λ t u is is_b.
       bind (Is place) Good (required 9 (target_of is_const place)) _ (target_is is_const place) (λ p read.
-      given Good _ (and _ _ (and _ _ (ap (is_typed (sizes scope)) (sym read) ∙ h)
+      given Good _ (and _ _ (and _ _ (ap (is_typed (all_sizes scope)) (sym read) ∙ h)
       (ap (λ (x : ValueType). same_type x (Integer (place_type p))) (type_as (place_type p) v) ∙ same_type_refl (Integer (place_type p))))
-      (typed_as (sizes scope) (place_type p) u v is_b g))))
+      (typed_as (all_sizes scope) (place_type p) u v is_b g))))
 
   update_good : (is_const : Bool) (line : ℕ) (op : BinaryOp) (place v : Expression) → Good place → Good v → Holds Good (update_node is_const line op place v)
   update_good is_const line op place v h g =
       bind (λ (o : ArithmeticOperator). Unit {0}) Good (required 7 (operator_of op)) _ (λ o e. tt) (λ o _.
       pair Good 7 place v _ (λ t u is is_b.
       bind (Is place) Good (required 9 (target_of is_const place)) _ (target_is is_const place) (λ p read.
-      given Good _ (and _ _ (and _ _ (ap (is_typed (sizes scope)) (sym read) ∙ h)
+      given Good _ (and _ _ (and _ _ (ap (is_typed (all_sizes scope)) (sym read) ∙ h)
       (ap (are_operands o (Integer (left_type o t u))) (type_as (right_type o t u) v) ∙ operands_fit o t u))
-      (typed_as (sizes scope) (right_type o t u) u v is_b g)))))
+      (typed_as (all_sizes scope) (right_type o t u) u v is_b g)))))
 
   assignment_good : (is_const : Bool) (line : ℕ) (op : Option BinaryOp) (place v : Expression) → Good place → Good v → Holds Good (assignment_node is_const line op place v)
   assignment_good is_const line None place v h g = assign_good is_const line place v h g
@@ -244,6 +273,7 @@ module _ (scope : Scoped) where
   value_good : (rule : ℕ) (x : Operand) → Fits x → Holds Good (valued rule x)
   value_good rule (value e k) h = given Good e h
   value_good rule (object line v offset t k) h = refused Good rule
+  value_good rule (structure t a) h = refused Good rule
 
   -- a value of an integer type
   record GoodNumber (e : Expression) : Type 0 where
@@ -256,19 +286,76 @@ module _ (scope : Scoped) where
       bind (λ t. type_of e ≡ Integer t) GoodNumber (integer rule e) _ (integer_is rule e) (λ t is.
       given GoodNumber e (record { integral = ap is_integer is; good = good })))
 
-  used_by : (line v offset : ℕ) (t : CType) (k b : Bool) → Fits (object line v offset t k) → Holds {E = ℕ} Fits (if b then Err 7 else Ok (object line v offset t k))
+  -- the bytes of a home, and what takes their place
+  held_is : (v : Home) (line offset n : ℕ) → is_structure (all_sizes scope) (held_value v line offset n) ≡ is_home (all_sizes scope) v offset n
+  held_is (homes.Variable v) line offset n = refl
+  held_is (homes.Object k) line offset n = refl
+
+  held_size : (v : Home) (line offset n : ℕ) → typed_trees.size_of (held_value v line offset n) ≡ n
+  held_size (homes.Variable v) line offset n = refl
+  held_size (homes.Object k) line offset n = refl
+
+  put_good : (v : Home) (line offset : ℕ) (a : Structure) → is_home (all_sizes scope) v offset (typed_trees.size_of a) ≡ true → is_structure (all_sizes scope) a ≡ true
+      → is_structure (all_sizes scope) (put_value v line offset a) ≡ true
+  put_good (homes.Variable v) line offset a h g = and _ _ h g
+  put_good (homes.Object k) line offset a h g = and _ _ h g
+
+  put_size : (v : Home) (line offset : ℕ) (a : Structure) → typed_trees.size_of (put_value v line offset a) ≡ typed_trees.size_of a
+  put_size (homes.Variable v) line offset a = refl
+  put_size (homes.Object k) line offset a = refl
+
+  number_good_at : (v : Home) (line offset : ℕ) (t : IntegerType) → is_home (all_sizes scope) v offset (bytes t) ≡ true → Good (cores.read (number_place v line t offset))
+  number_good_at (homes.Variable v) line offset t h = h
+  number_good_at (homes.Object k) line offset t h = h
+
+  -- a value that has as many bytes as a type
+  record GoodStructure (t : CType) (a : Structure) : Type 0 where
+    good : is_structure (all_sizes scope) a ≡ true
+    size : typed_trees.size_of a ≡ size_of scope.records.done t
+
+  good_structure : (t : CType) (a : Structure) → Fits (structure t a) → GoodStructure t a
+  good_structure t a h =
+      let parts = both (is_structure (all_sizes scope) a) (typed_trees.size_of a == size_of scope.records.done t) h in
+      record { good = parts.0; size = eqb-true (typed_trees.size_of a) (size_of scope.records.done t) parts.1 }
+
+  held : (line : ℕ) (v : Home) (offset : ℕ) (t : CType) → is_home (all_sizes scope) v offset (size_of scope.records.done t) ≡ true → GoodStructure t (held_value v line offset (size_of scope.records.done t))
+  held line v offset t h = record { good = held_is v line offset (size_of scope.records.done t) ∙ h; size = held_size v line offset (size_of scope.records.done t) }
+
+  structure_fits : (t : CType) (a : Structure) → GoodStructure t a → Fits (structure t a)
+  structure_fits t a g = and _ _ g.good (eq-eqb (typed_trees.size_of a) (size_of scope.records.done t) g.size)
+
+  record_by : (rule : ℕ) (t u : CType) (a : Structure) (b : Bool) → same_record t u ≡ b → GoodStructure u a → Holds (GoodStructure t) (required rule (if b then Some a else None))
+  record_by rule t u a true e g = given (GoodStructure t) a (record { good = g.good; size = g.size ∙ ap (size_of scope.records.done) (sym (one_record t u e)) })
+  record_by rule t u a false e g = refused (GoodStructure t) rule
+
+  record_good : (rule : ℕ) (t : CType) (x : Operand) → Fits x → Holds (GoodStructure t) (required rule (record_value scope.records.done t x))
+  record_good rule t (value e k) h = refused (GoodStructure t) rule
+  record_good rule t (object line v offset u k) h = record_by rule t u (held_value v line offset (size_of scope.records.done u)) (same_record t u) refl (held line v offset u h)
+  record_good rule t (structure u a) h = record_by rule t u a (same_record t u) refl (good_structure u a h)
+
+  dropped_good : (x : Operand) → Fits x → Good (dropped scope.records.done x)
+  dropped_good (value e k) h = h
+  dropped_good (object line v offset t k) h = (held line v offset t h).good
+  dropped_good (structure t a) h = (good_structure t a h).good
+
+  used_by : (line : ℕ) (v : Home) (offset : ℕ) (t : CType) (k b : Bool) → Fits (object line v offset t k) → Holds {E = ℕ} Fits (if b then Err 7 else Ok (object line v offset t k))
   used_by line v offset t k true h = refused Fits 7
   used_by line v offset t k false h = given Fits _ h
+
+  used_value : (t : CType) (a : Structure) (b : Bool) → Fits (structure t a) → Holds {E = ℕ} Fits (if b then Err 9 else Ok (structure t a))
+  used_value t a true h = refused Fits 9
+  used_value t a false h = given Fits _ h
 
   used_fits : (x : Operand) → Fits x → Holds Fits (used x)
   used_fits (value e k) h = given Fits _ h
   used_fits (object line v offset t k) h = used_by line v offset t k (is_array t) h
+  used_fits (structure t a) h = used_value t a (is_array t) h
 
   -- ---- names and members
 
-  place_fits : (line v offset : ℕ) (t : CType) (k : Bool) → is_within (sizes scope) v offset (size_of scope.records.done t) ≡ true → Fits (place_operand line v offset t k)
+  place_fits : (line : ℕ) (v : Home) (offset : ℕ) (t : CType) (k : Bool) → is_home (all_sizes scope) v offset (size_of scope.records.done t) ≡ true → Fits (place_operand line v offset t k)
   place_fits line v offset ctypes.void k h = h
-  place_fits line v offset (ctypes.integer t) k h = h
+  place_fits line v offset (ctypes.integer t) k h = number_good_at v line offset t h
   place_fits line v offset (ctypes.aggregate p) k h = h
   place_fits line v offset (ctypes.array element n) k h = h
 
@@ -287,11 +374,44 @@ module _ (scope : Scoped) where
 
   variable_fits : (line v : ℕ) (o : Option Named) → slice_get scope.variables v ≡ o → Holds Fits (variable_node line v o)
   variable_fits line v None e = refused Fits 1
-  variable_fits line v (Some n) e = given Fits _ (place_fits line v 0 n.type n.constant (variable_within scope.records.done scope.variables v n e))
+  variable_fits line v (Some n) e = given Fits _ (place_fits line (homes.Variable v) 0 n.type n.constant (variable_within scope.records.done scope.variables v n e))
+
+  -- a whole object, whose type is complete
+  object_whole : (done : List Completed) (objects : List Lasting) (i : ℕ) (o : Lasting) → slice_get objects i ≡ Some o → is_incomplete done o ≡ false
+      → is_within (map (lasting_size done) objects) i 0 (size_of done o.named.type) ≡ true
+  object_whole done [] i o e c = let no : ⊥ = cc in absurd no
+  object_whole done (m ∷ ms) zero o e c =
+      let same : m ≡ o = cc in
+      let long = ap (lasting_size done) same ∙ ap (λ (b : Bool). if b then 0 else size_of done o.named.type) c in
+      and _ _ (lt-ltb 0 (suc (length (map (lasting_size done) ms))) (omega arith)) (le-leb (0 + size_of done o.named.type) (lasting_size done m) (omega (arith, long)))
+  object_whole done (m ∷ ms) (suc i) o e c =
+      let rest = object_whole done ms i o e c in
+      let parts = both (nat_lt i (length (map (lasting_size done) ms))) (nat_le (0 + size_of done o.named.type) (slice_index (map (lasting_size done) ms) i)) rest in
+      let below = ltb-true i (length (map (lasting_size done) ms)) parts.0 in
+      and _ _ (lt-ltb (suc i) (suc (length (map (lasting_size done) ms))) (omega (arith, below))) parts.1
+
+  positive : (k : ℕ) → (k == 0) ≡ false → nat_le 1 k ≡ true
+  positive zero e = let no : ⊥ = cc in absurd no
+  positive (suc k) e = le-leb 1 (suc k) (omega arith)
+
+  object_by : (k : ℕ) (o : Lasting) (none : Bool) → (k == 0) ≡ none → (if none then None else slice_get scope.objects (k - 1)) ≡ Some o → is_incomplete scope.records.done o ≡ false
+      → is_home (all_sizes scope) (homes.Object k) 0 (size_of scope.records.done o.named.type) ≡ true
+  object_by k o true e found c = let no : ⊥ = cc in absurd no
+  object_by k o false e found c = and _ _ (positive k e) (object_whole scope.records.done scope.objects (k - 1) o found c)
+
+  lasting_by : (line k : ℕ) (o : Lasting) (b : Bool) → object_at scope k ≡ Some o → is_incomplete scope.records.done o ≡ b
+      → Holds {E = ℕ} Fits (if b then Err 3 else Ok (place_operand line (homes.Object k) 0 o.named.type o.named.constant))
+  lasting_by line k o true e c = refused Fits 3
+  lasting_by line k o false e c = given Fits _ (place_fits line (homes.Object k) 0 o.named.type o.named.constant (object_by k o (k == 0) refl e c))
+
+  lasting_fits : (line k : ℕ) (o : Option Lasting) → object_at scope k ≡ o → Holds Fits (lasting_node scope.records.done line k o)
+  lasting_fits line k None e = refused Fits 1
+  lasting_fits line k (Some o) e = lasting_by line k o (is_incomplete scope.records.done o) e refl
 
   name_fits : (line : ℕ) (o : Option Meaning) → Holds Fits (name_node scope line o)
   name_fits line None = refused Fits 1
   name_fits line (Some (Variable v)) = variable_fits line v (slice_get scope.variables v) refl
+  name_fits line (Some (Object k)) = lasting_fits line k (object_at scope k) refl
   name_fits line (Some Assert) = refused Fits 7
   name_fits line (Some Assume) = refused Fits 7
   name_fits line (Some (Draw t)) = refused Fits 7
@@ -303,58 +423,89 @@ module _ (scope : Scoped) where
 
   -- ---- operators
 
-  cast_fits : (t : CType) (x : Operand) → Fits x → Holds Fits (cast_operand t x)
-  cast_fits t (value e k) h = computed_fits (cast_node t e) (cast_good t e h)
-  cast_fits ctypes.void (object line v offset u k) h = refused Fits 0
-  cast_fits (ctypes.integer t) (object line v offset u k) h = refused Fits 7
-  cast_fits (ctypes.aggregate p) (object line v offset u k) h = refused Fits 7
-  cast_fits (ctypes.array element n) (object line v offset u k) h = refused Fits 7
+  record_cast_fits : (t : CType) (x : Operand) → Fits x → Holds Fits (cast_record scope.records.done t x)
+  record_cast_fits ctypes.void x h = given Fits _ (dropped_good x h)
+  record_cast_fits (ctypes.integer t) x h = refused Fits 7
+  record_cast_fits (ctypes.aggregate p) x h = refused Fits 7
+  record_cast_fits (ctypes.array element n) x h = refused Fits 7
+
+  cast_fits : (line : ℕ) (t : CType) (x : Operand) → Fits x → Holds Fits (cast_operand scope.records.done line t x)
+  cast_fits line t (value e k) h = computed_fits (cast_node line t e) (cast_good line t e h)
+  cast_fits line t (object at v offset u k) h = record_cast_fits t (object at v offset u k) h
+  cast_fits line t (structure u a) h = record_cast_fits t (structure u a) h
 
   unary_fits : (line : ℕ) (op : UnaryOp) (x : Operand) → Fits x → Holds Fits (unary_operand line op x)
   unary_fits line op (value e k) h = computed_fits (unary_node k line op e) (unary_good k line op e h)
   unary_fits line op (object at v offset t k) h = refused Fits 7
+  unary_fits line op (structure t a) h = refused Fits 7
 
   postfix_fits : (line : ℕ) (op : StepOp) (x : Operand) → Fits x → Holds Fits (postfix_operand line op x)
   postfix_fits line op (value e k) h = computed_fits (postfix_node k line op e) (postfix_good k line op e h)
   postfix_fits line op (object at v offset t k) h = refused Fits 7
+  postfix_fits line op (structure t a) h = refused Fits 7
 
   binary_fits : (line : ℕ) (op : BinaryOp) (x y : Operand) → Fits x → Fits y → Holds Fits (binary_operand line op x y)
   binary_fits line op x y h g =
       bind Good Fits (valued 7 x) _ (value_good 7 x h) (λ a good. bind Good Fits (valued 7 y) _ (value_good 7 y g) (λ b fine.
       computed_fits (binary_node line op a b) (binary_good line op a b good fine)))
 
-  choice_fits : (line : ℕ) (x y z : Operand) → Fits x → Fits y → Fits z → Holds Fits (choice_operand line x y z)
-  choice_fits line x (value a k) (value b l) h g f =
+  choice_record_fits : (line : ℕ) (x : Operand) (t : CType) (a : Structure) (z : Operand) → Fits x → GoodStructure t a → Fits z → Holds Fits (choice_record scope.records.done line x t a z)
+  choice_record_fits line x t a z h g f =
+      bind GoodNumber Fits (number 7 x) _ (number_good 7 x h) (λ test n.
+      bind (GoodStructure t) Fits (required 7 (record_value scope.records.done t z)) _ (record_good 7 t z f) (λ b s.
+      given Fits _ (structure_fits t (cores.choose line test a b) (record {
+        good = and _ _ (and _ _ (and _ _ (and _ _ n.integral (eq-eqb (typed_trees.size_of a) (typed_trees.size_of b) (g.size ∙ sym s.size))) n.good) g.good) s.good;
+        size = g.size;
+      }))))
+
+  choice_value_fits : (line : ℕ) (x : Operand) (a : Expression) (z : Operand) → Fits x → Good a → Fits z → Holds Fits (choice_value line x a z)
+  choice_value_fits line x a (value b k) h g f =
       bind Good Fits (valued 7 x) _ (value_good 7 x h) (λ test good. computed_fits (choice_node line test a b) (choice_good line test a b good g f))
-  choice_fits line x (value a k) (object at v offset t l) h g f = refused Fits 7
-  choice_fits line x (object at v offset t k) (value b l) h g f = refused Fits 7
-  choice_fits line x (object at v offset t k) (object to w place u l) h g f =
-      bind (λ (e : Expression). Unit {0}) Fits (number 7 x) _ (λ e same. tt) (λ e _. refused Fits _)
+  choice_value_fits line x a (object at v offset t k) h g f = refused Fits 7
+  choice_value_fits line x a (structure t b) h g f = refused Fits 7
 
-  record_by : (t u : CType) (k : Bool) → Holds {E = ℕ} Fits (if same_record t u then Err (if k || (members_in scope.members t).constant then 9 else 0) else Err 8)
-  record_by t u k = by (same_record t u) where
-    by : (b : Bool) → Holds {E = ℕ} Fits (if b then Err (if k || (members_in scope.members t).constant then 9 else 0) else Err 8)
-    by true = refused Fits _
-    by false = refused Fits 8
-
-  record_fits : (t : CType) (k : Bool) (y : Operand) → Holds Fits (assign_record scope t k y)
-  record_fits t k (value e l) = refused Fits 8
-  record_fits t k (object line v offset u l) = record_by t u k
+  choice_fits : (line : ℕ) (x y z : Operand) → Fits x → Fits y → Fits z → Holds Fits (choice_operand scope.records.done line x y z)
+  choice_fits line x (value a k) z h g f = choice_value_fits line x a z h g f
+  choice_fits line x (object at v offset t k) z h g f =
+      choice_record_fits line x t (held_value v at offset (size_of scope.records.done t)) z h (held at v offset t g) f
+  choice_fits line x (structure t a) z h g f = choice_record_fits line x t a z h (good_structure t a g) f
 
   value_fits : (k : Bool) (line : ℕ) (op : Option BinaryOp) (p : Expression) (y : Operand) → Good p → Fits y → Holds Fits (assign_value k line op p y)
   value_fits k line op p (value e l) h g = computed_fits (assignment_node k line op p e) (assignment_good k line op p e h g)
   value_fits k line None p (object at v offset t l) h g = refused Fits 8
+  value_fits k line None p (structure t a) h g = refused Fits 8
   value_fits k line (Some op) p (object at v offset t l) h g = refused Fits 7
+  value_fits k line (Some op) p (structure t a) h g = refused Fits 7
+
+  put_by : (line : ℕ) (v : Home) (offset : ℕ) (t : CType) (a : Structure) (b : Bool) → is_home (all_sizes scope) v offset (size_of scope.records.done t) ≡ true → GoodStructure t a
+      → Holds {E = ℕ} Fits (if b then Err 9 else Ok (structure t (put_value v line offset a)))
+  put_by line v offset t a true h g = refused Fits 9
+  put_by line v offset t a false h g = given Fits _ (structure_fits t (put_value v line offset a) (record {
+    good = put_good v line offset a (ap (is_home (all_sizes scope) v offset) g.size ∙ h) g.good;
+    size = put_size v line offset a ∙ g.size;
+  }))
+
+  assign_record_fits : (line : ℕ) (v : Home) (offset : ℕ) (t : CType) (k : Bool) (y : Operand) → is_home (all_sizes scope) v offset (size_of scope.records.done t) ≡ true → Fits y
+      → Holds Fits (assign_record scope line v offset t k y)
+  assign_record_fits line v offset t k y h f =
+      bind (GoodStructure t) Fits (required 8 (record_value scope.records.done t y)) _ (record_good 8 t y f) (λ a g.
+      put_by line v offset t a (k || (members_in scope.members t).constant) h g)
 
   assign_fits : (line : ℕ) (op : Option BinaryOp) (x y : Operand) → Fits x → Fits y → Holds Fits (assign_operand scope line op x y)
   assign_fits line op (value p k) y h g = value_fits k line op p y h g
-  assign_fits line None (object at v offset t k) y h g = record_fits t k y
+  assign_fits line None (object at v offset t k) y h g = assign_record_fits line v offset t k y h g
+  assign_fits line None (structure t a) y h g =
+      bind (GoodStructure t) Fits (required 8 (record_value scope.records.done t y)) _ (record_good 8 t y g) (λ b _. refused Fits 9)
   assign_fits line (Some op) (object at v offset t k) y h g = refused Fits 7
+  assign_fits line (Some op) (structure t a) y h g = refused Fits 7
 
-  comma_fits : (line : ℕ) (x y : Operand) → Fits x → Fits y → Holds Fits (comma_operand line x y)
-  comma_fits line x y h g =
-      bind Good Fits (valued 0 x) _ (value_good 0 x h) (λ a good. bind Good Fits (valued 0 y) _ (value_good 0 y g) (λ b fine.
-      given Fits _ (and _ _ good fine)))
+  comma_fits : (line : ℕ) (x y : Operand) → Fits x → Fits y → Fits (comma_operand scope.records.done line x y)
+  comma_fits line x (value b k) h g = and _ _ (dropped_good x h) g
+  comma_fits line x (object at v offset t k) h g =
+      structure_fits t (cores.follow line (dropped scope.records.done x) (held_value v at offset (size_of scope.records.done t))) (record { good = and _ _ (dropped_good x h) (held at v offset t g).good; size = (held at v offset t g).size })
+  comma_fits line x (structure t b) h g =
+      let s = good_structure t b g in
+      structure_fits t (cores.follow line (dropped scope.records.done x) b) (record { good = and _ _ (dropped_good x h) s.good; size = s.size })
 
   -- ---- calls
 
@@ -372,6 +523,7 @@ module _ (scope : Scoped) where
 
   call_good : (line : ℕ) (m : Meaning) (xs : List Operand) → AllFit xs → Holds Good (call_node line m xs)
   call_good line (Variable v) xs h = refused Good 10
+  call_good line (Object k) xs h = refused Good 10
   call_good line Assert xs h = bind GoodNumber Good (one_integer xs) _ (argument_good xs h) (λ a n. given Good _ (and _ _ n.integral n.good))
   call_good line Assume xs h = bind GoodNumber Good (one_integer xs) _ (argument_good xs h) (λ a n. given Good _ (and _ _ n.integral n.good))
   call_good line (Draw t) xs h = draw_good xs _ refl
@@ -387,6 +539,14 @@ module _ (scope : Scoped) where
 
   -- ---- trees
 
+  section_fits : (line offset : ℕ) (u : CType) (a : Structure) → is_structure (all_sizes scope) a ≡ true → offset + size_of scope.records.done u ≤ typed_trees.size_of a
+      → Fits (structure u (cores.section line offset (size_of scope.records.done u) a))
+  section_fits line offset u a h le =
+      structure_fits u (cores.section line offset (size_of scope.records.done u) a) (record {
+        good = and _ _ (le-leb (offset + size_of scope.records.done u) (typed_trees.size_of a) le) h;
+        size = refl;
+      })
+
   size_is_good : (line : ℕ) (r : Result ℕ Fault) → Holds Fits (r >>= λ n. Ok (sized line n))
   size_is_good line (Ok n) = given Fits _ (size_good line n)
   size_is_good line (Err f) = refused Fits f
@@ -401,24 +561,40 @@ module _ (scope : Scoped) where
 
   module _ (built : IsBuilt scope.records.done) where
     -- a member lies in the object that it is one of
-    object_within : (v offset at : ℕ) (t u : CType) (path : List ℕ) → is_within (sizes scope) v offset (size_of scope.records.done t) ≡ true
-        → part_at scope.records.done offset t path ≡ Some (at, u) → is_within (sizes scope) v at (size_of scope.records.done u) ≡ true
+    object_within : (v : Home) (offset at : ℕ) (t u : CType) (path : List ℕ) → is_home (all_sizes scope) v offset (size_of scope.records.done t) ≡ true
+        → part_at scope.records.done offset t path ≡ Some (at, u) → is_home (all_sizes scope) v at (size_of scope.records.done u) ≡ true
     object_within v offset at t u path h e =
-        let parts = both (nat_lt v (length (sizes scope))) (nat_le (offset + size_of scope.records.done t) (slice_index (sizes scope) v)) h in
-        let all = leb-true (offset + size_of scope.records.done t) (slice_index (sizes scope) v) parts.1 in
-        let inner = part_within scope.records.done built offset t path at u e in
-        and _ _ parts.0 (le-leb (at + size_of scope.records.done u) (slice_index (sizes scope) v) (omega (arith, all, inner)))
+        home_part (all_sizes scope) v offset at (size_of scope.records.done t) (size_of scope.records.done u) (part_within scope.records.done built offset t path at u e) h
 
-    part_fits : (line v offset : ℕ) (t : CType) (k : Bool) (path : List ℕ) (o : Option (ℕ × CType)) → is_within (sizes scope) v offset (size_of scope.records.done t) ≡ true
+    part_fits : (line : ℕ) (v : Home) (offset : ℕ) (t : CType) (k : Bool) (path : List ℕ) (o : Option (ℕ × CType)) → is_home (all_sizes scope) v offset (size_of scope.records.done t) ≡ true
         → part_at scope.records.done offset t path ≡ o → Holds Fits (required 11 o >>= λ part. Ok (place_operand line v part.0 part.1 k))
     part_fits line v offset t k path None h e = refused Fits 11
     part_fits line v offset t k path (Some part) h e = given Fits _ (place_fits line v part.0 part.1 k (object_within v offset part.0 t part.1 path h e))
+
+    -- and so does one of a value in it
+    part_value_fits : (line offset : ℕ) (u : CType) (a : Structure) → is_structure (all_sizes scope) a ≡ true → offset + size_of scope.records.done u ≤ typed_trees.size_of a
+        → Fits (part_operand scope.records.done line offset u a)
+    part_value_fits line offset ctypes.void a h le = section_fits line offset ctypes.void a h le
+    part_value_fits line offset (ctypes.integer t) a h le = and _ _ (le-leb (offset + bytes t) (typed_trees.size_of a) le) h
+    part_value_fits line offset (ctypes.aggregate p) a h le = section_fits line offset (ctypes.aggregate p) a h le
+    part_value_fits line offset (ctypes.array element n) a h le = section_fits line offset (ctypes.array element n) a h le
+
+    value_part_fits : (line : ℕ) (t : CType) (a : Structure) (path : List ℕ) (o : Option (ℕ × CType)) → GoodStructure t a
+        → part_at scope.records.done 0 t path ≡ o → Holds Fits (required 11 o >>= λ part. Ok (part_operand scope.records.done line part.0 part.1 a))
+    value_part_fits line t a path None g e = refused Fits 11
+    value_part_fits line t a path (Some part) g e =
+        let inner = part_within scope.records.done built 0 t path part.0 part.1 e in
+        let whole = g.size in
+        given Fits _ (part_value_fits line part.0 part.1 a g.good (omega (arith, inner, whole)))
 
     member_fits : (line : ℕ) (x : Operand) (n : List ℕ) → Fits x → Holds Fits (member_node scope line x n)
     member_fits line (value e k) n h = refused Fits 11
     member_fits line (object at v offset t k) n h =
         bind (λ (w : List ℕ × Bool). Unit {0}) Fits (required 11 (found (members_in scope.members t).named n)) _ (λ w same. tt) (λ w _.
         part_fits line v offset t (k || w.1) w.0 (part_at scope.records.done offset t w.0) h refl)
+    member_fits line (structure t a) n h =
+        bind (λ (w : List ℕ × Bool). Unit {0}) Fits (required 11 (found (members_in scope.members t).named n)) _ (λ w same. tt) (λ w _.
+        value_part_fits line t a w.0 (part_at scope.records.done 0 t w.0) (good_structure t a h) refl)
 
     mutual
       pub well_typed : (t : Tree) → Holds Fits (typed scope t)
@@ -428,34 +604,34 @@ module _ (scope : Scoped) where
       well_typed (name line n) = on_same_line Fits line _ (name_fits line (meaning_of scope.bindings n))
       well_typed (parens line e) = well_typed e
       well_typed (unary line op e) =
-          bind Fits Fits (operand scope e) _ (used_on_fits (first_line e) (typed scope e) (well_typed e)) (λ x good. on_same_line Fits line _ (unary_fits line op x good))
+          bind Fits Fits (operand scope e) _ (used_on_fits (bare_line e) (typed scope e) (well_typed e)) (λ x good. on_same_line Fits line _ (unary_fits line op x good))
       well_typed (cast line parts d e) =
           bind (λ (t : CType). Unit {0}) Fits (type_name scope parts d (lengths scope d)) _ (λ t _. tt) (λ t _.
-          bind Fits Fits (operand scope e) _ (used_on_fits (first_line e) (typed scope e) (well_typed e)) (λ x good. on_same_line Fits line _ (cast_fits t x good)))
+          bind Fits Fits (operand scope e) _ (used_on_fits (bare_line e) (typed scope e) (well_typed e)) (λ x good. on_same_line Fits line _ (cast_fits line t x good)))
       well_typed (sizeof_expr line e) = operand_good line scope.records.done (strings_of e) (typed scope e)
       well_typed (sizeof_type line parts d) =
           bind (λ (t : CType). Unit {0}) Fits (type_name scope parts d (lengths scope d)) _ (λ t _. tt) (λ t _. size_is_good line (on_line line (type_size scope.records.done t)))
       well_typed (step line op e) =
-          bind Fits Fits (operand scope e) _ (used_on_fits (first_line e) (typed scope e) (well_typed e)) (λ x good. on_same_line Fits (first_line e) _ (postfix_fits line op x good))
+          bind Fits Fits (operand scope e) _ (used_on_fits (bare_line e) (typed scope e) (well_typed e)) (λ x good. on_same_line Fits (first_line e) _ (postfix_fits line op x good))
       well_typed (member line e n) =
-          bind Fits Fits (operand scope e) _ (used_on_fits (first_line e) (typed scope e) (well_typed e)) (λ x good. on_same_line Fits (first_line e) _ (member_fits line x n good))
+          bind Fits Fits (operand scope e) _ (used_on_fits (bare_line e) (typed scope e) (well_typed e)) (λ x good. on_same_line Fits (first_line e) _ (member_fits line x n good))
       well_typed (binary line op a b) =
-          bind Fits Fits (operand scope a) _ (used_on_fits (first_line a) (typed scope a) (well_typed a)) (λ x good.
-          bind Fits Fits (operand scope b) _ (used_on_fits (first_line b) (typed scope b) (well_typed b)) (λ y fine.
+          bind Fits Fits (operand scope a) _ (used_on_fits (bare_line a) (typed scope a) (well_typed a)) (λ x good.
+          bind Fits Fits (operand scope b) _ (used_on_fits (bare_line b) (typed scope b) (well_typed b)) (λ y fine.
           on_same_line Fits (first_line a) _ (binary_fits line op x y good fine)))
       well_typed (choice line test a b) =
-          bind Fits Fits (operand scope test) _ (used_on_fits (first_line test) (typed scope test) (well_typed test)) (λ x good.
-          bind Fits Fits (operand scope a) _ (used_on_fits (first_line a) (typed scope a) (well_typed a)) (λ y fine.
-          bind Fits Fits (operand scope b) _ (used_on_fits (first_line b) (typed scope b) (well_typed b)) (λ z last.
+          bind Fits Fits (operand scope test) _ (used_on_fits (bare_line test) (typed scope test) (well_typed test)) (λ x good.
+          bind Fits Fits (operand scope a) _ (used_on_fits (bare_line a) (typed scope a) (well_typed a)) (λ y fine.
+          bind Fits Fits (operand scope b) _ (used_on_fits (bare_line b) (typed scope b) (well_typed b)) (λ z last.
           on_same_line Fits (first_line test) _ (choice_fits line x y z good fine last))))
       well_typed (assign line op a b) =
-          bind Fits Fits (operand scope a) _ (used_on_fits (first_line a) (typed scope a) (well_typed a)) (λ x good.
-          bind Fits Fits (operand scope b) _ (used_on_fits (first_line b) (typed scope b) (well_typed b)) (λ y fine.
+          bind Fits Fits (operand scope a) _ (used_on_fits (bare_line a) (typed scope a) (well_typed a)) (λ x good.
+          bind Fits Fits (operand scope b) _ (used_on_fits (bare_line b) (typed scope b) (well_typed b)) (λ y fine.
           on_same_line Fits (first_line a) _ (assign_fits line op x y good fine)))
       well_typed (comma line a b) =
-          bind Fits Fits (operand scope a) _ (used_on_fits (first_line a) (typed scope a) (well_typed a)) (λ x good.
-          bind Fits Fits (operand scope b) _ (used_on_fits (first_line b) (typed scope b) (well_typed b)) (λ y fine.
-          on_same_line Fits (first_line a) _ (comma_fits line x y good fine)))
+          bind Fits Fits (operand scope a) _ (used_on_fits (bare_line a) (typed scope a) (well_typed a)) (λ x good.
+          bind Fits Fits (operand scope b) _ (used_on_fits (bare_line b) (typed scope b) (well_typed b)) (λ y fine.
+          given Fits _ (comma_fits line x y good fine)))
       well_typed (call f args) =
           bind (λ (m : Option (ℕ × Meaning)). Unit {0}) Fits (callee scope f (operand scope f)) _ (λ m e. tt) (λ m _.
           bind AllFit Fits (typed_arguments scope args) _ (well_typed_arguments args) (λ xs good. on_same_line Fits (first_line f) _ (called_fits m xs good)))
@@ -463,9 +639,9 @@ module _ (scope : Scoped) where
       pub well_typed_arguments : (ts : Trees) → Holds AllFit (typed_arguments scope ts)
       well_typed_arguments none = given AllFit [] refl
       well_typed_arguments (more first rest) =
-          bind Fits AllFit (operand scope first) _ (used_on_fits (first_line first) (typed scope first) (well_typed first)) (λ x good.
+          bind Fits AllFit (operand scope first) _ (used_on_fits (bare_line first) (typed scope first) (well_typed first)) (λ x good.
           bind AllFit AllFit (typed_arguments scope rest) _ (well_typed_arguments rest) (λ xs fine.
           given AllFit _ (and _ _ good fine)))
 
     pub well_used : (t : Tree) → Holds Fits (operand scope t)
-    well_used t = used_on_fits (first_line t) (typed scope t) (well_typed t)
+    well_used t = used_on_fits (bare_line t) (typed scope t) (well_typed t)

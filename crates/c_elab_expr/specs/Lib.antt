@@ -4,6 +4,7 @@ pub mod Nodes
 pub mod Types
 pub mod Constants
 pub mod Strings
+pub mod Texts
 pub mod Operands
 pub mod Typing
 pub mod Places

@@ -1,5 +1,5 @@
 -- The members that `.` finds in structs and unions by their names (C11 6.5.2.3, 6.7.2.1p13).
-use Rattle.std.specs.Prelude.{ℕ, suc, ◌+◌, Bool, true, false, ◌||◌, List, [], ◌∷◌, ◌++◌, map, get_or, slice_get, Option, Some, None, option_map, Vec, if◌then◌else◌, refl}
+use Rattle.std.specs.Prelude.{ℕ, suc, ◌+◌, Bool, false, ◌||◌, List, [], ◌∷◌, ◌++◌, map, get_or, slice_get, Option, Some, None, option_map, Vec, if◌then◌else◌, refl}
 use Rattle.std.specs.Option.{option_and_then}
 use Rattle.std.specs.List.{list_any}
 use Rattle.std.specs.Str.{bytes_eq}

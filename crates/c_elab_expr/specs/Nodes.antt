@@ -27,7 +27,7 @@ use Rattle.core_tree.specs.declared.operators.SignOperator.TheVariants as signs
 use Rattle.core_tree.specs.declared.operators.StepOperator.{StepOperator}
 use Rattle.core_tree.specs.declared.operators.StepOperator.TheVariants as steps
 use Rattle.core_tree.specs.declared.expression.Place.{Place}
-use Rattle.core_tree.specs.Trees.{Expression, constant, read, convert, sign, is_zero, arithmetic, compare, logical, choice, assign, update, step, comma, assertion, assumption, draw}
+use Rattle.core_tree.specs.Trees.{Expression, constant, read, convert, sign, is_zero, arithmetic, compare, logical, choice, assign, update, step, comma, assertion, assumption, draw, part, discard, discard_structure}
 use Rattle.core_tree.specs.Typed.{type_of, place_type, is_shift}
 
 -- a typed node, or the rule that is broken
@@ -74,6 +74,9 @@ place_of (comma line a b) = None
 place_of (assertion line e) = None
 place_of (assumption line e) = None
 place_of (draw line t) = None
+place_of (part line t offset a) = None
+place_of (discard line e) = None
+place_of (discard_structure a) = None
 
 -- the place that may be changed, which isn't const
 abbrev pub target_of : Bool → Expression → Option Place
@@ -110,19 +113,19 @@ value_size (Integer t) = Ok (bytes t)
 
 -- ---- casts (C11 6.5.4)
 
--- an integer value that is cast to void has no typing yet: no rule has the number 0
-abbrev pub discarded : ValueType → Expression → Node
-discarded Void e = Ok e
-discarded (Integer t) e = Err 0
+-- a value that is cast to void isn't used
+abbrev pub discarded : ℕ → ValueType → Expression → Expression
+discarded line Void e = e
+discarded line (Integer t) e = discard line e
 
 -- a cast is no place, also where it keeps the type
-abbrev pub cast_node : CType → Expression → Node
-cast_node ctypes.void e = discarded (type_of e) e
-cast_node (ctypes.integer t) e = do
+abbrev pub cast_node : ℕ → CType → Expression → Node
+cast_node line ctypes.void e = Ok (discarded line (type_of e) e)
+cast_node line (ctypes.integer t) e = do
   u ← integer 7 e
   Ok (convert t e)
-cast_node (ctypes.aggregate p) e = Err 7
-cast_node (ctypes.array element n) e = Err 7
+cast_node line (ctypes.aggregate p) e = Err 7
+cast_node line (ctypes.array element n) e = Err 7
 
 -- ---- unary operators (C11 6.5.3.3)
 

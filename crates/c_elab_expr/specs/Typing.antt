@@ -23,14 +23,15 @@ pub record Fault : Type 0 where
 abbrev pub fault : ℕ → ℕ → Fault
 fault l r = record { line = l; rule = r }
 
--- a form that has no typing yet: no rule has the number 0, and no line
-abbrev pub untyped : Fault
-untyped = fault 0 0
-
 -- a rule is broken on a line
 abbrev pub on_line : {A : Type 0} → ℕ → Result A ℕ → Result A Fault
 on_line line (Ok x) = Ok x
 on_line line (Err rule) = Err (fault line rule)
+
+-- the line of an expression's first token without the parentheses around it
+abbrev pub bare_line : Tree → ℕ
+bare_line (parens line e) = bare_line e
+bare_line e = first_line e
 
 -- what an expression that begins on this line is where it doesn't stand behind `sizeof`
 abbrev pub used_on : ℕ → Result Operand Fault → Result Operand Fault
@@ -82,49 +83,49 @@ abbrev mutual
   typed s (name line n) = on_line line (name_node s line (meaning_of s.bindings n))
   typed s (parens line e) = typed s e
   typed s (unary line op e) = do
-    x ← used_on (first_line e) (typed s e)
+    x ← used_on (bare_line e) (typed s e)
     on_line line (unary_operand line op x)
   typed s (cast line parts d e) = do
     t ← type_name s parts d (lengths s d)
-    x ← used_on (first_line e) (typed s e)
-    on_line line (cast_operand t x)
+    x ← used_on (bare_line e) (typed s e)
+    on_line line (cast_operand s.records.done line t x)
   typed s (sizeof_expr line e) = operand_size line s.records.done (strings_of e) (typed s e)
   typed s (sizeof_type line parts d) = do
     t ← type_name s parts d (lengths s d)
     n ← on_line line (type_size s.records.done t)
     Ok (sized line n)
   typed s (step line op e) = do
-    x ← used_on (first_line e) (typed s e)
+    x ← used_on (bare_line e) (typed s e)
     on_line (first_line e) (postfix_operand line op x)
   typed s (member line e n) = do
-    x ← used_on (first_line e) (typed s e)
+    x ← used_on (bare_line e) (typed s e)
     on_line (first_line e) (member_node s line x n)
   typed s (binary line op a b) = do
-    x ← used_on (first_line a) (typed s a)
-    y ← used_on (first_line b) (typed s b)
+    x ← used_on (bare_line a) (typed s a)
+    y ← used_on (bare_line b) (typed s b)
     on_line (first_line a) (binary_operand line op x y)
   typed s (choice line test a b) = do
-    x ← used_on (first_line test) (typed s test)
-    y ← used_on (first_line a) (typed s a)
-    z ← used_on (first_line b) (typed s b)
-    on_line (first_line test) (choice_operand line x y z)
+    x ← used_on (bare_line test) (typed s test)
+    y ← used_on (bare_line a) (typed s a)
+    z ← used_on (bare_line b) (typed s b)
+    on_line (first_line test) (choice_operand s.records.done line x y z)
   typed s (assign line op a b) = do
-    x ← used_on (first_line a) (typed s a)
-    y ← used_on (first_line b) (typed s b)
+    x ← used_on (bare_line a) (typed s a)
+    y ← used_on (bare_line b) (typed s b)
     on_line (first_line a) (assign_operand s line op x y)
   typed s (comma line a b) = do
-    x ← used_on (first_line a) (typed s a)
-    y ← used_on (first_line b) (typed s b)
-    on_line (first_line a) (comma_operand line x y)
+    x ← used_on (bare_line a) (typed s a)
+    y ← used_on (bare_line b) (typed s b)
+    Ok (comma_operand s.records.done line x y)
   typed s (call f arguments) = do
-    m ← callee s f (used_on (first_line f) (typed s f))
+    m ← callee s f (used_on (bare_line f) (typed s f))
     xs ← typed_arguments s arguments
     on_line (first_line f) (called m xs)
 
   pub typed_arguments : Scoped → Trees → Result (List Operand) Fault
   typed_arguments s none = Ok []
   typed_arguments s (more first rest) = do
-    x ← used_on (first_line first) (typed s first)
+    x ← used_on (bare_line first) (typed s first)
     xs ← typed_arguments s rest
     Ok (x ∷ xs)
 
@@ -141,7 +142,7 @@ abbrev mutual
   pub suffix_lengths : Scoped → Suffixes → Result (List (Option ℕ)) Fault
   suffix_lengths s no_suffix = Ok []
   suffix_lengths s (bounded line e rest) = do
-    n ← bound (first_line e) (used_on (first_line e) (typed s e))
+    n ← bound (first_line e) (used_on (bare_line e) (typed s e))
     ns ← suffix_lengths s rest
     Ok (Some n ∷ ns)
   suffix_lengths s (unbounded line rest) = do
@@ -150,7 +151,7 @@ abbrev mutual
 
 -- an expression that doesn't stand behind `sizeof`
 abbrev pub operand : Scoped → Tree → Result Operand Fault
-operand s e = used_on (first_line e) (typed s e)
+operand s e = used_on (bare_line e) (typed s e)
 
 -- ---- what the code's answers say
 

@@ -46,6 +46,7 @@ fn call_node(
 {
     match meaning {
         Meaning::Variable { variable: _ } => Err(Broken::Rule { rule: 10 }),
+        Meaning::Object { object: _ } => Err(Broken::Rule { rule: 10 }),
         Meaning::Assert => {
             let argument = one_integer(arguments)?;
             Ok(CoreExpr::Assertion {

@@ -84,6 +84,17 @@ fn is_constant_form(expr: &CoreExpr) -> bool
             condition: _,
         } => false,
         CoreExpr::Draw { line: _, type_: _ } => false,
+        CoreExpr::Member {
+            line: _,
+            type_: _,
+            offset: _,
+            value: _,
+        } => false,
+        CoreExpr::Discard {
+            line: _,
+            operand: _,
+        } => false,
+        CoreExpr::DiscardStructure { value: _ } => false,
     }
 }
 
@@ -258,6 +269,17 @@ fn value_of(expr: &CoreExpr) -> Option<Number>
             condition: _,
         } => None,
         CoreExpr::Draw { line: _, type_: _ } => None,
+        CoreExpr::Member {
+            line: _,
+            type_: _,
+            offset: _,
+            value: _,
+        } => None,
+        CoreExpr::Discard {
+            line: _,
+            operand: _,
+        } => None,
+        CoreExpr::DiscardStructure { value: _ } => None,
     }
 }
 

@@ -14,20 +14,20 @@ mod places;
 mod scope;
 mod specifying;
 mod strings;
-#[cfg(test)]
-mod tests;
+mod texts;
 mod type_words;
 mod typing;
 
-pub use constants::length_said;
+pub use constants::{constant_of, length_said};
 pub use declarators::{array_type, declared_line, object_size, type_size};
 pub use fault::{Broken, TypingError};
 pub use meaning::Meaning;
-pub use members::Field;
+pub use members::{Field, member_at};
 pub use nodes::as_type;
-pub use operands::{CoreOperand, constant_in, number, valued};
-pub use scope::{QualifiedType, Scope};
+pub use operands::{CoreOperand, Home, constant_in, dropped, number, record_value, same_record};
+pub use scope::{Lasting, QualifiedType, Scope, is_incomplete};
 pub use specifying::{Specified, tag_type, typedef_of};
 pub use strings::prove_string_length;
+pub use texts::strings_bytes;
 pub use type_words::words_type;
-pub use typing::{first_line, lengths, operand, typed, untyped};
+pub use typing::{first_line, lengths, operand, typed};

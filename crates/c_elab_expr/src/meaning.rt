@@ -8,6 +8,8 @@ use c_types::IntegerType;
 pub enum Meaning {
     /// A variable of the function, by its number there.
     Variable { variable: u32 },
+    /// An object that lives as long as the program, by its number, the first of which is 1.
+    Object { object: u32 },
     /// `assert`, which takes an integer.
     Assert,
     /// `__CPROVER_assume`, which takes an integer.
@@ -34,6 +36,7 @@ impl Meaning {
         match self {
             Meaning::Record { place: _ } | Meaning::Enumeration => true,
             Meaning::Variable { variable: _ }
+            | Meaning::Object { object: _ }
             | Meaning::Assert
             | Meaning::Assume
             | Meaning::Draw { type_: _ }

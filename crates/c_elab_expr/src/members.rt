@@ -237,8 +237,8 @@ pub fn way_in<'a>(type_: &Ty, tables: &'a [MemberTable], name: &[u8]) -> Option<
     }
 }
 
-// A member by its number, with its offset.
-fn member_at<'a>(type_: &Ty, number: u32, layouts: &'a Layouts) -> Option<(&'a Ty, u32)>
+/// A member of a type by its number, with its offset.
+pub fn member_at<'a>(type_: &Ty, number: u32, layouts: &'a Layouts) -> Option<(&'a Ty, u32)>
     ensures { option_map (λ p. (view p.0.now, p.1)) result ≡ member_in layouts.now.done (view type_.now) number }
 {
     match type_ {

@@ -127,21 +127,25 @@ pub fn value_size(type_: ValueType) -> Result<u64, Broken>
     }
 }
 
-fn discarded(expr: CoreExpr) -> Result<CoreExpr, Broken>
-    ensures { GivesNode view result (discarded (type_of (view expr)) (view expr)) }
+// A value that isn't used.
+fn discarded(alloc: Global, line: u32, expr: CoreExpr) -> Result<CoreExpr, AllocError>
+    ensures { IfOk result (λ e. view e ≡ discarded line (type_of (view expr)) (view expr)) }
 {
     match type_of(&expr) {
         ValueType::Void => Ok(expr),
-        ValueType::Integer(_) => Err(Broken::Rule { rule: 0 }),
+        ValueType::Integer(_) => Ok(CoreExpr::Discard {
+            line,
+            operand: Box::new(alloc, expr)?,
+        }),
     }
 }
 
 /// A value that is cast to a type.
-pub fn cast_node(alloc: Global, type_: &Ty, expr: CoreExpr) -> Result<CoreExpr, Broken>
-    ensures { GivesNode view result (cast_node (type_view type_.now) (view expr)) }
+pub fn cast_node(alloc: Global, line: u32, type_: &Ty, expr: CoreExpr) -> Result<CoreExpr, Broken>
+    ensures { GivesNode view result (cast_node line (type_view type_.now) (view expr)) }
 {
     match type_ {
-        Ty::Void => discarded(expr),
+        Ty::Void => Ok(discarded(alloc, line, expr)?),
         Ty::Integer(to) => {
             let _type = integer(&expr, 7)?;
             Ok(CoreExpr::Convert {
@@ -445,6 +449,12 @@ fn place_type(place: &Place) -> IntegerType
             line: _,
             type_,
             variable: _,
+            offset: _,
+        }
+        | Place::Object {
+            line: _,
+            type_,
+            object: _,
             offset: _,
         } => *type_,
     }

@@ -1,10 +1,12 @@
 //! What an operator makes of typed operands, or the lowest rule that they break.
 
-ghost use Rattle.std.specs.Prelude.{◌≡◌, ℕ, List, map, option_map, slice_get, Result, Ok};
+ghost use Rattle.std.specs.Prelude.{◌≡◌, ℕ, slice_get, option_map, IfOk, Result};
 ghost use Rattle.c_types.specs.Types.{view as type_view};
-ghost use Rattle.core_tree.specs.Trees.{Expression, view};
-ghost use Rattle.c_elab_expr.specs.Scopes.{view_named};
-ghost use Rattle.c_elab_expr.specs.Operands.{view_operand, computed, valued, number, is_array, used, place_operand, variable_node, name_node, member_node, operand_bytes, constant_in, cast_operand, unary_operand, postfix_operand, binary_operand, same_record, choice_record, choice_operand, assign_record, assign_value, assign_operand, comma_operand};
+ghost use Rattle.c_types.specs.Layouts.{size_of};
+ghost use Rattle.core_tree.specs.Trees.{Expression, follow, view, view_structure};
+ghost use Rattle.c_elab_expr.specs.Scopes.{view_named, object_at};
+ghost use Rattle.c_elab_expr.specs.Nodes.{required};
+ghost use Rattle.c_elab_expr.specs.Operands.{structure, view_operand, computed, valued, number, same_record, record_value, dropped, is_array, used, number_place, held_value, put_value, place_operand, variable_node, lasting_node, name_node, part_operand, member_node, operand_bytes, constant_in, cast_record, cast_operand, unary_operand, postfix_operand, binary_operand, choice_record, choice_value, choice_operand, assign_value, assign_record, assign_nothing, assign_operand, comma_operand};
 ghost use Rattle.c_elab_expr.specs.Typing.{GivesNode};
 
 use crate::constants::constant_of;
@@ -16,12 +18,21 @@ use crate::nodes::{
     assignment_node, binary_node, cast_node, character_node, choice_node, integer, postfix_node,
     unary_node, value_size,
 };
-use crate::scope::Scope;
+use crate::scope::{Scope, is_incomplete};
 use c_tree::{BinaryOp, StepOp, UnaryOp};
-use c_types::{Layouts, Ty};
+use c_types::{IntegerType, Layouts, Ty, is_sized, size_of};
 use c_values::Number;
-use core_tree::{CoreExpr, Place, type_of};
-use std::alloc::Global;
+use core_tree::{CoreExpr, CoreStructure, Place, type_of};
+use std::alloc::{AllocError, Global};
+
+/// What a place lies in.
+#[derive(Clone, Copy, Debug, PartialEq, Eq)]
+pub enum Home {
+    /// A variable of the function, by its number.
+    Variable { variable: u32 },
+    /// An object that lives as long as the program, by its number.
+    Object { object: u32 },
+}
 
 /// What an expression is (C11 6.3.2.1).
 #[derive(Drop)]
@@ -31,14 +42,19 @@ pub enum CoreOperand {
         value: CoreExpr,
         constant: bool,
     },
-    /// A place of struct, union or array type at an offset in bytes in a variable, with the line of its own token, and whether
-    /// it is const.
+    /// A place of struct, union or array type at an offset in bytes in a variable or an object, with the line of its own token,
+    /// and whether it is const.
     Object {
         line: u32,
-        variable: u32,
+        home: Home,
         offset: u32,
         type_: Ty,
         constant: bool,
+    },
+    /// A value of struct, union or array type that is no place.
+    Structure {
+        type_: Ty,
+        value: CoreStructure,
     },
 }
 
@@ -55,7 +71,7 @@ pub fn computed(node: Result<CoreExpr, Broken>) -> Result<CoreOperand, Broken>
     }
 }
 
-/// The expression of an operand that is a value, or the broken rule.
+/// The expression of an operand that is a value of an integer type or void, or the broken rule.
 pub fn valued(operand: CoreOperand, rule: u32) -> Result<CoreExpr, Broken>
     ensures { GivesNode view result (valued rule (view_operand operand)) }
 {
@@ -63,11 +79,12 @@ pub fn valued(operand: CoreOperand, rule: u32) -> Result<CoreExpr, Broken>
         CoreOperand::Value { value, constant: _ } => Ok(value),
         CoreOperand::Object {
             line: _,
-            variable: _,
+            home: _,
             offset: _,
             type_: _,
             constant: _,
         } => Err(Broken::Rule { rule }),
+        CoreOperand::Structure { type_: _, value: _ } => Err(Broken::Rule { rule }),
     }
 }
 
@@ -78,6 +95,177 @@ pub fn number(operand: CoreOperand, rule: u32) -> Result<CoreExpr, Broken>
     let value = valued(operand, rule)?;
     let _type = integer(&value, rule)?;
     Ok(value)
+}
+
+/// Whether both types are one struct or union.
+pub fn same_record(a: &Ty, b: &Ty) -> bool
+    ensures { result ≡ same_record (type_view a.now) (type_view b.now) }
+{
+    match (a, b) {
+        (Ty::Record(p), Ty::Record(q)) => p == q,
+        _ => false,
+    }
+}
+
+// The bytes of an object's type. It is complete and not too large, so that no other answer comes.
+fn bytes_of(type_: &Ty, layouts: &Layouts) -> Result<u32, AllocError>
+    ensures { IfOk result (λ n. n ≡ size_of layouts.now.done (type_view type_.now)) }
+{
+    if !is_sized(type_, layouts) {
+        return Err(AllocError);
+    }
+    match size_of(type_, layouts) {
+        Ok(size) => Ok(size),
+        Err(_) => Err(AllocError),
+    }
+}
+
+fn number_place(home: Home, line: u32, type_: IntegerType, offset: u32) -> Place
+    ensures { result ≡ number_place home line type_ offset }
+{
+    match home {
+        Home::Variable { variable } => Place::Variable {
+            line,
+            type_,
+            variable,
+            offset,
+        },
+        Home::Object { object } => Place::Object {
+            line,
+            type_,
+            object,
+            offset,
+        },
+    }
+}
+
+// So many bytes from an offset on.
+fn held_value(home: Home, line: u32, offset: u32, size: u32) -> CoreStructure
+    ensures { view_structure result ≡ held_value home line offset size }
+{
+    match home {
+        Home::Variable { variable } => CoreStructure::Read {
+            line,
+            variable,
+            offset,
+            size,
+        },
+        Home::Object { object } => CoreStructure::Load {
+            line,
+            object,
+            offset,
+            size,
+        },
+    }
+}
+
+// Bytes that take the place of those from an offset on.
+fn put_value(
+    alloc: Global,
+    home: Home,
+    line: u32,
+    offset: u32,
+    value: CoreStructure,
+) -> Result<CoreStructure, AllocError>
+    ensures { IfOk result (λ a. view_structure a ≡ put_value home line offset (view_structure value)) }
+{
+    let value = Box::new(alloc, value)?;
+    match home {
+        Home::Variable { variable } => Ok(CoreStructure::Assign {
+            line,
+            variable,
+            offset,
+            value,
+        }),
+        Home::Object { object } => Ok(CoreStructure::Store {
+            line,
+            object,
+            offset,
+            value,
+        }),
+    }
+}
+
+// The value of an object.
+fn read_object(
+    line: u32,
+    home: Home,
+    offset: u32,
+    type_: &Ty,
+    layouts: &Layouts,
+) -> Result<CoreStructure, AllocError>
+    ensures { IfOk result (λ a. view_structure a ≡ held_value home line offset (size_of layouts.now.done (type_view type_.now))) }
+{
+    let size = bytes_of(type_, layouts)?;
+    Ok(held_value(home, line, offset, size))
+}
+
+/// The value of an operand of this struct or union type, or the broken rule.
+pub fn record_value(
+    type_: &Ty,
+    operand: CoreOperand,
+    layouts: &Layouts,
+    rule: u32,
+) -> Result<CoreStructure, Broken>
+    ensures { GivesNode view_structure result (required rule (record_value layouts.now.done (type_view type_.now) (view_operand operand))) }
+{
+    match operand {
+        CoreOperand::Value {
+            value: _,
+            constant: _,
+        } => Err(Broken::Rule { rule }),
+        CoreOperand::Object {
+            line,
+            home,
+            offset,
+            type_: other,
+            constant: _,
+        } => {
+            if same_record(type_, &other) {
+                Ok(read_object(line, home, offset, &other, layouts)?)
+            } else {
+                Err(Broken::Rule { rule })
+            }
+        }
+        CoreOperand::Structure {
+            type_: other,
+            value,
+        } => {
+            if same_record(type_, &other) {
+                Ok(value)
+            } else {
+                Err(Broken::Rule { rule })
+            }
+        }
+    }
+}
+
+/// The expression of an operand whose value isn't used.
+pub fn dropped(
+    alloc: Global,
+    operand: CoreOperand,
+    layouts: &Layouts,
+) -> Result<CoreExpr, AllocError>
+    ensures { IfOk result (λ e. view e ≡ dropped layouts.now.done (view_operand operand)) }
+{
+    match operand {
+        CoreOperand::Value { value, constant: _ } => Ok(value),
+        CoreOperand::Object {
+            line,
+            home,
+            offset,
+            type_,
+            constant: _,
+        } => {
+            let value = read_object(line, home, offset, &type_, layouts)?;
+            Ok(CoreExpr::DiscardStructure {
+                value: Box::new(alloc, value)?,
+            })
+        }
+        CoreOperand::Structure { type_: _, value } => Ok(CoreExpr::DiscardStructure {
+            value: Box::new(alloc, value)?,
+        }),
+    }
 }
 
 fn is_array(type_: &Ty) -> bool
@@ -102,7 +290,7 @@ pub fn used(operand: CoreOperand) -> Result<CoreOperand, Broken>
         CoreOperand::Value { value, constant } => Ok(CoreOperand::Value { value, constant }),
         CoreOperand::Object {
             line,
-            variable,
+            home,
             offset,
             type_,
             constant,
@@ -112,35 +300,37 @@ pub fn used(operand: CoreOperand) -> Result<CoreOperand, Broken>
             } else {
                 Ok(CoreOperand::Object {
                     line,
-                    variable,
+                    home,
                     offset,
                     type_,
                     constant,
                 })
             }
         }
+        CoreOperand::Structure { type_, value } => {
+            if is_array(&type_) {
+                Err(Broken::Rule { rule: 9 })
+            } else {
+                Ok(CoreOperand::Structure { type_, value })
+            }
+        }
     }
 }
 
-// The place of a type at an offset in a variable.
-fn place_operand(line: u32, variable: u32, offset: u32, type_: Ty, constant: bool) -> CoreOperand
-    ensures { view_operand result ≡ place_operand line variable offset (type_view type_) constant }
+// The place of a type at an offset in a variable or an object.
+fn place_operand(line: u32, home: Home, offset: u32, type_: Ty, constant: bool) -> CoreOperand
+    ensures { view_operand result ≡ place_operand line home offset (type_view type_) constant }
 {
     match type_ {
         Ty::Integer(type_) => CoreOperand::Value {
             value: CoreExpr::Read {
-                place: Place::Variable {
-                    line,
-                    type_,
-                    variable,
-                    offset,
-                },
+                place: number_place(home, line, type_, offset),
             },
             constant,
         },
         other => CoreOperand::Object {
             line,
-            variable,
+            home,
             offset,
             type_: other,
             constant,
@@ -159,7 +349,25 @@ fn variable_node(
     match scope.variable(variable) {
         Some(named) => {
             let type_ = named.type_.copied(alloc)?;
-            Ok(place_operand(line, variable, 0, type_, named.constant))
+            let home = Home::Variable { variable };
+            Ok(place_operand(line, home, 0, type_, named.constant))
+        }
+        None => Err(Broken::Rule { rule: 1 }),
+    }
+}
+
+// An object that lives as long as the program. One whose type is incomplete here is no operand.
+fn lasting_node(alloc: Global, line: u32, object: u32, scope: &Scope) -> Result<CoreOperand, Broken>
+    ensures { GivesNode view_operand result (lasting_node scope.now.records.done line object (object_at scope.now object)) }
+{
+    match scope.object(object) {
+        Some(lasting) => {
+            if is_incomplete(lasting, scope.layouts()) {
+                return Err(Broken::Rule { rule: 3 });
+            }
+            let type_ = lasting.named.type_.copied(alloc)?;
+            let home = Home::Object { object };
+            Ok(place_operand(line, home, 0, type_, lasting.named.constant))
         }
         None => Err(Broken::Rule { rule: 1 }),
     }
@@ -177,6 +385,7 @@ pub fn name_node(
     match meaning {
         None => Err(Broken::Rule { rule: 1 }),
         Some(Meaning::Variable { variable }) => variable_node(alloc, line, variable, scope),
+        Some(Meaning::Object { object }) => lasting_node(alloc, line, object, scope),
         Some(Meaning::Assert) => Err(Broken::Rule { rule: 7 }),
         Some(Meaning::Assume) => Err(Broken::Rule { rule: 7 }),
         Some(Meaning::Draw { type_: _ }) => Err(Broken::Rule { rule: 7 }),
@@ -188,6 +397,42 @@ pub fn name_node(
         }),
         Some(Meaning::Record { place: _ }) => Err(Broken::Rule { rule: 7 }),
         Some(Meaning::Enumeration) => Err(Broken::Rule { rule: 7 }),
+    }
+}
+
+// The part of a type at an offset of a value that is no place.
+fn part_operand(
+    alloc: Global,
+    line: u32,
+    offset: u32,
+    type_: Ty,
+    value: CoreStructure,
+    layouts: &Layouts,
+) -> Result<CoreOperand, AllocError>
+    ensures { IfOk result (λ x. view_operand x ≡ part_operand layouts.now.done line offset (type_view type_) (view_structure value)) }
+{
+    match type_ {
+        Ty::Integer(type_) => Ok(CoreOperand::Value {
+            value: CoreExpr::Member {
+                line,
+                type_,
+                offset,
+                value: Box::new(alloc, value)?,
+            },
+            constant: false,
+        }),
+        other => {
+            let size = bytes_of(&other, layouts)?;
+            Ok(CoreOperand::Structure {
+                type_: other,
+                value: CoreStructure::Member {
+                    line,
+                    offset,
+                    size,
+                    value: Box::new(alloc, value)?,
+                },
+            })
+        }
     }
 }
 
@@ -208,7 +453,7 @@ pub fn member_node(
         } => Err(Broken::Rule { rule: 11 }),
         CoreOperand::Object {
             line: _,
-            variable,
+            home,
             offset,
             type_,
             constant,
@@ -216,7 +461,14 @@ pub fn member_node(
             Some(way) => {
                 let (at, part) = part_at(alloc, offset, &type_, &way.path, scope.layouts())?;
                 let constant = constant || way.constant;
-                Ok(place_operand(line, variable, at, part, constant))
+                Ok(place_operand(line, home, at, part, constant))
+            }
+            None => Err(Broken::Rule { rule: 11 }),
+        },
+        CoreOperand::Structure { type_, value } => match scope.way(&type_, name) {
+            Some(way) => {
+                let (at, part) = part_at(alloc, 0, &type_, &way.path, scope.layouts())?;
+                Ok(part_operand(alloc, line, at, part, value, scope.layouts())?)
             }
             None => Err(Broken::Rule { rule: 11 }),
         },
@@ -231,11 +483,12 @@ pub fn operand_bytes(operand: &CoreOperand, layouts: &Layouts) -> Result<u64, Br
         CoreOperand::Value { value, constant: _ } => value_size(type_of(value)),
         CoreOperand::Object {
             line: _,
-            variable: _,
+            home: _,
             offset: _,
             type_,
             constant: _,
         } => type_size(type_, layouts),
+        CoreOperand::Structure { type_, value: _ } => type_size(type_, layouts),
     }
 }
 
@@ -247,35 +500,53 @@ pub fn constant_in(operand: &CoreOperand) -> Option<Number>
         CoreOperand::Value { value, constant: _ } => constant_of(value),
         CoreOperand::Object {
             line: _,
-            variable: _,
+            home: _,
             offset: _,
             type_: _,
             constant: _,
         } => None,
+        CoreOperand::Structure { type_: _, value: _ } => None,
+    }
+}
+
+// An operand of struct, union or array type that is cast to a type.
+fn cast_record(
+    alloc: Global,
+    type_: &Ty,
+    operand: CoreOperand,
+    layouts: &Layouts,
+) -> Result<CoreOperand, Broken>
+    ensures { GivesNode view_operand result (cast_record layouts.now.done (type_view type_.now) (view_operand operand)) }
+{
+    match type_ {
+        Ty::Void => Ok(CoreOperand::Value {
+            value: dropped(alloc, operand, layouts)?,
+            constant: false,
+        }),
+        Ty::Integer(_) => Err(Broken::Rule { rule: 7 }),
+        Ty::Record(_) => Err(Broken::Rule { rule: 7 }),
+        Ty::Array {
+            element: _,
+            length: _,
+        } => Err(Broken::Rule { rule: 7 }),
     }
 }
 
 /// An operand that is cast to a type.
-pub fn cast_operand(alloc: Global, type_: &Ty, operand: CoreOperand) -> Result<CoreOperand, Broken>
-    ensures { GivesNode view_operand result (cast_operand (type_view type_.now) (view_operand operand)) }
+pub fn cast_operand(
+    alloc: Global,
+    line: u32,
+    type_: &Ty,
+    operand: CoreOperand,
+    layouts: &Layouts,
+) -> Result<CoreOperand, Broken>
+    ensures { GivesNode view_operand result (cast_operand layouts.now.done line (type_view type_.now) (view_operand operand)) }
 {
     match operand {
-        CoreOperand::Value { value, constant: _ } => computed(cast_node(alloc, type_, value)),
-        CoreOperand::Object {
-            line: _,
-            variable: _,
-            offset: _,
-            type_: _,
-            constant: _,
-        } => match type_ {
-            Ty::Void => Err(Broken::Rule { rule: 0 }),
-            Ty::Integer(_) => Err(Broken::Rule { rule: 7 }),
-            Ty::Record(_) => Err(Broken::Rule { rule: 7 }),
-            Ty::Array {
-                element: _,
-                length: _,
-            } => Err(Broken::Rule { rule: 7 }),
-        },
+        CoreOperand::Value { value, constant: _ } => {
+            computed(cast_node(alloc, line, type_, value))
+        }
+        record => cast_record(alloc, type_, record, layouts),
     }
 }
 
@@ -293,11 +564,12 @@ pub fn unary_operand(
         }
         CoreOperand::Object {
             line: _,
-            variable: _,
+            home: _,
             offset: _,
             type_: _,
             constant: _,
         } => Err(Broken::Rule { rule: 7 }),
+        CoreOperand::Structure { type_: _, value: _ } => Err(Broken::Rule { rule: 7 }),
     }
 }
 
@@ -314,11 +586,12 @@ pub fn postfix_operand(
         }
         CoreOperand::Object {
             line: _,
-            variable: _,
+            home: _,
             offset: _,
             type_: _,
             constant: _,
         } => Err(Broken::Rule { rule: 7 }),
+        CoreOperand::Structure { type_: _, value: _ } => Err(Broken::Rule { rule: 7 }),
     }
 }
 
@@ -336,25 +609,57 @@ pub fn binary_operand(
     computed(binary_node(alloc, line, operator, left, right))
 }
 
-// Whether both types are one struct or union.
-fn same_record(a: &Ty, b: &Ty) -> bool
-    ensures { result ≡ same_record (type_view a.now) (type_view b.now) }
+// A choice with a value of this struct, union or array type.
+fn choice_record(
+    alloc: Global,
+    line: u32,
+    test: CoreOperand,
+    type_: Ty,
+    yes: CoreStructure,
+    no: CoreOperand,
+    layouts: &Layouts,
+) -> Result<CoreOperand, Broken>
+    ensures { GivesNode view_operand result (choice_record layouts.now.done line (view_operand test) (type_view type_) (view_structure yes) (view_operand no)) }
 {
-    match (a, b) {
-        (Ty::Record(p), Ty::Record(q)) => p == q,
-        _ => false,
-    }
+    let test = number(test, 7)?;
+    let no = record_value(&type_, no, layouts, 7)?;
+    Ok(CoreOperand::Structure {
+        type_,
+        value: CoreStructure::Choice {
+            line,
+            test,
+            yes: Box::new(alloc, yes)?,
+            no: Box::new(alloc, no)?,
+        },
+    })
 }
 
-// A choice between two objects.
-fn choice_record(test: CoreOperand, yes: &Ty, no: &Ty) -> Result<CoreOperand, Broken>
-    ensures { GivesNode view_operand result (choice_record (view_operand test) (type_view yes.now) (type_view no.now)) }
+// A choice with a value of integer type or void.
+fn choice_value(
+    alloc: Global,
+    line: u32,
+    test: CoreOperand,
+    yes: CoreExpr,
+    no: CoreOperand,
+) -> Result<CoreOperand, Broken>
+    ensures { GivesNode view_operand result (choice_value line (view_operand test) (view yes) (view_operand no)) }
 {
-    let _test = number(test, 7)?;
-    if same_record(yes, no) {
-        Err(Broken::Rule { rule: 0 })
-    } else {
-        Err(Broken::Rule { rule: 7 })
+    match no {
+        CoreOperand::Value {
+            value: no,
+            constant: _,
+        } => {
+            let test = valued(test, 7)?;
+            computed(choice_node(alloc, line, test, yes, no))
+        }
+        CoreOperand::Object {
+            line: _,
+            home: _,
+            offset: _,
+            type_: _,
+            constant: _,
+        } => Err(Broken::Rule { rule: 7 }),
+        CoreOperand::Structure { type_: _, value: _ } => Err(Broken::Rule { rule: 7 }),
     }
 }
 
@@ -364,79 +669,24 @@ pub fn choice_operand(
     test: CoreOperand,
     yes: CoreOperand,
     no: CoreOperand,
+    layouts: &Layouts,
 ) -> Result<CoreOperand, Broken>
-    ensures { GivesNode view_operand result (choice_operand line (view_operand test) (view_operand yes) (view_operand no)) }
+    ensures { GivesNode view_operand result (choice_operand layouts.now.done line (view_operand test) (view_operand yes) (view_operand no)) }
 {
     match yes {
-        CoreOperand::Value {
-            value: yes,
-            constant: _,
-        } => match no {
-            CoreOperand::Value {
-                value: no,
-                constant: _,
-            } => {
-                let test = valued(test, 7)?;
-                computed(choice_node(alloc, line, test, yes, no))
-            }
-            CoreOperand::Object {
-                line: _,
-                variable: _,
-                offset: _,
-                type_: _,
-                constant: _,
-            } => Err(Broken::Rule { rule: 7 }),
-        },
+        CoreOperand::Value { value, constant: _ } => choice_value(alloc, line, test, value, no),
         CoreOperand::Object {
-            line: _,
-            variable: _,
-            offset: _,
+            line: at,
+            home,
+            offset,
             type_,
             constant: _,
-        } => match no {
-            CoreOperand::Value {
-                value: _,
-                constant: _,
-            } => Err(Broken::Rule { rule: 7 }),
-            CoreOperand::Object {
-                line: _,
-                variable: _,
-                offset: _,
-                type_: other,
-                constant: _,
-            } => choice_record(test, &type_, &other),
-        },
-    }
-}
-
-// An assignment to an object of this type, which is const or not.
-fn assign_record(
-    type_: &Ty,
-    constant: bool,
-    value: &CoreOperand,
-    scope: &Scope,
-) -> Result<CoreOperand, Broken>
-    ensures { GivesNode view_operand result (assign_record scope.now (type_view type_.now) constant (view_operand value.now)) }
-{
-    match value {
-        CoreOperand::Value {
-            value: _,
-            constant: _,
-        } => Err(Broken::Rule { rule: 8 }),
-        CoreOperand::Object {
-            line: _,
-            variable: _,
-            offset: _,
-            type_: other,
-            constant: _,
         } => {
-            if !same_record(type_, other) {
-                Err(Broken::Rule { rule: 8 })
-            } else if constant || scope.is_constant_within(type_) {
-                Err(Broken::Rule { rule: 9 })
-            } else {
-                Err(Broken::Rule { rule: 0 })
-            }
+            let value = read_object(at, home, offset, &type_, layouts)?;
+            choice_record(alloc, line, test, type_, value, no, layouts)
+        }
+        CoreOperand::Structure { type_, value } => {
+            choice_record(alloc, line, test, type_, value, no, layouts)
         }
     }
 }
@@ -458,7 +708,7 @@ fn assign_value(
         )),
         CoreOperand::Object {
             line: _,
-            variable: _,
+            home: _,
             offset: _,
             type_: _,
             constant: _,
@@ -466,7 +716,42 @@ fn assign_value(
             None => Err(Broken::Rule { rule: 8 }),
             Some(_) => Err(Broken::Rule { rule: 7 }),
         },
+        CoreOperand::Structure { type_: _, value: _ } => match operator {
+            None => Err(Broken::Rule { rule: 8 }),
+            Some(_) => Err(Broken::Rule { rule: 7 }),
+        },
     }
+}
+
+// An assignment to an object of this type, which is const or not.
+fn assign_record(
+    alloc: Global,
+    line: u32,
+    home: Home,
+    offset: u32,
+    type_: Ty,
+    constant: bool,
+    value: CoreOperand,
+    scope: &Scope,
+) -> Result<CoreOperand, Broken>
+    ensures { GivesNode view_operand result (assign_record scope.now line home offset (type_view type_) constant (view_operand value)) }
+{
+    let value = record_value(&type_, value, scope.layouts(), 8)?;
+    if constant || scope.is_constant_within(&type_) {
+        return Err(Broken::Rule { rule: 9 });
+    }
+    Ok(CoreOperand::Structure {
+        type_,
+        value: put_value(alloc, home, line, offset, value)?,
+    })
+}
+
+// An assignment to a value of this type, which is no place.
+fn assign_nothing(type_: &Ty, value: CoreOperand, layouts: &Layouts) -> Result<CoreOperand, Broken>
+    ensures { GivesNode view_operand result (assign_nothing layouts.now.done (type_view type_.now) (view_operand value)) }
+{
+    let _value = record_value(type_, value, layouts, 8)?;
+    Err(Broken::Rule { rule: 9 })
 }
 
 pub fn assign_operand(
@@ -486,15 +771,42 @@ pub fn assign_operand(
         } => assign_value(alloc, *constant, line, operator, place, value),
         CoreOperand::Object {
             line: _,
-            variable: _,
-            offset: _,
+            home,
+            offset,
             type_,
             constant,
         } => match operator {
-            None => assign_record(type_, *constant, &value, scope),
+            None => {
+                let type_ = type_.copied(alloc)?;
+                assign_record(alloc, line, *home, *offset, type_, *constant, value, scope)
+            }
+            Some(_) => Err(Broken::Rule { rule: 7 }),
+        },
+        CoreOperand::Structure { type_, value: _ } => match operator {
+            None => assign_nothing(type_, value, scope.layouts()),
             Some(_) => Err(Broken::Rule { rule: 7 }),
         },
     }
+}
+
+// A structure value behind another value that isn't used.
+fn behind(
+    alloc: Global,
+    line: u32,
+    left: CoreExpr,
+    type_: Ty,
+    right: CoreStructure,
+) -> Result<CoreOperand, AllocError>
+    ensures { IfOk result (λ x. view_operand x ≡ structure (type_view type_) (follow line (view left) (view_structure right))) }
+{
+    Ok(CoreOperand::Structure {
+        type_,
+        value: CoreStructure::Comma {
+            line,
+            left,
+            right: Box::new(alloc, right)?,
+        },
+    })
 }
 
 pub fn comma_operand(
@@ -502,17 +814,30 @@ pub fn comma_operand(
     line: u32,
     left: CoreOperand,
     right: CoreOperand,
-) -> Result<CoreOperand, Broken>
-    ensures { GivesNode view_operand result (comma_operand line (view_operand left) (view_operand right)) }
+    layouts: &Layouts,
+) -> Result<CoreOperand, AllocError>
+    ensures { IfOk result (λ x. view_operand x ≡ comma_operand layouts.now.done line (view_operand left) (view_operand right)) }
 {
-    let left = valued(left, 0)?;
-    let right = valued(right, 0)?;
-    Ok(CoreOperand::Value {
-        value: CoreExpr::Comma {
-            line,
-            left: Box::new(alloc, left)?,
-            right: Box::new(alloc, right)?,
-        },
-        constant: false,
-    })
+    let left = dropped(alloc, left, layouts)?;
+    match right {
+        CoreOperand::Value { value, constant: _ } => Ok(CoreOperand::Value {
+            value: CoreExpr::Comma {
+                line,
+                left: Box::new(alloc, left)?,
+                right: Box::new(alloc, value)?,
+            },
+            constant: false,
+        }),
+        CoreOperand::Object {
+            line: at,
+            home,
+            offset,
+            type_,
+            constant: _,
+        } => {
+            let right = read_object(at, home, offset, &type_, layouts)?;
+            behind(alloc, line, left, type_, right)
+        }
+        CoreOperand::Structure { type_, value } => behind(alloc, line, left, type_, value),
+    }
 }

@@ -1,11 +1,11 @@
 //! What names mean at a place of a file.
 
-ghost use Rattle.std.specs.Prelude.{◌≡◌, ◌-◌, ◌<◌, ◌≤◌, ◌^◌, true, false, [], ◌∷◌, ◌++◌, length, map, take, drop, slice_get, slice_set, option_map, Ok, IfOk, IfErr, OnOk, OnErr, IfSome, vec_len, vec_capacity};
+ghost use Rattle.std.specs.Prelude.{◌≡◌, ◌+◌, ◌-◌, ◌<◌, ◌≤◌, ◌^◌, true, false, [], ◌∷◌, ◌++◌, length, map, take, drop, slice_get, slice_set, option_map, Ok, IfOk, IfErr, OnOk, OnErr, IfSome, vec_len, vec_capacity};
 ghost use Rattle.c_types.specs.Types.{integer, view as type_view};
 ghost use Rattle.c_types.specs.Layouts.{kind_at, is_completed, with_completed, are_complete, fits, Refuses, IsBuilt};
 ghost use Rattle.c_elab_expr.specs.Members.{view_fields, view_members, view_tables, field_types, no_members, members_in, members_by, found};
 ghost use Rattle.c_elab_expr.specs.Places.{place_in};
-ghost use Rattle.c_elab_expr.specs.Scopes.{binding, view_named, meaning_of, tag_of, declares, is_there, are_there, is_known, are_known, plain, built_in_types, built_in_records, built_in_members, first_scope, sizes};
+ghost use Rattle.c_elab_expr.specs.Scopes.{binding, view_lasting, object_at, linked_to, is_incomplete, view_named, meaning_of, tag_of, declares, is_there, are_there, is_known, are_known, plain, built_in_types, built_in_records, built_in_members, first_scope, sizes};
 ghost use Rattle.c_elab_expr.specs.Scopes as scopes;
 ghost use Rattle.c_elab_expr.specs.Types.{type_size};
 
@@ -15,7 +15,8 @@ use crate::members::{
     Field, MemberTable, Way, field_types, is_constant_within, members_by, way_in,
 };
 use crate::places::Places;
-use c_types::{IntegerType, LayoutError, Layouts, RecordKind, Ty};
+use c_types::{IntegerType, LayoutError, Layouts, RecordKind, Ty, is_complete};
+use indexmap::IndexMap;
 use std::alloc::{AllocError, Global};
 use std::marker::Model;
 
@@ -34,9 +35,29 @@ pub struct QualifiedType {
     pub constant: bool,
 }
 
+/// An object that lives as long as the program (C11 6.2.4p3): its type, which is that of its elements where it is an array whose
+/// length isn't known so far; the bytes that its initializer says; whether it has a definition so far; and the line of its first
+/// declarator.
+#[derive(Drop)]
+pub struct Lasting {
+    pub named: QualifiedType,
+    pub unknown_length: bool,
+    pub bytes: Option<Vec<u8>>,
+    pub defined: bool,
+    pub line: u32,
+}
+
+/// Whether an object's type isn't complete here.
+pub fn is_incomplete(object: &Lasting, layouts: &Layouts) -> bool
+    ensures { result ≡ is_incomplete layouts.now.done (view_lasting object.now) }
+{
+    object.unknown_length || !is_complete(&object.named.type_, layouts)
+}
+
 /// What names and tags mean at a place of a file (C11 6.2.1, 6.2.3): those that are declared, the innermost first; the types
-/// that typedefs name, by number; the structs and unions by place, with the members that `.` finds in each; and the types of the
-/// function's variables by number, which are complete. What a name means is there.
+/// that typedefs name, by number; the structs and unions by place, with the members that `.` finds in each; the types of the
+/// function's variables by number, which are complete; and the objects that live as long as the program by number, the first of
+/// which is 1, with the names of those that have linkage. What a name means is there.
 #[derive(Drop)]
 pub struct Scope {
     bounds: Vec<Bound>,
@@ -46,6 +67,8 @@ pub struct Scope {
     tables: Vec<MemberTable>,
     variables: Vec<QualifiedType>,
     sizes: Vec<u32>,
+    objects: Vec<Lasting>,
+    linked: IndexMap<Vec<u8>, u32>,
 }
 
 impl Model for Scope {
@@ -53,16 +76,16 @@ impl Model for Scope {
     ghost use Rattle.std.specs.Coded.{codes};
     ghost use Rattle.c_types.specs.Types.{coded_records};
     ghost use Rattle.c_elab_expr.specs.Members.{view_tables, coded_members};
-    ghost use Rattle.c_elab_expr.specs.Scopes.{Scoped, view_named, are_there, are_complete, sizes_of, coded_named};
+    ghost use Rattle.c_elab_expr.specs.Scopes.{Scoped, view_named, view_lasting, view_linked, are_there, are_complete, sizes_of, coded_named, coded_lasting, coded_linked};
     ghost use Rattle.c_elab_expr.specs.Places.{environment, place_in, hidden_in, hidden_of, entries_of, place_at};
 
     ghost Value = { Scoped };
 
-    ghost coded = { Prim.hlevel (codes, coded_named, coded_records, coded_members) };
+    ghost coded = { Prim.hlevel (codes, coded_named, coded_records, coded_members, coded_lasting, coded_linked) };
 
-    ghost view = { λ s. record { bindings = environment s.bounds.items; types = map view_named s.types.items; records = s.layouts; members = view_tables s.tables.items; variables = map view_named s.variables.items } };
+    ghost view = { λ s. record { bindings = environment s.bounds.items; types = map view_named s.types.items; records = s.layouts; members = view_tables s.tables.items; variables = map view_named s.variables.items; objects = map view_lasting s.objects.items; linked = map view_linked s.linked.entries } };
 
-    ghost invariant = { λ s. (are_there (length (map view_named s.variables.items)) (length (map view_named s.types.items)) (length s.layouts.declared) (environment s.bounds.items) ≡ true)
+    ghost invariant = { λ s. (are_there (length (map view_named s.variables.items)) (length (map view_lasting s.objects.items)) (length (map view_named s.types.items)) (length s.layouts.declared) (environment s.bounds.items) ≡ true)
         × ((tags : Bool) (name : List ℕ) → place_at (entries_of tags s.places) name ≡ place_in tags (environment s.bounds.items) name)
         × (hidden_of s.bounds.items ≡ hidden_in (environment s.bounds.items))
         × (s.sizes.items ≡ sizes_of s.layouts.done (map view_named s.variables.items))
@@ -135,6 +158,8 @@ impl Scope {
             tables: built_in_tables(alloc)?,
             variables: Vec::new(alloc),
             sizes: Vec::new(alloc),
+            objects: Vec::new(alloc),
+            linked: IndexMap::new(alloc),
         })
     }
 
@@ -161,6 +186,71 @@ impl Scope {
         ensures { option_map (λ t. view_named t.now) result ≡ slice_get self.now.variables number }
     {
         self.variables.get(number as usize)
+    }
+
+    /// How many objects live as long as the program so far.
+    pub fn object_count(&self) -> usize
+        ensures { result ≡ length self.now.objects }
+    {
+        self.objects.len()
+    }
+
+    /// An object that lives as long as the program, by its number.
+    pub fn object(&self, number: u32) -> Option<&Lasting>
+        ensures { option_map (λ o. view_lasting o.now) result ≡ object_at self.now number }
+    {
+        if number == 0 {
+            return None;
+        }
+        self.objects.get(number as usize - 1)
+    }
+
+    /// The number of the object that a name with linkage has already.
+    pub fn linked(&self, name: &[u8]) -> Option<u32>
+        ensures { result ≡ linked_to self.now.linked name.now }
+    {
+        match self.linked.get(name) {
+            Some(number) => Some(*number),
+            None => None,
+        }
+    }
+
+    /// One more object that lives as long as the program, and its number.
+    pub fn add_object(&mut self, object: Lasting) -> Result<u32, AllocError>
+        requires { length self.old.objects < 2 ^ 31 }
+        ensures number { IfOk result (λ k. k ≡ length self.old.objects + 1) }
+        ensures added { OnOk result (self.new ≡ record self.old { objects = self.old.objects ++ view_lasting object ∷ [] }) }
+    {
+        self.objects.push(object)?;
+        Ok(self.objects.len() as u32)
+    }
+
+    /// What is known of an object from now on.
+    pub fn set_object(&mut self, number: u32, object: Lasting)
+        requires { (1 ≤ number) × (number ≤ length self.old.objects) }
+        ensures { self.new ≡ record self.old { objects = slice_set self.old.objects (number - 1) (view_lasting object) } }
+    {
+        self.objects[number as usize - 1] = object;
+    }
+
+    /// Gives a name linkage, that of an object.
+    pub fn link(&mut self, alloc: Global, name: &[u8], object: u32) -> Result<(), AllocError>
+        requires { linked_to self.old.linked name.now ≡ None }
+        ensures { OnOk result (self.new ≡ record self.old { linked = self.old.linked ++ record { name = name.now; object = object } ∷ [] }) }
+    {
+        self.linked.insert(name.to_vec(alloc)?, object)?;
+        Ok(())
+    }
+
+    /// Ends the file: the objects that live as long as the program. No name is in scope.
+    pub fn take_objects(&mut self, alloc: Global) -> Vec<Lasting>
+        requires { self.old.bindings ≡ [] }
+        ensures objects { map view_lasting result.items ≡ self.old.objects }
+        ensures ended { self.new ≡ record self.old { objects = [] } }
+    {
+        let mut taken = Vec::new(alloc);
+        std::mem::swap(&mut taken, &mut self.objects);
+        taken
     }
 
     /// The way of a member's name in an object of a type.
@@ -422,7 +512,7 @@ impl Scope {
 
     /// Ends a function: the sizes of its variables in bytes. No name in scope is one of them.
     pub fn take_variables(&mut self, alloc: Global) -> Vec<u32>
-        requires { are_there 0 (length self.old.types) (length self.old.records.declared) self.old.bindings ≡ true }
+        requires { are_there 0 (length self.old.objects) (length self.old.types) (length self.old.records.declared) self.old.bindings ≡ true }
         ensures sizes { result.items ≡ sizes self.old }
         ensures ended { self.new ≡ record self.old { variables = [] } }
     {

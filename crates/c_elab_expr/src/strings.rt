@@ -53,7 +53,7 @@ fn escape_length(text: &[u8]) -> usize
 }
 
 // What a string's quotes enclose.
-fn enclosed(text: &[u8]) -> &[u8]
+pub fn enclosed(text: &[u8]) -> &[u8]
     ensures { result.now ≡ enclosed text.now }
 {
     if text.len() < 2 {

@@ -6,7 +6,7 @@ ghost use Rattle.c_tree.specs.Tree.{view as tree, views_of as trees};
 ghost use Rattle.c_types.specs.Types.{view as type_view};
 ghost use Rattle.c_elab_expr.specs.Strings.{strings_of};
 ghost use Rattle.c_elab_expr.specs.Operands.{Operand, view_operand, is_typed_operand};
-ghost use Rattle.c_elab_expr.specs.Typing.{Gives, GivesNode, Adds, on_line, Fault, sized, used_on, no_function, callee, bound, type_name, operand_size, typed, typed_arguments, operand, lengths, suffix_lengths};
+ghost use Rattle.c_elab_expr.specs.Typing.{Gives, GivesNode, Adds, on_line, bare_line, Fault, sized, used_on, no_function, callee, bound, type_name, operand_size, typed, typed_arguments, operand, lengths, suffix_lengths};
 
 use crate::calls::called;
 use crate::constants::length_said;
@@ -88,13 +88,6 @@ pub fn first_line(expr: &Expr) -> u32
     }
 }
 
-/// The answer to a form that has no typing yet: rule 0 on line 0.
-pub fn untyped() -> TypingError
-    ensures { result ≡ TypingError.Typing 0 0 }
-{
-    TypingError::Typing { line: 0, rule: 0 }
-}
-
 // A node, or its broken rule with a line.
 fn placed_at(node: Result<CoreOperand, Broken>, line: u32) -> Result<CoreOperand, TypingError>
     ensures { (r : Result Operand ℕ) → GivesNode view_operand node r → Gives view_operand result (on_line line r) }
@@ -127,6 +120,26 @@ fn placed(node: Result<CoreOperand, Broken>, first: &Expr) -> Result<CoreOperand
     }
 }
 
+// The line of an expression's first token without the parentheses around it.
+fn bare_line(expr: &Expr) -> u32
+    ensures { result ≡ bare_line (tree expr.now) }
+{
+    match expr {
+        Expr::Parens { line: _, inner } => bare_line(inner),
+        _ => first_line(expr),
+    }
+}
+
+// An operand, or its broken rule with the line of an expression without the parentheses around it.
+fn used_at(node: Result<CoreOperand, Broken>, expr: &Expr) -> Result<CoreOperand, TypingError>
+    ensures { (r : Result Operand ℕ) → GivesNode view_operand node r → Gives view_operand result (on_line (bare_line (tree expr.now)) r) }
+{
+    match node {
+        Ok(core) => Ok(core),
+        Err(broken) => placed_at(Err(broken), bare_line(expr)),
+    }
+}
+
 // A constant of type unsigned long.
 fn sized(line: u32, size: u64) -> CoreOperand
     ensures { view_operand result ≡ sized line size }
@@ -140,10 +153,10 @@ fn sized(line: u32, size: u64) -> CoreOperand
 // An expression that doesn't stand behind `sizeof`.
 #[cycle(typing)]
 fn used_expr(alloc: Global, expr: &Expr, scope: &Scope) -> Result<CoreOperand, TypingError>
-    ensures { Gives view_operand result (used_on (first_line (tree expr.now)) (typed scope.now (tree expr.now))) }
+    ensures { Gives view_operand result (used_on (bare_line (tree expr.now)) (typed scope.now (tree expr.now))) }
 {
     let core = typed_expr(alloc, expr, scope)?;
-    placed(used(core), expr)
+    used_at(used(core), expr)
 }
 
 #[cycle(typing)]
@@ -181,7 +194,7 @@ fn callee(
     function: &Expr,
     scope: &Scope,
 ) -> Result<Option<(u32, Meaning)>, TypingError>
-    ensures { Gives (λ o. o) result (callee scope.now (tree function.now) (used_on (first_line (tree function.now)) (typed scope.now (tree function.now)))) }
+    ensures { Gives (λ o. o) result (callee scope.now (tree function.now) (used_on (bare_line (tree function.now)) (typed scope.now (tree function.now)))) }
 {
     match function {
         Expr::Name { line, name } => match scope.meaning(&name.bytes) {
@@ -198,7 +211,7 @@ fn callee(
 // How many elements a bound says.
 #[cycle(typing)]
 fn bound(alloc: Global, expr: &Expr, scope: &Scope) -> Result<u64, TypingError>
-    ensures { Gives (λ n. n) result (bound (first_line (tree expr.now)) (used_on (first_line (tree expr.now)) (typed scope.now (tree expr.now)))) }
+    ensures { Gives (λ n. n) result (bound (first_line (tree expr.now)) (used_on (bare_line (tree expr.now)) (typed scope.now (tree expr.now)))) }
 {
     let core = used_expr(alloc, expr, scope)?;
     match constant_in(&core) {
@@ -352,7 +365,10 @@ fn typed_expr(alloc: Global, expr: &Expr, scope: &Scope) -> Result<CoreOperand, 
         } => {
             let type_ = type_named(alloc, type_name, scope)?;
             let core = used_expr(alloc, operand, scope)?;
-            placed_at(cast_operand(alloc, &type_, core), *line)
+            placed_at(
+                cast_operand(alloc, *line, &type_, core, scope.layouts()),
+                *line,
+            )
         }
         Expr::SizeofExpr { line, operand } => operand_size(alloc, *line, operand, scope),
         Expr::SizeofType { line, type_name } => {
@@ -391,7 +407,7 @@ fn typed_expr(alloc: Global, expr: &Expr, scope: &Scope) -> Result<CoreOperand, 
             let a = used_expr(alloc, test, scope)?;
             let b = used_expr(alloc, yes, scope)?;
             let c = used_expr(alloc, no, scope)?;
-            placed(choice_operand(alloc, *line, a, b, c), test)
+            placed(choice_operand(alloc, *line, a, b, c, scope.layouts()), test)
         }
         Expr::Assign {
             line,
@@ -406,7 +422,7 @@ fn typed_expr(alloc: Global, expr: &Expr, scope: &Scope) -> Result<CoreOperand, 
         Expr::Comma { line, left, right } => {
             let a = used_expr(alloc, left, scope)?;
             let b = used_expr(alloc, right, scope)?;
-            placed(comma_operand(alloc, *line, a, b), left)
+            Ok(comma_operand(alloc, *line, a, b, scope.layouts())?)
         }
         Expr::Call {
             function,
@@ -435,5 +451,5 @@ pub fn operand(alloc: Global, expr: &Expr, scope: &Scope) -> Result<CoreOperand,
     ensures typed { IfOk result (λ x. is_typed_operand scope.now (view_operand x) ≡ true) }
 {
     let core = typed(alloc, expr, scope)?;
-    placed(used(core), expr)
+    used_at(used(core), expr)
 }

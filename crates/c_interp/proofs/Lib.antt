@@ -10,3 +10,5 @@ pub mod TypedAt
 pub mod TypedFiles
 pub mod PushedItems
 pub mod SourceRuns
+pub mod StaticObjects
+pub mod Finishes

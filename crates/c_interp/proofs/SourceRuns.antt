@@ -1,5 +1,5 @@
 -- In a run of a file there is thread 0 alone, and no action asks for a number.
-use Rattle.std.proofs.Common.{◌≡◌, ℕ, Bool, true, false, List, [], ◌∷◌, Some, None, ◌+◌, ◌<◌, ◌≤◌, length, drop, get_or, if◌then◌else◌, refl, sym, ap, subst, ◌∙◌, arith}
+use Rattle.std.proofs.Common.{◌≡◌, ℕ, Bool, true, false, not, List, [], ◌∷◌, Option, Some, None, ◌+◌, ◌<◌, ◌≤◌, length, drop, get_or, if◌then◌else◌, refl, sym, ap, subst, ◌∙◌, arith}
 use Rattle.interleave.specs.declared.turn.Turn.{Turn}
 use Rattle.interleave.specs.declared.turn.Turn.TheVariants as turned
 use Rattle.std.specs.Ordering.{nat_cmp}
@@ -8,13 +8,18 @@ use Rattle.std.proofs.lemmas.List.{at_drop_more, at_drop_all}
 use Rattle.core_tree.specs.declared.functions.Function.{Function}
 use Rattle.words.specs.declared.check.Check.{Check}
 use Rattle.c_profile.specs.Rules.{is_main}
-use Rattle.core_tree.specs.Trees.{Procedure, view_function, view_core}
+use Rattle.core_tree.specs.Trees.{TypedFile, view_function, view_functions}
 use Rattle.actions.specs.declared.action.Action.{Action}
-use Rattle.actions.specs.declared.action.Action.TheVariants.{Draw, End, Exit}
+use Rattle.actions.specs.declared.action.Action.TheVariants.{Read, Write, Draw, End, Exit}
 use Rattle.actions.specs.declared.action.Answer.{Answer}
 use Rattle.actions.specs.declared.action.Next.{Next}
 use Rattle.actions.specs.declared.action.Next.TheVariants.{Act, Ended, Blocked, Broken}
-use Rattle.actions.specs.Memory.{Memory, Change, starts, keeps}
+use Rattle.words.specs.declared.check.Class.{Class}
+use Rattle.actions.specs.declared.action.Answer.TheVariants as answer
+use Rattle.actions.specs.Pointer.{object_of}
+use Rattle.actions.specs.Access.{access_break}
+use Rattle.actions.specs.Objects.{Objects, state_at}
+use Rattle.actions.specs.Memory.{Memory, Change, starts, keeps, puts}
 use Rattle.actions.specs.Row as rows
 use Rattle.actions.specs.Row.{breaks, waits, moves}
 use Rattle.interleave.specs.declared.turn.Outcome.{Outcome}
@@ -33,7 +38,15 @@ abbrev IsPlain : rows.Outcome → Type 0
 IsPlain (moves a (starts number f v)) = ⊥
 IsPlain _ = Unit {0}
 
+plain_unless : (m : Memory) (c : Option Class) (row : rows.Row) → IsPlain (rows.outcome_in m row) → IsPlain (rows.outcome_in m (rows.unless c row))
+plain_unless m None row h = h
+plain_unless m (Some class) row h = tt
+
 plain : (c : Common) (t line f : ℕ) (words : List ℕ) (counts : Counts) (action : Action) → IsQuiet (Act action line f) → IsPlain (outcome c t words counts action)
+plain c t line f words counts (Read p n) h =
+    plain_unless c.memory (access_break false p n (state_at c.memory.objects (object_of p))) (rows.sees_bytes p n (λ bytes. rows.comes (moves (answer.Bytes bytes) keeps))) tt
+plain c t line f words counts (Write p new first) h =
+    plain_unless c.memory (access_break (not first) p (length new) (state_at c.memory.objects (object_of p))) (rows.comes (moves answer.Done (puts p new))) tt
 plain c t line f words counts (Draw n) h = tt
 plain c t line f words counts (End v) h = tt
 plain c t line f words counts Exit h = tt
@@ -83,6 +96,8 @@ turn_keeps w t inputs o = may_keeps w t (words_of inputs t) o.0 (may_move w.comm
 -- ---- numbers
 
 number_of : (memory : Memory) (t line f : ℕ) (counts : Counts) (action : Action) → IsQuiet (Act action line f) → HasNumber memory t counts action
+number_of memory t line f counts (Read p n) h = tt
+number_of memory t line f counts (Write p new first) h = tt
 number_of memory t line f counts (Draw n) h = tt
 number_of memory t line f counts (End v) h = tt
 number_of memory t line f counts Exit h = tt
@@ -105,8 +120,9 @@ has_numbers w t o =
 
 -- ---- the start
 
-pub starts_quiet : (functions : List Procedure) → OneQuiet (first_world (source_thread functions) []).members
-starts_quiet functions = (record { thread = source_thread functions; counts = no_counts }, refl, function_quiet functions true (main_number functions))
+pub starts_quiet : (file : TypedFile) (objects : Objects) → OneQuiet (first_world (source_thread file) objects).members
+starts_quiet file objects =
+    (record { thread = source_thread file; counts = record no_counts { objects = length objects } }, refl, function_quiet file.functions true (main_number file.functions))
 
 -- ---- turns by the schedule
 
@@ -142,21 +158,21 @@ next_quiet w next t inputs r o e = let P : Turn × World → Type 0 = λ x. OneQ
 
 -- ---- the function named main
 
-pub main_here : (fs : List Function) (i : ℕ) (f : Function) → i < length fs → is_main (view_function (get_or fs i f)) ≡ true → main_number (view_core (drop i fs)) ≡ 0
+pub main_here : (fs : List Function) (i : ℕ) (f : Function) → i < length fs → is_main (view_function (get_or fs i f)) ≡ true → main_number (view_functions (drop i fs)) ≡ 0
 main_here fs i f h e =
-    at_drop_more (λ fs. main_number (view_core fs)) fs i f h ∙ ap (λ (b : Bool). if b then 0 else main_number (view_core (drop (i + 1) fs)) + 1) e
+    at_drop_more (λ fs. main_number (view_functions fs)) fs i f h ∙ ap (λ (b : Bool). if b then 0 else main_number (view_functions (drop (i + 1) fs)) + 1) e
 
-pub main_later : (fs : List Function) (i : ℕ) (f : Function) → i < length fs → is_main (view_function (get_or fs i f)) ≡ false → main_number (view_core (drop i fs)) ≡ main_number (view_core (drop (i + 1) fs)) + 1
+pub main_later : (fs : List Function) (i : ℕ) (f : Function) → i < length fs → is_main (view_function (get_or fs i f)) ≡ false → main_number (view_functions (drop i fs)) ≡ main_number (view_functions (drop (i + 1) fs)) + 1
 main_later fs i f h e =
-    at_drop_more (λ fs. main_number (view_core fs)) fs i f h ∙ ap (λ (b : Bool). if b then 0 else main_number (view_core (drop (i + 1) fs)) + 1) e
+    at_drop_more (λ fs. main_number (view_functions fs)) fs i f h ∙ ap (λ (b : Bool). if b then 0 else main_number (view_functions (drop (i + 1) fs)) + 1) e
 
-pub main_nowhere : (fs : List Function) (i : ℕ) → length fs ≤ i → main_number (view_core (drop i fs)) ≡ 0
-main_nowhere fs i h = at_drop_all (λ (fs : List Function). main_number (view_core fs)) fs i h
+pub main_nowhere : (fs : List Function) (i : ℕ) → length fs ≤ i → main_number (view_functions (drop i fs)) ≡ 0
+main_nowhere fs i h = at_drop_all (λ (fs : List Function). main_number (view_functions fs)) fs i h
 
 choice_within : (b : Bool) (m n : ℕ) → m ≤ n → (if b then 0 else m + 1) ≤ n + 1
 choice_within true m n h = omega arith
 choice_within false m n h = omega arith
 
-pub main_within : (fs : List Function) → main_number (view_core fs) ≤ length fs
+pub main_within : (fs : List Function) → main_number (view_functions fs) ≤ length fs
 main_within [] = omega arith
-main_within (f ∷ fs) = let h = choice_within (is_main (view_function f)) (main_number (view_core fs)) (length fs) (main_within fs) in omega (arith, h)
+main_within (f ∷ fs) = let h = choice_within (is_main (view_function f)) (main_number (view_functions fs)) (length fs) (main_within fs) in omega (arith, h)

@@ -1,5 +1,5 @@
 -- The words that a variable is drawn in begin in it, and an initializer's value fills it.
-use Rattle.std.proofs.Common.{◌≡◌, ◌<◌, ◌≤◌, ℕ, suc, ◌+◌, ◌*◌, true, ◌==◌, nat_lt, nat_le, List, length, slice_index, arith}
+use Rattle.std.proofs.Common.{◌≡◌, ◌<◌, ◌≤◌, ℕ, suc, ◌+◌, ◌*◌, true, ◌&&◌, ◌==◌, nat_lt, nat_le, List, length, slice_index, arith}
 use Rattle.std.proofs.lemmas.Bool.{false≢true}
 use Rattle.std.proofs.lemmas.Bool.Decides.{nat_tests}
 use Rattle.c_types.specs.declared.types.ValueType.{ValueType}
@@ -12,13 +12,13 @@ use Rattle.c_interp.specs.Meaning.{integer_of}
 use Rattle.c_interp.specs.Fits.{has_words}
 use Rattle.c_interp.proofs.FitParts.{left_of, right_of, both}
 
-to_le : (a b : ℕ) → a ≤ b → nat_le a b ≡ true
+pub to_le : (a b : ℕ) → a ≤ b → nat_le a b ≡ true
 to_le a b h = grind (arith, nat_tests)
 
-from_le : (a b : ℕ) → nat_le a b ≡ true → a ≤ b
+pub from_le : (a b : ℕ) → nat_le a b ≡ true → a ≤ b
 from_le a b h = grind (arith, nat_tests)
 
-from_same : (a b : ℕ) → (a == b) ≡ true → a ≡ b
+pub from_same : (a b : ℕ) → (a == b) ≡ true → a ≡ b
 from_same a b h = grind (arith, nat_tests)
 
 -- ---- an initializer's value
@@ -33,6 +33,18 @@ filled_within sizes v (Integer t) h =
     let e = from_same (bytes t) (slice_index sizes v) (right_of (nat_lt v (length sizes)) (bytes t == slice_index sizes v) h) in
     both (nat_lt v (length sizes)) (nat_le (0 + bytes t) (slice_index sizes v)) (left_of (nat_lt v (length sizes)) (bytes t == slice_index sizes v) h)
     (to_le (0 + bytes t) (slice_index sizes v) (omega (arith, e)))
+
+-- a number in a list's bytes
+pub placed_within : (size offset : ℕ) (t : ValueType) → typing.fits_at size offset t ≡ true → nat_le (offset + bytes (integer_of t)) size ≡ true
+placed_within size offset Void h = absurd (false≢true h)
+placed_within size offset (Integer t) h = h
+
+-- a structure value that is as large as a variable
+pub structure_fills : (sizes : List ℕ) (v size : ℕ) → (nat_lt v (length sizes) && size == slice_index sizes v) ≡ true → is_within sizes v 0 size ≡ true
+structure_fills sizes v size h =
+    let e = from_same size (slice_index sizes v) (right_of (nat_lt v (length sizes)) (size == slice_index sizes v) h) in
+    both (nat_lt v (length sizes)) (nat_le (0 + size) (slice_index sizes v)) (left_of (nat_lt v (length sizes)) (size == slice_index sizes v) h)
+    (to_le (0 + size) (slice_index sizes v) (omega (arith, e)))
 
 -- ---- words
 

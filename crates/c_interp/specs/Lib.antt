@@ -8,7 +8,7 @@ pub mod Adequate
 pub mod SourceThread
 pub mod Tasks
 pub mod Plans
-pub mod Draws
+pub mod Answered
 pub mod Halts
 pub mod View
 pub mod Quiet

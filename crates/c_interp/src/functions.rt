@@ -1,6 +1,6 @@
 ghost use Rattle.std.specs.Prelude.{◌≡◌, option_map, slice_get, codes};
 ghost use Rattle.std.specs.Str.{bytes_eq};
-ghost use Rattle.core_tree.specs.Trees.{view_core};
+ghost use Rattle.core_tree.specs.Trees.{view_functions};
 ghost use Rattle.c_interp.specs.Source.{main_number};
 
 use core_tree::{Function, Name};
@@ -23,7 +23,7 @@ fn is_main(name: &Name) -> bool
 
 /// The number of the first function named `main`, or how many functions there are.
 pub fn number_of_main(functions: &[Function]) -> usize
-    ensures { result ≡ main_number (view_core functions.now) }
+    ensures { result ≡ main_number (view_functions functions.now) }
 {
     let mut number = 0;
     for function in functions {

@@ -2,11 +2,15 @@
 //! them.
 #![tactic(auto)]
 
-mod drawn;
+mod answered;
 mod functions;
+#[cfg(test)]
+mod object_tests;
+mod objects;
 mod plan;
 mod replay;
 mod stacks;
+mod structures;
 mod task;
 #[cfg(test)]
 mod tests;
@@ -14,5 +18,6 @@ mod thread;
 mod variables;
 
 pub use functions::number_of_main;
-pub use replay::{first_store, run, small_steps_mean};
+pub use objects::{are_storable, first_store};
+pub use replay::{run, small_steps_mean};
 pub use thread::Thread;

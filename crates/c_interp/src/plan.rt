@@ -1,30 +1,36 @@
-ghost use Rattle.std.specs.Prelude.{◌≡◌, ◌+◌, ◌<◌, ◌≤◌, ◌^◌, true, not, Some, None, [], ◌∷◌, if◌then◌else◌};
-ghost use Rattle.core_tree.specs.Trees.{view, view_statement, items_of, step, block};
-ghost use Rattle.core_tree.specs.Typed.{place_type, is_place};
+ghost use Rattle.std.specs.Prelude.{◌≡◌, ◌+◌, ◌<◌, ◌≤◌, ◌^◌, true, false, not, Some, None, IfOk, [], ◌∷◌, if◌then◌else◌};
+ghost use Rattle.core_tree.specs.Trees.{view, view_statement, items_of, read, block};
+ghost use Rattle.core_tree.specs.Typed.{place_type};
 ghost use Rattle.core_tree.specs.Operations as operations;
 ghost use Rattle.c_interp.specs.Meaning as meaning;
 ghost use Rattle.c_interp.specs.Meaning.{number_type, size_of};
-ghost use Rattle.c_values.specs.Variables.{Variables, drawn_count, cleared, write_place};
-ghost use Rattle.c_interp.specs.Items.{top, second, state, evaluates, initial, leaving, runs, enters, goes_on, stores, updates, fills};
-ghost use Rattle.c_interp.specs.Steps.{updates_to, draws_variable, silent};
-ghost use Rattle.c_interp.specs.Plans.{IsByOperand, IsTested};
-ghost use Rattle.c_interp.specs.Tasks.{finish_of, end_of, item_of, values_in, with_written, LiesWithin};
-ghost use Rattle.c_interp.specs.Plans.{FitsIn, PlansItem, Plans, running_in, items_behind, values_on};
+ghost use Rattle.c_values.specs.Variables.{drawn_count, cleared};
+ghost use Rattle.c_values.specs.Numbers.{same_width, are_operands_of};
+ghost use Rattle.c_interp.specs.Items.{top, second, rest, state, drops, evaluates, initial, leaving, runs, enters, goes_on, stores, combines, increments, fills};
+ghost use Rattle.c_interp.specs.Steps.{move_combined, draws_variable, enters_initialized, silent};
+ghost use Rattle.c_interp.specs.Plans.{IsByOperand, IsByStructure, IsNoOperation, IsTested, TakesNoMemory};
+ghost use Rattle.c_interp.specs.Tasks.{finish_of, end_of, item_of, values_in, with_task, without};
+ghost use Rattle.c_interp.specs.Plans.{FitsIn, PlansItem, Plans, running_in, items_behind, values_on, structures_on};
 
-use crate::task::{Change, Halt, Look, Plan, Taken, Task, Tasks, Written};
-use crate::variables::read;
+use crate::structures::{
+    evaluation, plan_discard, plan_initial_structure, plan_list, plan_pick, plan_place_number,
+    plan_place_structure, plan_structure_task,
+};
+use crate::task::{Change, Halt, Look, Plan, Request, Stacked, Taken, Task, Tasks, Written};
+use crate::variables::read_variable;
 use actions::DrawBits;
 use c_types::{IntegerType, promote};
-use c_values::{Number, compare, drawn_count, operate, sign, word_count};
+use c_values::{Number, compare, drawn_count, operate, pointer_to, sign, word_count};
 use core_tree::{
     ArithmeticOperator, CoreExpr, CoreItem, CoreStatement, LogicalOperator, Place, StepOperator,
 };
+use std::alloc::AllocError;
 use words::Class;
 
 // ---- changes
 
 // Other tasks come first.
-fn pushes<'a>(
+pub(crate) fn pushes<'a>(
     taken: Taken,
     first: Task<'a>,
     second: Option<Task<'a>>,
@@ -34,6 +40,7 @@ fn pushes<'a>(
       tasks = record { first = Some first.entry; second = second.entry; third = third.entry };
       taken = taken;
       put = None;
+      stacked = Stacked.Kept;
       written = Written.Nothing;
     }) }
 {
@@ -45,16 +52,18 @@ fn pushes<'a>(
         },
         taken,
         put: None,
+        stacked: Stacked::Kept,
         written: Written::Nothing,
     })
 }
 
 // A number is put on top.
-fn puts<'a>(taken: Taken, number: Number) -> Plan<'a>
+pub(crate) fn puts<'a>(taken: Taken, number: Number) -> Plan<'a>
     ensures { result ≡ Plan.Goes (record {
       tasks = record { first = None; second = None; third = None };
       taken = taken;
       put = Some number;
+      stacked = Stacked.Kept;
       written = Written.Nothing;
     }) }
 {
@@ -66,16 +75,18 @@ fn puts<'a>(taken: Taken, number: Number) -> Plan<'a>
         },
         taken,
         put: Some(number),
+        stacked: Stacked::Kept,
         written: Written::Nothing,
     })
 }
 
 // Numbers are taken.
-fn takes<'a>(taken: Taken) -> Plan<'a>
+pub(crate) fn takes<'a>(taken: Taken) -> Plan<'a>
     ensures { result ≡ Plan.Goes (record {
       tasks = record { first = None; second = None; third = None };
       taken = taken;
       put = None;
+      stacked = Stacked.Kept;
       written = Written.Nothing;
     }) }
 {
@@ -87,6 +98,7 @@ fn takes<'a>(taken: Taken) -> Plan<'a>
         },
         taken,
         put: None,
+        stacked: Stacked::Kept,
         written: Written::Nothing,
     })
 }
@@ -102,6 +114,7 @@ fn writes<'a>(
       tasks = record { first = first.entry; second = None; third = None };
       taken = taken;
       put = put;
+      stacked = Stacked.Kept;
       written = written;
     }) }
 {
@@ -113,8 +126,31 @@ fn writes<'a>(
         },
         taken,
         put,
+        stacked: Stacked::Kept,
         written,
     })
+}
+
+// ---- tasks
+
+// An expression is to be evaluated.
+pub(crate) fn evaluating<'a>(expression: &'a CoreExpr) -> Task<'a>
+    ensures { result ≡ Task.Expression expression.entry false }
+{
+    Task::Expression {
+        expression,
+        finish: false,
+    }
+}
+
+// Its operands are evaluated.
+fn finishing<'a>(expression: &'a CoreExpr) -> Task<'a>
+    ensures { result ≡ Task.Expression expression.entry true }
+{
+    Task::Expression {
+        expression,
+        finish: true,
+    }
 }
 
 // ---- what is looked at
@@ -149,7 +185,7 @@ pub(crate) fn size_of_variable(look: &Look, variable: u32) -> u32
 }
 
 // The integer type of an expression.
-fn number_type_of(expr: &CoreExpr) -> IntegerType
+pub(crate) fn number_type_of(expr: &CoreExpr) -> IntegerType
     ensures { result ≡ number_type (view expr.now) }
 {
     match expr {
@@ -201,11 +237,17 @@ fn number_type_of(expr: &CoreExpr) -> IntegerType
             right,
         } => number_type_of(right),
         CoreExpr::Draw { line: _, type_ } => *type_,
+        CoreExpr::Member {
+            line: _,
+            type_,
+            offset: _,
+            value: _,
+        } => *type_,
         _ => IntegerType::Int,
     }
 }
 
-fn type_of_place(place: Place) -> IntegerType
+pub(crate) fn type_of_place(place: Place) -> IntegerType
     ensures { result ≡ place_type place }
 {
     match place {
@@ -213,6 +255,12 @@ fn type_of_place(place: Place) -> IntegerType
             line: _,
             type_,
             variable: _,
+            offset: _,
+        }
+        | Place::Object {
+            line: _,
+            type_,
+            object: _,
             offset: _,
         } => type_,
     }
@@ -245,11 +293,11 @@ fn step_operation(operator: StepOperator) -> ArithmeticOperator
     }
 }
 
-// A write of a number to the place.
-fn written(look: &Look, place: Place, bits: u64) -> Written
-    requires { is_place look.now.sizes.now place ≡ true }
-    ensures value { (vs : Variables) → with_written result vs ≡ write_place vs place bits }
-    ensures within { LiesWithin look.now.sizes.now result }
+// ---- expressions
+
+// The number at a place comes on top.
+pub(crate) fn plan_read<'a>(look: &Look, place: Place) -> Plan<'a>
+    ensures { PlansItem look.now (evaluates (read place)) result }
 {
     match place {
         Place::Variable {
@@ -257,76 +305,145 @@ fn written(look: &Look, place: Place, bits: u64) -> Written
             type_,
             variable,
             offset,
-        } => Written::Bits {
-            variable,
-            offset: offset as usize,
-            count: type_.size() as usize,
-            bits,
-        },
-    }
-}
-
-// ---- expressions
-
-fn picked(first: bool, a: Number, b: Number) -> Number
-    ensures { result ≡ (if first then a else b) }
-{
-    if first { a } else { b }
-}
-
-fn plan_step<'a>(
-    look: &Look,
-    line: u32,
-    place: Place,
-    operator: StepOperator,
-    before: bool,
-) -> Plan<'a>
-    requires { is_place look.now.sizes.now place ≡ true }
-    ensures { PlansItem look.now (evaluates (step line place operator before)) result }
-{
-    let old = read(look.variables, place);
-    let promoted = promote(type_of_place(place));
-    let one = Number::new(promoted, 1);
-    match operate(step_operation(operator), old.converted(promoted), one) {
-        Err(class) => Plan::Halts(Halt::Breaks(class, line)),
-        Ok(sum) => {
-            let new = sum.converted(type_of_place(place));
-            let write = written(look, place, new.bits());
-            let value = picked(before, new, old);
-            writes(None, Taken::None, Some(value), write)
+        } => puts(
+            Taken::None,
+            read_variable(look.variables, variable, offset, type_),
+        ),
+        Place::Object {
+            line,
+            type_,
+            object,
+            offset,
+        } => {
+            let request = Request::Read(pointer_to(object, offset), type_.size());
+            Plan::Halts(Halt::Asks(request, line))
         }
     }
 }
 
-fn plan_update<'a>(
+// A place takes the number on top.
+fn plan_store<'a>(look: &Look, line: u32, place: Place) -> Plan<'a>
+    requires { FitsIn look.now (stores line place) }
+    ensures { PlansItem look.now (stores line place) result }
+{
+    let number = top_of(look.numbers);
+    match place {
+        Place::Variable {
+            line: _,
+            type_,
+            variable,
+            offset,
+        } => {
+            let bits = Written::Bits {
+                variable,
+                offset: offset as usize,
+                count: type_.size() as usize,
+                bits: number.bits(),
+            };
+            writes(None, Taken::One, Some(number.retyped(type_)), bits)
+        }
+        Place::Object {
+            line: _,
+            type_,
+            object,
+            offset,
+        } => {
+            let request = Request::WriteNumber(pointer_to(object, offset), type_);
+            Plan::Halts(Halt::Asks(request, line))
+        }
+    }
+}
+
+// An operation of a type on a place's number and another, after which the place is to take the result; so
+// many numbers are taken, and what comes behind that.
+fn plan_combined<'a>(
+    look: &Look,
+    line: u32,
+    place: Place,
+    operator: ArithmeticOperator,
+    type_: IntegerType,
+    old: Number,
+    y: Number,
+    taken: Taken,
+    behind: Option<Task<'a>>,
+) -> Plan<'a>
+    requires old { same_width old.type (place_type place) ≡ true }
+    requires operands { are_operands_of operator type_ y.type ≡ true }
+    ensures { Plans look.now (move_combined (running_in look.now) place operator type_ y.type old.bits y.bits line (with_task behind.entry (items_behind look.now)) (without taken (values_on look.now)) (structures_on look.now) look.now.variables.now) result }
+{
+    let left = old.retyped(type_of_place(place)).converted(type_);
+    match operate(operator, left, y) {
+        Err(class) => Plan::Halts(Halt::Breaks(class, line)),
+        Ok(value) => Plan::Goes(Change {
+            tasks: Tasks {
+                first: Some(Task::Store(line, place)),
+                second: behind,
+                third: None,
+            },
+            taken,
+            put: Some(value.converted(type_of_place(place))),
+            stacked: Stacked::Kept,
+            written: Written::Nothing,
+        }),
+    }
+}
+
+// `=` with an operator, where the place's number is on top, and the other operand below it.
+fn plan_combine<'a>(
     look: &Look,
     line: u32,
     place: Place,
     operator: ArithmeticOperator,
     type_: IntegerType,
 ) -> Plan<'a>
-    requires { FitsIn look.now (updates line place operator type_) }
-    ensures { PlansItem look.now (updates line place operator type_) result }
+    requires { FitsIn look.now (combines line place operator type_) }
+    ensures { PlansItem look.now (combines line place operator type_) result }
 {
-    let old = read(look.variables, place);
-    match operate(operator, old.converted(type_), top_of(look.numbers)) {
-        Err(class) => Plan::Halts(Halt::Breaks(class, line)),
-        Ok(value) => {
-            let new = value.converted(type_of_place(place));
-            let write = written(look, place, new.bits());
-            writes(None, Taken::One, Some(new), write)
-        }
-    }
+    let old = top_of(look.numbers);
+    let y = second_of(look.numbers);
+    plan_combined(look, line, place, operator, type_, old, y, Taken::Two, None)
 }
 
-fn plan_store<'a>(look: &Look, place: Place) -> Plan<'a>
-    requires { FitsIn look.now (stores place) }
-    ensures { PlansItem look.now (stores place) result }
+// `++` or `--`, where the place's number is on top. It stays there where it is the value.
+fn plan_increment<'a>(
+    look: &Look,
+    line: u32,
+    place: Place,
+    operator: StepOperator,
+    before: bool,
+) -> Plan<'a>
+    requires { FitsIn look.now (increments line place (operations.step_operation operator) before) }
+    ensures { PlansItem look.now (increments line place (operations.step_operation operator) before) result }
 {
-    let number = top_of(look.numbers);
-    let write = written(look, place, number.bits());
-    let value = number.retyped(type_of_place(place));
-    writes(None, Taken::One, Some(value), write)
+    let old = top_of(look.numbers);
+    let promoted = promote(type_of_place(place));
+    let one = Number::new(promoted, 1);
+    let operator = step_operation(operator);
+    if before {
+        plan_combined(
+            look,
+            line,
+            place,
+            operator,
+            promoted,
+            old,
+            one,
+            Taken::One,
+            None,
+        )
+    } else {
+        plan_combined(
+            look,
+            line,
+            place,
+            operator,
+            promoted,
+            old,
+            one,
+            Taken::None,
+            Some(Task::Drop),
+        )
+    }
 }
 
 // The plan of an expression that is to be evaluated.
@@ -334,21 +451,23 @@ fn plan_expression<'a>(look: &Look, expr: &'a CoreExpr) -> Plan<'a>
     requires { FitsIn look.now (evaluates (view expr.now)) }
     ensures { PlansItem look.now (evaluates (view expr.now)) result }
 {
-    let finish = Some(Task::Finish(expr));
+    let finish = Some(finishing(expr));
     match expr {
         CoreExpr::Constant {
             line: _,
             type_,
             bits,
         } => puts(Taken::None, Number::new(*type_, *bits)),
-        CoreExpr::Read { place } => puts(Taken::None, read(look.variables, *place)),
+        CoreExpr::Read { place } => plan_read(look, *place),
         CoreExpr::Step {
-            line,
+            line: _,
             place,
-            operator,
-            before,
-        } => plan_step(look, *line, *place, *operator, *before),
-        CoreExpr::Draw { line, type_ } => Plan::Halts(Halt::Draws(drawn_width(*type_), *line)),
+            operator: _,
+            before: _,
+        } => pushes(Taken::None, Task::Fetch(*place), finish, None),
+        CoreExpr::Draw { line, type_ } => {
+            Plan::Halts(Halt::Asks(Request::Draw(drawn_width(*type_)), *line))
+        }
         CoreExpr::Arithmetic {
             line: _,
             operator: _,
@@ -356,8 +475,8 @@ fn plan_expression<'a>(look: &Look, expr: &'a CoreExpr) -> Plan<'a>
             right,
         } => pushes(
             Taken::None,
-            Task::Evaluate(left),
-            Some(Task::Evaluate(right)),
+            evaluating(left),
+            Some(evaluating(right)),
             finish,
         ),
         CoreExpr::Compare {
@@ -367,8 +486,8 @@ fn plan_expression<'a>(look: &Look, expr: &'a CoreExpr) -> Plan<'a>
             right,
         } => pushes(
             Taken::None,
-            Task::Evaluate(left),
-            Some(Task::Evaluate(right)),
+            evaluating(left),
+            Some(evaluating(right)),
             finish,
         ),
         _ => plan_operand(look, expr),
@@ -380,53 +499,81 @@ fn plan_operand<'a>(look: &Look, expr: &'a CoreExpr) -> Plan<'a>
     requires { IsByOperand (view expr.now) }
     ensures { PlansItem look.now (evaluates (view expr.now)) result }
 {
-    let finish = Some(Task::Finish(expr));
+    let finish = Some(finishing(expr));
     match expr {
         CoreExpr::Convert { to: _, operand } => {
-            pushes(Taken::None, Task::Evaluate(operand), finish, None)
+            pushes(Taken::None, evaluating(operand), finish, None)
         }
         CoreExpr::Sign {
             line: _,
             operator: _,
             operand,
-        } => pushes(Taken::None, Task::Evaluate(operand), finish, None),
+        } => pushes(Taken::None, evaluating(operand), finish, None),
         CoreExpr::IsZero { line: _, operand } => {
-            pushes(Taken::None, Task::Evaluate(operand), finish, None)
+            pushes(Taken::None, evaluating(operand), finish, None)
         }
         CoreExpr::Logical {
             line: _,
             operator: _,
             left,
             right: _,
-        } => pushes(Taken::None, Task::Evaluate(left), finish, None),
+        } => pushes(Taken::None, evaluating(left), finish, None),
         CoreExpr::Choice {
             line: _,
             test,
             yes: _,
             no: _,
-        } => pushes(Taken::None, Task::Evaluate(test), finish, None),
+        } => pushes(Taken::None, evaluating(test), finish, None),
         CoreExpr::Assign {
             line: _,
             place: _,
             value,
-        } => pushes(Taken::None, Task::Evaluate(value), finish, None),
+        } => pushes(Taken::None, evaluating(value), finish, None),
         CoreExpr::Update {
             line: _,
-            place: _,
+            place,
             operator: _,
             type_: _,
             value,
-        } => pushes(Taken::None, Task::Evaluate(value), finish, None),
+        } => pushes(
+            Taken::None,
+            evaluating(value),
+            Some(Task::Fetch(*place)),
+            finish,
+        ),
         CoreExpr::Comma {
             line: _,
             left,
             right: _,
-        } => pushes(Taken::None, Task::Evaluate(left), finish, None),
+        } => pushes(Taken::None, evaluating(left), finish, None),
         CoreExpr::Assertion { line: _, condition } => {
-            pushes(Taken::None, Task::Evaluate(condition), finish, None)
+            pushes(Taken::None, evaluating(condition), finish, None)
         }
         CoreExpr::Assumption { line: _, condition } => {
-            pushes(Taken::None, Task::Evaluate(condition), finish, None)
+            pushes(Taken::None, evaluating(condition), finish, None)
+        }
+        _ => plan_structure_operand(look, expr),
+    }
+}
+
+// The plan of an expression of which a structure value, or an operand that isn't used, is evaluated first.
+fn plan_structure_operand<'a>(look: &Look, expr: &'a CoreExpr) -> Plan<'a>
+    requires { IsByStructure (view expr.now) }
+    ensures { PlansItem look.now (evaluates (view expr.now)) result }
+{
+    let finish = Some(finishing(expr));
+    match expr {
+        CoreExpr::Member {
+            line: _,
+            type_: _,
+            offset: _,
+            value,
+        } => pushes(Taken::None, evaluation(value), finish, None),
+        CoreExpr::Discard { line: _, operand } => {
+            pushes(Taken::None, evaluating(operand), finish, None)
+        }
+        CoreExpr::DiscardStructure { value } => {
+            pushes(Taken::None, evaluation(value), finish, None)
         }
         _ => unreachable!(),
     }
@@ -471,17 +618,44 @@ fn plan_finish<'a>(look: &Look, expr: &'a CoreExpr) -> Plan<'a>
             puts(Taken::Two, Number::of_truth(truth))
         }
         CoreExpr::Assign {
-            line: _,
+            line,
             place,
             value: _,
-        } => plan_store(look, *place),
+        } => plan_store(look, *line, *place),
         CoreExpr::Update {
             line,
             place,
             operator,
             type_,
             value: _,
-        } => plan_update(look, *line, *place, *operator, *type_),
+        } => plan_combine(look, *line, *place, *operator, *type_),
+        CoreExpr::Step {
+            line,
+            place,
+            operator,
+            before,
+        } => plan_increment(look, *line, *place, *operator, *before),
+        _ => plan_passed(look, expr),
+    }
+}
+
+// The plan of an expression that is no operation, and whose first part is evaluated.
+fn plan_passed<'a>(look: &Look, expr: &'a CoreExpr) -> Plan<'a>
+    requires { IsNoOperation (view expr.now) }
+    ensures { PlansItem look.now (finish_of (view expr.now)) result }
+{
+    match expr {
+        CoreExpr::Member {
+            line: _,
+            type_,
+            offset,
+            value: _,
+        } => plan_pick(look, *type_, *offset),
+        CoreExpr::Discard {
+            line: _,
+            operand: _,
+        } => puts(Taken::One, Number::new(IntegerType::Int, 0)),
+        CoreExpr::DiscardStructure { value: _ } => plan_discard(look),
         _ => plan_tested(look, expr),
     }
 }
@@ -502,7 +676,7 @@ fn plan_tested<'a>(look: &Look, expr: &'a CoreExpr) -> Plan<'a>
             if decides(*operator, x) {
                 puts(Taken::One, Number::of_truth(x.is_true()))
             } else {
-                pushes(Taken::One, Task::Evaluate(right), Some(Task::Test), None)
+                pushes(Taken::One, evaluating(right), Some(Task::Test), None)
             }
         }
         CoreExpr::Choice {
@@ -513,16 +687,16 @@ fn plan_tested<'a>(look: &Look, expr: &'a CoreExpr) -> Plan<'a>
         } => {
             let retype = Some(Task::Retype(number_type_of(yes)));
             if x.is_true() {
-                pushes(Taken::One, Task::Evaluate(yes), retype, None)
+                pushes(Taken::One, evaluating(yes), retype, None)
             } else {
-                pushes(Taken::One, Task::Evaluate(no), retype, None)
+                pushes(Taken::One, evaluating(no), retype, None)
             }
         }
         CoreExpr::Comma {
             line: _,
             left: _,
             right,
-        } => pushes(Taken::One, Task::Evaluate(right), None, None),
+        } => pushes(Taken::One, evaluating(right), None, None),
         CoreExpr::Assertion { line, condition: _ } => {
             if x.is_true() {
                 puts(Taken::One, Number::new(IntegerType::Int, 0))
@@ -546,40 +720,48 @@ fn plan_tested<'a>(look: &Look, expr: &'a CoreExpr) -> Plan<'a>
 
 // ---- statements
 
+// A statement is to be run.
+pub(crate) fn running<'a>(statement: &'a CoreStatement) -> Task<'a>
+    ensures { result ≡ Task.Statement statement.entry false }
+{
+    Task::Statement {
+        statement,
+        end: false,
+    }
+}
+
 fn plan_block<'a>(look: &Look, items: &'a [CoreItem]) -> Plan<'a>
     ensures { PlansItem look.now (runs (block (items_of items.now))) result }
 {
-    pushes(
-        Taken::None,
-        Task::Enter(items),
-        Some(Task::GoOn(items)),
-        None,
-    )
+    pushes(Taken::None, entry(items), Some(going_on(items)), None)
 }
 
 // The plan of a statement that is to be run.
 fn plan_statement<'a>(look: &Look, statement: &'a CoreStatement) -> Plan<'a>
     ensures { PlansItem look.now (runs (view_statement statement.now)) result }
 {
-    let end = Some(Task::End(statement));
+    let end = Some(Task::Statement {
+        statement,
+        end: true,
+    });
     match statement {
         CoreStatement::Block { items } => { plan_block(look, items) }
         CoreStatement::If {
             line: _,
             test,
             yes: _,
-        } => pushes(Taken::None, Task::Evaluate(test), end, None),
+        } => pushes(Taken::None, evaluating(test), end, None),
         CoreStatement::IfElse {
             line: _,
             test,
             yes: _,
             no: _,
-        } => pushes(Taken::None, Task::Evaluate(test), end, None),
+        } => pushes(Taken::None, evaluating(test), end, None),
         CoreStatement::Evaluate { expression } => {
-            pushes(Taken::None, Task::Evaluate(expression), end, None)
+            pushes(Taken::None, evaluating(expression), end, None)
         }
         CoreStatement::Return { line: _, value } => {
-            pushes(Taken::None, Task::Evaluate(value), end, None)
+            pushes(Taken::None, evaluating(value), end, None)
         }
     }
 }
@@ -603,7 +785,7 @@ fn plan_end<'a>(look: &Look, statement: &'a CoreStatement) -> Plan<'a>
             yes,
         } => {
             if x.is_true() {
-                pushes(Taken::One, Task::Run(yes), None, None)
+                pushes(Taken::One, running(yes), None, None)
             } else {
                 takes(Taken::One)
             }
@@ -615,9 +797,9 @@ fn plan_end<'a>(look: &Look, statement: &'a CoreStatement) -> Plan<'a>
             no,
         } => {
             if x.is_true() {
-                pushes(Taken::One, Task::Run(yes), None, None)
+                pushes(Taken::One, running(yes), None, None)
             } else {
-                pushes(Taken::One, Task::Run(no), None, None)
+                pushes(Taken::One, running(no), None, None)
             }
         }
         CoreStatement::Return { line, value: _ } => plan_leave(look, *line),
@@ -627,26 +809,63 @@ fn plan_end<'a>(look: &Look, statement: &'a CoreStatement) -> Plan<'a>
 
 // ---- items of a block
 
+// The variables of these items are to get their first values.
+fn entry<'a>(items: &'a [CoreItem]) -> Task<'a>
+    ensures { result ≡ Task.Items items.entry false }
+{
+    Task::Items {
+        items,
+        entered: false,
+    }
+}
+
+// These items are to be run.
+fn going_on<'a>(items: &'a [CoreItem]) -> Task<'a>
+    ensures { result ≡ Task.Items items.entry true }
+{
+    Task::Items {
+        items,
+        entered: true,
+    }
+}
+
 // The words of a variable are drawn, and then come the items behind it.
 fn draws<'a>(look: &Look, line: u32, variable: u32, rest: &'a [CoreItem]) -> Plan<'a>
-    ensures { Plans look.now (draws_variable (running_in look.now) line variable (items_of rest.now) (items_behind look.now) (values_on look.now) look.now.variables.now) result }
+    ensures { Plans look.now (draws_variable (running_in look.now) line variable (items_of rest.now) (items_behind look.now) (values_on look.now) (structures_on look.now) look.now.variables.now) result }
 {
     let words = word_count(size_of_variable(look, variable));
     pushes(
         Taken::None,
         Task::Fill(words, line, variable, 0),
-        Some(Task::Enter(rest)),
+        Some(entry(rest)),
         None,
     )
 }
 
 // A variable becomes 0, and then come the items behind it.
 fn clears<'a>(look: &Look, variable: u32, rest: &'a [CoreItem]) -> Plan<'a>
-    ensures { Plans look.now (silent (state (enters (items_of rest.now) ∷ items_behind look.now) (values_on look.now) (cleared look.now.variables.now variable (size_of (running_in look.now) variable)))) result }
+    ensures { Plans look.now (silent (state (enters (items_of rest.now) ∷ items_behind look.now) (values_on look.now) (structures_on look.now) (cleared look.now.variables.now variable (size_of (running_in look.now) variable)))) result }
 {
     let size = size_of_variable(look, variable);
     let zeros = Written::Zeros { variable, size };
-    writes(Some(Task::Enter(rest)), Taken::None, None, zeros)
+    writes(Some(entry(rest)), Taken::None, None, zeros)
+}
+
+// A variable with an initializer is drawn where that names it, and else becomes 0.
+fn plan_initialized<'a>(
+    look: &Look,
+    line: u32,
+    variable: u32,
+    drawn: bool,
+    rest: &'a [CoreItem],
+) -> Plan<'a>
+    ensures { Plans look.now (enters_initialized (running_in look.now) line variable drawn (items_of rest.now) (items_behind look.now) (values_on look.now) (structures_on look.now) look.now.variables.now) result }
+{
+    if drawn {
+        draws(look, line, variable, rest)
+    } else {
+        clears(look, variable, rest)
+    }
 }
 
 // The plan of the entry to a block of which these items are left.
@@ -663,16 +882,14 @@ fn plan_entry<'a>(look: &Look, items: &'a [CoreItem]) -> Plan<'a>
             variable,
             drawn,
             value: _,
-        } => {
-            if *drawn {
-                draws(look, *line, *variable, rest)
-            } else {
-                clears(look, *variable, rest)
-            }
-        }
-        CoreItem::Statement { statement: _ } => {
-            pushes(Taken::None, Task::Enter(rest), None, None)
-        }
+        } => plan_initialized(look, *line, *variable, *drawn, rest),
+        CoreItem::InitializeStructure {
+            line,
+            variable,
+            drawn,
+            value: _,
+        } => plan_initialized(look, *line, *variable, *drawn, rest),
+        CoreItem::Statement { statement: _ } => { pushes(Taken::None, entry(rest), None, None) }
     }
 }
 
@@ -683,7 +900,7 @@ fn plan_items<'a>(look: &Look, items: &'a [CoreItem]) -> Plan<'a>
     let Some((item, rest)) = items.split_first() else {
         return takes(Taken::None);
     };
-    let more = Task::GoOn(rest);
+    let more = going_on(rest);
     match item {
         CoreItem::Declare {
             line: _,
@@ -696,12 +913,23 @@ fn plan_items<'a>(look: &Look, items: &'a [CoreItem]) -> Plan<'a>
             value,
         } => pushes(
             Taken::None,
-            Task::Evaluate(value),
+            evaluating(value),
             Some(Task::Initialize(*variable, number_type_of(value))),
             Some(more),
         ),
+        CoreItem::InitializeStructure {
+            line: _,
+            variable,
+            drawn: _,
+            value,
+        } => pushes(
+            Taken::None,
+            evaluation(value),
+            Some(Task::InitializeStructure(*variable)),
+            Some(more),
+        ),
         CoreItem::Statement { statement } => {
-            pushes(Taken::None, Task::Run(statement), Some(more), None)
+            pushes(Taken::None, running(statement), Some(more), None)
         }
     }
 }
@@ -740,30 +968,69 @@ fn plan_fill<'a>(look: &Look, words: u32, line: u32, variable: u32, offset: usiz
     if words == 0 {
         takes(Taken::None)
     } else {
-        Plan::Halts(Halt::Draws(DrawBits::new(8 * count_drawn(look, variable, offset)), line))
+        let bits = DrawBits::new(8 * count_drawn(look, variable, offset));
+        Plan::Halts(Halt::Asks(Request::Draw(bits), line))
     }
 }
 
 // The plan of a task.
-pub(crate) fn plan_task<'a>(look: &Look, task: Task<'a>) -> Plan<'a>
+pub(crate) fn plan_task<'a>(look: &Look, task: Task<'a>) -> Result<Plan<'a>, AllocError>
     requires { FitsIn look.now (item_of task) }
+    ensures { IfOk result (λ p. PlansItem look.now (item_of task.entry) p) }
+{
+    match task {
+        Task::Structure { value, complete } => plan_structure_task(look, value, complete),
+        _ => Ok(plan_other(look, task)),
+    }
+}
+
+// The plan of a task that takes no memory.
+fn plan_other<'a>(look: &Look, task: Task<'a>) -> Plan<'a>
+    requires fits { FitsIn look.now (item_of task) }
+    requires other { TakesNoMemory task }
     ensures { PlansItem look.now (item_of task.entry) result }
 {
     let x = top_of(look.numbers);
     match task {
-        Task::Evaluate(expr) => plan_expression(look, expr),
-        Task::Finish(expr) => plan_finish(look, expr),
+        Task::Fetch(place) => plan_read(look, place),
+        Task::Expression { expression, finish } => {
+            if finish {
+                plan_finish(look, expression)
+            } else {
+                plan_expression(look, expression)
+            }
+        }
+        Task::Store(line, place) => plan_store(look, line, place),
+        Task::Drop => takes(Taken::One),
+        Task::List(parts) => plan_list(look, parts),
+        Task::PlaceNumber(offset, type_) => plan_place_number(look, offset, type_),
+        Task::PlaceStructure(offset) => plan_place_structure(look, offset),
         Task::Test => puts(Taken::One, Number::of_truth(x.is_true())),
         Task::Retype(type_) => puts(Taken::One, x.retyped(type_)),
-        Task::Run(statement) => plan_statement(look, statement),
-        Task::End(statement) => plan_end(look, statement),
-        Task::Enter(items) => plan_entry(look, items),
-        Task::GoOn(items) => plan_items(look, items),
+        Task::Statement { statement, end } => {
+            if end {
+                plan_end(look, statement)
+            } else {
+                plan_statement(look, statement)
+            }
+        }
+        Task::Items { items, entered } => {
+            if entered {
+                plan_items(look, items)
+            } else {
+                plan_entry(look, items)
+            }
+        }
         Task::Initialize(variable, type_) => plan_initial(look, variable, type_),
+        Task::InitializeStructure(variable) => plan_initial_structure(look, variable),
         Task::Fill(words, line, variable, offset) => {
             plan_fill(look, words, line, variable, offset)
         }
         Task::Leave(line) => plan_leave(look, line),
         Task::Left => Plan::Halts(Halt::Ends(if look.first { 0 } else { x.bits() })),
+        Task::Structure {
+            value: _,
+            complete: _,
+        } => unreachable!(),
     }
 }

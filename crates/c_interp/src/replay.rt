@@ -1,6 +1,6 @@
-ghost use Rattle.std.specs.Prelude.{◌≡◌, [], IfOk, OnOk};
+ghost use Rattle.std.specs.Prelude.{◌≡◌, true, IfOk, OnOk};
 ghost use Rattle.core_tree.specs.Trees.{view_core};
-ghost use Rattle.c_interp.specs.Source.{source_run};
+ghost use Rattle.c_interp.specs.Source.{source_run, are_storable};
 ghost use Rattle.c_interp.specs.SourceThread.{SmallSteps};
 ghost use Rattle.interleave.specs.View.{world_of};
 ghost use Rattle.interleave.specs.Turn.{turn};
@@ -8,20 +8,13 @@ ghost use Rattle.interleave.specs.Run as definition;
 ghost use Rattle.c_interp.specs.View.{thread_of};
 ghost use Rattle.c_interp.specs.Quiet.{OneQuiet, IsTurn};
 
+use crate::objects::first_store;
 use crate::thread::Thread;
-use actions::Store;
 use c_profile::Admitted;
 use core_tree::Bounds;
 use interleave::{Inputs, Outcome, Schedule, System, Turn};
 use std::alloc::{AllocError, Global};
 use words::Check;
-
-/// The objects that a file shares from the start: none yet. Fails only for want of memory.
-pub fn first_store(alloc: Global, _file: &Admitted) -> Result<Store, AllocError>
-    ensures { IfOk result (λ s. s ≡ []) }
-{
-    Ok(Store::new(alloc))
-}
 
 // A turn of thread t, and the check that it breaks. There is thread 0 alone, and no action asks for a
 // number.
@@ -59,8 +52,8 @@ fn take_turns(
     Ok(Outcome::Fine)
 }
 
-/// How the run of a file ends that draws these inputs and moves by this schedule. Fails only for want of
-/// memory.
+/// How the run of a file ends that draws these inputs and moves by this schedule. Its static objects are
+/// not too many and not too large. Fails only for want of memory.
 pub fn run(
     alloc: Global,
     file: &Admitted,
@@ -68,6 +61,7 @@ pub fn run(
     inputs: &Inputs,
     schedule: &Schedule,
 ) -> Result<Outcome, AllocError>
+    requires { are_storable (view_core file.now).objects ≡ true }
     ensures { IfOk result (λ o. o ≡ source_run (view_core file.now) inputs.now schedule.now) }
 {
     let first = Thread::new(alloc, file, bounds)?;

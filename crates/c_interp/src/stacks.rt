@@ -1,11 +1,11 @@
-ghost use Rattle.std.specs.Prelude.{◌≡◌, ◌+◌, ◌<◌, ◌≤◌, ◌∷◌, true, [], ◌++◌, slice_index, vec_len, vec_capacity};
+ghost use Rattle.std.specs.Prelude.{◌≡◌, ◌+◌, ◌<◌, ◌≤◌, ◌∷◌, true, false, [], ◌++◌, length, slice_index, vec_len, vec_capacity, IsSome, MatchOption};
 ghost use Rattle.core_tree.specs.Typed.{is_within};
-ghost use Rattle.c_values.specs.Variables.{low_bytes, put_bytes, cleared};
-ghost use Rattle.c_interp.specs.Fits.{sizes_of};
-ghost use Rattle.c_interp.specs.Items.{rest};
-ghost use Rattle.c_interp.specs.Tasks.{items_in, values_in, with_task, with_tasks, with_put, without, with_written, LiesWithin, behind};
+ghost use Rattle.c_values.specs.Variables.{low_bytes, put_at, put_bytes, cleared};
+ghost use Rattle.c_interp.specs.Fits.{sizes_of, rest_sizes, has_top};
+ghost use Rattle.c_interp.specs.Items.{rest, top_bytes, rest_bytes, second_bytes};
+ghost use Rattle.c_interp.specs.Tasks.{items_in, values_in, with_task, with_tasks, with_put, without, structures_in, with_stacked, StacksWithin, with_written, LiesWithin, behind};
 
-use crate::task::{Taken, Task, Tasks, Written};
+use crate::task::{Stacked, Taken, Task, Tasks, Written};
 use crate::variables::Block;
 use c_values::Number;
 
@@ -113,10 +113,35 @@ fn write_zeros(variables: &mut Vec<Block>, variable: u32, size: u32)
     }
 }
 
+// Writes the structure value on top into a variable.
+#[tactic(auto, using(crate::proofs::Tops::structures_push))]
+fn write_top(variables: &mut Vec<Block>, structures: &[Block], variable: u32, offset: usize)
+    requires filled { has_top (sizes_of (structures_in structures.now)) ≡ true }
+    requires within { is_within (sizes_of variables.old.items) variable offset (length (top_bytes (structures_in structures.now))) ≡ true }
+    ensures value { variables.new.items ≡ put_bytes variables.old.items variable offset (top_bytes (structures_in structures.now)) }
+    ensures sizes { sizes_of variables.new.items ≡ sizes_of variables.old.items }
+{
+    match structures.split_last() {
+        Some((top, _)) => write_block(variables, variable, offset, top),
+        None => unreachable!(),
+    }
+}
+
+// Writes a block into a variable.
+fn write_block(variables: &mut Vec<Block>, variable: u32, offset: usize, new: &Block)
+    requires { is_within (sizes_of variables.old.items) variable offset (length new.now) ≡ true }
+    ensures value { variables.new.items ≡ put_bytes variables.old.items variable offset new.now }
+    ensures sizes { sizes_of variables.new.items ≡ sizes_of variables.old.items }
+{
+    if let Some(block) = variables.get_mut(variable as usize) {
+        block.put_block(offset, new);
+    }
+}
+
 // Writes into a variable.
-pub(crate) fn change_variables(variables: &mut Vec<Block>, written: Written)
-    requires { LiesWithin (sizes_of variables.old.items) written }
-    ensures value { variables.new.items ≡ with_written written variables.old.items }
+pub(crate) fn change_variables(variables: &mut Vec<Block>, structures: &[Block], written: Written)
+    requires { LiesWithin (sizes_of variables.old.items) (structures_in structures.now) written }
+    ensures value { variables.new.items ≡ with_written written (structures_in structures.now) variables.old.items }
     ensures sizes { sizes_of variables.new.items ≡ sizes_of variables.old.items }
 {
     match written {
@@ -128,5 +153,115 @@ pub(crate) fn change_variables(variables: &mut Vec<Block>, written: Written)
             bits,
         } => write_bits(variables, variable, offset, count, bits),
         Written::Zeros { variable, size } => write_zeros(variables, variable, size),
+        Written::Top { variable, offset } => write_top(variables, structures, variable, offset),
+    }
+}
+
+// ---- structure values
+
+#[tactic(auto, using(crate::proofs::Tops::structures_push))]
+fn push_structure(structures: &mut Vec<Block>, block: Block)
+    requires { vec_len structures.old < vec_capacity structures.old }
+    ensures { structures_in structures.new.items ≡ block ∷ structures_in structures.old.items }
+{
+    match structures.push(block) {
+        Ok(()) => {}
+        Err(_) => unreachable!(),
+    }
+}
+
+#[tactic(auto, using(crate::proofs::Tops::structures_push, crate::proofs::Tops::no_structures))]
+fn pop_structure(structures: &mut Vec<Block>) -> Option<Block>
+    ensures items { structures_in structures.new.items ≡ rest_bytes (structures_in structures.old.items) }
+    ensures top { MatchOption result (has_top (sizes_of (structures_in structures.old.items)) ≡ false) (λ block. block ≡ top_bytes (structures_in structures.old.items)) }
+    ensures room { IsSome result → vec_len structures.new < vec_len structures.old }
+    ensures len { vec_len structures.new ≤ vec_len structures.old }
+    ensures capacity { vec_capacity structures.new ≡ vec_capacity structures.old }
+{
+    structures.pop()
+}
+
+// Another block takes the place of the one on top.
+fn replace_structure(structures: &mut Vec<Block>, block: Block)
+    requires { vec_len structures.old < vec_capacity structures.old }
+    ensures { structures_in structures.new.items ≡ block ∷ rest_bytes (structures_in structures.old.items) }
+{
+    drop_structure(structures);
+    push_structure(structures, block);
+}
+
+fn drop_structure(structures: &mut Vec<Block>)
+    ensures items { structures_in structures.new.items ≡ rest_bytes (structures_in structures.old.items) }
+    ensures len { vec_len structures.new ≤ vec_len structures.old }
+    ensures capacity { vec_capacity structures.new ≡ vec_capacity structures.old }
+{
+    match pop_structure(structures) {
+        Some(_) => {}
+        None => {}
+    }
+}
+
+// Writes the lowest bytes of a number into the structure value on top.
+fn place_bits(structures: &mut Vec<Block>, offset: usize, count: usize, bits: u64)
+    requires room { vec_len structures.old < vec_capacity structures.old }
+    requires filled { has_top (sizes_of (structures_in structures.old.items)) ≡ true }
+    requires within { offset + count ≤ length (top_bytes (structures_in structures.old.items)) }
+    requires few { count ≤ 8 }
+    ensures { structures_in structures.new.items ≡ put_at offset (low_bytes count bits) (top_bytes (structures_in structures.old.items)) ∷ rest_bytes (structures_in structures.old.items) }
+{
+    match pop_structure(structures) {
+        Some(mut block) => {
+            block.write(offset, count, bits);
+            push_structure(structures, block);
+        }
+        None => unreachable!(),
+    }
+}
+
+// Puts the structure value on top into the one below it.
+fn join_structures(structures: &mut Vec<Block>, offset: usize)
+    requires room { vec_len structures.old < vec_capacity structures.old }
+    requires filled { has_top (rest_sizes (sizes_of (structures_in structures.old.items))) ≡ true }
+    requires within { offset + length (top_bytes (structures_in structures.old.items)) ≤ length (second_bytes (structures_in structures.old.items)) }
+    ensures { structures_in structures.new.items ≡ put_at offset (top_bytes (structures_in structures.old.items)) (second_bytes (structures_in structures.old.items)) ∷ rest_bytes (rest_bytes (structures_in structures.old.items)) }
+{
+    match pop_structure(structures) {
+        Some(top) => place_block(structures, offset, &top),
+        None => unreachable!(),
+    }
+}
+
+fn place_block(structures: &mut Vec<Block>, offset: usize, new: &Block)
+    requires room { vec_len structures.old < vec_capacity structures.old }
+    requires filled { has_top (sizes_of (structures_in structures.old.items)) ≡ true }
+    requires within { offset + length new.now ≤ length (top_bytes (structures_in structures.old.items)) }
+    ensures { structures_in structures.new.items ≡ put_at offset new.now (top_bytes (structures_in structures.old.items)) ∷ rest_bytes (structures_in structures.old.items) }
+{
+    match pop_structure(structures) {
+        Some(mut block) => {
+            block.put_block(offset, new);
+            push_structure(structures, block);
+        }
+        None => unreachable!(),
+    }
+}
+
+// Changes the structure values that wait.
+pub(crate) fn change_structures(structures: &mut Vec<Block>, stacked: Stacked)
+    requires room { vec_len structures.old < vec_capacity structures.old }
+    requires within { StacksWithin (structures_in structures.old.items) stacked }
+    ensures { structures_in structures.new.items ≡ with_stacked stacked (structures_in structures.old.items) }
+{
+    match stacked {
+        Stacked::Kept => {}
+        Stacked::Pushed(block) => push_structure(structures, block),
+        Stacked::Taken => drop_structure(structures),
+        Stacked::Replaced(block) => replace_structure(structures, block),
+        Stacked::Bits {
+            offset,
+            count,
+            bits,
+        } => place_bits(structures, offset, count, bits),
+        Stacked::Joined { offset } => join_structures(structures, offset),
     }
 }

@@ -1,15 +1,16 @@
 ghost use Rattle.std.specs.Prelude.{◌≡◌, ◌+◌, ◌≤◌, true, [], ◌∷◌, IfOk};
 ghost use Rattle.c_types.specs.Integers.{bytes};
-ghost use Rattle.core_tree.specs.Trees.{view, items_of, with_item, done};
-ghost use Rattle.core_tree.specs.Typed.{is_place, is_typed, are_typed_items};
-ghost use Rattle.c_interp.specs.Ints.{IsInt, IsIntPlace, IsTypedItem, ints};
+ghost use Rattle.core_tree.specs.Trees.{view, view_structure, parts_of, items_of, with_item, done};
+ghost use Rattle.core_tree.specs.Typed.{size_of, is_place, is_typed, is_structure, are_parts, are_typed_items};
+ghost use Rattle.c_interp.specs.Ints.{IsInt, IsIntPlace, IsTypedItem, IsNumber, IsEight, variables_of, ints, eights};
 
+use crate::objects::are_storable;
 use crate::replay::run;
 use c_profile::admit;
 use c_types::IntegerType;
 use core_tree::{
-    ArithmeticOperator, Bounds, Comparison, Core, CoreExpr, CoreItem, CoreStatement, Function,
-    LogicalOperator, Name, Place, StepOperator,
+    ArithmeticOperator, Bounds, Comparison, Core, CoreExpr, CoreItem, CorePart, CoreStatement,
+    CoreStructure, Function, LogicalOperator, Name, Place, StepOperator,
 };
 use interleave::{Inputs, Outcome, Schedule, Words};
 use std::alloc::{AllocError, Global};
@@ -201,7 +202,7 @@ fn drawn_int() -> CoreExpr
 
 // The file whose main has variables of these sizes and this body.
 fn file(alloc: Global, sizes: [u32; 2], items: Vec<CoreItem>) -> Result<Core, AllocError>
-    requires { are_typed_items sizes (items_of items.items) ≡ true }
+    requires { are_typed_items (variables_of sizes) (items_of items.items) ≡ true }
 {
     let bytes = Vec::from_slice(alloc, b"main".as_slice())?;
     let variables = Vec::from_slice(alloc, &sizes)?;
@@ -212,7 +213,7 @@ fn file(alloc: Global, sizes: [u32; 2], items: Vec<CoreItem>) -> Result<Core, Al
         body: CoreStatement::Block { items },
     };
     let functions = only(alloc, main)?;
-    Ok(Core::new(functions))
+    Ok(Core::new(functions, Vec::new(alloc)))
 }
 
 // How the run of a file with two int variables and this body ends on these words.
@@ -230,15 +231,31 @@ fn ending_with(
     items: Vec<CoreItem>,
     words: &[u64],
 ) -> Result<Option<Outcome>, AllocError>
-    requires { are_typed_items sizes (items_of items.items) ≡ true }
+    requires { are_typed_items (variables_of sizes) (items_of items.items) ≡ true }
 {
     let core = file(alloc, sizes, items)?;
-    let bounds = Bounds::new(1, Vec::new(alloc), true, 1, false);
     let mut inputs = Inputs::new(alloc);
     inputs.insert(0, Words::new(Vec::from_slice(alloc, words)?))?;
     let schedule = Schedule::new(Vec::from_slice(alloc, &[0, 0, 0, 0, 0, 0])?);
+    end_of_run(alloc, core, &inputs, &schedule)
+}
+
+// How the run of a file ends on these inputs by this schedule.
+fn end_of_run(
+    alloc: Global,
+    core: Core,
+    inputs: &Inputs,
+    schedule: &Schedule,
+) -> Result<Option<Outcome>, AllocError> {
+    let bounds = Bounds::new(1, Vec::new(alloc), true, 1, false);
     match admit(core) {
-        Ok(admitted) => Ok(Some(run(alloc, &admitted, &bounds, &inputs, &schedule)?)),
+        Ok(admitted) => {
+            if are_storable(&admitted) {
+                Ok(Some(run(alloc, &admitted, &bounds, inputs, schedule)?))
+            } else {
+                Ok(None)
+            }
+        }
         Err(_) => Ok(None),
     }
 }
@@ -386,32 +403,26 @@ fn many_draws(alloc: Global) -> Result<Vec<CoreItem>, AllocError>
 fn a_long_run_is_replayed(rt: HostRuntime) -> Result<(), Fail> {
     let alloc = rt.alloc();
     let core = file(alloc, [4, 4], many_draws(alloc)?)?;
-    let bounds = Bounds::new(1, Vec::new(alloc), true, 1, false);
     let mut words = vec![in alloc; 0; DRAWS as usize]?;
     words.push(7)?;
     let mut inputs = Inputs::new(alloc);
     inputs.insert(0, Words::new(words))?;
     let schedule = Schedule::new(vec![in alloc; 0; DRAWS as usize + 2]?);
-    match admit(core) {
-        Ok(admitted) => {
-            let outcome = run(alloc, &admitted, &bounds, &inputs, &schedule)?;
-            assert!(rt; Some(outcome) == broken(Class::Assertion, 3));
-        }
-        Err(_) => assert!(rt; false),
-    }
+    let end = end_of_run(alloc, core, &inputs, &schedule)?;
+    assert!(rt; end == broken(Class::Assertion, 3));
     Ok(())
 }
 
-// `assert((unsigned long)x == bits);`, where x is a number in one of two variables, the second of 4 bytes
+// `assert((unsigned long)x == bits);`, where x is a number in one of two variables of these sizes
 fn asserted_number(
     alloc: Global,
-    size: u32,
+    sizes: [u32; 2],
     line: u32,
     place: Place,
     bits: u64,
 ) -> Result<CoreItem, AllocError>
-    requires { is_place (size ∷ 4 ∷ []) place ≡ true }
-    ensures { IfOk result (λ i. are_typed_items (size ∷ 4 ∷ []) (with_item i done) ≡ true) }
+    requires { is_place (variables_of sizes) place ≡ true }
+    ensures { IfOk result (λ i. are_typed_items (variables_of sizes) (with_item i done) ≡ true) }
 {
     let read = CoreExpr::Convert {
         to: IntegerType::UnsignedLong,
@@ -458,12 +469,12 @@ fn drawn_variables(
     bits: u64,
 ) -> Result<Vec<CoreItem>, AllocError>
     requires { offset + bytes type_ ≤ size }
-    ensures { IfOk result (λ items. are_typed_items (size ∷ 4 ∷ []) (items_of items.items) ≡ true) }
+    ensures { IfOk result (λ items. are_typed_items (variables_of (size ∷ 4 ∷ [])) (items_of items.items) ≡ true) }
 {
     let place = number_at(0, offset, type_);
-    let first = asserted_number(alloc, size, 3, place, bits)?;
+    let first = asserted_number(alloc, [size, 4], 3, place, bits)?;
     let nine = number_at(1, 0, IntegerType::Int);
-    let second = asserted_number(alloc, size, 4, nine, 9)?;
+    let second = asserted_number(alloc, [size, 4], 4, nine, 9)?;
     let items = vec![in alloc;
         CoreItem::Declare {
             line: 1,
@@ -549,5 +560,237 @@ fn variables_are_drawn_in_words(rt: HostRuntime) -> Result<(), Fail> {
         assert!(rt; drawn_ending(alloc, row, row.bits)? == FINE);
         assert!(rt; drawn_ending(alloc, row, row.bits ^ 1)? == broken(Class::Assertion, 3));
     }
+    Ok(())
+}
+
+// ---- structure values of 8 bytes, over two variables of 8 bytes
+
+// The first variable's value.
+fn copied() -> CoreStructure
+    ensures { IsEight (view_structure result) }
+{
+    CoreStructure::Read {
+        line: 3,
+        variable: 0,
+        offset: 0,
+        size: 8,
+    }
+}
+
+// A list of 8 bytes with these parts.
+fn list_of(parts: Vec<CorePart>) -> CoreStructure
+    requires { are_parts eights 8 (parts_of parts.items) ≡ true }
+    ensures { IsEight (view_structure result) }
+{
+    CoreStructure::List {
+        line: 3,
+        size: 8,
+        parts,
+    }
+}
+
+fn number(bits: u32) -> CoreExpr
+    ensures { IsNumber (view result) }
+{
+    CoreExpr::Constant {
+        line: 3,
+        type_: IntegerType::Int,
+        bits: bits as u64,
+    }
+}
+
+// `"ab"`, for an array of 3 chars
+fn string(alloc: Global) -> Result<CoreStructure, AllocError>
+    ensures typed { IfOk result (λ a. is_structure eights (view_structure a) ≡ true) }
+    ensures size { IfOk result (λ a. size_of (view_structure a) ≡ 3) }
+{
+    let bytes = vec![in alloc; b'a', b'b']?;
+    Ok(CoreStructure::String {
+        line: 3,
+        size: 3,
+        bytes,
+    })
+}
+
+// `{"ab", .x = 0x01020304}`, where x is at offset 4
+fn listed(alloc: Global) -> Result<CoreStructure, AllocError>
+    ensures { IfOk result (λ a. IsEight (view_structure a)) }
+{
+    let parts = vec![in alloc;
+        CorePart::Structure {
+            offset: 0,
+            value: string(alloc)?,
+        },
+        CorePart::Number {
+            offset: 4,
+            value: number(0x01020304),
+        },
+    ]?;
+    Ok(list_of(parts))
+}
+
+// A list whose part at offset 4 is the section of 4 bytes at offset 2 of the first variable's value.
+fn cut(alloc: Global) -> Result<CoreStructure, AllocError>
+    ensures { IfOk result (λ a. IsEight (view_structure a)) }
+{
+    let section = CoreStructure::Member {
+        line: 3,
+        offset: 2,
+        size: 4,
+        value: Box::new(alloc, copied())?,
+    };
+    let parts = vec![in alloc;
+        CorePart::Structure {
+            offset: 4,
+            value: section
+        },
+    ]?;
+    Ok(list_of(parts))
+}
+
+// `test ? first : {"ab", .x = 0x01020304}`
+fn chosen(alloc: Global, test: u32) -> Result<CoreStructure, AllocError>
+    ensures { IfOk result (λ a. IsEight (view_structure a)) }
+{
+    Ok(CoreStructure::Choice {
+        line: 3,
+        test: number(test),
+        yes: Box::new(alloc, copied())?,
+        no: Box::new(alloc, listed(alloc)?)?,
+    })
+}
+
+// `first = {"ab", .x = 0x01020304}`
+fn assigned(alloc: Global) -> Result<CoreStructure, AllocError>
+    ensures { IfOk result (λ a. IsEight (view_structure a)) }
+{
+    Ok(CoreStructure::Assign {
+        line: 3,
+        variable: 0,
+        offset: 0,
+        value: Box::new(alloc, listed(alloc)?)?,
+    })
+}
+
+// `(first = {"ab", .x = 0x01020304}).y, first`, where y is a number at offset 0
+fn followed(alloc: Global) -> Result<CoreStructure, AllocError>
+    ensures { IfOk result (λ a. IsEight (view_structure a)) }
+{
+    let left = CoreExpr::Member {
+        line: 3,
+        type_: IntegerType::Int,
+        offset: 0,
+        value: Box::new(alloc, assigned(alloc)?)?,
+    };
+    Ok(CoreStructure::Comma {
+        line: 3,
+        left,
+        right: Box::new(alloc, copied())?,
+    })
+}
+
+// One of the structure values above.
+fn structure(alloc: Global, number: u32) -> Result<CoreStructure, AllocError>
+    ensures { IfOk result (λ a. IsEight (view_structure a)) }
+{
+    match number {
+        0 => Ok(copied()),
+        1 => listed(alloc),
+        2 => cut(alloc),
+        3 => chosen(alloc, 1),
+        4 => chosen(alloc, 0),
+        5 => assigned(alloc),
+        _ => followed(alloc),
+    }
+}
+
+// The first variable is drawn, the second one initialized by one of the structure values above; then
+// assertions of the numbers that both are.
+fn initialized(
+    alloc: Global,
+    number: u32,
+    first: u64,
+    second: u64,
+) -> Result<Vec<CoreItem>, AllocError>
+    ensures { IfOk result (λ items. are_typed_items eights (items_of items.items) ≡ true) }
+{
+    let one = number_at(0, 0, IntegerType::UnsignedLong);
+    let other = number_at(1, 0, IntegerType::UnsignedLong);
+    let items = vec![in alloc;
+        CoreItem::Declare {
+            line: 1,
+            variable: 0
+        },
+        CoreItem::InitializeStructure {
+            line: 2,
+            variable: 1,
+            drawn: false,
+            value: structure(alloc, number)?,
+        },
+        asserted_number(alloc, [8, 8], 4, one, first)?,
+        asserted_number(alloc, [8, 8], 5, other, second)?,
+    ]?;
+    Ok(items)
+}
+
+const LISTED: u64 = 0x0102030400006261;
+
+#[test]
+fn structure_values_are_bytes(rt: HostRuntime) -> Result<(), Fail> {
+    let alloc = rt.alloc();
+    let rows = [
+        (0, WORD, WORD),
+        (1, WORD, LISTED),
+        (2, WORD, 0x6655443300000000),
+        (3, WORD, WORD),
+        (4, WORD, LISTED),
+        (5, LISTED, LISTED),
+        (6, LISTED, LISTED),
+    ];
+    for (number, first, second) in rows {
+        let items = initialized(alloc, number, first, second)?;
+        assert!(rt; ending_with(alloc, [8, 8], items, &[WORD])? == FINE);
+        let others = initialized(alloc, number, first, second ^ 1)?;
+        let ending = ending_with(alloc, [8, 8], others, &[WORD])?;
+        assert!(rt; ending == broken(Class::Assertion, 5));
+    }
+    Ok(())
+}
+
+// `(void)7; (void)(first = {"ab", .x = 0x01020304});`, and then an assertion of the number that
+// the first variable is
+fn discarded(alloc: Global, bits: u64) -> Result<Vec<CoreItem>, AllocError>
+    ensures { IfOk result (λ items. are_typed_items eights (items_of items.items) ≡ true) }
+{
+    let place = number_at(0, 0, IntegerType::UnsignedLong);
+    let items = vec![in alloc;
+        evaluated_of_eights(CoreExpr::Discard {
+            line: 3,
+            operand: Box::new(alloc, number(7))?,
+        }),
+        evaluated_of_eights(CoreExpr::DiscardStructure {
+            value: Box::new(alloc, assigned(alloc)?)?,
+        }),
+        asserted_number(alloc, [8, 8], 4, place, bits)?,
+    ]?;
+    Ok(items)
+}
+
+fn evaluated_of_eights(expression: CoreExpr) -> CoreItem
+    requires { is_typed eights (view expression) ≡ true }
+    ensures { are_typed_items eights (with_item result done) ≡ true }
+{
+    CoreItem::Statement {
+        statement: CoreStatement::Evaluate { expression },
+    }
+}
+
+#[test]
+fn discarded_values_are_evaluated(rt: HostRuntime) -> Result<(), Fail> {
+    let alloc = rt.alloc();
+    let items = discarded(alloc, LISTED)?;
+    assert!(rt; ending_with(alloc, [8, 8], items, &[])? == FINE);
+    let others = discarded(alloc, WORD)?;
+    assert!(rt; ending_with(alloc, [8, 8], others, &[])? == broken(Class::Assertion, 4));
     Ok(())
 }

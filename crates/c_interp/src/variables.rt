@@ -1,12 +1,10 @@
-ghost use Rattle.std.specs.Prelude.{◌≡◌, ◌+◌, ◌≤◌, length, IfOk};
-ghost use Rattle.core_tree.specs.Typed.{place_type};
-ghost use Rattle.c_values.specs.Variables.{low_bytes, put_at, zeros, number_at, read_place, first_variables};
+ghost use Rattle.std.specs.Prelude.{◌≡◌, ◌+◌, ◌≤◌, length, take, drop, IfOk};
+ghost use Rattle.c_values.specs.Variables.{low_bytes, put_at, zeros, number_at, read_variable, first_variables};
 ghost use Rattle.c_values.specs.Numbers.{typed};
 ghost use Rattle.c_interp.specs.Fits.{sizes_of};
 
 use c_types::IntegerType;
 use c_values::{Number, read_block, write_block};
-use core_tree::Place;
 use std::alloc::{AllocError, Global};
 use std::marker::Model;
 
@@ -26,15 +24,49 @@ impl Model for Block {
 
 impl Block {
     // So many bytes that are 0.
-    fn new(alloc: Global, size: u32) -> Result<Block, AllocError>
+    pub(crate) fn new(alloc: Global, size: u32) -> Result<Block, AllocError>
         ensures { IfOk result (λ block. block ≡ zeros size) }
     {
         let bytes = vec![in alloc; 0; size as usize]?;
         Ok(Block { bytes })
     }
 
+    // A string in so many bytes; those beyond it are 0.
+    pub(crate) fn of_string(alloc: Global, size: u32, string: &[u8]) -> Result<Block, AllocError>
+        requires { length string.now ≤ size }
+        ensures { IfOk result (λ block. block ≡ put_at 0 string.now (zeros size)) }
+    {
+        let mut block = Block::new(alloc, size)?;
+        block.put(0, string);
+        Ok(block)
+    }
+
+    // These bytes.
+    pub(crate) fn of_bytes(alloc: Global, bytes: &[u8]) -> Result<Block, AllocError>
+        ensures { IfOk result (λ block. block ≡ bytes.now) }
+    {
+        let bytes = Vec::from_slice(alloc, bytes)?;
+        Ok(Block { bytes })
+    }
+
+    // A copy of the bytes.
+    pub(crate) fn to_vec(&self, alloc: Global) -> Result<Vec<u8>, AllocError>
+        ensures { IfOk result (λ bytes. bytes.items ≡ self.now) }
+    {
+        Vec::from_slice(alloc, self.bytes.as_slice())
+    }
+
+    // A copy of so many bytes from an offset on, none past the end.
+    pub(crate) fn section(&self, alloc: Global, offset: u32, size: u32) -> Result<Block, AllocError>
+        ensures { IfOk result (λ block. block ≡ take size (drop offset self.now)) }
+    {
+        let behind = bytes_from(self.bytes.as_slice(), offset as usize);
+        let bytes = Vec::from_slice(alloc, first_bytes(behind, size as usize))?;
+        Ok(Block { bytes })
+    }
+
     // The number that a read of an object of the type at an offset gives.
-    fn read(&self, offset: usize, type_: IntegerType) -> Number
+    pub(crate) fn read(&self, offset: usize, type_: IntegerType) -> Number
         ensures { result ≡ typed type_ (number_at type_ offset self.now) }
     {
         read_block(self.bytes.as_slice(), offset, type_)
@@ -50,6 +82,23 @@ impl Block {
         write_block(self.bytes.as_mut_slice(), offset, count, bits);
     }
 
+    // Puts the bytes of another block in the place of as many from an offset on.
+    pub(crate) fn put_block(&mut self, offset: usize, other: &Block)
+        requires { offset + length other.now ≤ length self.old }
+        ensures value { self.new ≡ put_at offset other.now self.old }
+        ensures len { length self.new ≡ length self.old }
+    {
+        self.put(offset, other.bytes.as_slice());
+    }
+
+    fn put(&mut self, offset: usize, new: &[u8])
+        requires { offset + length new.now ≤ length self.old }
+        ensures value { self.new ≡ put_at offset new.now self.old }
+        ensures len { length self.new ≡ length self.old }
+    {
+        put_in(self.bytes.as_mut_slice(), offset, new);
+    }
+
     // Makes each byte 0.
     pub(crate) fn clear(&mut self)
         ensures { self.new ≡ zeros (length self.old) }
@@ -58,20 +107,47 @@ impl Block {
     }
 }
 
-// The number that a read of the place gives.
-pub(crate) fn read(variables: &[Block], place: Place) -> Number
-    ensures { result ≡ typed (place_type place) (read_place variables.now place) }
+// The bytes from an offset on, none past the end.
+fn bytes_from(block: &[u8], offset: usize) -> &[u8]
+    ensures { result.now ≡ drop offset block.now }
 {
-    match place {
-        Place::Variable {
-            line: _,
-            type_,
-            variable,
-            offset,
-        } => match variables.get(variable as usize) {
-            Some(block) => block.read(offset as usize, type_),
-            None => read_block(&[], offset as usize, type_),
-        },
+    if offset <= block.len() {
+        &block[offset..]
+    } else {
+        &[]
+    }
+}
+
+// The first bytes, so many where there are as many.
+fn first_bytes(block: &[u8], count: usize) -> &[u8]
+    ensures { result.now ≡ take count block.now }
+{
+    if count <= block.len() {
+        &block[..count]
+    } else {
+        block
+    }
+}
+
+fn put_in(block: &mut [u8], offset: usize, new: &[u8])
+    requires { offset + length new.now ≤ length block.old }
+    ensures { block.new ≡ put_at offset new.now block.old }
+{
+    block[offset..offset + new.len()].copy_from_slice(new);
+}
+
+// The number of a type at an offset of a variable.
+pub(crate) fn read_variable(
+    variables: &[Block],
+    variable: u32,
+    offset: u32,
+    type_: IntegerType,
+) -> Number
+    ensures { result ≡ typed type_ (read_variable variables.now variable offset type_) }
+{
+    match variables.get(variable as usize) {
+        Some(block) => block.read(offset as usize, type_),
+        None => read_block(&[], offset as usize, type_),
     }
 }
 

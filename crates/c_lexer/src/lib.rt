@@ -16,6 +16,6 @@ mod tokens;
 
 pub use fault::LexError;
 pub use lexing::{lex, one_cutting};
-pub use literal::string_bytes;
+pub use literal::{Element, element_at, string_bytes};
 pub use token::{Constant, ConstantType, Keyword, Kind, Mark, Token};
 pub use tokens::{Tokens, text_of};

@@ -1,11 +1,9 @@
 -- The variables of a thread: a block of bytes for each, the lowest byte first (C11 6.2.6.1, System V ABI for AMD64).
-use Rattle.std.specs.Prelude.{ℕ, ◌+◌, ◌-◌, ◌/◌, min, List, [], ◌++◌, map, length, take, drop, replicate, slice_index_or, slice_set}
+use Rattle.std.specs.Prelude.{ℕ, ◌+◌, ◌-◌, ◌*◌, ◌/◌, ◌^◌, min, List, [], ◌++◌, map, length, take, drop, replicate, slice_index_or, slice_set}
 use Rattle.std.specs.Int.{Width, w8, w16, w32, w64, to_le_bytes, from_le_bytes}
 use Rattle.c_types.specs.declared.integers.IntegerType.{IntegerType}
 use Rattle.c_types.specs.declared.integers.IntegerType.TheVariants as types
 use Rattle.c_types.specs.Integers.{bytes}
-use Rattle.core_tree.specs.declared.expression.Place.{Place}
-use Rattle.core_tree.specs.declared.expression.Place.TheVariants.{Variable}
 use Rattle.core_tree.specs.Operations.{read_bits}
 
 -- by number
@@ -41,9 +39,18 @@ put_at at new old = take at old ++ (new ++ drop (at + length new) old)
 abbrev pub zeros : ℕ → List ℕ
 zeros count = replicate count 0
 
+-- the number of this type that bytes are, of which it takes the first
+abbrev pub number_of : IntegerType → List ℕ → ℕ
+number_of t block = read_bits t (from_le_bytes (storage t) block)
+
 -- the number of this type that stands at an offset of bytes
 abbrev pub number_at : IntegerType → ℕ → List ℕ → ℕ
-number_at t offset block = read_bits t (from_le_bytes (storage t) (drop offset block))
+number_at t offset block = number_of t (drop offset block)
+
+-- ---- objects with an address: a pointer has the object's number in the high 32 bits, an offset into it in the low 32
+
+abbrev pub pointer_to : ℕ → ℕ → ℕ
+pointer_to object offset = object * 2 ^ 32 + offset
 
 -- ---- draws: an object is drawn in words of 8 bytes, the last of the bytes that are left
 
@@ -71,15 +78,9 @@ cleared vs v size = slice_set vs v (zeros size)
 abbrev pub read_variable : Variables → ℕ → ℕ → IntegerType → ℕ
 read_variable vs v offset t = number_at t offset (block_of vs v)
 
-abbrev pub read_place : Variables → Place → ℕ
-read_place vs (Variable line t v offset) = read_variable vs v offset t
-
 -- a write leaves the low bytes of these bits
 abbrev pub write_variable : Variables → ℕ → ℕ → IntegerType → ℕ → Variables
 write_variable vs v offset t bits = put_bytes vs v offset (low_bytes (bytes t) bits)
-
-abbrev pub write_place : Variables → Place → ℕ → Variables
-write_place vs (Variable line t v offset) bits = write_variable vs v offset t bits
 
 -- variables of these sizes before the function's body: each byte is 0
 abbrev pub first_variables : List ℕ → Variables

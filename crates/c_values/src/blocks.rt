@@ -1,4 +1,4 @@
-ghost use Rattle.std.specs.Prelude.{◌≡◌, ◌+◌, ◌<◌, ◌≤◌, ◌^◌, length, drop, slice_index};
+ghost use Rattle.std.specs.Prelude.{◌≡◌, ◌+◌, ◌<◌, ◌≤◌, ◌^◌, length, drop, slice_index, IfOk};
 ghost use Rattle.std.specs.Int.{from_le_bytes};
 ghost use Rattle.c_types.specs.Integers.{width};
 ghost use Rattle.c_values.specs.Variables.{storage, low_bytes, put_at, number_at};
@@ -6,6 +6,7 @@ ghost use Rattle.c_values.specs.Numbers.{typed};
 
 use crate::number::Number;
 use c_types::IntegerType;
+use std::alloc::{AllocError, Global};
 
 /// Writes the lowest `count` bytes of a number, the lowest first, in the place of as many from an offset
 /// of a block on.
@@ -16,6 +17,15 @@ pub fn write_block(block: &mut [u8], offset: usize, count: usize, bits: u64)
 {
     let all = bits.to_le_bytes();
     block[offset..offset + count].copy_from_slice(&all[..count]);
+}
+
+/// The lowest `count` bytes of a number, the lowest first.
+pub fn low_bytes(alloc: Global, count: usize, bits: u64) -> Result<Vec<u8>, AllocError>
+    requires { count ≤ 8 }
+    ensures { IfOk result (λ bytes. bytes.items ≡ low_bytes count bits) }
+{
+    let bytes = bits.to_le_bytes();
+    Vec::from_slice(alloc, &bytes[..count])
 }
 
 fn byte(block: &[u8], i: usize) -> u8

@@ -1,10 +1,13 @@
-//! Numbers of integer types: conversions, operations and their checks, and the bytes that hold them.
+//! Numbers of integer types: conversions, operations and their checks, the bytes that hold them, and
+//! pointers to objects.
 #![tactic(auto)]
 
 mod blocks;
 mod draws;
 mod number;
+mod pointers;
 
-pub use blocks::{read_block, write_block};
+pub use blocks::{low_bytes, read_block, write_block};
 pub use draws::{drawn_count, word_count};
 pub use number::{Number, broken_by, broken_sign, compare, operate, sign, signed_value, value};
+pub use pointers::pointer_to;

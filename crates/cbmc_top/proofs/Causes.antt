@@ -2,7 +2,7 @@
 use Rattle.std.proofs.Common.{◌≡◌, inl, inr, ℕ, List, [], ◌∷◌, Option, Some, None, sym, refl, ap, ◌∙◌, subst, arith}
 use Rattle.std.proofs.lemmas.Bool.{false≢true}
 use Rattle.std.specs.Prelude.{IfSome, IsSome, ◌↔◌}
-use Rattle.core_tree.specs.Trees.{Procedure}
+use Rattle.core_tree.specs.Trees.{TypedFile}
 use Rattle.core_tree.specs.Ranges.{Cause}
 use Rattle.core_tree.specs.declared.refusal.Limit.{Limit}
 use Rattle.outside.specs.Sink.{appended}
@@ -44,10 +44,10 @@ tells command holds rose status text spent r name bytes is held =
 
 -- what a success says, with what was searched
 abbrev Succeeds : List ℕ → Option Used → Type 0
-Succeeds bytes spent = (functions : List Procedure) × (used : Used) × IsFileOf bytes functions × IsVerified standard_limits functions × (spent ≡ Some used) × IsRefuted standard_limits standard_budget functions used
+Succeeds bytes spent = (core : TypedFile) × (used : Used) × IsFileOf bytes core × IsVerified standard_limits core × (spent ≡ Some used) × IsRefuted standard_limits standard_budget core used
 
 success_of : (bytes : List ℕ) (used : Used) (spent : Option Used) → spent ≡ Some used → Told standard_limits standard_budget bytes (successful used) → Succeeds bytes spent
-success_of bytes used spent e t = (t.functions, used, t.program, t.after.0, e, t.after.1)
+success_of bytes used spent e t = (t.core, used, t.program, t.after.0, e, t.after.1)
 
 success_by : (name bytes : List ℕ) (rose : List ℕ → Type 0) (a : Answer) (spent : Option Used) → Allows (Some name) bytes rose a → status_of a ≡ 0 → spent ≡ spent_of a → Succeeds bytes spent
 success_by name bytes rose usage spent x e s = absurd x
@@ -66,10 +66,10 @@ success_is command holds rose status text spent r e name bytes is held =
 -- what a budget that is used up says, with what was searched and what was taken
 abbrev Exhausts : List ℕ → Option Used → Option (List ℕ) → Option (List ℕ) → Type 0
 Exhausts bytes spent before now =
-    (functions : List Procedure) × (used : Used) × IsFileOf bytes functions × (spent ≡ Some used) × IsUsedUp standard_limits standard_budget functions used × (now ≡ appended before (budget_text standard_budget))
+    (core : TypedFile) × (used : Used) × IsFileOf bytes core × (spent ≡ Some used) × IsUsedUp standard_limits standard_budget core used × (now ≡ appended before (budget_text standard_budget))
 
 budget_of : (bytes : List ℕ) (used : Used) (spent : Option Used) (before now : Option (List ℕ)) → spent ≡ Some used → now ≡ appended before (budget_text standard_budget) → Told standard_limits standard_budget bytes (used_up used) → Exhausts bytes spent before now
-budget_of bytes used spent before now e taken t = (t.functions, used, t.program, e, t.after, taken)
+budget_of bytes used spent before now e taken t = (t.core, used, t.program, e, t.after, taken)
 
 budget_by : (name bytes : List ℕ) (rose : List ℕ → Type 0) (a : Answer) (spent : Option Used) (before now : Option (List ℕ)) → Allows (Some name) bytes rose a → status_of a ≡ 5 → spent ≡ spent_of a → now ≡ appended before (text_of name a) → Exhausts bytes spent before now
 budget_by name bytes rose usage spent before now x e s taken = absurd x
@@ -90,25 +90,25 @@ some_is : {A : Type 0} {x y : A} → Some x ≡ Some y → x ≡ y
 some_is e = cc
 
 -- a success doesn't come with a log that has spent the budget
-not_spent : (command : Option (List ℕ)) (bytes : List ℕ) (rose : List ℕ → Type 0) (functions : List Procedure) (used other : Used) → Allows command bytes rose (successful other) → used ≡ other → IsUsedUp standard_limits standard_budget functions used → ⊥
-not_spent None bytes rose functions used other x e u = x
-not_spent (Some name) bytes rose functions used other x e u =
+not_spent : (command : Option (List ℕ)) (bytes : List ℕ) (rose : List ℕ → Type 0) (core : TypedFile) (used other : Used) → Allows command bytes rose (successful other) → used ≡ other → IsUsedUp standard_limits standard_budget core used → ⊥
+not_spent None bytes rose core used other x e u = x
+not_spent (Some name) bytes rose core used other x e u =
     let t = told standard_limits standard_budget bytes (successful other) tt x in
-    both_spent standard_limits standard_budget standard_budget functions t.functions used other e u t.after.1
+    both_spent standard_limits standard_budget standard_budget core t.core used other e u t.after.1
 
-spent_by : (command : Option (List ℕ)) (bytes : List ℕ) (rose : List ℕ → Type 0) (a : Answer) (functions : List Procedure) (used : Used) → Allows command bytes rose a → Some used ≡ spent_of a → IsUsedUp standard_limits standard_budget functions used → status_of a ≡ 5
-spent_by command bytes rose usage functions used x s u = cc
-spent_by command bytes rose read_fault functions used x s u = cc
-spent_by command bytes rose (limited limit) functions used x s u = cc
-spent_by command bytes rose (refused cause) functions used x s u = cc
-spent_by command bytes rose (successful other) functions used x s u = absurd (not_spent command bytes rose functions used other x (some_is s) u)
-spent_by command bytes rose (failed f) functions used x s u = cc
-spent_by command bytes rose (used_up other) functions used x s u = refl
+spent_by : (command : Option (List ℕ)) (bytes : List ℕ) (rose : List ℕ → Type 0) (a : Answer) (core : TypedFile) (used : Used) → Allows command bytes rose a → Some used ≡ spent_of a → IsUsedUp standard_limits standard_budget core used → status_of a ≡ 5
+spent_by command bytes rose usage core used x s u = cc
+spent_by command bytes rose read_fault core used x s u = cc
+spent_by command bytes rose (limited limit) core used x s u = cc
+spent_by command bytes rose (refused cause) core used x s u = cc
+spent_by command bytes rose (successful other) core used x s u = absurd (not_spent command bytes rose core used other x (some_is s) u)
+spent_by command bytes rose (failed f) core used x s u = cc
+spent_by command bytes rose (used_up other) core used x s u = refl
 
 pub spent_is : (command : Option (List ℕ)) (holds : List ℕ → Option (List ℕ)) (rose : List ℕ → Type 0) (status : ℕ) (text : List ℕ) (spent : Option Used) → Reported command holds rose status text spent
-    → (functions : List Procedure) (used : Used) → spent ≡ Some used → IsUsedUp standard_limits standard_budget functions used → status ≡ 5
-spent_is command holds rose status text spent r functions used s u =
-    r.status_is ∙ spent_by command r.answered.bytes rose r.answer functions used r.answered.allowed (sym s ∙ r.spent_is) u
+    → (core : TypedFile) (used : Used) → spent ≡ Some used → IsUsedUp standard_limits standard_budget core used → status ≡ 5
+spent_is command holds rose status text spent r core used s u =
+    r.status_is ∙ spent_by command r.answered.bytes rose r.answer core used r.answered.allowed (sym s ∙ r.spent_is) u
 
 -- clauses and a log are given with 0 and with 5
 given_by : (a : Answer) (spent : Option Used) → spent ≡ spent_of a → IsSome spent → IsOneOf (0 ∷ 5 ∷ []) (status_of a)
@@ -140,12 +140,12 @@ given_is command holds rose status text spent r = (
   λ one. subst IsSome (sym r.spent_is) (gives_by r.answer (subst (IsOneOf (0 ∷ 5 ∷ [])) r.status_is one)),
 )
 
-failure_of : (bytes : List ℕ) (f : Failure) → Told standard_limits standard_budget bytes (failed f) → (functions : List Procedure) × IsFileOf bytes functions × IsFailure standard_limits functions f
-failure_of bytes f t = (t.functions, t.program, t.after)
+failure_of : (bytes : List ℕ) (f : Failure) → Told standard_limits standard_budget bytes (failed f) → (core : TypedFile) × IsFileOf bytes core × IsFailure standard_limits core f
+failure_of bytes f t = (t.core, t.program, t.after)
 
 -- what a failure says, with what was taken
 abbrev Fails : List ℕ → List ℕ → Option (List ℕ) → Option (List ℕ) → Type 0
-Fails name bytes before now = (functions : List Procedure) × (f : Failure) × IsFileOf bytes functions × IsFailure standard_limits functions f × (now ≡ appended before (failure_text (head_of name) f))
+Fails name bytes before now = (core : TypedFile) × (f : Failure) × IsFileOf bytes core × IsFailure standard_limits core f × (now ≡ appended before (failure_text (head_of name) f))
 
 failure_by : (name bytes : List ℕ) (rose : List ℕ → Type 0) (a : Answer) (before now : Option (List ℕ)) → Allows (Some name) bytes rose a → status_of a ≡ 10 → now ≡ appended before (text_of name a) → Fails name bytes before now
 failure_by name bytes rose usage before now x e taken = absurd x
@@ -216,21 +216,21 @@ search_status (successful used) x = inl refl
 search_status (failed f) x = inr (inr (inl refl))
 search_status (used_up used) x = inr (inl refl)
 
-after_search : (functions : List Procedure) (a : Answer) → AfterCounts standard_limits standard_budget functions a → IsOfSearch a
-after_search functions usage x = x
-after_search functions read_fault x = x
-after_search functions (limited limit) x = x
-after_search functions (refused cause) x = x
-after_search functions (successful used) x = tt
-after_search functions (failed f) x = tt
-after_search functions (used_up used) x = tt
+after_search : (core : TypedFile) (a : Answer) → AfterCounts standard_limits standard_budget core a → IsOfSearch a
+after_search core usage x = x
+after_search core read_fault x = x
+after_search core (limited limit) x = x
+after_search core (refused cause) x = x
+after_search core (successful used) x = tt
+after_search core (failed f) x = tt
+after_search core (used_up used) x = tt
 
-pub complete_of : ((file : List ℕ) (functions : List Procedure) (a : Answer) → IsCheckable standard_limits file functions → Decides standard_limits standard_budget file a → AfterCounts standard_limits standard_budget functions a)
+pub complete_of : ((file : List ℕ) (core : TypedFile) (a : Answer) → IsCheckable standard_limits file core → Decides standard_limits standard_budget file a → AfterCounts standard_limits standard_budget core a)
     → (command : Option (List ℕ)) (holds : List ℕ → Option (List ℕ)) (rose : List ℕ → Type 0) (status : ℕ) (text : List ℕ) (spent : Option Used) → Reported command holds rose status text spent
-    → (name bytes : List ℕ) (functions : List Procedure) → command ≡ Some name → holds name ≡ Some bytes → IsCheckable standard_limits bytes functions → (rose name → ⊥) → IsOneOf (0 ∷ 5 ∷ 10 ∷ 12 ∷ []) status
-complete_of law command holds rose status text spent r name bytes functions is held x fault =
+    → (name bytes : List ℕ) (core : TypedFile) → command ≡ Some name → holds name ≡ Some bytes → IsCheckable standard_limits bytes core → (rose name → ⊥) → IsOneOf (0 ∷ 5 ∷ 10 ∷ 12 ∷ []) status
+complete_of law command holds rose status text spent r name bytes core is held x fault =
     let t = tells command holds rose status text spent r name bytes is held in
-    subst (IsOneOf (0 ∷ 5 ∷ 10 ∷ 12 ∷ [])) (sym t.status_is) (search_status t.answer (after_search functions t.answer (law bytes functions t.answer x (decided_by name bytes rose t.answer t.allowed fault))))
+    subst (IsOneOf (0 ∷ 5 ∷ 10 ∷ 12 ∷ [])) (sym t.status_is) (search_status t.answer (after_search core t.answer (law bytes core t.answer x (decided_by name bytes rose t.answer t.allowed fault))))
 
 -- an answer that is no run's is the only one
 only : (a b : Answer) → (IsOfSearch b → ⊥) → Same a b → status_of a ≡ status_of b

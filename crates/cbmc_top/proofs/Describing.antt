@@ -1,20 +1,19 @@
 -- A trace of a program is the failure that is told.
-use Rattle.std.proofs.Common.{◌≡◌, ℕ, suc, zero, ◌<◌, ◌^◌, true, List, [], ◌∷◌, length, Option, Some, None, option_map, Result, Ok, Err, sym, refl, ap, ◌∙◌, subst, arith, All}
+use Rattle.std.proofs.Common.{◌≡◌, ℕ, suc, zero, ◌<◌, ◌^◌, true, List, [], ◌∷◌, length, map, Option, Some, None, option_map, Result, Ok, Err, sym, refl, ap, ◌∙◌, subst, arith, All}
 use Rattle.std.specs.Prelude.{slice_get, codes}
 use Rattle.std.specs.Str.{IsAscii, IsUtf8}
 use Rattle.std.proofs.lemmas.Str.{IsUtf8-from_ascii}
 use Rattle.core_tree.specs.declared.functions.Function.{Function}
 use Rattle.core_tree.specs.declared.functions.Name.{Name}
-use Rattle.core_tree.specs.Trees.{Procedure, view_core}
+use Rattle.core_tree.specs.Trees.{Procedure, TypedFile, view_functions}
 use Rattle.core_tree.specs.Ranges.{Limits}
 use Rattle.c_tree.specs.Statements.{Externals, no_more, declared, defines}
 use Rattle.c_elab_expr.specs.Scopes.{Scoped, first_scope, sizes}
 use Rattle.c_elab_expr.specs.Nodes.{◌>>=◌}
 use Rattle.c_elab_expr.specs.Typing.{on_line}
 use Rattle.c_elab_decl.specs.Regions.{earlier}
-use Rattle.c_elab_decl.specs.Specifiers.{parts_line}
 use Rattle.c_elab_decl.specs.Statements.{typed_statement}
-use Rattle.c_elab_decl.specs.Files.{in_file, on_external, typed_outside, function_node, with_function, main, outside, typed_externals}
+use Rattle.c_elab_decl.specs.Files.{in_file, typed_outside, function_node, with_function, main, outside, typed_externals, static_of, elaborated}
 use Rattle.core_tree.specs.Trees.{Statement}
 use Rattle.std.proofs.lemmas.Bool.Decides.{nat_tests}
 use Rattle.interleave.specs.Inputs.{InputLists}
@@ -42,36 +41,52 @@ ok_from (Err z) f y e = cc
 ok_is : {A E : Type 0} (x y : A) (r : Result A E) → r ≡ Ok x → r ≡ Ok y → x ≡ y
 ok_is x y r p q = cc
 
-first_or_later : (t : Scoped) (rest : Externals) (line : ℕ) (vs : List ℕ) (b : Statement) (fs : List Procedure) (n : ℕ) (x : List ℕ) → ((m : ℕ) (y : List ℕ) → name_in fs m ≡ Some y → y ≡ codes "main")
-    → name_in (main line vs b ∷ fs) n ≡ Some x → x ≡ codes "main"
-first_or_later t rest line vs b fs zero x later h = some_is (sym h)
-first_or_later t rest line vs b fs (suc n) x later h = later n x h
+abbrev named_in : List Procedure → ℕ → Option (List ℕ)
+named_in functions number = option_map (λ (f : Procedure). f.name) (slice_get functions number)
 
-all_main : (s : Scoped) (d : Externals) (functions : List Procedure) → typed_externals s d ≡ Ok functions → (n : ℕ) (x : List ℕ) → name_in functions n ≡ Some x → x ≡ codes "main"
-all_main s no_more functions e n x h = let none : [] ≡ functions = ok_is [] functions (Ok []) refl e in let no : None ≡ Some x = subst (λ fs. name_in fs n ≡ Some x) (sym none) h in cc
-all_main s (declared parts ds rest) functions e n x h =
-    let a = ok_from (on_external (parts_line parts) (typed_outside s parts ds)) (λ t. typed_externals t rest) functions e in
-    all_main a.0 rest functions a.2 n x h
-all_main s (defines line name_line body rest) functions e n x h =
+first_or_later : (line : ℕ) (vs : List ℕ) (b : Statement) (fs : List Procedure) (n : ℕ) (x : List ℕ) → ((m : ℕ) (y : List ℕ) → named_in fs m ≡ Some y → y ≡ codes "main")
+    → named_in (main line vs b ∷ fs) n ≡ Some x → x ≡ codes "main"
+first_or_later line vs b fs zero x later h = some_is (sym h)
+first_or_later line vs b fs (suc n) x later h = later n x h
+
+all_main : (s : Scoped) (d : Externals) (z : List Procedure × Scoped) → typed_externals s d ≡ Ok z → (n : ℕ) (x : List ℕ) → named_in z.0 n ≡ Some x → x ≡ codes "main"
+all_main s no_more z e n x h =
+    let nothing : List Procedure × Scoped = ([], s) in
+    let none : nothing ≡ z = ok_is nothing z (Ok nothing) refl e in
+    let no : None ≡ Some x = subst (λ (y : List Procedure × Scoped). named_in y.0 n ≡ Some x) (sym none) h in
+    cc
+all_main s (declared parts ds rest) z e n x h =
+    let a = ok_from (typed_outside s parts ds) (λ t. typed_externals t rest) z e in
+    all_main a.0 rest z a.2 n x h
+all_main s (defines line name_line body rest) z e n x h =
     let a = ok_from (on_line name_line (function_node (earlier in_file s (codes "main"))))
-    (λ new. on_external line (typed_statement (with_function s (codes "main")) body) >>= λ y. typed_externals (outside y.1) rest >>= λ fs. Ok (main name_line (sizes y.1) y.0 ∷ fs)) functions e in
-    let b = ok_from (on_external line (typed_statement (with_function s (codes "main")) body)) (λ y. typed_externals (outside y.1) rest >>= λ fs. Ok (main name_line (sizes y.1) y.0 ∷ fs)) functions a.2 in
-    let c = ok_from (typed_externals (outside b.0.1) rest) (λ fs. Ok (main name_line (sizes b.0.1) b.0.0 ∷ fs)) functions b.2 in
-    let whole : (main name_line (sizes b.0.1) b.0.0 ∷ c.0) ≡ functions = ok_is (main name_line (sizes b.0.1) b.0.0 ∷ c.0) functions (Ok (main name_line (sizes b.0.1) b.0.0 ∷ c.0)) refl c.2 in
-    first_or_later (outside b.0.1) rest name_line (sizes b.0.1) b.0.0 c.0 n x (all_main (outside b.0.1) rest c.0 c.1) (subst (λ fs. name_in fs n ≡ Some x) (sym whole) h)
+    (λ new. typed_statement (with_function s (codes "main")) body >>= λ y. typed_externals (outside y.1) rest >>= λ w. Ok (main name_line (sizes y.1) y.0 ∷ w.0, w.1)) z e in
+    let b = ok_from (typed_statement (with_function s (codes "main")) body) (λ y. typed_externals (outside y.1) rest >>= λ w. Ok (main name_line (sizes y.1) y.0 ∷ w.0, w.1)) z a.2 in
+    let c = ok_from (typed_externals (outside b.0.1) rest) (λ w. Ok (main name_line (sizes b.0.1) b.0.0 ∷ w.0, w.1)) z b.2 in
+    let found : List Procedure × Scoped = (main name_line (sizes b.0.1) b.0.0 ∷ c.0.0, c.0.1) in
+    let whole : found ≡ z = ok_is found z (Ok found) refl c.2 in
+    first_or_later name_line (sizes b.0.1) b.0.0 c.0.0 n x (all_main (outside b.0.1) rest c.0 c.1) (subst (λ (y : List Procedure × Scoped). named_in y.0 n ≡ Some x) (sym whole) h)
+
+file_main : (d : Externals) (core : TypedFile) → elaborated d ≡ Ok core → (n : ℕ) (x : List ℕ) → name_in core n ≡ Some x → x ≡ codes "main"
+file_main d core e n x h =
+    let a = ok_from (typed_externals first_scope d) (λ y. Ok (record { functions = y.0; objects = map (static_of y.1.records.done) y.1.objects })) core e in
+    let file : TypedFile = record { functions = a.0.0; objects = map (static_of a.0.1.records.done) a.0.1.objects } in
+    let whole : file ≡ core = ok_is file core (Ok file) refl a.2 in
+    all_main first_scope d a.0 a.1 n x (subst (λ (y : TypedFile). name_in y n ≡ Some x) (sym whole) h)
 
 -- The name of the function that a broken check stands in.
-pub named : (bytes : List ℕ) (functions : List Procedure) (limits : Limits) (t : Trace) → IsAccepted bytes functions → IsBroken limits functions t → (name : List ℕ) × (name_in functions t.check.function ≡ Some name) × (is_identifier name ≡ true)
-named bytes functions limits t a r =
-    let x = broken_there functions t.inputs t.schedule t.check r in
+pub named : (bytes : List ℕ) (core : TypedFile) (limits : Limits) (t : Trace) → IsAccepted bytes core → IsBroken limits core t → (name : List ℕ) × (name_in core t.check.function ≡ Some name) × (is_identifier name ≡ true)
+named bytes core limits t a r =
+    let x = broken_there core t.inputs t.schedule t.check r in
     let p = a.program in
-    let is_main = all_main first_scope p.tree functions p.typed t.check.function x.0 x.1 in
+    let is_main = file_main p.tree core p.typed t.check.function x.0 x.1 in
     (x.0, x.1, ap is_identifier is_main)
 
-pub name_found : (core : List Function) (number : ℕ) (o : Option Name) → o ≡ option_map (λ (f : Function). f.name) (slice_get core number) → name_in (view_core core) number ≡ option_map (λ (n : Name). n.bytes.items) o
+pub name_found : (functions : List Function) (number : ℕ) (o : Option Name) → o ≡ option_map (λ (f : Function). f.name) (slice_get functions number)
+    → option_map (λ (f : Procedure). f.name) (slice_get (view_functions functions) number) ≡ option_map (λ (n : Name). n.bytes.items) o
 name_found [] number o e = rw e refl
-name_found (f ∷ core) zero o e = rw e refl
-name_found (f ∷ core) (suc n) o e = name_found core n o e
+name_found (f ∷ functions) zero o e = rw e refl
+name_found (f ∷ functions) (suc n) o e = name_found functions n o e
 
 letter_small : (c : ℕ) → is_letter c ≡ true → c < 128
 letter_small c h = grind (arith, nat_tests)
@@ -94,14 +109,14 @@ identifier_utf8 cs h = IsUtf8-from_ascii cs (identifier_ascii cs h)
 
 -- ---- the failure
 
-pub is_failure : (limits : Limits) (functions : List Procedure) (t : Trace) (name : List ℕ) (inputs : InputLists) (rows : List (ℕ × ℕ)) → IsBroken limits functions t
-    → name_in functions t.check.function ≡ Some name → is_identifier name ≡ true → SameWords inputs t.inputs → All IsDrawn inputs → AreRising inputs
+pub is_failure : (limits : Limits) (core : TypedFile) (t : Trace) (name : List ℕ) (inputs : InputLists) (rows : List (ℕ × ℕ)) → IsBroken limits core t
+    → name_in core t.check.function ≡ Some name → is_identifier name ≡ true → SameWords inputs t.inputs → All IsDrawn inputs → AreRising inputs
     → turns_of rows ≡ t.schedule → All IsRow rows → 0 < length rows → AreMaximal rows → t.check.line < 2 ^ 32 → t.check.thread < 2 ^ 32
-    → IsFailure limits functions (record { class = t.check.class; line = t.check.line; function = name; thread = t.check.thread; inputs = inputs; rows = rows })
-is_failure limits functions t name inputs rows broken found word same drawn rising turns each some maximal line thread = record {
+    → IsFailure limits core (record { class = t.check.class; line = t.check.line; function = name; thread = t.check.thread; inputs = inputs; rows = rows })
+is_failure limits core t name inputs rows broken found word same drawn rising turns each some maximal line thread = record {
   check = t.check;
-  replays = subst (λ schedule. Replays (bounded_world limits functions) inputs schedule t.check) (sym turns)
-      (replays_same (bounded_world limits functions) t.inputs inputs t.schedule t.check (λ k. sym (same k)) broken);
+  replays = subst (λ schedule. Replays (bounded_world limits core) inputs schedule t.check) (sym turns)
+      (replays_same (bounded_world limits core) t.inputs inputs t.schedule t.check (λ k. sym (same k)) broken);
   class = refl;
   line = refl;
   function = found;
@@ -109,5 +124,5 @@ is_failure limits functions t name inputs rows broken found word same drawn risi
   told = record { line = line; function = word; thread = thread; drawn = drawn; rising = rising; rows = each; some = some; maximal = maximal };
 }
 
-pub same_identifier : (functions : List Procedure) (number : ℕ) (name : List ℕ) → (x : List ℕ) × (name_in functions number ≡ Some x) × (is_identifier x ≡ true) → name_in functions number ≡ Some name → is_identifier name ≡ true
-same_identifier functions number name x e = ap is_identifier (some_is (sym e ∙ x.1)) ∙ x.2
+pub same_identifier : (core : TypedFile) (number : ℕ) (name : List ℕ) → (x : List ℕ) × (name_in core number ≡ Some x) × (is_identifier x ≡ true) → name_in core number ≡ Some name → is_identifier name ≡ true
+same_identifier core number name x e = ap is_identifier (some_is (sym e ∙ x.1)) ∙ x.2

@@ -15,3 +15,4 @@ pub mod Causes
 pub mod Named
 pub mod Describing
 pub mod Formulas
+pub mod FirstStores

@@ -1,6 +1,6 @@
 -- Each action and each broken check of a thread names a function that is there.
 use Rattle.std.proofs.Common.{◌≡◌, ℕ, zero, suc, Bool, true, false, cond, List, [], ◌∷◌, Option, Some, None, refl, ap, subst}
-use Rattle.std.specs.Prelude.{slice_get, option_map}
+use Rattle.std.specs.Prelude.{slice_get, option_map, if◌then◌else◌}
 use Rattle.std.specs.Ordering.{nat_cmp, match_ordering}
 use Rattle.std.specs.declared.cmp.Ordering.{Ordering}
 use Rattle.std.specs.declared.cmp.Ordering.TheVariants.{Less, Equal, Greater}
@@ -8,8 +8,14 @@ use Rattle.std.specs.Map.{lookup, set_value}
 use Rattle.std.specs.BTreeMap.{is_at, insert_entry}
 use Rattle.words.specs.declared.check.Class.{Class}
 use Rattle.words.specs.declared.check.Check.{Check}
-use Rattle.core_tree.specs.Trees.{Procedure, Expression, constant, read, convert, sign, is_zero, arithmetic, compare, logical, choice, assign, update, step, comma, assertion, assumption, draw, Statement, block, if_then, if_else, evaluate, returns, Items, done, declares, initializes, does}
-use Rattle.core_tree.specs.Operations.{is_true}
+use Rattle.c_types.specs.declared.integers.IntegerType.{IntegerType}
+use Rattle.core_tree.specs.declared.operators.ArithmeticOperator.{ArithmeticOperator}
+use Rattle.core_tree.specs.declared.expression.Place.{Place}
+use Rattle.core_tree.specs.declared.expression.Place.TheVariants.{Variable, Object}
+use Rattle.core_tree.specs.Trees.{Procedure, TypedFile, Expression, constant, read, convert, sign, is_zero, arithmetic, compare, logical, choice, assign, update, step, comma, assertion, assumption, draw, part, discard, discard_structure, Structure, copy, load, choose, put, store, follow, section, list, string, Parts, no_part, number_part, structure_part, Statement, block, if_then, if_else, evaluate, returns, Items, done, declares, initializes, initializes_structure, does}
+use Rattle.c_types.specs.Integers.{promoted}
+use Rattle.core_tree.specs.Operations.{is_true, step_operation}
+use Rattle.core_tree.specs.Typed.{place_type}
 use Rattle.actions.specs.declared.action.Action.{Action}
 use Rattle.actions.specs.declared.action.Answer.{Answer}
 use Rattle.actions.specs.declared.action.Next.{Next}
@@ -18,7 +24,7 @@ use Rattle.actions.specs.Behaviour.{Behaviour, Thread, shape_of, has_shape}
 use Rattle.actions.specs.Memory.{Change, keeps, adds, kills, puts, starts, ends}
 use Rattle.actions.specs.Row.{Outcome, breaks, waits, moves}
 use Rattle.c_values.specs.Variables.{Variables, first_variables}
-use Rattle.c_interp.specs.Meaning.{Running, final, ask, unless_broken, eval, decides, draws_words, draws, enter, leaves, exec, exec_items}
+use Rattle.c_interp.specs.Meaning.{Running, final, ask, unless_broken, reads, writes, combined, eval, eval_structure, eval_parts, decides, draws_words, draws, enter, leaves, exec, exec_items}
 use Rattle.c_interp.specs.Source.{running, runs_at, function_behaviour, main_number, source_world}
 use Rattle.interleave.specs.declared.turn.Turn.{Turn}
 use Rattle.interleave.specs.declared.turn.Turn.TheVariants as turned
@@ -56,23 +62,55 @@ module _ (P : ℕ → Type 0) (r : Running) (there : P r.function) where
   unless_speaks None line follows h = h
   unless_speaks (Some class) line follows h = final_speaks P (Broken class line r.function) there
 
-  eval_speaks : (e : Expression) (vs : Variables) (follows : ℕ → Variables → Behaviour) → ((x : ℕ) (after : Variables) → Speaks P (follows x after)) → Speaks P (eval r e vs follows)
-  eval_speaks (constant line t bits) vs follows h = h _ _
-  eval_speaks (read p) vs follows h = h _ _
-  eval_speaks (convert to e) vs follows h = eval_speaks e vs _ (λ x after. h _ _)
-  eval_speaks (sign line op e) vs follows h = eval_speaks e vs _ (λ x after. unless_speaks _ line _ (h _ _))
-  eval_speaks (is_zero line e) vs follows h = eval_speaks e vs _ (λ x after. h _ _)
-  eval_speaks (arithmetic line op a b) vs follows h = eval_speaks a vs _ (λ x after. eval_speaks b after _ (λ y last. unless_speaks _ line _ (h _ _)))
-  eval_speaks (compare line op a b) vs follows h = eval_speaks a vs _ (λ x after. eval_speaks b after _ (λ y last. h _ _))
-  eval_speaks (logical line op a b) vs follows h = eval_speaks a vs _ (λ x after. cond_speaks P (decides op x) _ _ (h _ _) (eval_speaks b after _ (λ y last. h _ _)))
-  eval_speaks (choice line test a b) vs follows h = eval_speaks test vs _ (λ x after. cond_speaks P (is_true x) _ _ (eval_speaks a after follows h) (eval_speaks b after follows h))
-  eval_speaks (assign line p e) vs follows h = eval_speaks e vs _ (λ x after. h _ _)
-  eval_speaks (update line p op t e) vs follows h = eval_speaks e vs _ (λ y after. unless_speaks _ line _ (h _ _))
-  eval_speaks (step line p op before) vs follows h = unless_speaks _ line _ (h _ _)
-  eval_speaks (comma line a b) vs follows h = eval_speaks a vs _ (λ x after. eval_speaks b after follows h)
-  eval_speaks (assertion line e) vs follows h = eval_speaks e vs _ (λ x after. cond_speaks P (is_true x) _ _ (h _ _) (final_speaks P _ there))
-  eval_speaks (assumption line e) vs follows h = eval_speaks e vs _ (λ x after. cond_speaks P (is_true x) _ _ (h _ _) (final_speaks P Blocked tt))
-  eval_speaks (draw line t) vs follows h = ask_speaks _ line _ (λ a. h _ _)
+  reads_speak : (p : Place) (vs : Variables) (follows : ℕ → Variables → Behaviour) → ((x : ℕ) (after : Variables) → Speaks P (follows x after)) → Speaks P (reads r p vs follows)
+  reads_speak (Variable line t v offset) vs follows h = h _ _
+  reads_speak (Object line t k offset) vs follows h = ask_speaks _ line _ (λ a. h _ _)
+
+  writes_speak : (p : Place) (line bits : ℕ) (vs : Variables) (follows : Variables → Behaviour) → ((after : Variables) → Speaks P (follows after)) → Speaks P (writes r p line bits vs follows)
+  writes_speak (Variable at t v offset) line bits vs follows h = h _
+  writes_speak (Object at t k offset) line bits vs follows h = ask_speaks _ line _ (λ a. h _)
+
+  combined_speaks : (p : Place) (op : ArithmeticOperator) (t u : IntegerType) (old y line : ℕ) (vs : Variables) (follows : ℕ → Variables → Behaviour) → ((x : ℕ) (after : Variables) → Speaks P (follows x after))
+      → Speaks P (combined r p op t u old y line vs follows)
+  combined_speaks p op t u old y line vs follows h = unless_speaks _ line _ (writes_speak p line _ vs _ (λ after. h _ after))
+
+  mutual
+    eval_speaks : (e : Expression) (vs : Variables) (follows : ℕ → Variables → Behaviour) → ((x : ℕ) (after : Variables) → Speaks P (follows x after)) → Speaks P (eval r e vs follows)
+    eval_speaks (constant line t bits) vs follows h = h _ _
+    eval_speaks (read p) vs follows h = reads_speak p vs follows h
+    eval_speaks (convert to e) vs follows h = eval_speaks e vs _ (λ x after. h _ _)
+    eval_speaks (sign line op e) vs follows h = eval_speaks e vs _ (λ x after. unless_speaks _ line _ (h _ _))
+    eval_speaks (is_zero line e) vs follows h = eval_speaks e vs _ (λ x after. h _ _)
+    eval_speaks (arithmetic line op a b) vs follows h = eval_speaks a vs _ (λ x after. eval_speaks b after _ (λ y last. unless_speaks _ line _ (h _ _)))
+    eval_speaks (compare line op a b) vs follows h = eval_speaks a vs _ (λ x after. eval_speaks b after _ (λ y last. h _ _))
+    eval_speaks (logical line op a b) vs follows h = eval_speaks a vs _ (λ x after. cond_speaks P (decides op x) _ _ (h _ _) (eval_speaks b after _ (λ y last. h _ _)))
+    eval_speaks (choice line test a b) vs follows h = eval_speaks test vs _ (λ x after. cond_speaks P (is_true x) _ _ (eval_speaks a after follows h) (eval_speaks b after follows h))
+    eval_speaks (assign line p e) vs follows h = eval_speaks e vs _ (λ x after. writes_speak p line x after _ (λ last. h x last))
+    eval_speaks (update line p op t e) vs follows h = eval_speaks e vs _ (λ y after. reads_speak p after _ (λ old last. combined_speaks p op t _ old y line last follows h))
+    eval_speaks (step line p op before) vs follows h = reads_speak p vs _ (λ old after. combined_speaks p (step_operation op) (promoted (place_type p)) (promoted (place_type p)) old 1 line after _ (λ new last. h (if before then new else old) last))
+    eval_speaks (comma line a b) vs follows h = eval_speaks a vs _ (λ x after. eval_speaks b after follows h)
+    eval_speaks (assertion line e) vs follows h = eval_speaks e vs _ (λ x after. cond_speaks P (is_true x) _ _ (h _ _) (final_speaks P _ there))
+    eval_speaks (assumption line e) vs follows h = eval_speaks e vs _ (λ x after. cond_speaks P (is_true x) _ _ (h _ _) (final_speaks P Blocked tt))
+    eval_speaks (draw line t) vs follows h = ask_speaks _ line _ (λ a. h _ _)
+    eval_speaks (part line t offset a) vs follows h = structure_speaks a vs _ (λ block after. h _ _)
+    eval_speaks (discard line e) vs follows h = eval_speaks e vs _ (λ x after. h _ _)
+    eval_speaks (discard_structure a) vs follows h = structure_speaks a vs _ (λ block after. h _ _)
+
+    structure_speaks : (a : Structure) (vs : Variables) (follows : List ℕ → Variables → Behaviour) → ((block : List ℕ) (after : Variables) → Speaks P (follows block after)) → Speaks P (eval_structure r a vs follows)
+    structure_speaks (copy line v offset size) vs follows h = h _ _
+    structure_speaks (load line k offset size) vs follows h = ask_speaks _ line _ (λ a. h _ vs)
+    structure_speaks (choose line test a b) vs follows h = eval_speaks test vs _ (λ x after. cond_speaks P (is_true x) _ _ (structure_speaks a after follows h) (structure_speaks b after follows h))
+    structure_speaks (put line v offset a) vs follows h = structure_speaks a vs _ (λ block after. h _ _)
+    structure_speaks (store line k offset a) vs follows h = structure_speaks a vs _ (λ block after. ask_speaks _ line _ (λ b. h block after))
+    structure_speaks (follow line e a) vs follows h = eval_speaks e vs _ (λ x after. structure_speaks a after follows h)
+    structure_speaks (section line offset size a) vs follows h = structure_speaks a vs _ (λ block after. h _ _)
+    structure_speaks (list line size ps) vs follows h = parts_speak ps _ vs follows h
+    structure_speaks (string line size bytes) vs follows h = h _ _
+
+    parts_speak : (ps : Parts) (so_far : List ℕ) (vs : Variables) (follows : List ℕ → Variables → Behaviour) → ((block : List ℕ) (after : Variables) → Speaks P (follows block after)) → Speaks P (eval_parts r ps so_far vs follows)
+    parts_speak no_part so_far vs follows h = h _ _
+    parts_speak (number_part offset e rest) so_far vs follows h = eval_speaks e vs _ (λ x after. parts_speak rest _ after follows h)
+    parts_speak (structure_part offset a rest) so_far vs follows h = structure_speaks a vs _ (λ block after. parts_speak rest _ after follows h)
 
   words_speak : (words line v offset : ℕ) (vs : Variables) (follows : Variables → Behaviour) → ((after : Variables) → Speaks P (follows after)) → Speaks P (draws_words r words line v offset vs follows)
   words_speak zero line v offset vs follows h = h vs
@@ -85,6 +123,7 @@ module _ (P : ℕ → Type 0) (r : Running) (there : P r.function) where
   enter_speaks done vs follows h = h vs
   enter_speaks (declares line v rest) vs follows h = draws_speaks line v vs _ (λ after. enter_speaks rest after follows h)
   enter_speaks (initializes line v is_drawn e rest) vs follows h = cond_speaks P is_drawn _ _ (draws_speaks line v vs _ (λ after. enter_speaks rest after follows h)) (enter_speaks rest _ follows h)
+  enter_speaks (initializes_structure line v is_drawn a rest) vs follows h = cond_speaks P is_drawn _ _ (draws_speaks line v vs _ (λ after. enter_speaks rest after follows h)) (enter_speaks rest _ follows h)
   enter_speaks (does s rest) vs follows h = enter_speaks rest vs follows h
 
   leaves_speaks : (line x : ℕ) → Speaks P (leaves r line x)
@@ -102,21 +141,22 @@ module _ (P : ℕ → Type 0) (r : Running) (there : P r.function) where
     items_speak done vs follows h = h vs
     items_speak (declares line v rest) vs follows h = items_speak rest vs follows h
     items_speak (initializes line v is_drawn e rest) vs follows h = eval_speaks e vs _ (λ x after. items_speak rest _ follows h)
+    items_speak (initializes_structure line v is_drawn a rest) vs follows h = structure_speaks a vs _ (λ block after. items_speak rest _ follows h)
     items_speak (does s rest) vs follows h = exec_speaks s vs _ (λ after. items_speak rest after follows h)
 
 -- ---- the threads of a file
 
-abbrev pub IsThere : List Procedure → ℕ → Type 0
-IsThere functions number = (name : List ℕ) × (name_in functions number ≡ Some name)
+abbrev pub IsThere : TypedFile → ℕ → Type 0
+IsThere core number = (name : List ℕ) × (name_in core number ≡ Some name)
 
-runs_speak : (functions : List Procedure) (first : Bool) (number : ℕ) (o : Option Procedure) → slice_get functions number ≡ o → Speaks (IsThere functions) (runs_at first number o)
-runs_speak functions first number None e = final_speaks (IsThere functions) Blocked tt
-runs_speak functions first number (Some f) e =
-    let there : IsThere functions number = (f.name, ap (option_map (λ (p : Procedure). p.name)) e) in
-    exec_speaks (IsThere functions) (running first number f) there f.body (first_variables f.variables) _ (λ vs. leaves_speaks (IsThere functions) (running first number f) there f.line 0)
+runs_speak : (core : TypedFile) (first : Bool) (number : ℕ) (o : Option Procedure) → slice_get core.functions number ≡ o → Speaks (IsThere core) (runs_at first number o)
+runs_speak core first number None e = final_speaks (IsThere core) Blocked tt
+runs_speak core first number (Some f) e =
+    let there : IsThere core number = (f.name, ap (option_map (λ (p : Procedure). p.name)) e) in
+    exec_speaks (IsThere core) (running first number f) there f.body (first_variables f.variables) _ (λ vs. leaves_speaks (IsThere core) (running first number f) there f.line 0)
 
-function_speaks : (functions : List Procedure) (first : Bool) (number : ℕ) → Speaks (IsThere functions) (function_behaviour functions first number)
-function_speaks functions first number = runs_speak functions first number (slice_get functions number) refl
+function_speaks : (core : TypedFile) (first : Bool) (number : ℕ) → Speaks (IsThere core) (function_behaviour core.functions first number)
+function_speaks core first number = runs_speak core first number (slice_get core.functions number) refl
 
 -- ---- the states of a run
 
@@ -195,7 +235,7 @@ module _ (P : ℕ → Type 0) where
       subst Breaks r.breaks_there fine
 
 -- The check that a run of a file breaks stands in one of its functions.
-pub broken_there : (functions : List Procedure) (inputs : InputLists) (schedule : List ℕ) (check : Check) → Replays (source_world functions) inputs schedule check → IsThere functions check.function
-broken_there functions inputs schedule check r =
-    replay_fine (IsThere functions) (source_world functions) inputs schedule check
-    (record { itself = function_speaks functions true (main_number functions); others = λ f v. function_speaks functions false f }, tt) r
+pub broken_there : (core : TypedFile) (inputs : InputLists) (schedule : List ℕ) (check : Check) → Replays (source_world core) inputs schedule check → IsThere core check.function
+broken_there core inputs schedule check r =
+    replay_fine (IsThere core) (source_world core) inputs schedule check
+    (record { itself = function_speaks core true (main_number core.functions); others = λ f v. function_speaks core false f }, tt) r

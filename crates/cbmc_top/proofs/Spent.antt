@@ -5,7 +5,7 @@ use Rattle.sat_form.specs.Refutation.{AddsEmpty, IsRefutation}
 use Rattle.sat_form.specs.Budget.{IsSpent}
 use Rattle.sat_form.specs.declared.logs.Entry.{Entry}
 use Rattle.sat_form.specs.declared.logs.Entry.TheVariants.{Added}
-use Rattle.core_tree.specs.Trees.{Procedure}
+use Rattle.core_tree.specs.Trees.{TypedFile}
 use Rattle.core_tree.specs.Ranges.{Limits}
 use Rattle.cbmc_top.specs.Clauses.{IsRefuted, IsUsedUp}
 use Rattle.cbmc_top.specs.declared.used.Used.{Used}
@@ -30,6 +30,6 @@ spent_refutes form log n s r =
     let unit = s.allowed before (Added clause hints) [] is in
     unit.some empty
 
-pub both_spent : (limits : Limits) (m n : ℕ) (functions others : List Procedure) (used other : Used) → used ≡ other → IsUsedUp limits m functions used → IsRefuted limits n others other → ⊥
-both_spent limits m n functions others used other e u r =
+pub both_spent : (limits : Limits) (m n : ℕ) (core others : TypedFile) (used other : Used) → used ≡ other → IsUsedUp limits m core used → IsRefuted limits n others other → ⊥
+both_spent limits m n core others used other e u r =
     let here : IsRefuted limits n others used = subst (IsRefuted limits n others) (sym e) r in spent_refutes used.form.clauses used.log m u.spent here.refutes

@@ -9,7 +9,7 @@ use Rattle.c_tree.specs.Statements.{Externals}
 use Rattle.c_tree.specs.Files.{IsFile}
 use Rattle.c_parse_expr.specs.Standing.{line_at}
 use Rattle.c_parse_decl.specs.Standing.{EndsAt}
-use Rattle.core_tree.specs.Trees.{Procedure}
+use Rattle.core_tree.specs.Trees.{TypedFile}
 use Rattle.core_tree.specs.Ranges.{Limits}
 use Rattle.core_tree.specs.declared.refusal.Limit.{Limit}
 use Rattle.core_tree.specs.declared.refusal.Limit.TheVariants.{Tokens}
@@ -39,17 +39,17 @@ stop_map stops.Memory P Q f x = tt
 pub from_tokens : (limits : Limits) (budget : ℕ) (file : List ℕ) (tokens : List Token) (o : Option Answer) (a : Answer) → length file ≤ 1048576 → IsCutInto file (Ok tokens) → screened tokens ≡ o → AtTokens limits budget file tokens o a → Decides limits budget file a
 from_tokens limits budget file tokens o a short cut is on = inr (record { short = short; found = Ok tokens; cut = cut; on = subst (λ x. AtTokens limits budget file tokens x a) (sym is) on })
 
-pub from_typing : (limits : Limits) (budget : ℕ) (bytes : List ℕ) (tokens : List Token) (tree : Externals) (r : Result (List Procedure) Fault) (a : Answer) → IsFile bytes tokens tree → elaborated tree ≡ r → AtTyping limits budget r a → HasTree limits budget bytes tokens a
+pub from_typing : (limits : Limits) (budget : ℕ) (bytes : List ℕ) (tokens : List Token) (tree : Externals) (r : Result (TypedFile) Fault) (a : Answer) → IsFile bytes tokens tree → elaborated tree ≡ r → AtTyping limits budget r a → HasTree limits budget bytes tokens a
 from_typing limits budget bytes tokens tree r a is_tree is on = record { tree = tree; is_tree = is_tree; on = subst (λ x. AtTyping limits budget x a) (sym is) on }
 
 pub no_typing : (limits : Limits) (budget : ℕ) (bytes : List ℕ) (tokens : List Token) (tree : Externals) (a : Answer) → IsFile bytes tokens tree → HasNoTyping tree a → HasTree limits budget bytes tokens a
 no_typing limits budget bytes tokens tree a is_tree x = from_typing limits budget bytes tokens tree (Err x.0) a is_tree x.1 x.2
 
-from_profile : (limits : Limits) (budget : ℕ) (functions : List Procedure) (o : Option Breach) (a : Answer) → first_breach functions ≡ o → AtProfile limits budget functions o a → AtTyping limits budget (Ok functions) a
-from_profile limits budget functions o a is on = subst (λ x. AtProfile limits budget functions x a) (sym is) on
+from_profile : (limits : Limits) (budget : ℕ) (core : TypedFile) (o : Option Breach) (a : Answer) → first_breach core ≡ o → AtProfile limits budget core o a → AtTyping limits budget (Ok core) a
+from_profile limits budget core o a is on = subst (λ x. AtProfile limits budget core x a) (sym is) on
 
-pub outside : (limits : Limits) (budget : ℕ) (bytes : List ℕ) (tokens : List Token) (tree : Externals) (functions : List Procedure) (a : Answer) → IsFile bytes tokens tree → elaborated tree ≡ Ok functions → IsOutside functions a → HasTree limits budget bytes tokens a
-outside limits budget bytes tokens tree functions a is_tree typed x = from_typing limits budget bytes tokens tree (Ok functions) a is_tree typed (from_profile limits budget functions (Some x.0) a x.1 x.2)
+pub outside : (limits : Limits) (budget : ℕ) (bytes : List ℕ) (tokens : List Token) (tree : Externals) (core : TypedFile) (a : Answer) → IsFile bytes tokens tree → elaborated tree ≡ Ok core → IsOutside core a → HasTree limits budget bytes tokens a
+outside limits budget bytes tokens tree core a is_tree typed x = from_typing limits budget bytes tokens tree (Ok core) a is_tree typed (from_profile limits budget core (Some x.0) a x.1 x.2)
 
 -- ---- files that are accepted
 
@@ -69,9 +69,9 @@ there_none [] n le = refl
 there_none (t ∷ ts) zero le = absurd (omega (arith, le))
 there_none (t ∷ ts) (suc n) le = there_none ts n (omega (arith, le))
 
-pub is_accepted : (file : List ℕ) (tokens : List Token) (tree : Externals) (functions : List Procedure) → length file ≤ 1048576 → IsCutInto file (Ok tokens) → screened tokens ≡ None → IsFile (bytes_of file) tokens tree → elaborated tree ≡ Ok functions
-    → first_breach functions ≡ None → IsAccepted file functions
-is_accepted file tokens tree functions short cut fine is_tree typed in_profile =
+pub is_accepted : (file : List ℕ) (tokens : List Token) (tree : Externals) (core : TypedFile) → length file ≤ 1048576 → IsCutInto file (Ok tokens) → screened tokens ≡ None → IsFile (bytes_of file) tokens tree → elaborated tree ≡ Ok core
+    → first_breach core ≡ None → IsAccepted file core
+is_accepted file tokens tree core short cut fine is_tree typed in_profile =
     let x = nothing_stops (directive_line tokens) (extra_line tokens) fine in
     record {
       short = short;
@@ -82,15 +82,15 @@ is_accepted file tokens tree functions short cut fine is_tree typed in_profile =
 fine_tokens : (tokens : List Token) → directive_line tokens ≡ None → length tokens ≤ 200000 → screened tokens ≡ None
 fine_tokens tokens plain few = ap (λ o. stops_at o (extra_line tokens)) plain ∙ ap (λ o. stops_at None o) (there_none tokens 200000 few)
 
-pub accepted_decides : (limits : Limits) (budget : ℕ) (file : List ℕ) (functions : List Procedure) (o : Option Limit) (a : Answer) → IsAccepted file functions → passed functions limits ≡ o → AtCounts limits budget functions o a → Decides limits budget file a
-accepted_decides limits budget file functions o a x is on =
+pub accepted_decides : (limits : Limits) (budget : ℕ) (file : List ℕ) (core : TypedFile) (o : Option Limit) (a : Answer) → IsAccepted file core → passed core limits ≡ o → AtCounts limits budget core o a → Decides limits budget file a
+accepted_decides limits budget file core o a x is on =
     let p = x.program in
-    let counts : AtCounts limits budget functions (passed functions limits) a = subst (λ y. AtCounts limits budget functions y a) (sym is) on in
+    let counts : AtCounts limits budget core (passed core limits) a = subst (λ y. AtCounts limits budget core y a) (sym is) on in
     from_tokens limits budget file p.tokens None a x.short p.cut (fine_tokens p.tokens p.plain x.few)
-    (inr (from_typing limits budget (bytes_of file) p.tokens p.tree (Ok functions) a p.is_tree p.typed (from_profile limits budget functions None a p.in_profile counts)))
+    (inr (from_typing limits budget (bytes_of file) p.tokens p.tree (Ok core) a p.is_tree p.typed (from_profile limits budget core None a p.in_profile counts)))
 
-pub accepted_passed : (limits : Limits) (budget : ℕ) (file : List ℕ) (functions : List Procedure) (a : Answer) → IsAccepted file functions → IsPassed limits functions a → Decides limits budget file a
-accepted_passed limits budget file functions a x p = accepted_decides limits budget file functions (Some p.0) a x p.1 p.2
+pub accepted_passed : (limits : Limits) (budget : ℕ) (file : List ℕ) (core : TypedFile) (a : Answer) → IsAccepted file core → IsPassed limits core a → Decides limits budget file a
+accepted_passed limits budget file core a x p = accepted_decides limits budget file core (Some p.0) a x p.1 p.2
 
 -- ---- from an answer of the search to the program
 
@@ -112,13 +112,13 @@ stop_no_search (Some l) (Some m) s e of_search = elim (nat_le l m) as (λ b. con
 
 -- what the answer says of the program of the file
 pub record Told (limits : Limits) (budget : ℕ) (file : List ℕ) (answer : Answer) : Type 0 where
-  pub functions : List Procedure
-  pub program : IsFileOf file functions
-  pub after : AfterCounts limits budget functions answer
+  pub core : TypedFile
+  pub program : IsFileOf file core
+  pub after : AfterCounts limits budget core answer
 
-told_counts : (limits : Limits) (budget : ℕ) (file : List ℕ) (functions : List Procedure) (o : Option Limit) (a : Answer) → IsOfSearch a → IsFileOf file functions → AtCounts limits budget functions o a → Told limits budget file a
-told_counts limits budget file functions None a of_search p on = record { functions = functions; program = p; after = on }
-told_counts limits budget file functions (Some l) a of_search p on = absurd (no_search a (limited l) (λ x. x) on of_search)
+told_counts : (limits : Limits) (budget : ℕ) (file : List ℕ) (core : TypedFile) (o : Option Limit) (a : Answer) → IsOfSearch a → IsFileOf file core → AtCounts limits budget core o a → Told limits budget file a
+told_counts limits budget file core None a of_search p on = record { core = core; program = p; after = on }
+told_counts limits budget file core (Some l) a of_search p on = absurd (no_search a (limited l) (λ x. x) on of_search)
 
 -- a file's tokens and tree, as far as they have come
 record HasCome (file : List ℕ) (tokens : List Token) (tree : Externals) : Type 0 where
@@ -126,14 +126,14 @@ record HasCome (file : List ℕ) (tokens : List Token) (tree : Externals) : Type
   plain : directive_line tokens ≡ None
   is_tree : IsFile (bytes_of file) tokens tree
 
-told_profile : (limits : Limits) (budget : ℕ) (file : List ℕ) (tokens : List Token) (tree : Externals) (functions : List Procedure) (o : Option Breach) (a : Answer) → IsOfSearch a → HasCome file tokens tree → elaborated tree ≡ Ok functions → first_breach functions ≡ o
-    → AtProfile limits budget functions o a → Told limits budget file a
-told_profile limits budget file tokens tree functions None a of_search h typed is on =
-    told_counts limits budget file functions (passed functions limits) a of_search (record { tokens = tokens; cut = h.cut; plain = h.plain; tree = tree; is_tree = h.is_tree; typed = typed; in_profile = is }) on
-told_profile limits budget file tokens tree functions (Some b) a of_search h typed is on = absurd (no_search a (refusal 12 b.line (Some b.rule)) (λ x. x) on of_search)
+told_profile : (limits : Limits) (budget : ℕ) (file : List ℕ) (tokens : List Token) (tree : Externals) (core : TypedFile) (o : Option Breach) (a : Answer) → IsOfSearch a → HasCome file tokens tree → elaborated tree ≡ Ok core → first_breach core ≡ o
+    → AtProfile limits budget core o a → Told limits budget file a
+told_profile limits budget file tokens tree core None a of_search h typed is on =
+    told_counts limits budget file core (passed core limits) a of_search (record { tokens = tokens; cut = h.cut; plain = h.plain; tree = tree; is_tree = h.is_tree; typed = typed; in_profile = is }) on
+told_profile limits budget file tokens tree core (Some b) a of_search h typed is on = absurd (no_search a (refusal 12 b.line (Some b.rule)) (λ x. x) on of_search)
 
-told_typing : (limits : Limits) (budget : ℕ) (file : List ℕ) (tokens : List Token) (tree : Externals) (r : Result (List Procedure) Fault) (a : Answer) → IsOfSearch a → HasCome file tokens tree → elaborated tree ≡ r → AtTyping limits budget r a → Told limits budget file a
-told_typing limits budget file tokens tree (Ok functions) a of_search h is on = told_profile limits budget file tokens tree functions (first_breach functions) a of_search h is refl on
+told_typing : (limits : Limits) (budget : ℕ) (file : List ℕ) (tokens : List Token) (tree : Externals) (r : Result (TypedFile) Fault) (a : Answer) → IsOfSearch a → HasCome file tokens tree → elaborated tree ≡ r → AtTyping limits budget r a → Told limits budget file a
+told_typing limits budget file tokens tree (Ok core) a of_search h is on = told_profile limits budget file tokens tree core (first_breach core) a of_search h is refl on
 told_typing limits budget file tokens tree (Err f) a of_search h is on = absurd (no_search a (refused (typing_cause f)) (λ x. x) on of_search)
 
 told_tree : (limits : Limits) (budget : ℕ) (file : List ℕ) (tokens : List Token) (a : Answer) → IsOfSearch a → IsCutInto file (Ok tokens) → directive_line tokens ≡ None → AtTree limits budget file tokens a → Told limits budget file a
@@ -157,36 +157,36 @@ told limits budget file a of_search (inr x) = told_lexing limits budget file x.f
 abbrev pub Same : Answer → Answer → Type 0
 Same a b = (a ≡ b) ⊎ (IsOfSearch a × IsOfSearch b)
 
-search_of : (limits : Limits) (budget : ℕ) (functions : List Procedure) (a : Answer) → AfterCounts limits budget functions a → IsOfSearch a
-search_of limits budget functions usage x = x
-search_of limits budget functions read_fault x = x
-search_of limits budget functions (limited l) x = x
-search_of limits budget functions (refused c) x = x
-search_of limits budget functions (successful used) x = tt
-search_of limits budget functions (failed f) x = tt
-search_of limits budget functions (used_up used) x = tt
+search_of : (limits : Limits) (budget : ℕ) (core : TypedFile) (a : Answer) → AfterCounts limits budget core a → IsOfSearch a
+search_of limits budget core usage x = x
+search_of limits budget core read_fault x = x
+search_of limits budget core (limited l) x = x
+search_of limits budget core (refused c) x = x
+search_of limits budget core (successful used) x = tt
+search_of limits budget core (failed f) x = tt
+search_of limits budget core (used_up used) x = tt
 
-both_counts : (limits : Limits) (budget : ℕ) (functions : List Procedure) (o : Option Limit) (a b : Answer) → AtCounts limits budget functions o a → AtCounts limits budget functions o b → Same a b
-both_counts limits budget functions None a b x y = inr (search_of limits budget functions a x, search_of limits budget functions b y)
-both_counts limits budget functions (Some l) a b x y = inl (x ∙ sym y)
+both_counts : (limits : Limits) (budget : ℕ) (core : TypedFile) (o : Option Limit) (a b : Answer) → AtCounts limits budget core o a → AtCounts limits budget core o b → Same a b
+both_counts limits budget core None a b x y = inr (search_of limits budget core a x, search_of limits budget core b y)
+both_counts limits budget core (Some l) a b x y = inl (x ∙ sym y)
 
-both_profile : (limits : Limits) (budget : ℕ) (functions : List Procedure) (o : Option Breach) (a b : Answer) → AtProfile limits budget functions o a → AtProfile limits budget functions o b → Same a b
-both_profile limits budget functions None a b x y = both_counts limits budget functions (passed functions limits) a b x y
-both_profile limits budget functions (Some l) a b x y = inl (x ∙ sym y)
+both_profile : (limits : Limits) (budget : ℕ) (core : TypedFile) (o : Option Breach) (a b : Answer) → AtProfile limits budget core o a → AtProfile limits budget core o b → Same a b
+both_profile limits budget core None a b x y = both_counts limits budget core (passed core limits) a b x y
+both_profile limits budget core (Some l) a b x y = inl (x ∙ sym y)
 
-both_typing : (limits : Limits) (budget : ℕ) (r : Result (List Procedure) Fault) (a b : Answer) → AtTyping limits budget r a → AtTyping limits budget r b → Same a b
-both_typing limits budget (Ok functions) a b x y = both_profile limits budget functions (first_breach functions) a b x y
+both_typing : (limits : Limits) (budget : ℕ) (r : Result (TypedFile) Fault) (a b : Answer) → AtTyping limits budget r a → AtTyping limits budget r b → Same a b
+both_typing limits budget (Ok core) a b x y = both_profile limits budget core (first_breach core) a b x y
 both_typing limits budget (Err f) a b x y = inl (x ∙ sym y)
 
-safe_breaks : (limits : Limits) (functions : List Procedure) (f : Failure) → IsVerified limits functions → IsFailure limits functions f → ⊥
-safe_breaks limits functions f v x = let fine = v.within f.inputs (turns_of f.rows) in let broken = x.replays.breaks in cc
+safe_breaks : (limits : Limits) (core : TypedFile) (f : Failure) → IsVerified limits core → IsFailure limits core f → ⊥
+safe_breaks limits core f v x = let fine = v.within f.inputs (turns_of f.rows) in let broken = x.replays.breaks in cc
 
 ok_is : {A B : Type 0} {a b : A} (x : Result A B) → x ≡ Ok a → x ≡ Ok b → a ≡ b
 ok_is x p q = cc
 
 module _ (one_cut : (file : List ℕ) (a b : Result (List Token) LexError) → IsCutInto file a → IsCutInto file b → a ≡ b)
     (one_tree : (bytes : List ℕ) (tokens : List Token) (a b : Externals) → IsFile bytes tokens a → IsFile bytes tokens b → a ≡ b) where
-  pub one_program : (file : List ℕ) (some others : List Procedure) → IsFileOf file some → IsFileOf file others → some ≡ others
+  pub one_program : (file : List ℕ) (some others : TypedFile) → IsFileOf file some → IsFileOf file others → some ≡ others
   one_program file some others p q =
       let tokens : p.tokens ≡ q.tokens = ok_is (Ok p.tokens) refl (one_cut file (Ok p.tokens) (Ok q.tokens) p.cut q.cut) in
       let tree : p.tree ≡ q.tree = one_tree (bytes_of file) q.tokens p.tree q.tree (subst (λ ts. IsFile (bytes_of file) ts p.tree) tokens p.is_tree) q.is_tree in
@@ -196,24 +196,24 @@ module _ (one_cut : (file : List ℕ) (a b : Result (List Token) LexError) → I
   one_verdict limits budget other file used f x y =
       let p = told limits budget file (successful used) tt x in
       let q = told limits other file (failed f) tt y in
-      safe_breaks limits p.functions f p.after.0 (subst (λ fs. IsFailure limits fs f) (one_program file q.functions p.functions q.program p.program) q.after)
+      safe_breaks limits p.core f p.after.0 (subst (λ fs. IsFailure limits fs f) (one_program file q.core p.core q.program p.program) q.after)
 
-  counts_of_tree : (limits : Limits) (budget : ℕ) (file : List ℕ) (functions : List Procedure) (p : IsFileOf file functions) (a : Answer) → AtTree limits budget file p.tokens a → AtCounts limits budget functions (passed functions limits) a
-  counts_of_tree limits budget file functions p a (inl n) = absurd (n.none p.tree p.is_tree)
-  counts_of_tree limits budget file functions p a (inr t) =
+  counts_of_tree : (limits : Limits) (budget : ℕ) (file : List ℕ) (core : TypedFile) (p : IsFileOf file core) (a : Answer) → AtTree limits budget file p.tokens a → AtCounts limits budget core (passed core limits) a
+  counts_of_tree limits budget file core p a (inl n) = absurd (n.none p.tree p.is_tree)
+  counts_of_tree limits budget file core p a (inr t) =
       let tree : t.tree ≡ p.tree = one_tree (bytes_of file) p.tokens t.tree p.tree t.is_tree p.is_tree in
-      let typing : AtTyping limits budget (Ok functions) a = subst (λ r. AtTyping limits budget r a) (ap elaborated tree ∙ p.typed) t.on in
-      subst (λ o. AtProfile limits budget functions o a) p.in_profile typing
+      let typing : AtTyping limits budget (Ok core) a = subst (λ r. AtTyping limits budget r a) (ap elaborated tree ∙ p.typed) t.on in
+      subst (λ o. AtProfile limits budget core o a) p.in_profile typing
 
-  pub counts_of : (limits : Limits) (budget : ℕ) (file : List ℕ) (functions : List Procedure) (a : Answer) → IsAccepted file functions → Decides limits budget file a → AtCounts limits budget functions (passed functions limits) a
-  counts_of limits budget file functions a x (inl long) = let short = x.short in absurd (omega (arith, long.0, short))
-  counts_of limits budget file functions a x (inr r) =
+  pub counts_of : (limits : Limits) (budget : ℕ) (file : List ℕ) (core : TypedFile) (a : Answer) → IsAccepted file core → Decides limits budget file a → AtCounts limits budget core (passed core limits) a
+  counts_of limits budget file core a x (inl long) = let short = x.short in absurd (omega (arith, long.0, short))
+  counts_of limits budget file core a x (inr r) =
       let p = x.program in
       let lexing : AtLexing limits budget file (Ok p.tokens) a = subst (λ f. AtLexing limits budget file f a) (one_cut file r.found (Ok p.tokens) r.cut p.cut) r.on in
-      counts_of_tree limits budget file functions p a (subst (λ o. AtTokens limits budget file p.tokens o a) (fine_tokens p.tokens p.plain x.few) lexing)
+      counts_of_tree limits budget file core p a (subst (λ o. AtTokens limits budget file p.tokens o a) (fine_tokens p.tokens p.plain x.few) lexing)
 
-  pub runs_answer : (limits : Limits) (budget : ℕ) (file : List ℕ) (functions : List Procedure) (a : Answer) → IsCheckable limits file functions → Decides limits budget file a → AfterCounts limits budget functions a
-  runs_answer limits budget file functions a x d = subst (λ o. AtCounts limits budget functions o a) x.counts (counts_of limits budget file functions a x.accepted d)
+  pub runs_answer : (limits : Limits) (budget : ℕ) (file : List ℕ) (core : TypedFile) (a : Answer) → IsCheckable limits file core → Decides limits budget file a → AfterCounts limits budget core a
+  runs_answer limits budget file core a x d = subst (λ o. AtCounts limits budget core o a) x.counts (counts_of limits budget file core a x.accepted d)
 
   module _ (one_rest : (bytes : List ℕ) (tokens a b : List Token) → EndsAt bytes tokens a → EndsAt bytes tokens b → a ≡ b) where
     both_tree : (limits : Limits) (budget : ℕ) (file : List ℕ) (tokens : List Token) (a b : Answer) → AtTree limits budget file tokens a → AtTree limits budget file tokens b → Same a b

@@ -1,5 +1,5 @@
 -- What the checker may answer.
-use Rattle.std.specs.Prelude.{◌≡◌, ◌==◌, ◌⊎◌, ℕ, ◌<◌, ◌≤◌, true, false, nat_le, List, [], ◌∷◌, ◌++◌, length, slice_get, Option, Some, None, option_map, replicate, if◌then◌else◌, codes, IfSome, Result, Ok, Err}
+use Rattle.std.specs.Prelude.{◌≡◌, ◌⊎◌, ℕ, ◌<◌, ◌≤◌, true, false, nat_le, List, [], ◌∷◌, ◌++◌, length, slice_get, Option, Some, None, option_map, replicate, if◌then◌else◌, codes, IfSome, Result, Ok, Err}
 use Rattle.std.specs.List.{flat_map}
 use Rattle.words.specs.declared.check.Check.{Check}
 use Rattle.outside.specs.Sink.{appended}
@@ -11,7 +11,7 @@ use Rattle.c_tree.specs.Statements.{Externals}
 use Rattle.c_tree.specs.Files.{IsFile}
 use Rattle.c_parse_expr.specs.Standing.{line_at}
 use Rattle.c_parse_decl.specs.Standing.{EndsAt}
-use Rattle.core_tree.specs.Trees.{Procedure}
+use Rattle.core_tree.specs.Trees.{TypedFile}
 use Rattle.core_tree.specs.Ranges.{Limits, Cause}
 use Rattle.core_tree.specs.declared.refusal.Limit.{Limit}
 use Rattle.core_tree.specs.declared.refusal.Limit.TheVariants.{FileBytes, Tokens}
@@ -80,17 +80,17 @@ abbrev pub turns_of : List (ℕ × ℕ) → List ℕ
 turns_of rows = flat_map (λ (row : ℕ × ℕ). replicate row.1 row.0) rows
 
 -- the name of the function with this number
-abbrev pub name_in : List Procedure → ℕ → Option (List ℕ)
-name_in functions number = option_map (λ f. f.name) (slice_get functions number)
+abbrev pub name_in : TypedFile → ℕ → Option (List ℕ)
+name_in core number = option_map (λ f. f.name) (slice_get core.functions number)
 
 -- The failure is a run of the program that breaks a check: on its inputs and its turns, the run breaks exactly the check of
 -- this class, on this line, of this function and this thread.
-pub record IsFailure (limits : Limits) (functions : List Procedure) (f : Failure) : Type 0 where
+pub record IsFailure (limits : Limits) (core : TypedFile) (f : Failure) : Type 0 where
   pub check : Check
-  pub replays : Replays (bounded_world limits functions) f.inputs (turns_of f.rows) check
+  pub replays : Replays (bounded_world limits core) f.inputs (turns_of f.rows) check
   pub class : f.class ≡ check.class
   pub line : f.line ≡ check.line
-  pub function : name_in functions check.function ≡ Some f.function
+  pub function : name_in core check.function ≡ Some f.function
   pub thread : f.thread ≡ check.thread
   pub told : IsTold f
 
@@ -100,34 +100,32 @@ abbrev pub refusal : ℕ → ℕ → Option ℕ → Answer
 refusal n l r = refused (record { number = n; line = l; rule = r })
 
 -- the search of its runs
-abbrev pub AfterCounts : Limits → ℕ → List Procedure → Answer → Type 0
-AfterCounts limits budget functions usage = ⊥
-AfterCounts limits budget functions read_fault = ⊥
-AfterCounts limits budget functions (limited limit) = ⊥
-AfterCounts limits budget functions (refused cause) = ⊥
-AfterCounts limits budget functions (successful used) = IsVerified limits functions × IsRefuted limits budget functions used
-AfterCounts limits budget functions (failed f) = IsFailure limits functions f
-AfterCounts limits budget functions (used_up used) = IsUsedUp limits budget functions used
+abbrev pub AfterCounts : Limits → ℕ → TypedFile → Answer → Type 0
+AfterCounts limits budget core usage = ⊥
+AfterCounts limits budget core read_fault = ⊥
+AfterCounts limits budget core (limited limit) = ⊥
+AfterCounts limits budget core (refused cause) = ⊥
+AfterCounts limits budget core (successful used) = IsVerified limits core × IsRefuted limits budget core used
+AfterCounts limits budget core (failed f) = IsFailure limits core f
+AfterCounts limits budget core (used_up used) = IsUsedUp limits budget core used
 
 -- a count passes its limit
-abbrev pub AtCounts : Limits → ℕ → List Procedure → Option Limit → Answer → Type 0
-AtCounts limits budget functions (Some limit) answer = answer ≡ limited limit
-AtCounts limits budget functions None answer = AfterCounts limits budget functions answer
+abbrev pub AtCounts : Limits → ℕ → TypedFile → Option Limit → Answer → Type 0
+AtCounts limits budget core (Some limit) answer = answer ≡ limited limit
+AtCounts limits budget core None answer = AfterCounts limits budget core answer
 
 -- a rule of the profile is broken
-abbrev pub AtProfile : Limits → ℕ → List Procedure → Option Breach → Answer → Type 0
-AtProfile limits budget functions (Some b) answer = answer ≡ refusal 12 b.line (Some b.rule)
-AtProfile limits budget functions None answer = AtCounts limits budget functions (passed functions limits) answer
+abbrev pub AtProfile : Limits → ℕ → TypedFile → Option Breach → Answer → Type 0
+AtProfile limits budget core (Some b) answer = answer ≡ refusal 12 b.line (Some b.rule)
+AtProfile limits budget core None answer = AtCounts limits budget core (passed core limits) answer
 
--- The cause of a refusal by typing. A form that has no typing yet, told as rule 0, is refused as no syntax, on the line of its
--- external declaration.
 abbrev pub typing_cause : Fault → Cause
-typing_cause f = if f.rule == 0 then record { number = 10; line = f.line; rule = None } else record { number = 11; line = f.line; rule = Some f.rule }
+typing_cause f = record { number = 11; line = f.line; rule = Some f.rule }
 
 -- a rule of typing is broken
-abbrev pub AtTyping : Limits → ℕ → Result (List Procedure) Fault → Answer → Type 0
+abbrev pub AtTyping : Limits → ℕ → Result TypedFile Fault → Answer → Type 0
 AtTyping limits budget (Err f) answer = answer ≡ refused (typing_cause f)
-AtTyping limits budget (Ok functions) answer = AtProfile limits budget functions (first_breach functions) answer
+AtTyping limits budget (Ok core) answer = AtProfile limits budget core (first_breach core) answer
 
 -- the tokens are no file: the first external declaration that has no tree stands at the rest
 pub record HasNoTree (bytes : List ℕ) (last_line : ℕ) (tokens : List Token) (answer : Answer) : Type 0 where

@@ -4,7 +4,7 @@ use Rattle.sat_form.specs.Satisfaction.{Literal, Form}
 use Rattle.sat_form.specs.Refutation.{IsRefutation}
 use Rattle.sat_form.specs.Budget.{IsSpent}
 use Rattle.word_dag.specs.declared.nodes.Node.{Node}
-use Rattle.core_tree.specs.Trees.{Procedure}
+use Rattle.core_tree.specs.Trees.{TypedFile}
 use Rattle.core_tree.specs.Ranges.{Limits}
 use Rattle.mem_seq.specs.declared.formula.Formula.{Formula}
 use Rattle.mem_seq.specs.Formulas.{IsFormula, FormulaIn}
@@ -15,21 +15,21 @@ use Rattle.cbmc_top.specs.declared.used.Used.{Used}
 
 -- The form is that of the program: there are nodes of a word graph and a formula over them, which is one of the program's runs
 -- within the bounds, and the form is exactly the clauses of the nodes under the formula's goal, and the goal's own clause.
-pub record IsFormOf (limits : Limits) (functions : List Procedure) (form : Form) : Type 0 where
+pub record IsFormOf (limits : Limits) (core : TypedFile) (form : Form) : Type 0 where
   pub nodes : List Node
   pub formula : Formula
   pub within : FormulaIn nodes formula
-  pub of_runs : IsFormula (bounded_world limits functions) nodes formula
+  pub of_runs : IsFormula (bounded_world limits core) nodes formula
   pub variables : List (List Literal)
   pub blasted : IsBlasted nodes formula.goal.index variables form
 
 -- the log refutes the program's clauses, with at most n units
-pub record IsRefuted (limits : Limits) (n : ℕ) (functions : List Procedure) (used : Used) : Type 0 where
-  pub form : IsFormOf limits functions used.form
+pub record IsRefuted (limits : Limits) (n : ℕ) (core : TypedFile) (used : Used) : Type 0 where
+  pub form : IsFormOf limits core used.form
   pub refutes : IsRefutation used.form.clauses used.log
   pub few : unit_count used.log ≤ n
 
 -- the log is one of the program's clauses that has spent n units
-pub record IsUsedUp (limits : Limits) (n : ℕ) (functions : List Procedure) (used : Used) : Type 0 where
-  pub form : IsFormOf limits functions used.form
+pub record IsUsedUp (limits : Limits) (n : ℕ) (core : TypedFile) (used : Used) : Type 0 where
+  pub form : IsFormOf limits core used.form
   pub spent : IsSpent used.form.clauses used.log n

@@ -6,7 +6,7 @@ use Rattle.c_lexer.specs.Cutting.{IsCutInto, bytes_of}
 use Rattle.c_parse_expr.specs.Reading.{is_mark}
 use Rattle.c_tree.specs.Statements.{Externals}
 use Rattle.c_tree.specs.Files.{IsFile}
-use Rattle.core_tree.specs.Trees.{Procedure}
+use Rattle.core_tree.specs.Trees.{TypedFile}
 use Rattle.core_tree.specs.Ranges.{Limits}
 use Rattle.c_elab_decl.specs.Files.{elaborated}
 use Rattle.c_profile.specs.Rules.{first_breach}
@@ -16,24 +16,24 @@ use Rattle.goto_unwind.specs.Counts.{passed}
 abbrev pub directive_line : List Token → Option ℕ
 directive_line tokens = option_map (λ t. t.line) (find (λ t. is_mark Hash t.kind) tokens)
 
--- The functions are the program of the file: its tokens have no directive, its one tree has this typing, and that breaks no
+-- The typed tree is the program of the file: its tokens have no directive, its one tree has this typing, and that breaks no
 -- rule of the profile.
-pub record IsFileOf (bytes : List ℕ) (functions : List Procedure) : Type 0 where
+pub record IsFileOf (bytes : List ℕ) (core : TypedFile) : Type 0 where
   pub tokens : List Token
   pub cut : IsCutInto bytes (Ok tokens)
   pub plain : directive_line tokens ≡ None
   pub tree : Externals
   pub is_tree : IsFile (bytes_of bytes) tokens tree
-  pub typed : elaborated tree ≡ Ok functions
-  pub in_profile : first_breach functions ≡ None
+  pub typed : elaborated tree ≡ Ok core
+  pub in_profile : first_breach core ≡ None
 
 -- The same, with no more bytes and tokens than are accepted.
-pub record IsAccepted (bytes : List ℕ) (functions : List Procedure) : Type 0 where
+pub record IsAccepted (bytes : List ℕ) (core : TypedFile) : Type 0 where
   pub short : length bytes ≤ 1048576
-  pub program : IsFileOf bytes functions
+  pub program : IsFileOf bytes core
   pub few : length program.tokens ≤ 200000
 
 -- The same, and under these bounds no count passes its limit.
-pub record IsCheckable (limits : Limits) (bytes : List ℕ) (functions : List Procedure) : Type 0 where
-  pub accepted : IsAccepted bytes functions
-  pub counts : passed functions limits ≡ None
+pub record IsCheckable (limits : Limits) (bytes : List ℕ) (core : TypedFile) : Type 0 where
+  pub accepted : IsAccepted bytes core
+  pub counts : passed core limits ≡ None

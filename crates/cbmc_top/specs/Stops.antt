@@ -1,6 +1,6 @@
 -- What the code's reasons for not going on say.
-use Rattle.std.specs.Prelude.{◌≡◌, List, Some, Err}
-use Rattle.core_tree.specs.Trees.{Procedure}
+use Rattle.std.specs.Prelude.{◌≡◌, Some, Err}
+use Rattle.core_tree.specs.Trees.{TypedFile}
 use Rattle.core_tree.specs.Ranges.{Limits}
 use Rattle.core_tree.specs.declared.refusal.Limit.{Limit}
 use Rattle.c_tree.specs.Statements.{Externals}
@@ -18,14 +18,14 @@ StopsWith (stops.Refused r) allowed = allowed (refused r)
 StopsWith (stops.Limited l) allowed = allowed (limited l)
 StopsWith stops.Memory allowed = Unit {0}
 
--- a rule of typing is broken, or a form has no typing yet
+-- a rule of typing is broken
 abbrev pub HasNoTyping : Externals → Answer → Type 0
 HasNoTyping tree answer = (f : Fault) × (elaborated tree ≡ Err f) × (answer ≡ refused (typing_cause f))
 
 -- a rule of the profile is broken
-abbrev pub IsOutside : List Procedure → Answer → Type 0
-IsOutside functions answer = (b : Breach) × (first_breach functions ≡ Some b) × (answer ≡ refusal 12 b.line (Some b.rule))
+abbrev pub IsOutside : TypedFile → Answer → Type 0
+IsOutside core answer = (b : Breach) × (first_breach core ≡ Some b) × (answer ≡ refusal 12 b.line (Some b.rule))
 
 -- a count passes its limit
-abbrev pub IsPassed : Limits → List Procedure → Answer → Type 0
-IsPassed limits functions answer = (limit : Limit) × (passed functions limits ≡ Some limit) × (answer ≡ limited limit)
+abbrev pub IsPassed : Limits → TypedFile → Answer → Type 0
+IsPassed limits core answer = (limit : Limit) × (passed core limits ≡ Some limit) × (answer ≡ limited limit)

@@ -9,7 +9,7 @@ use Rattle.word_dag.specs.declared.nodes.Node.{Node}
 use Rattle.word_dag.specs.Meaning.{value, valuation_of}
 use Rattle.bit_blast.specs.Steps.{IsBlasted}
 use Rattle.cdcl_core.specs.Answers.{unit_count}
-use Rattle.core_tree.specs.Trees.{Procedure}
+use Rattle.core_tree.specs.Trees.{TypedFile}
 use Rattle.core_tree.specs.Ranges.{Limits}
 use Rattle.interleave.specs.Inputs.{InputLists}
 use Rattle.interleave.specs.Replay.{IsSafe, Replays}
@@ -82,19 +82,19 @@ IsSolved nodes goal budget (solutions.Budget used) = HasForm nodes goal used.for
 
 -- what a search of a program's runs found: none that breaks a check, with the refutation of its clauses; a run that breaks
 -- one; or a log that has spent the budget
-abbrev pub IsSearched : Limits → ℕ → List Procedure → Searched → Type 0
-IsSearched limits budget functions (searches.Refuted used) = IsSafe (source_world functions) × IsRefuted limits budget functions used
-IsSearched limits budget functions (searches.Broken t) = Replays (source_world functions) t.inputs t.schedule t.check
-IsSearched limits budget functions (searches.Budget used) = IsUsedUp limits budget functions used
+abbrev pub IsSearched : Limits → ℕ → TypedFile → Searched → Type 0
+IsSearched limits budget core (searches.Refuted used) = IsSafe (source_world core) × IsRefuted limits budget core used
+IsSearched limits budget core (searches.Broken t) = Replays (source_world core) t.inputs t.schedule t.check
+IsSearched limits budget core (searches.Budget used) = IsUsedUp limits budget core used
 
 -- the run of a trace breaks its check
-abbrev pub IsBroken : Limits → List Procedure → Trace → Type 0
-IsBroken limits functions t = Replays (bounded_world limits functions) t.inputs t.schedule t.check
+abbrev pub IsBroken : Limits → TypedFile → Trace → Type 0
+IsBroken limits core t = Replays (bounded_world limits core) t.inputs t.schedule t.check
 
 -- the run of a trace that was found breaks its check
 abbrev pub IsTraced : Limits → List ℕ → Finding → Type 0
 IsTraced limits file (findings.Successful used) = Unit {0}
-IsTraced limits file (findings.Failed f) = (functions : List Procedure) × IsFileOf file functions × IsBroken limits functions f.trace
+IsTraced limits file (findings.Failed f) = (core : TypedFile) × IsFileOf file core × IsBroken limits core f.trace
 IsTraced limits file (findings.Refused r) = Unit {0}
 IsTraced limits file (findings.Limited limit) = Unit {0}
 IsTraced limits file (findings.Budget used) = Unit {0}
@@ -102,8 +102,8 @@ IsTraced limits file (findings.Budget used) = Unit {0}
 -- what is said of a file
 abbrev pub IsVerdict : Limits → ℕ → List ℕ → Verdict → Type 0
 IsVerdict limits budget file (verdicts.Successful used) =
-    (functions : List Procedure) × IsFileOf file functions × IsVerified limits functions × IsRefuted limits budget functions used
-IsVerdict limits budget file (verdicts.Failed t) = (functions : List Procedure) × IsFileOf file functions × IsBroken limits functions t
+    (core : TypedFile) × IsFileOf file core × IsVerified limits core × IsRefuted limits budget core used
+IsVerdict limits budget file (verdicts.Failed t) = (core : TypedFile) × IsFileOf file core × IsBroken limits core t
 IsVerdict limits budget file (verdicts.Refused r) = Decides limits budget file (refused r)
 IsVerdict limits budget file (verdicts.Limited limit) = Decides limits budget file (limited limit)
-IsVerdict limits budget file (verdicts.Budget used) = (functions : List Procedure) × IsFileOf file functions × IsUsedUp limits budget functions used
+IsVerdict limits budget file (verdicts.Budget used) = (core : TypedFile) × IsFileOf file core × IsUsedUp limits budget core used

@@ -120,11 +120,7 @@ fn tree_of(alloc: Global, tokens: &Tokens) -> Result<File, Stop>
 fn typing_refusal(line: u32, rule: u32) -> Refusal
     ensures { result ≡ typing_cause (record { line = line; rule = rule }) }
 {
-    if rule == 0 {
-        Refusal::new(10, line, None)
-    } else {
-        Refusal::new(11, line, Some(rule))
-    }
+    Refusal::new(11, line, Some(rule))
 }
 
 /// The typed tree of a file.

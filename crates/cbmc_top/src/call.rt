@@ -3,7 +3,7 @@
 ghost use Rattle.std.specs.Prelude.{◌≡◌, ◌≢◌, ℕ, List, [], ◌∷◌, ◌+◌, ◌<◌, ◌≤◌, ◌++◌, ◌⊎◌, length, take, map, string_bytes, vec_len, Option, Some, None, IfOk, IfSome, IsErrOf, OnOk, OnErr, IsSome, ◌↔◌};
 ghost use Rattle.outside.specs.Count.{Rose, HasCause};
 ghost use Rattle.outside.specs.Sink.{appended};
-ghost use Rattle.core_tree.specs.Trees.{Procedure};
+ghost use Rattle.core_tree.specs.Trees.{TypedFile};
 ghost use Rattle.core_tree.specs.Ranges.{Cause};
 ghost use Rattle.core_tree.specs.declared.refusal.Limit.{Limit};
 ghost use Rattle.cbmc_top.specs.Programs.{IsFileOf, IsCheckable};
@@ -268,24 +268,24 @@ pub fn top<S: Source, K: Sink>(alloc: Global, words: &[String], files: &mut S, o
     // A success is sound: no inputs and no schedule break a check of the file's program within the unwinding, and with
     // unwinding assertions none at all. It comes with a refutation of the file's clauses within the budget.
     ensures success { result.status ≡ 0 → (name bytes : List ℕ) → command_of (map string_bytes words.now) ≡ Some name → S.holds files.old name ≡ Some bytes
-        → (functions : List Procedure) × (used : Used) × IsFileOf bytes functions × IsVerified standard_limits functions × (result.spent ≡ Some used) × IsRefuted standard_limits standard_budget functions used }
+        → (core : TypedFile) × (used : Used) × IsFileOf bytes core × IsVerified standard_limits core × (result.spent ≡ Some used) × IsRefuted standard_limits standard_budget core used }
 
     // A failure replays: its text tells inputs and a schedule on which the run breaks exactly the check that it tells.
     ensures failure { result.status ≡ 10 → (name bytes : List ℕ) → command_of (map string_bytes words.now) ≡ Some name → S.holds files.old name ≡ Some bytes
-        → (functions : List Procedure) × (f : Failure) × IsFileOf bytes functions × IsFailure standard_limits functions f × (K.taken out.new ≡ appended (K.taken out.old) (failure_text (head_of name) f)) }
+        → (core : TypedFile) × (f : Failure) × IsFileOf bytes core × IsFailure standard_limits core f × (K.taken out.new ≡ appended (K.taken out.old) (failure_text (head_of name) f)) }
 
     // It is complete: a file in the profile of which no count passes its limit gets one of the two, where no fault was counted
     // and the budget wasn't used up.
-    ensures complete { (name bytes : List ℕ) (functions : List Procedure) → command_of (map string_bytes words.now) ≡ Some name → S.holds files.old name ≡ Some bytes
-        → IsCheckable standard_limits bytes functions
+    ensures complete { (name bytes : List ℕ) (core : TypedFile) → command_of (map string_bytes words.now) ≡ Some name → S.holds files.old name ≡ Some bytes
+        → IsCheckable standard_limits bytes core
         → (Rose (S.faults files.old name) (S.faults files.new name) → ⊥) → (Rose (K.faults out.old) (K.faults out.new) → ⊥)
         → IsOneOf (0 ∷ 5 ∷ 10 ∷ 12 ∷ []) result.status }
 
     // The budget is used up exactly where `spent` holds the file's clauses and a log that has spent it, beside faults and want of
     // memory.
     ensures budget_used { result.status ≡ 5 → (name bytes : List ℕ) → command_of (map string_bytes words.now) ≡ Some name → S.holds files.old name ≡ Some bytes
-        → (functions : List Procedure) × (used : Used) × IsFileOf bytes functions × (result.spent ≡ Some used) × IsUsedUp standard_limits standard_budget functions used × (K.taken out.new ≡ appended (K.taken out.old) (budget_text standard_budget)) }
-    ensures budget_only { (functions : List Procedure) (used : Used) → result.spent ≡ Some used → IsUsedUp standard_limits standard_budget functions used → result.status ≡ 5 }
+        → (core : TypedFile) × (used : Used) × IsFileOf bytes core × (result.spent ≡ Some used) × IsUsedUp standard_limits standard_budget core used × (K.taken out.new ≡ appended (K.taken out.old) (budget_text standard_budget)) }
+    ensures budget_only { (core : TypedFile) (used : Used) → result.spent ≡ Some used → IsUsedUp standard_limits standard_budget core used → result.status ≡ 5 }
 
     // Clauses and a log are given exactly with a success and where the budget is used up.
     ensures spent { IsSome result.spent ↔ IsOneOf (0 ∷ 5 ∷ []) result.status }

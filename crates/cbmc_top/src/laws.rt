@@ -1,7 +1,7 @@
 //! Laws about the definitions that the clauses of the top call cite.
 
 ghost use Rattle.std.specs.Prelude.{◌≡◌, ◌⊎◌, ℕ, List};
-ghost use Rattle.core_tree.specs.Trees.{Procedure};
+ghost use Rattle.core_tree.specs.Trees.{TypedFile};
 ghost use Rattle.core_tree.specs.Ranges.{Limits};
 ghost use Rattle.cbmc_top.specs.Programs.{IsFileOf, IsCheckable};
 ghost use Rattle.cbmc_top.specs.Report.{Head, Failure, IsHead, IsTold, failure_text};
@@ -13,7 +13,7 @@ use c_parse_decl::{one_file, one_place};
 
 /// A file has at most one program.
 pub fn one_program()
-    ensures { (bytes : List ℕ) (some others : List Procedure) → IsFileOf bytes some → IsFileOf bytes others → some ≡ others }
+    ensures { (bytes : List ℕ) (some others : TypedFile) → IsFileOf bytes some → IsFileOf bytes others → some ≡ others }
 {
     one_cutting();
     one_file();
@@ -40,7 +40,7 @@ pub fn one_verdict()
 /// A file in the profile of which no count passes its limit is answered by the search of its runs: by what they do, or by
 /// a log that has used up the budget.
 pub fn runs_answer()
-    ensures { (limits : Limits) (budget : ℕ) (bytes : List ℕ) (functions : List Procedure) (a : Answer) → IsCheckable limits bytes functions → Decides limits budget bytes a → AfterCounts limits budget functions a }
+    ensures { (limits : Limits) (budget : ℕ) (bytes : List ℕ) (core : TypedFile) (a : Answer) → IsCheckable limits bytes core → Decides limits budget bytes a → AfterCounts limits budget core a }
 {
     one_cutting();
     one_file();

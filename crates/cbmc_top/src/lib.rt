@@ -9,6 +9,10 @@
 
 mod accepting;
 mod call;
+#[cfg(test)]
+mod declaration_tests;
+#[cfg(test)]
+mod expression_tests;
 mod failing;
 mod finding;
 mod laws;

@@ -2,7 +2,7 @@
 
 use actions::{Machine, Store};
 use c_elab_decl::elaborate;
-use c_interp::run;
+use c_interp::{are_storable, run};
 use c_lexer::lex;
 use c_parse_decl::parse;
 use c_profile::{Admitted, admit};
@@ -29,14 +29,15 @@ fn admitted(alloc: Global, text: &[u8]) -> Result<Admitted, Fail> {
     }
 }
 
-// How the run of a machine ends on these inputs by this schedule.
+// How the run of a machine from this store ends on these inputs by this schedule.
 fn end_of<M: Machine>(
     alloc: Global,
     first: M,
+    store: &Store,
     inputs: &Inputs,
     schedule: &Schedule,
 ) -> Result<Outcome, AllocError> {
-    let mut system = System::new(alloc, first, Store::new(alloc))?;
+    let mut system = System::new(alloc, first, store.clone()?)?;
     for t in schedule.as_slice() {
         if !system.has_numbers(*t)? {
             return Ok(Outcome::Fine);
@@ -57,19 +58,23 @@ fn words_of(alloc: Global, ints: &[i32]) -> Result<Words, AllocError> {
     Ok(Words::new(words))
 }
 
-// How the runs of a text end that draw these ints, in six turns of thread 0: the source's, and those of
+// How the runs of a text end that draw these ints, in 24 turns of thread 0: the source's, and those of
 // its strict, its checked and its unrolled code.
 pub fn outcomes(alloc: Global, text: &[u8], ints: &[i32]) -> Result<[Outcome; 4], Fail> {
     let file = admitted(alloc, text)?;
+    if !are_storable(&file) {
+        return Err(Fail::from("too large objects"));
+    }
     let bounds = Bounds::new(1, Vec::new(alloc), true, 1, false);
     let mut inputs = Inputs::new(alloc);
     inputs.insert(0, words_of(alloc, ints)?)?;
-    let schedule = Schedule::new(vec![in alloc; 0; 6]?);
+    let schedule = Schedule::new(vec![in alloc; 0; 24]?);
     let source = run(alloc, &file, &bounds, &inputs, &schedule)?;
     let goto = lower(alloc, &file)?;
     let strict = end_of(
         alloc,
         StrictThread::new(alloc, &goto, &bounds)?,
+        goto.store(),
         &inputs,
         &schedule,
     )?;
@@ -77,6 +82,7 @@ pub fn outcomes(alloc: Global, text: &[u8], ints: &[i32]) -> Result<[Outcome; 4]
     let plain = end_of(
         alloc,
         PlainThread::new(alloc, &checked, &bounds)?,
+        checked.store(),
         &inputs,
         &schedule,
     )?;
@@ -87,7 +93,7 @@ pub fn outcomes(alloc: Global, text: &[u8], ints: &[i32]) -> Result<[Outcome; 4]
                 source,
                 strict,
                 plain,
-                end_of(alloc, first, &inputs, &schedule)?,
+                end_of(alloc, first, unrolled.store(), &inputs, &schedule)?,
             ])
         }
         Err(_) => Err(Fail::from("too many places")),

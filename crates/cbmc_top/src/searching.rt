@@ -1,14 +1,15 @@
 //! From a program to what its runs do.
 
-ghost use Rattle.std.specs.Prelude.{◌≡◌, ◌≤◌, [], None, IfOk, IfErr};
+ghost use Rattle.std.specs.Prelude.{◌≡◌, ◌≤◌, None, IfOk, IfErr};
 ghost use Rattle.actions.specs.Behaviour.{Thread};
 ghost use Rattle.word_dag.specs.Meaning.{width};
 ghost use Rattle.word_dag.specs.Growth.{Within};
 ghost use Rattle.core_tree.specs.Trees.{view_core};
-ghost use Rattle.c_interp.specs.Source.{source_thread};
+ghost use Rattle.c_interp.specs.Source.{source_thread, first_objects};
 ghost use Rattle.interleave.specs.World.{first_world};
 ghost use Rattle.goto_prog.specs.Flat.{plain_thread};
 ghost use Rattle.goto_unwind.specs.Counts.{passed};
+ghost use Rattle.mem_seq.specs.Accesses.{AreObjects};
 ghost use Rattle.mem_seq.specs.Formulas.{IsFormula, FormulaIn};
 ghost use Rattle.cbmc_top.specs.Stops.{StopsWith, IsPassed};
 ghost use Rattle.cbmc_top.specs.Verdicts.{IsSolved, IsSearched};
@@ -54,12 +55,22 @@ pub enum Searched {
     Budget(Used),
 }
 
+// Each object of a file has as many first bytes as its size says.
+fn prove_objects(file: &Admitted)
+    ensures { AreObjects (first_objects (view_core file.now).objects) }
+{
+    let _objects = file.core().objects();
+}
+
 /// The code of a program with explicit checks and without loops and calls, or the count that passes its limit.
 fn unrolled_code(alloc: Global, file: &Admitted, bounds: &Bounds) -> Result<Unrolled, Stop>
     ensures counts { IfOk result (λ u. passed (view_core file.now) bounds.now ≡ None) }
     ensures same { IfOk result (λ u. (plain_thread u).behaves ≡ (source_thread (view_core file.now)).behaves) }
+    ensures store { IfOk result (λ u. u.store ≡ first_objects (view_core file.now).objects) }
+    ensures objects { IfOk result (λ u. AreObjects u.store) }
     ensures stop { IfErr result (λ s. StopsWith s (IsPassed bounds.now (view_core file.now))) }
 {
+    prove_objects(file);
     if let Some(limit) = passed_limit(file, bounds) {
         return Err(Stop::Limited(limit));
     }
@@ -75,7 +86,7 @@ fn unrolled_code(alloc: Global, file: &Admitted, bounds: &Bounds) -> Result<Unro
 /// The formula of the runs of unrolled code that break a check.
 fn formula_of(alloc: Global, dag: &mut Dag, unrolled: &Unrolled) -> Result<Formula, AllocError>
     ensures within { IfOk result (λ f. FormulaIn dag.new f) }
-    ensures formula { IfOk result (λ f. (t : Thread) → (plain_thread unrolled.now).behaves ≡ t.behaves → IsFormula (first_world t []) dag.new f) }
+    ensures formula { IfOk result (λ f. (t : Thread) → AreObjects unrolled.now.store → (plain_thread unrolled.now).behaves ≡ t.behaves → IsFormula (first_world t unrolled.now.store) dag.new f) }
 {
     let forms = threads(alloc, unrolled, dag)?;
     sequential(alloc, dag, &forms[0], &Sets {})

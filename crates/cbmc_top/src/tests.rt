@@ -77,6 +77,31 @@ fn outcome(
     Ok((done.status, sink))
 }
 
+/// Files with objects that live as long as the program, with their answers.
+static OBJECTS: [(&str, u8, &str); 5] = [
+    (
+        "int x;int main(void){x=nondet_int();assert(x!=7);return 0;}",
+        10,
+        "file a.c unwind 8\nviolated assertion line 1 function main thread 0\ninputs 0: 7\nschedule 0x4\nVERIFICATION FAILED\n",
+    ),
+    ("int x;", 6, "refused 12 Outside line 1 rule 1\n"),
+    (
+        "\nextern int x;int main(void){return x;}",
+        6,
+        "refused 12 Outside line 2 rule 9\n",
+    ),
+    (
+        "struct s{int a;char b;}x={3,4};int main(void){struct s y=x;x.a=5;assert(y.a==3&&x.a==5&&x.b==4);return 0;}",
+        0,
+        SAFE,
+    ),
+    (
+        "int main(void){static int x=6;x++;assert(x==7);return 0;}",
+        0,
+        SAFE,
+    ),
+];
+
 /// Files with their answers.
 static FILES: [(&str, u8, &str); 57] = [
     (SEVEN, 10, SEVEN_BREAKS),
@@ -161,11 +186,7 @@ static FILES: [(&str, u8, &str); 57] = [
     ("int main(void){int x=1;assert(x===1);return 0;}", 6, SYNTAX),
     ("int main(void){int x=1;assert(x= =1);return 0;}", 6, SYNTAX),
     ("intmain(void){return 0;}", 6, SYNTAX),
-    (
-        "int main(void){return 0;}\nint x;",
-        6,
-        "refused 10 Syntax line 2\n",
-    ),
+    ("int main(void){return 0;}\nint x;", 0, SAFE),
     (
         "int main(void){return 08;}",
         6,
@@ -297,6 +318,17 @@ static FILES: [(&str, u8, &str); 57] = [
         "refused 11 Typing line 2 rule 16\n",
     ),
 ];
+
+#[test]
+fn files_with_objects_are_answered(rt: HostRuntime) -> Result<(), Fail> {
+    let alloc = rt.alloc();
+    for (i, (file, status, text)) in OBJECTS.iter().enumerate() {
+        let (answer, sink) = outcome(alloc, &A, file.as_bytes(), WELL)?;
+        assert_eq!(rt; answer, *status, "file {i}");
+        assert_eq!(rt; sink.taken(), text.as_bytes(), "file {i}");
+    }
+    Ok(())
+}
 
 #[test]
 fn files_are_answered(rt: HostRuntime) -> Result<(), Fail> {
@@ -502,7 +534,7 @@ fn bytes_are_checked(rt: HostRuntime) -> Result<(), Fail> {
         _ => assert!(rt; false),
     }
     match check_bytes(alloc, b"int x;", &options)? {
-        Verdict::Refused(refused) => assert_eq!(rt; refused, Refusal::new(10, 1, None)),
+        Verdict::Refused(refused) => assert_eq!(rt; refused, Refusal::new(12, 1, Some(1))),
         _ => assert!(rt; false),
     }
     one_program();

@@ -1,4 +1,4 @@
--- The view of a block, whose items are a list in memory.
+-- The view of a block, whose items are a list in memory, and of an initializer's list.
 use Rattle.std.proofs.Common.{◌≡◌, refl, ap, ◌∙◌}
 use mathlib.Core.Former.{Count}
 use Rattle.std.specs.Prelude.{Vec}
@@ -6,7 +6,10 @@ use Rattle.std.specs.Global.{Global}
 use Rattle.core_tree.specs.declared.statement.CoreStatement.{CoreStatement, Block, Block'}
 use Rattle.core_tree.specs.declared.statement.CoreItem.{CoreItem}
 use Rattle.core_tree.specs.declared.statement.CoreItem.TheBlock.{Row_of-CoreItem, end_of-CoreItem, more_of-CoreItem, items-the_row-CoreItem, items_hidden-the_row-CoreItem-0}
-use Rattle.core_tree.specs.Trees.{block, view_statement, view_items, with_item, items_of}
+use Rattle.std.specs.Prelude.{ℕ}
+use Rattle.core_tree.specs.declared.expression.CoreStructure.{CoreStructure, Row_of-CorePart, end_of-CorePart, more_of-CorePart, items-the_row-CorePart, items_hidden-the_row-CorePart-0, List, List'}
+use Rattle.core_tree.specs.declared.expression.CorePart.{CorePart}
+use Rattle.core_tree.specs.Trees.{block, view_statement, view_items, with_item, items_of, list, view_structure, view_parts, with_part, parts_of}
 
 items_row : (n : _) (row : Row_of-CoreItem n) → view_items row ≡ items_of (items-the_row-CoreItem n row)
 items_row _ end_of-CoreItem = refl
@@ -21,3 +24,17 @@ pub view_block : (is : Vec CoreItem Global) → view_statement (Block is) ≡ bl
 view_block is =
     let row = row_of (Block is) in
     ap block (items_row row.0 row.1 ∙ ap items_of (items_hidden-the_row-CoreItem-0 is))
+
+parts_row : (n : _) (row : Row_of-CorePart n) → view_parts row ≡ parts_of (items-the_row-CorePart n row)
+parts_row _ end_of-CorePart = refl
+parts_row _ (more_of-CorePart p rest) = ap (with_part p) (parts_row _ rest)
+
+abbrev list_row : CoreStructure → (n : Count) × Row_of-CorePart n
+list_row (List' line size shape row) = (_, row)
+list_row _ = (_, end_of-CorePart)
+
+-- the view of a list as code makes it
+pub view_list : (line size : ℕ) (ps : Vec CorePart Global) → view_structure (List line size ps) ≡ list line size (parts_of ps.items)
+view_list line size ps =
+    let row = list_row (List line size ps) in
+    ap (list line size) (parts_row row.0 row.1 ∙ ap parts_of (items_hidden-the_row-CorePart-0 ps))

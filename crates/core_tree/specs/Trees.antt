@@ -1,5 +1,5 @@
 -- Typed trees without where they lie in memory.
-use Rattle.std.specs.Prelude.{ℕ, Bool, List, [], ◌∷◌, map}
+use Rattle.std.specs.Prelude.{ℕ, Bool, Option, List, [], ◌∷◌, map}
 use Rattle.c_types.specs.declared.integers.IntegerType.{IntegerType}
 use Rattle.core_tree.specs.declared.operators.ArithmeticOperator.{ArithmeticOperator}
 use Rattle.core_tree.specs.declared.operators.Comparison.{Comparison}
@@ -9,30 +9,58 @@ use Rattle.core_tree.specs.declared.operators.StepOperator.{StepOperator}
 use Rattle.core_tree.specs.declared.expression.Place.{Place}
 use Rattle.core_tree.specs.declared.expression.CoreExpr.{CoreExpr}
 use Rattle.core_tree.specs.declared.expression.CoreExpr as exprs
+use Rattle.core_tree.specs.declared.expression.CoreStructure as structures
+use Rattle.core_tree.specs.declared.expression.CorePart.{CorePart}
+use Rattle.core_tree.specs.declared.expression.CoreStructure.{CoreStructure, Row_of-CorePart, end_of-CorePart, more_of-CorePart}
+use Rattle.core_tree.specs.declared.expression.CorePart as parts
 use Rattle.core_tree.specs.declared.statement.CoreItem.{CoreItem}
 use Rattle.core_tree.specs.declared.statement.CoreItem.TheBlock.{Row_of-CoreItem, end_of-CoreItem, more_of-CoreItem}
 use Rattle.core_tree.specs.declared.statement.CoreItem as codes
 use Rattle.core_tree.specs.declared.statement.CoreStatement.{CoreStatement}
 use Rattle.core_tree.specs.declared.functions.Function.{Function}
+use Rattle.core_tree.specs.declared.functions.StaticObject.{StaticObject}
 use Rattle.core_tree.specs.declared.statement.CoreStatement as statements
 
-pub data Expression : Type 0 where
-  constant : (line : ℕ) (type : IntegerType) (bits : ℕ) → Expression
-  read : (place : Place) → Expression
-  convert : (to : IntegerType) (operand : Expression) → Expression
-  sign : (line : ℕ) (op : SignOperator) (operand : Expression) → Expression
-  is_zero : (line : ℕ) (operand : Expression) → Expression
-  arithmetic : (line : ℕ) (op : ArithmeticOperator) (left right : Expression) → Expression
-  compare : (line : ℕ) (op : Comparison) (left right : Expression) → Expression
-  logical : (line : ℕ) (op : LogicalOperator) (left right : Expression) → Expression
-  choice : (line : ℕ) (test yes no : Expression) → Expression
-  assign : (line : ℕ) (place : Place) (value : Expression) → Expression
-  update : (line : ℕ) (place : Place) (op : ArithmeticOperator) (type : IntegerType) (value : Expression) → Expression
-  step : (line : ℕ) (place : Place) (op : StepOperator) (before : Bool) → Expression
-  comma : (line : ℕ) (left right : Expression) → Expression
-  assertion : (line : ℕ) (condition : Expression) → Expression
-  assumption : (line : ℕ) (condition : Expression) → Expression
-  draw : (line : ℕ) (type : IntegerType) → Expression
+mutual
+  -- without value, or with one of an integer type
+  pub data Expression : Type 0 where
+    constant : (line : ℕ) (type : IntegerType) (bits : ℕ) → Expression
+    read : (place : Place) → Expression
+    convert : (to : IntegerType) (operand : Expression) → Expression
+    sign : (line : ℕ) (op : SignOperator) (operand : Expression) → Expression
+    is_zero : (line : ℕ) (operand : Expression) → Expression
+    arithmetic : (line : ℕ) (op : ArithmeticOperator) (left right : Expression) → Expression
+    compare : (line : ℕ) (op : Comparison) (left right : Expression) → Expression
+    logical : (line : ℕ) (op : LogicalOperator) (left right : Expression) → Expression
+    choice : (line : ℕ) (test yes no : Expression) → Expression
+    assign : (line : ℕ) (place : Place) (value : Expression) → Expression
+    update : (line : ℕ) (place : Place) (op : ArithmeticOperator) (type : IntegerType) (value : Expression) → Expression
+    step : (line : ℕ) (place : Place) (op : StepOperator) (before : Bool) → Expression
+    comma : (line : ℕ) (left right : Expression) → Expression
+    assertion : (line : ℕ) (condition : Expression) → Expression
+    assumption : (line : ℕ) (condition : Expression) → Expression
+    draw : (line : ℕ) (type : IntegerType) → Expression
+    part : (line : ℕ) (type : IntegerType) (offset : ℕ) (value : Structure) → Expression
+    discard : (line : ℕ) (operand : Expression) → Expression
+    discard_structure : (value : Structure) → Expression
+
+  -- with a value of a struct, union or array type
+  pub data Structure : Type 0 where
+    copy : (line variable offset size : ℕ) → Structure
+    load : (line object offset size : ℕ) → Structure
+    choose : (line : ℕ) (test : Expression) (yes no : Structure) → Structure
+    put : (line variable offset : ℕ) (value : Structure) → Structure
+    store : (line object offset : ℕ) (value : Structure) → Structure
+    follow : (line : ℕ) (left : Expression) (right : Structure) → Structure
+    section : (line offset size : ℕ) (value : Structure) → Structure
+    list : (line size : ℕ) (parts : Parts) → Structure
+    string : (line size : ℕ) (bytes : List ℕ) → Structure
+
+  -- what a list writes at offsets
+  pub data Parts : Type 0 where
+    no_part : Parts
+    number_part : (offset : ℕ) (value : Expression) (rest : Parts) → Parts
+    structure_part : (offset : ℕ) (value : Structure) (rest : Parts) → Parts
 
 mutual
   pub data Statement : Type 0 where
@@ -46,25 +74,55 @@ mutual
     done : Items
     declares : (line variable : ℕ) (rest : Items) → Items
     initializes : (line variable : ℕ) (drawn : Bool) (value : Expression) (rest : Items) → Items
+    initializes_structure : (line variable : ℕ) (drawn : Bool) (value : Structure) (rest : Items) → Items
     does : (first : Statement) (rest : Items) → Items
 
-abbrev pub view : CoreExpr → Expression
-view (exprs.Constant line t bits) = constant line t bits
-view (exprs.Read p) = read p
-view (exprs.Convert' t p e) = convert t (view e)
-view (exprs.Sign' line op p e) = sign line op (view e)
-view (exprs.IsZero' line p e) = is_zero line (view e)
-view (exprs.Arithmetic' line op p a q b) = arithmetic line op (view a) (view b)
-view (exprs.Compare' line op p a q b) = compare line op (view a) (view b)
-view (exprs.Logical' line op p a q b) = logical line op (view a) (view b)
-view (exprs.Choice' line p a q b r c) = choice line (view a) (view b) (view c)
-view (exprs.Assign' line place p e) = assign line place (view e)
-view (exprs.Update' line place op t p e) = update line place op t (view e)
-view (exprs.Step line place op before) = step line place op before
-view (exprs.Comma' line p a q b) = comma line (view a) (view b)
-view (exprs.Assertion' line p e) = assertion line (view e)
-view (exprs.Assumption' line p e) = assumption line (view e)
-view (exprs.Draw line t) = draw line t
+abbrev mutual
+  pub view : CoreExpr → Expression
+  view (exprs.Constant line t bits) = constant line t bits
+  view (exprs.Read p) = read p
+  view (exprs.Convert' t p e) = convert t (view e)
+  view (exprs.Sign' line op p e) = sign line op (view e)
+  view (exprs.IsZero' line p e) = is_zero line (view e)
+  view (exprs.Arithmetic' line op p a q b) = arithmetic line op (view a) (view b)
+  view (exprs.Compare' line op p a q b) = compare line op (view a) (view b)
+  view (exprs.Logical' line op p a q b) = logical line op (view a) (view b)
+  view (exprs.Choice' line p a q b r c) = choice line (view a) (view b) (view c)
+  view (exprs.Assign' line place p e) = assign line place (view e)
+  view (exprs.Update' line place op t p e) = update line place op t (view e)
+  view (exprs.Step line place op before) = step line place op before
+  view (exprs.Comma' line p a q b) = comma line (view a) (view b)
+  view (exprs.Assertion' line p e) = assertion line (view e)
+  view (exprs.Assumption' line p e) = assumption line (view e)
+  view (exprs.Draw line t) = draw line t
+  view (exprs.Member' line t offset p a) = part line t offset (view_structure a)
+  view (exprs.Discard' line p e) = discard line (view e)
+  view (exprs.DiscardStructure' p a) = discard_structure (view_structure a)
+
+  pub view_structure : CoreStructure → Structure
+  view_structure (structures.Read line v offset size) = copy line v offset size
+  view_structure (structures.Load line k offset size) = load line k offset size
+  view_structure (structures.Choice' line e p a q b) = choose line (view e) (view_structure a) (view_structure b)
+  view_structure (structures.Assign' line v offset p a) = put line v offset (view_structure a)
+  view_structure (structures.Store' line k offset p a) = store line k offset (view_structure a)
+  view_structure (structures.Comma' line e p a) = follow line (view e) (view_structure a)
+  view_structure (structures.Member' line offset size p a) = section line offset size (view_structure a)
+  view_structure (structures.List' line size shape ps) = list line size (view_parts ps)
+  view_structure (structures.String line size bytes) = string line size bytes.items
+
+  pub view_parts : {m : _} → Row_of-CorePart m → Parts
+  view_parts end_of-CorePart = no_part
+  view_parts (more_of-CorePart p rest) = with_part p (view_parts rest)
+
+  -- a part and those behind it
+  pub with_part : CorePart → Parts → Parts
+  with_part (parts.Number offset e) rest = number_part offset (view e) rest
+  with_part (parts.Structure offset a) rest = structure_part offset (view_structure a) rest
+
+-- the parts of a list
+abbrev pub parts_of : List CorePart → Parts
+parts_of [] = no_part
+parts_of (p ∷ ps) = with_part p (parts_of ps)
 
 abbrev mutual
   pub view_statement : CoreStatement → Statement
@@ -82,6 +140,7 @@ abbrev mutual
   pub with_item : CoreItem → Items → Items
   with_item (codes.Declare line v) rest = declares line v rest
   with_item (codes.Initialize line v drawn e) rest = initializes line v drawn (view e) rest
+  with_item (codes.InitializeStructure line v drawn a) rest = initializes_structure line v drawn (view_structure a) rest
   with_item (codes.Statement s) rest = does (view_statement s) rest
 
 -- the items of a list
@@ -99,6 +158,34 @@ pub record Procedure : Type 0 where
 abbrev pub view_function : Function → Procedure
 view_function f = record { name = f.name.bytes.items; line = f.line; variables = f.variables.items; body = view_statement f.body }
 
--- the functions by number
-abbrev pub view_core : List Function → List Procedure
-view_core functions = map view_function functions
+-- a static object: its size in bytes, whether it is defined const, and its first bytes, as many as its initializer says; the others are 0. Where the file has no definition of it, the line of its first declarator
+pub record Static : Type 0 where
+  pub size : ℕ
+  pub readonly : Bool
+  pub bytes : List ℕ
+  pub undefined : Option ℕ
+
+abbrev pub view_static : StaticObject → Static
+view_static o = record { size = o.size; readonly = o.readonly; bytes = o.bytes.items; undefined = o.undefined }
+
+-- a typed file: its functions by number, and its static objects, the first of which has the number 1
+pub record TypedFile : Type 0 where
+  pub functions : List Procedure
+  pub objects : List Static
+
+-- the same as it lies in memory
+pub record CoreFile : Type 0 where
+  pub functions : List Function
+  pub objects : List StaticObject
+
+abbrev pub core_file : List Function → List StaticObject → CoreFile
+core_file functions objects = record { functions = functions; objects = objects }
+
+abbrev pub view_functions : List Function → List Procedure
+view_functions functions = map view_function functions
+
+abbrev pub view_statics : List StaticObject → List Static
+view_statics objects = map view_static objects
+
+abbrev pub view_core : CoreFile → TypedFile
+view_core c = record { functions = view_functions c.functions; objects = view_statics c.objects }

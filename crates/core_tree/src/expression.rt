@@ -14,10 +14,19 @@ pub enum Place {
         variable: u32,
         offset: u32,
     },
+    /// An object of an integer type within a static object, which that one's number, from 1, and the
+    /// offset in it, in bytes, tell.
+    Object {
+        line: u32,
+        type_: IntegerType,
+        object: u32,
+        offset: u32,
+    },
 }
 
-/// A typed expression (C11 6.5).
+/// A typed expression without value or with one of an integer type (C11 6.5).
 #[derive(Drop)]
+#[cycle(expression)]
 pub enum CoreExpr {
     /// The number of this type with these bits.
     Constant {
@@ -113,4 +122,97 @@ pub enum CoreExpr {
         line: u32,
         type_: IntegerType,
     },
+    /// The number of this type at an offset, in bytes, of a structure value that is no place (C11
+    /// 6.5.2.3).
+    Member {
+        line: u32,
+        type_: IntegerType,
+        offset: u32,
+        value: Box<CoreStructure>,
+    },
+    /// A cast to void (C11 6.3.2.2).
+    Discard {
+        line: u32,
+        operand: Box<CoreExpr>,
+    },
+    /// A structure value that isn't used further.
+    DiscardStructure {
+        value: Box<CoreStructure>,
+    },
+}
+
+/// A typed expression with a value of a struct, union or array type: the value's bytes (C11 6.2.6.1).
+#[derive(Drop)]
+#[cycle(expression)]
+pub enum CoreStructure {
+    /// The value of a place: `size` bytes of a variable, from an offset on.
+    Read {
+        line: u32,
+        variable: u32,
+        offset: u32,
+        size: u32,
+    },
+    /// The value of a place: `size` bytes of a static object, from an offset on.
+    Load {
+        line: u32,
+        object: u32,
+        offset: u32,
+        size: u32,
+    },
+    /// `?:` (C11 6.5.15).
+    Choice {
+        line: u32,
+        test: CoreExpr,
+        yes: Box<CoreStructure>,
+        no: Box<CoreStructure>,
+    },
+    /// `=`: the value takes the place of as many bytes of a variable, from an offset on (C11 6.5.16.1).
+    Assign {
+        line: u32,
+        variable: u32,
+        offset: u32,
+        value: Box<CoreStructure>,
+    },
+    /// `=`: the value takes the place of as many bytes of a static object, from an offset on.
+    Store {
+        line: u32,
+        object: u32,
+        offset: u32,
+        value: Box<CoreStructure>,
+    },
+    /// `,` (C11 6.5.17).
+    Comma {
+        line: u32,
+        left: CoreExpr,
+        right: Box<CoreStructure>,
+    },
+    /// A struct or union of `size` bytes at an offset of a structure value that is no place (C11
+    /// 6.5.2.3).
+    Member {
+        line: u32,
+        offset: u32,
+        size: u32,
+        value: Box<CoreStructure>,
+    },
+    /// The list of an initializer for `size` bytes: its parts from left to right, over bytes that are 0
+    /// (C11 6.7.9).
+    List {
+        line: u32,
+        size: u32,
+        parts: Vec<CorePart>,
+    },
+    /// A string that initializes an array of `size` chars; those beyond it are 0 (C11 6.7.9p14).
+    String {
+        line: u32,
+        size: u32,
+        bytes: Vec<u8>,
+    },
+}
+
+/// What an initializer's list writes at an offset, in bytes.
+#[derive(Drop)]
+#[cycle(expression)]
+pub enum CorePart {
+    Number { offset: u32, value: CoreExpr },
+    Structure { offset: u32, value: CoreStructure },
 }

@@ -1,5 +1,5 @@
 ghost use Rattle.std.specs.Prelude.{◌≡◌, ◌<◌, ◌^◌, true, length, MatchOption, slice_get, option_map};
-ghost use Rattle.core_tree.specs.Trees.{view_core};
+ghost use Rattle.core_tree.specs.Trees.{core_file, view_core};
 ghost use Rattle.core_tree.specs.Typed.{are_typed};
 
 use crate::statement::CoreStatement;
@@ -21,55 +21,79 @@ pub struct Function {
     pub body: CoreStatement,
 }
 
-/// The typed tree of a file: its functions by their numbers. Each part has the type that its place asks
-/// for, each variable that is named is there, and there are fewer than 2 ^ 31 functions.
+/// An object that is there from the start to the end of a run (C11 6.2.4p3): its size in bytes, whether it
+/// is defined `const`, and the bytes that its initializer says, from its first on. Those beyond are 0, so
+/// that a large object takes no memory before its size is tested.
+#[derive(Drop)]
+pub struct StaticObject {
+    pub size: u32,
+    pub readonly: bool,
+    pub bytes: Vec<u8>,
+    /// Where the file has no definition of it, the line of its first declarator.
+    pub undefined: Option<u32>,
+}
+
+/// The typed tree of a file: its functions by their numbers, and its static objects, whose numbers begin
+/// with 1. Each part has the type that its place asks for, each variable and each static object that is
+/// named is there, no object has 2 ^ 31 bytes or more, none has more bytes said than it has, and there are
+/// fewer than 2 ^ 31 functions and fewer than 2 ^ 31 static objects.
 #[derive(Drop)]
 pub struct Core {
     functions: Vec<Function>,
+    objects: Vec<StaticObject>,
 }
 
 impl Model for Core {
-    ghost use Rattle.std.specs.Prelude.{◌≡◌, ◌<◌, ◌^◌, true, List, length};
-    ghost use Rattle.core_tree.specs.declared.functions.Function.{Function};
-    ghost use Rattle.core_tree.specs.Trees.{view_core};
+    ghost use Rattle.std.specs.Prelude.{◌≡◌, ◌<◌, ◌^◌, true, length};
+    ghost use Rattle.core_tree.specs.Trees.{CoreFile, core_file, view_core};
     ghost use Rattle.core_tree.specs.Typed.{are_typed};
     ghost use Rattle.std.specs.Coded.{codes};
     ghost use Rattle.core_tree.specs.contracts.expression.CoreExpr as expressions;
     ghost use Rattle.core_tree.specs.contracts.statement.CoreItem as items;
     ghost use Rattle.core_tree.specs.contracts.statement.CoreStatement as statements;
 
-    ghost Value = { List Function };
+    ghost Value = { CoreFile };
 
     ghost coded = { Prim.hlevel (codes, expressions.the_row.coded, items.the_row.coded, statements.the_row.coded) };
 
-    ghost view = { λ c. c.functions.items };
+    ghost view = { λ c. core_file c.functions.items c.objects.items };
 
-    ghost invariant = { λ c. (length c.functions.items < 2 ^ 31) × (are_typed (view_core c.functions.items) ≡ true) };
+    ghost invariant = { λ c. (length c.functions.items < 2 ^ 31) × (length c.objects.items < 2 ^ 31) × (are_typed (view_core (core_file c.functions.items c.objects.items)) ≡ true) };
 }
 
 impl Core {
-    /// The tree of these functions.
-    pub fn new(functions: Vec<Function>) -> Core
+    /// The tree of these functions and static objects.
+    pub fn new(functions: Vec<Function>, objects: Vec<StaticObject>) -> Core
         requires few { length functions.items < 2 ^ 31 }
-        requires typed { are_typed (view_core functions.items) ≡ true }
-        ensures { result ≡ functions.items }
+        requires few_objects { length objects.items < 2 ^ 31 }
+        requires typed { are_typed (view_core (core_file functions.items objects.items)) ≡ true }
+        ensures { result ≡ core_file functions.items objects.items }
     {
-        Core { functions }
+        Core { functions, objects }
     }
 
     /// The functions by their numbers.
     pub fn functions(&self) -> &[Function]
-        ensures is { result.now ≡ self.now }
-        ensures few { length self.now < 2 ^ 31 }
+        ensures is { result.now ≡ self.now.functions }
+        ensures few { length self.now.functions < 2 ^ 31 }
         ensures typed { are_typed (view_core self.now) ≡ true }
     {
         &self.functions
+    }
+
+    /// The static objects, the first of which has the number 1.
+    pub fn objects(&self) -> &[StaticObject]
+        ensures is { result.now ≡ self.now.objects }
+        ensures few { length self.now.objects < 2 ^ 31 }
+        ensures typed { are_typed (view_core self.now) ≡ true }
+    {
+        &self.objects
     }
 }
 
 /// The name of the function with this number, where there is one.
 pub fn function_name(core: &Core, function: u32) -> Option<&Name>
-    ensures { option_map (λ n. n.now) result ≡ option_map (λ f. f.name) (slice_get core.now function) }
+    ensures { option_map (λ n. n.now) result ≡ option_map (λ f. f.name) (slice_get core.now.functions function) }
 {
     match core.functions().get(function as usize) {
         Some(found) => Some(&found.name),

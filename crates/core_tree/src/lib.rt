@@ -13,9 +13,9 @@ mod tests;
 mod typing;
 
 pub use bounds::{Bounds, LoopBound};
-pub use expression::{CoreExpr, Place};
-pub use functions::{Core, Function, Name, function_name};
+pub use expression::{CoreExpr, CorePart, CoreStructure, Place};
+pub use functions::{Core, Function, Name, StaticObject, function_name};
 pub use operators::{ArithmeticOperator, Comparison, LogicalOperator, SignOperator, StepOperator};
 pub use refusal::{Limit, Refusal};
 pub use statement::{CoreItem, CoreStatement};
-pub use typing::{names_variable, type_of};
+pub use typing::{names_variable, structure_names_variable, structure_size, type_of};

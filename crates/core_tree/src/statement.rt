@@ -1,4 +1,4 @@
-use crate::expression::CoreExpr;
+use crate::expression::{CoreExpr, CoreStructure};
 
 /// A typed statement (C11 6.8).
 #[derive(Drop)]
@@ -47,6 +47,13 @@ pub enum CoreItem {
         variable: u32,
         drawn: bool,
         value: CoreExpr,
+    },
+    /// A variable of a struct, union or array type with an initializer of that type, as above.
+    InitializeStructure {
+        line: u32,
+        variable: u32,
+        drawn: bool,
+        value: CoreStructure,
     },
     Statement {
         statement: CoreStatement,

@@ -1,10 +1,10 @@
 //! The types of typed trees, and the variables that they name.
 
-ghost use Rattle.std.specs.Prelude.{◌≡◌};
-ghost use Rattle.core_tree.specs.Trees.{view};
-ghost use Rattle.core_tree.specs.Typed.{type_of, place_type, place_names, names_variable};
+ghost use Rattle.std.specs.Prelude.{◌≡◌, ◌||◌};
+ghost use Rattle.core_tree.specs.Trees.{view, view_structure, Parts, parts_of, with_part};
+ghost use Rattle.core_tree.specs.Typed.{type_of, size_of, place_type, place_names, names_variable, structure_names, parts_name};
 
-use crate::expression::{CoreExpr, Place};
+use crate::expression::{CoreExpr, CorePart, CoreStructure, Place};
 use c_types::{IntegerType, ValueType};
 
 fn place_type(place: &Place) -> IntegerType
@@ -15,6 +15,12 @@ fn place_type(place: &Place) -> IntegerType
             line: _,
             type_,
             variable: _,
+            offset: _,
+        }
+        | Place::Object {
+            line: _,
+            type_,
+            object: _,
             offset: _,
         } => *type_,
     }
@@ -97,6 +103,76 @@ pub fn type_of(expr: &CoreExpr) -> ValueType
             condition: _,
         } => ValueType::Void,
         CoreExpr::Draw { line: _, type_ } => ValueType::Integer(*type_),
+        CoreExpr::Member {
+            line: _,
+            type_,
+            offset: _,
+            value: _,
+        } => ValueType::Integer(*type_),
+        CoreExpr::Discard {
+            line: _,
+            operand: _,
+        } => ValueType::Void,
+        CoreExpr::DiscardStructure { value: _ } => ValueType::Void,
+    }
+}
+
+/// How many bytes a structure value has. It goes down one path of the tree.
+pub fn structure_size(value: &CoreStructure) -> u32
+    ensures { result ≡ size_of (view_structure value.now) }
+{
+    match value {
+        CoreStructure::Read {
+            line: _,
+            variable: _,
+            offset: _,
+            size,
+        } => *size,
+        CoreStructure::Load {
+            line: _,
+            object: _,
+            offset: _,
+            size,
+        } => *size,
+        CoreStructure::Choice {
+            line: _,
+            test: _,
+            yes,
+            no: _,
+        } => structure_size(yes),
+        CoreStructure::Assign {
+            line: _,
+            variable: _,
+            offset: _,
+            value,
+        } => structure_size(value),
+        CoreStructure::Store {
+            line: _,
+            object: _,
+            offset: _,
+            value,
+        } => structure_size(value),
+        CoreStructure::Comma {
+            line: _,
+            left: _,
+            right,
+        } => structure_size(right),
+        CoreStructure::Member {
+            line: _,
+            offset: _,
+            size,
+            value: _,
+        } => *size,
+        CoreStructure::List {
+            line: _,
+            size,
+            parts: _,
+        } => *size,
+        CoreStructure::String {
+            line: _,
+            size,
+            bytes: _,
+        } => *size,
     }
 }
 
@@ -110,10 +186,17 @@ fn place_names(variable: u32, place: &Place) -> bool
             variable: named,
             offset: _,
         } => variable == *named,
+        Place::Object {
+            line: _,
+            type_: _,
+            object: _,
+            offset: _,
+        } => false,
     }
 }
 
 /// Whether an expression names the variable with this number.
+#[cycle(names)]
 pub fn names_variable(variable: u32, expr: &CoreExpr) -> bool
     ensures { result ≡ names_variable variable (view expr.now) }
 {
@@ -185,5 +268,100 @@ pub fn names_variable(variable: u32, expr: &CoreExpr) -> bool
         CoreExpr::Assertion { line: _, condition } => names_variable(variable, condition),
         CoreExpr::Assumption { line: _, condition } => names_variable(variable, condition),
         CoreExpr::Draw { line: _, type_: _ } => false,
+        CoreExpr::Member {
+            line: _,
+            type_: _,
+            offset: _,
+            value,
+        } => structure_names_variable(variable, value),
+        CoreExpr::Discard { line: _, operand } => names_variable(variable, operand),
+        CoreExpr::DiscardStructure { value } => structure_names_variable(variable, value),
+    }
+}
+
+/// Whether a structure value names the variable with this number.
+#[cycle(names)]
+#[tactic(auto, using(crate::proofs::Views::view_list))]
+pub fn structure_names_variable(variable: u32, value: &CoreStructure) -> bool
+    ensures { result ≡ structure_names variable (view_structure value.now) }
+{
+    match value {
+        CoreStructure::Read {
+            line: _,
+            variable: named,
+            offset: _,
+            size: _,
+        } => variable == *named,
+        CoreStructure::Load {
+            line: _,
+            object: _,
+            offset: _,
+            size: _,
+        } => false,
+        CoreStructure::Choice {
+            line: _,
+            test,
+            yes,
+            no,
+        } => {
+            names_variable(variable, test)
+                || structure_names_variable(variable, yes)
+                || structure_names_variable(variable, no)
+        }
+        CoreStructure::Assign {
+            line: _,
+            variable: named,
+            offset: _,
+            value,
+        } => variable == *named || structure_names_variable(variable, value),
+        CoreStructure::Store {
+            line: _,
+            object: _,
+            offset: _,
+            value,
+        } => structure_names_variable(variable, value),
+        CoreStructure::Comma {
+            line: _,
+            left,
+            right,
+        } => names_variable(variable, left) || structure_names_variable(variable, right),
+        CoreStructure::Member {
+            line: _,
+            offset: _,
+            size: _,
+            value,
+        } => structure_names_variable(variable, value),
+        CoreStructure::List {
+            line: _,
+            size: _,
+            parts,
+        } => parts_name(variable, parts),
+        CoreStructure::String {
+            line: _,
+            size: _,
+            bytes: _,
+        } => false,
+    }
+}
+
+#[cycle(names)]
+fn parts_name(variable: u32, parts: &[CorePart]) -> bool
+    ensures { result ≡ parts_name variable (parts_of parts.now) }
+{
+    for part in parts {
+        if part_names(variable, part) {
+            return true;
+        }
+    }
+    false
+}
+
+#[cycle(names)]
+fn part_names(variable: u32, part: &CorePart) -> bool
+    ensures { (rest : Parts) → (result || parts_name variable rest) ≡ parts_name variable (with_part part.now rest) }
+{
+    match part {
+        CorePart::Number { offset: _, value } => names_variable(variable, value),
+        CorePart::Structure { offset: _, value } => structure_names_variable(variable, value),
     }
 }

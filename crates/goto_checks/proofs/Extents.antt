@@ -85,6 +85,7 @@ count_behind rs bs n (operations.Copy r a) h = omega arith
 count_behind rs bs n (operations.Load r t b offset) h = omega arith
 count_behind rs bs n (operations.Store b offset count a) h = omega arith
 count_behind rs bs n (operations.Clear b size) h = omega arith
+count_behind rs bs n (operations.CopyBytes into to from offset count) h = omega arith
 count_behind rs bs n (operations.Convert r from to a) h = omega arith
 count_behind rs bs n (operations.Sign r op t a) h = omega arith
 count_behind rs bs n (operations.Arithmetic r op t u a b) h = omega arith
@@ -94,6 +95,8 @@ count_behind rs bs n (operations.Check c) h = omega arith
 count_behind rs bs n (operations.Assert a) h = omega arith
 count_behind rs bs n (operations.Assume a) h = omega arith
 count_behind rs bs n (operations.Draw r bits) h = omega arith
+count_behind rs bs n (operations.ReadObject b to k offset count) h = omega arith
+count_behind rs bs n (operations.WriteObject k offset b from count) h = omega arith
 count_behind rs bs n operations.Exit h = omega arith
 
 pub count_within : (rs : List IntegerType) (bs : List ℕ) (xs : List Instruction) (p : ℕ) (i : Instruction) → code_fits rs bs xs ≡ true → slice_get xs p ≡ Some i → p + count_of i.operation < length xs

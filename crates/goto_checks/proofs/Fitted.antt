@@ -95,6 +95,7 @@ module _ (rs : List IntegerType) where
     checks_fit n (operations.Load r t b offset) h = tt
     checks_fit n (operations.Store b offset count a) h = tt
     checks_fit n (operations.Clear b size) h = tt
+    checks_fit n (operations.CopyBytes into to from offset count) h = tt
     checks_fit n (operations.Convert r from to a) h = tt
     checks_fit n (operations.Compare r op t a b) h = tt
     checks_fit n (operations.IsZero r a) h = tt
@@ -104,6 +105,8 @@ module _ (rs : List IntegerType) where
     checks_fit n (operations.Assert a) h = tt
     checks_fit n (operations.Assume a) h = tt
     checks_fit n (operations.Draw r bits) h = tt
+    checks_fit n (operations.ReadObject b to k offset count) h = tt
+    checks_fit n (operations.WriteObject k offset b from count) h = tt
     checks_fit n operations.Exit h = tt
 
     with_checks_fit : (i : Instruction) (cs : List Condition) (code : List Instruction) → AllFit cs → code_fits rs bs code ≡ true → code_fits rs bs (with_checks i cs code) ≡ true
@@ -117,6 +120,7 @@ module _ (rs : List IntegerType) where
     jump_fits n (operations.Load r t b offset) code h = h
     jump_fits n (operations.Store b offset count a) code h = h
     jump_fits n (operations.Clear b size) code h = h
+    jump_fits n (operations.CopyBytes into to from offset count) code h = h
     jump_fits n (operations.Convert r from to a) code h = h
     jump_fits n (operations.Sign r op t a) code h = h
     jump_fits n (operations.Arithmetic r op t u a b) code h = h
@@ -128,6 +132,8 @@ module _ (rs : List IntegerType) where
     jump_fits n (operations.Assert a) code h = h
     jump_fits n (operations.Assume a) code h = h
     jump_fits n (operations.Draw r bits) code h = h
+    jump_fits n (operations.ReadObject b to k offset count) code h = h
+    jump_fits n (operations.WriteObject k offset b from count) code h = h
     jump_fits n operations.Exit code h = h
 
     pub inserted_fits : (code : List Instruction) → code_fits rs bs code ≡ true → code_fits rs bs (inserted code) ≡ true

@@ -15,9 +15,10 @@ use Rattle.goto_prog.specs.declared.code.Condition.TheVariants as checks
 use Rattle.goto_prog.specs.declared.code.Operation.{Operation}
 use Rattle.goto_prog.specs.declared.code.Operation.TheVariants as operations
 use Rattle.goto_prog.specs.declared.code.Instruction.{Instruction}
-use Rattle.actions.specs.declared.action.Action.TheVariants.{Draw}
+use Rattle.actions.specs.declared.action.Action.TheVariants.{Read, Write, Draw}
+use Rattle.c_values.specs.Variables.{pointer_to, put_bytes}
 use Rattle.actions.specs.declared.action.Next.TheVariants.{Broken, Blocked}
-use Rattle.goto_prog.specs.Meaning.{Memory, Reading, register, with_register, word_of, at, or_else, check_class, operates}
+use Rattle.goto_prog.specs.Meaning.{Memory, Reading, register, with_register, with_blocks, bytes_of, word_of, bytes_in, at, or_else, check_class, operates}
 use Rattle.goto_checks.specs.Inserted.{arithmetic_checks, sign_checks, checks_of, with_checks, with_count, count_of, extent, inserted}
 
 module _ {R : Type 0} (o : Reading R) where
@@ -97,6 +98,7 @@ module _ {R : Type 0} (o : Reading R) where
   one line f (operations.Load r t b offset) code m same = same 0 _
   one line f (operations.Store b offset count a) code m same = same 0 _
   one line f (operations.Clear b size) code m same = same 0 _
+  one line f (operations.CopyBytes into to from offset count) code m same = same 0 _
   one line f (operations.Convert r from to a) code m same = same 0 _
   one line f (operations.Sign r op t a) code m same = sign_checked op t a line f m _ ∙ ap (or_else o (sign_check op t (register m a)) line f) (same 0 _)
   one line f (operations.Arithmetic r op t u a b) code m same = arithmetic_checked op t u a b line f m _ ∙ ap (or_else o (arithmetic_check op t u (register m a) (register m b)) line f) (same 0 _)
@@ -108,6 +110,8 @@ module _ {R : Type 0} (o : Reading R) where
   one line f (operations.Assert a) code m same = λ k. if register m a == 0 then o.stop (Broken classes.Assertion line f) else same 0 m k
   one line f (operations.Assume a) code m same = λ k. if register m a == 0 then o.stop Blocked else same 0 m k
   one line f (operations.Draw r bits) code m same = λ k. o.ask (Draw bits) line f 0 (λ a. same 0 (with_register m r (word_of a)) k)
+  one line f (operations.ReadObject b to object offset count) code m same = λ k. o.ask (Read (pointer_to object offset) count) line f 0 (λ a. same 0 (with_blocks m (put_bytes m.blocks b to (bytes_in a))) k)
+  one line f (operations.WriteObject object offset b from count) code m same = λ k. o.ask (Write (pointer_to object offset) (bytes_of m.blocks b from count) false) line f 0 (λ a. same 0 m k)
   one line f operations.Exit code m same = refl
 
   pub same_code : (code : List Instruction) → Same code

@@ -4,23 +4,24 @@ use Rattle.std.specs.Prelude.{if◌then◌else◌, Result, Ok, Err, IfOk, OnOk}
 use Rattle.std.proofs.Math.Seq.{set-append_seam}
 use Rattle.c_types.specs.declared.integers.IntegerType.{IntegerType}
 use Rattle.c_types.specs.declared.integers.IntegerType.TheVariants.{Int}
-use Rattle.c_types.specs.Integers.{promoted}
+use Rattle.c_types.specs.Integers.{bytes, promoted}
 use Rattle.core_tree.specs.declared.operators.ArithmeticOperator.{ArithmeticOperator}
 use Rattle.core_tree.specs.declared.operators.Comparison.{Comparison}
 use Rattle.core_tree.specs.declared.operators.LogicalOperator.TheVariants as logicals
 use Rattle.core_tree.specs.declared.operators.SignOperator.{SignOperator}
 use Rattle.core_tree.specs.declared.operators.StepOperator.{StepOperator}
 use Rattle.core_tree.specs.declared.expression.Place.{Place}
+use Rattle.core_tree.specs.declared.expression.Place.TheVariants.{Object}
 use Rattle.core_tree.specs.Operations.{step_operation}
-use Rattle.core_tree.specs.Trees.{Expression, constant, read, convert, sign, is_zero, arithmetic, compare, logical, choice, assign, update, step, comma, assertion, assumption, draw}
+use Rattle.core_tree.specs.Trees.{Expression, constant, read, convert, sign, is_zero, arithmetic, compare, logical, choice, assign, update, step, comma, assertion, assumption, draw, part, discard, discard_structure, Structure, copy, load, choose, put, store, follow, section, list, string, Parts, no_part, number_part, structure_part}
 use Rattle.core_tree.specs.Typed.{place_type}
 use Rattle.c_interp.specs.Meaning.{number_type}
 use Rattle.goto_prog.specs.declared.code.Instruction.{Instruction}
 use Rattle.goto_prog.specs.declared.code.Operation.TheVariants as operations
 use Rattle.goto_lower.specs.declared.operand.Operand.{Operand}
 use Rattle.goto_lower.specs.declared.operand.Updated.{Updated}
-use Rattle.goto_lower.specs.Lowering.{top, line_of, at_line, update_code, logical_code, truth_code, code}
-use Rattle.goto_lower.specs.Registers.{types, update_types}
+use Rattle.goto_lower.specs.Lowering.{Frame, top, structure_registers, parts_registers, line_of, at_line, read_code, write_code, update_code, logical_code, truth_code, code}
+use Rattle.goto_lower.specs.Registers.{types, structure_types, parts_types, update_types}
 use Rattle.goto_lower.specs.Drafts.{Listed, next, added, filled, jump, landed, operand, after, value_in, Lowers}
 
 -- ---- results
@@ -35,24 +36,44 @@ ok_maps (Err e) p q f h = h
 
 -- ---- how many registers a tree has
 
-pub types_length : (e : Expression) → length (types e) ≡ top e + 1
-types_length (constant line t bits) = refl
-types_length (read p) = refl
-types_length (convert to e) = omega (arith, length-append (types e) (to ∷ []), types_length e)
-types_length (sign line op e) = omega (arith, length-append (types e) (number_type e ∷ []), types_length e)
-types_length (is_zero line e) = omega (arith, length-append (types e) (Int ∷ []), types_length e)
-types_length (arithmetic line op a b) = omega (arith, length-append (types a) (types b ++ number_type a ∷ []), length-append (types b) (number_type a ∷ []), types_length a, types_length b)
-types_length (compare line op a b) = omega (arith, length-append (types a) (types b ++ Int ∷ []), length-append (types b) (Int ∷ []), types_length a, types_length b)
-types_length (logical line op a b) = omega (arith, length-append (types a) (types b ++ Int ∷ Int ∷ []), length-append (types b) (Int ∷ Int ∷ []), types_length a, types_length b)
-types_length (choice line test a b) =
-    omega (arith, length-append (types test) (types a ++ (types b ++ number_type a ∷ [])), length-append (types a) (types b ++ number_type a ∷ []), length-append (types b) (number_type a ∷ []), types_length test, types_length a, types_length b)
-types_length (assign line p e) = types_length e
-types_length (update line p op t e) = omega (arith, length-append (types e) (update_types p t), types_length e)
-types_length (step line p op before) = refl
-types_length (comma line a b) = omega (arith, length-append (types a) (types b), types_length a, types_length b)
-types_length (assertion line e) = omega (arith, length-append (types e) (Int ∷ []), types_length e)
-types_length (assumption line e) = omega (arith, length-append (types e) (Int ∷ []), types_length e)
-types_length (draw line t) = refl
+mutual
+  pub types_length : (e : Expression) → length (types e) ≡ top e + 1
+  types_length (constant line t bits) = refl
+  types_length (read p) = refl
+  types_length (convert to e) = omega (arith, length-append (types e) (to ∷ []), types_length e)
+  types_length (sign line op e) = omega (arith, length-append (types e) (number_type e ∷ []), types_length e)
+  types_length (is_zero line e) = omega (arith, length-append (types e) (Int ∷ []), types_length e)
+  types_length (arithmetic line op a b) = omega (arith, length-append (types a) (types b ++ number_type a ∷ []), length-append (types b) (number_type a ∷ []), types_length a, types_length b)
+  types_length (compare line op a b) = omega (arith, length-append (types a) (types b ++ Int ∷ []), length-append (types b) (Int ∷ []), types_length a, types_length b)
+  types_length (logical line op a b) = omega (arith, length-append (types a) (types b ++ Int ∷ Int ∷ []), length-append (types b) (Int ∷ Int ∷ []), types_length a, types_length b)
+  types_length (choice line test a b) =
+      omega (arith, length-append (types test) (types a ++ (types b ++ number_type a ∷ [])), length-append (types a) (types b ++ number_type a ∷ []), length-append (types b) (number_type a ∷ []), types_length test, types_length a, types_length b)
+  types_length (assign line p e) = types_length e
+  types_length (update line p op t e) = omega (arith, length-append (types e) (update_types p t), types_length e)
+  types_length (step line p op before) = refl
+  types_length (comma line a b) = omega (arith, length-append (types a) (types b), types_length a, types_length b)
+  types_length (assertion line e) = omega (arith, length-append (types e) (Int ∷ []), types_length e)
+  types_length (assumption line e) = omega (arith, length-append (types e) (Int ∷ []), types_length e)
+  types_length (draw line t) = refl
+  types_length (part line t offset a) = omega (arith, length-append (structure_types a) (t ∷ []), structure_length a)
+  types_length (discard line e) = omega (arith, length-append (types e) (Int ∷ []), types_length e)
+  types_length (discard_structure a) = omega (arith, length-append (structure_types a) (Int ∷ []), structure_length a)
+
+  pub structure_length : (a : Structure) → length (structure_types a) ≡ structure_registers a
+  structure_length (copy line v offset size) = refl
+  structure_length (load line k offset size) = refl
+  structure_length (choose line test a b) = omega (arith, length-append (types test) (structure_types a ++ structure_types b), length-append (structure_types a) (structure_types b), types_length test, structure_length a, structure_length b)
+  structure_length (put line v offset a) = structure_length a
+  structure_length (store line k offset a) = structure_length a
+  structure_length (follow line e a) = omega (arith, length-append (types e) (structure_types a), types_length e, structure_length a)
+  structure_length (section line offset size a) = structure_length a
+  structure_length (list line size ps) = parts_length ps
+  structure_length (string line size text) = refl
+
+  pub parts_length : (ps : Parts) → length (parts_types ps) ≡ parts_registers ps
+  parts_length no_part = refl
+  parts_length (number_part offset e rest) = omega (arith, length-append (types e) (parts_types rest), types_length e, parts_length rest)
+  parts_length (structure_part offset a rest) = omega (arith, length-append (structure_types a) (parts_types rest), structure_length a, parts_length rest)
 
 -- ---- one after the other
 
@@ -66,7 +87,7 @@ adds_more d e g xs ys ts us first second =
     ∙ (λ i. record d { instructions = append_assoc d.instructions xs ys i; registers = append_assoc d.registers ts us i })
 
 pub next_after : (d : Listed) (e : Expression) → next (after d e) ≡ next d + (top e + 1)
-next_after d e = next_added d (code d.function e (next d)) (types e) ∙ ap (λ n. next d + n) (types_length e)
+next_after d e = next_added d (code d.frame e (next d)) (types e) ∙ ap (λ n. next d + n) (types_length e)
 
 pub next_of : (old new : Listed) (e : Expression) (x : Operand) → Lowers old new e x → next new ≡ next old + (top e + 1)
 next_of old new e x h = ap next h.code_is ∙ next_after old e
@@ -75,28 +96,103 @@ pub next_same : (d e : Listed) (xs : List Instruction) → e ≡ added d xs [] �
 next_same d e xs same = let sum : next (added d xs []) ≡ next d + 0 = next_added d xs [] in omega (arith, sum, ap next same)
 
 -- what comes behind an expression, by its value and the number of the next register
-pub behind_one : (old d new : Listed) (e : Expression) (x : Operand) (r : ℕ) (tail : ℕ → Operand → ℕ → List Instruction) (ts : Operand → List IntegerType)
-    → Lowers old d e x → r ≡ next d → new ≡ added d (tail d.function x r) (ts x)
-    → new ≡ added old (code old.function e (next old) ++ tail old.function (value_in old e) (next old + (top e + 1))) (types e ++ ts (value_in old e))
+pub behind_one : (old d new : Listed) (e : Expression) (x : Operand) (r : ℕ) (tail : Frame → Operand → ℕ → List Instruction) (ts : Operand → List IntegerType)
+    → Lowers old d e x → r ≡ next d → new ≡ added d (tail d.frame x r) (ts x)
+    → new ≡ added old (code old.frame e (next old) ++ tail old.frame (value_in old e) (next old + (top e + 1))) (types e ++ ts (value_in old e))
 behind_one old d new e x r tail ts h at same =
-    adds_more old (after old e) new (code old.function e (next old)) (tail old.function (value_in old e) (next (after old e))) (types e) (ts (value_in old e)) refl
-    (same ∙ (λ i. added d (tail d.function x (at i)) (ts x)) ∙ (λ i. added (h.code_is i) (tail (h.code_is i).function (h.value_is i) (next (h.code_is i))) (ts (h.value_is i))))
-    ∙ (λ i. added old (code old.function e (next old) ++ tail old.function (value_in old e) (next_after old e i)) (types e ++ ts (value_in old e)))
+    adds_more old (after old e) new (code old.frame e (next old)) (tail old.frame (value_in old e) (next (after old e))) (types e) (ts (value_in old e)) refl
+    (same ∙ (λ i. added d (tail d.frame x (at i)) (ts x)) ∙ (λ i. added (h.code_is i) (tail (h.code_is i).frame (h.value_is i) (next (h.code_is i))) (ts (h.value_is i))))
+    ∙ (λ i. added old (code old.frame e (next old) ++ tail old.frame (value_in old e) (next_after old e i)) (types e ++ ts (value_in old e)))
 
 -- the value of b, whose first register is m
 abbrev pub value_from : Expression → ℕ → Operand
 value_from b m = operand (m + top b) (number_type b) (line_of b)
 
-pub behind_two : (old mid d new : Listed) (a b : Expression) (x y : Operand) (r : ℕ) (tail : ℕ → Operand → Operand → ℕ → List Instruction) (ts : Operand → List IntegerType)
-    → Lowers old mid a x → Lowers mid d b y → r ≡ next d → new ≡ added d (tail d.function x y r) (ts x)
+pub behind_two : (old mid d new : Listed) (a b : Expression) (x y : Operand) (r : ℕ) (tail : Frame → Operand → Operand → ℕ → List Instruction) (ts : Operand → List IntegerType)
+    → Lowers old mid a x → Lowers mid d b y → r ≡ next d → new ≡ added d (tail d.frame x y r) (ts x)
     → (let m = next old + (top a + 1) in
-    new ≡ added old (code old.function a (next old) ++ (code old.function b m ++ tail old.function (value_in old a) (value_from b m) (next old + (top a + (top b + 2))))) (types a ++ (types b ++ ts (value_in old a))))
+    new ≡ added old (code old.frame a (next old) ++ (code old.frame b m ++ tail old.frame (value_in old a) (value_from b m) (next old + (top a + (top b + 2))))) (types a ++ (types b ++ ts (value_in old a))))
 behind_two old mid d new a b x y r tail ts h k at same =
     let m = next old + (top a + 1) in
     let last : m + (top b + 1) ≡ next old + (top a + (top b + 2)) = omega arith in
     behind_one old mid new a x (next mid) (λ f z n. code f b n ++ tail f z (value_from b n) (n + (top b + 1))) (λ z. types b ++ ts z) h refl
     (behind_one mid d new b y r (λ f z n. tail f x z n) (λ z. ts x) k at same)
-    ∙ (λ i. added old (code old.function a (next old) ++ (code old.function b m ++ tail old.function (value_in old a) (value_from b m) (last i))) (types a ++ (types b ++ ts (value_in old a))))
+    ∙ (λ i. added old (code old.frame a (next old) ++ (code old.frame b m ++ tail old.frame (value_in old a) (value_from b m) (last i))) (types a ++ (types b ++ ts (value_in old a))))
+
+-- ---- places
+
+pub read_object : (old d new : Listed) (x : Operand) (line : ℕ) (t : IntegerType) (k offset block count r : ℕ)
+    → block ≡ old.frame.free → count ≡ bytes t
+    → d ≡ added old (at_line old.frame line (operations.ReadObject block 0 k offset count) ∷ []) []
+    → r ≡ next d → new ≡ added d (at_line d.frame line (operations.Load r t block 0) ∷ []) (t ∷ []) → x ≡ operand (next d) t line
+    → Lowers old new (read (Object line t k offset)) x
+read_object old d new x line t k offset block count r is_block is_count first at second v =
+    let i = at_line old.frame line (operations.ReadObject old.frame.free 0 k offset (bytes t)) in
+    let first' : d ≡ added old (i ∷ []) [] = first ∙ (λ j. added old (at_line old.frame line (operations.ReadObject (is_block j) 0 k offset (is_count j)) ∷ []) []) in
+    let same : next d ≡ next old = next_same old d (i ∷ []) first' in
+    let start : next d ≡ next old + 0 = omega (arith, same) in
+    record {
+      code_is = adds_more old d new (i ∷ []) (at_line old.frame line (operations.Load (next old) t old.frame.free 0) ∷ []) [] (t ∷ []) first'
+          (second ∙ (λ j. added d (at_line (first' j).frame line (operations.Load ((at ∙ same) j) t (is_block j) 0) ∷ []) (t ∷ [])));
+      value_is = v ∙ (λ j. operand (start j) t line);
+    }
+
+pub write_object : (old d new : Listed) (line place_line : ℕ) (t : IntegerType) (k offset block count r : ℕ)
+    → block ≡ old.frame.free → count ≡ bytes t
+    → d ≡ added old (at_line old.frame line (operations.Store block 0 count r) ∷ []) []
+    → new ≡ added d (at_line d.frame line (operations.WriteObject k offset block 0 count) ∷ []) []
+    → new ≡ added old (write_code old.frame line (Object place_line t k offset) r) []
+write_object old d new line place_line t k offset block count r is_block is_count first second =
+    let i = at_line old.frame line (operations.Store old.frame.free 0 (bytes t) r) in
+    let first' : d ≡ added old (i ∷ []) [] = first ∙ (λ j. added old (at_line old.frame line (operations.Store (is_block j) 0 (is_count j) r) ∷ []) []) in
+    adds_more old d new (i ∷ []) (at_line old.frame line (operations.WriteObject k offset old.frame.free 0 (bytes t)) ∷ []) [] [] first'
+    (second ∙ (λ j. added d (at_line (first' j).frame line (operations.WriteObject k offset (is_block j) 0 (is_count j)) ∷ []) []))
+
+-- a read of a place, three operations on it, and a write of it
+pub update_adds : (old d1 d2 d3 d4 new : Listed) (p : Place) (loaded left value back : Operand) (line : ℕ) (op : ArithmeticOperator) (t u : IntegerType) (y a b c : ℕ)
+    → Lowers old d1 (read p) loaded
+    → a ≡ next d1 → d2 ≡ added d1 (at_line d1.frame line (operations.Convert a loaded.type_ t loaded.register) ∷ []) (t ∷ []) → left ≡ operand (next d1) t line
+    → b ≡ next d2 → d3 ≡ added d2 (at_line d2.frame line (operations.Arithmetic b op t u left.register y) ∷ []) (t ∷ []) → value ≡ operand (next d2) t line
+    → c ≡ next d3 → d4 ≡ added d3 (at_line d3.frame line (operations.Convert c t loaded.type_ value.register) ∷ []) (loaded.type_ ∷ []) → back ≡ operand (next d3) loaded.type_ line
+    → new ≡ added d4 (write_code d4.frame line p back.register) []
+    → new ≡ added old (update_code old.frame line p (place_type p) op t u y (next old)) (update_types p t)
+update_adds old d1 d2 d3 d4 new p loaded left value back line op t u y a b c h is_a first is_left is_b second is_value is_c third is_back last =
+    let n = next old in
+    let f = old.frame in
+    let place = place_type p in
+    let f1 : d1.frame ≡ f = λ i. (h.code_is i).frame in
+    let n1 : next d1 ≡ n + 1 = omega (arith, next_of old d1 (read p) loaded h) in
+    let none : n + 0 ≡ n = omega arith in
+    let from : loaded.register ≡ n = (λ i. (h.value_is i).register) ∙ none in
+    let is_place : loaded.type_ ≡ place = λ i. (h.value_is i).type_ in
+    let one = at_line f line (operations.Convert (n + 1) place t n) in
+    let first' : d2 ≡ added d1 (one ∷ []) (t ∷ []) = first ∙ (λ i. added d1 (at_line (f1 i) line (operations.Convert ((is_a ∙ n1) i) (is_place i) t (from i)) ∷ []) (t ∷ [])) in
+    let f2 : d2.frame ≡ f = (λ i. (first' i).frame) ∙ f1 in
+    let n2 : next d2 ≡ n + 2 = omega (arith, ap next first', next_added d1 (one ∷ []) (t ∷ []), n1) in
+    let left_is : left.register ≡ n + 1 = (λ i. (is_left i).register) ∙ n1 in
+    let two = at_line f line (operations.Arithmetic (n + 2) op t u (n + 1) y) in
+    let second' : d3 ≡ added d2 (two ∷ []) (t ∷ []) = second ∙ (λ i. added d2 (at_line (f2 i) line (operations.Arithmetic ((is_b ∙ n2) i) op t u (left_is i) y) ∷ []) (t ∷ [])) in
+    let f3 : d3.frame ≡ f = (λ i. (second' i).frame) ∙ f2 in
+    let n3 : next d3 ≡ n + 3 = omega (arith, ap next second', next_added d2 (two ∷ []) (t ∷ []), n2) in
+    let value_is : value.register ≡ n + 2 = (λ i. (is_value i).register) ∙ n2 in
+    let three = at_line f line (operations.Convert (n + 3) t place (n + 2)) in
+    let third' : d4 ≡ added d3 (three ∷ []) (place ∷ []) = third ∙ (λ i. added d3 (at_line (f3 i) line (operations.Convert ((is_c ∙ n3) i) t (is_place i) (value_is i)) ∷ []) (is_place i ∷ [])) in
+    let f4 : d4.frame ≡ f = (λ i. (third' i).frame) ∙ f3 in
+    let back_is : back.register ≡ n + 3 = (λ i. (is_back i).register) ∙ n3 in
+    let write = write_code f line p (n + 3) in
+    let last' : new ≡ added d4 write [] = last ∙ (λ i. added d4 (write_code (f4 i) line p (back_is i)) []) in
+    adds_more old d1 new (read_code f n p) (one ∷ two ∷ three ∷ write) (place ∷ []) (t ∷ t ∷ place ∷ []) h.code_is
+    (adds_more d1 d2 new (one ∷ []) (two ∷ three ∷ write) (t ∷ []) (t ∷ place ∷ []) first'
+    (adds_more d2 d3 new (two ∷ []) (three ∷ write) (t ∷ []) (place ∷ []) second'
+    (adds_more d3 d4 new (three ∷ []) write (place ∷ []) [] third' last')))
+
+pub update_registers : (old d1 d2 d3 : Listed) (p : Place) (loaded back : Operand) (updated : Updated) (xs ys : List Instruction) (t u v : IntegerType) (line : ℕ)
+    → Lowers old d1 (read p) loaded → d2 ≡ added d1 xs (t ∷ []) → d3 ≡ added d2 ys (u ∷ []) → back ≡ operand (next d3) v line
+    → updated ≡ record { old = loaded.register; new = back.register } → updated ≡ record { old = next old; new = next old + 3 }
+update_registers old d1 d2 d3 p loaded back updated xs ys t u v line h first second is_back is_updated =
+    let none : next old + 0 ≡ next old = omega arith in
+    let three : next d3 ≡ next old + 3 = omega (arith, ap next second, next_added d2 ys (u ∷ []), ap next first, next_added d1 xs (t ∷ []), next_of old d1 (read p) loaded h) in
+    is_updated ∙ (λ i. record { old = ((λ k. (h.value_is k).register) ∙ none) i; new = ((λ k. (is_back k).register) ∙ three) i })
 
 -- ---- behind one operand
 
@@ -105,7 +201,7 @@ module _ (old d new : Listed) (e : Expression) (x y : Operand) (h : Lowers old d
   value_behind t line v = v ∙ (λ i. operand (next_of old d e x h i) (t (h.value_is i)) (line (h.value_is i)))
 
   pub lowers_convert : (to : IntegerType) (r : ℕ) → r ≡ next d
-      → new ≡ added d (at_line d.function x.line (operations.Convert r x.type_ to x.register) ∷ []) (to ∷ []) → y ≡ operand (next d) to x.line
+      → new ≡ added d (at_line d.frame x.line (operations.Convert r x.type_ to x.register) ∷ []) (to ∷ []) → y ≡ operand (next d) to x.line
       → Lowers old new (convert to e) y
   lowers_convert to r at n v = record {
     code_is = behind_one old d new e x r (λ f z m. at_line f z.line (operations.Convert m z.type_ to z.register) ∷ []) (λ z. to ∷ []) h at n;
@@ -113,7 +209,7 @@ module _ (old d new : Listed) (e : Expression) (x y : Operand) (h : Lowers old d
   }
 
   pub lowers_sign : (line : ℕ) (op : SignOperator) (r : ℕ) → r ≡ next d
-      → new ≡ added d (at_line d.function line (operations.Sign r op x.type_ x.register) ∷ []) (x.type_ ∷ []) → y ≡ operand (next d) x.type_ line
+      → new ≡ added d (at_line d.frame line (operations.Sign r op x.type_ x.register) ∷ []) (x.type_ ∷ []) → y ≡ operand (next d) x.type_ line
       → Lowers old new (sign line op e) y
   lowers_sign line op r at n v = record {
     code_is = behind_one old d new e x r (λ f z m. at_line f line (operations.Sign m op z.type_ z.register) ∷ []) (λ z. z.type_ ∷ []) h at n;
@@ -121,15 +217,23 @@ module _ (old d new : Listed) (e : Expression) (x y : Operand) (h : Lowers old d
   }
 
   pub lowers_is_zero : (line : ℕ) (r : ℕ) → r ≡ next d
-      → new ≡ added d (at_line d.function line (operations.IsZero r x.register) ∷ []) (Int ∷ []) → y ≡ operand (next d) Int line
+      → new ≡ added d (at_line d.frame line (operations.IsZero r x.register) ∷ []) (Int ∷ []) → y ≡ operand (next d) Int line
       → Lowers old new (is_zero line e) y
   lowers_is_zero line r at n v = record {
     code_is = behind_one old d new e x r (λ f z m. at_line f line (operations.IsZero m z.register) ∷ []) (λ z. Int ∷ []) h at n;
     value_is = value_behind (λ z. Int) (λ z. line) v;
   }
 
+  pub lowers_assign : (line : ℕ) (p : Place)
+      → new ≡ added d (write_code d.frame line p x.register) [] → y ≡ operand x.register (place_type p) line
+      → Lowers old new (assign line p e) y
+  lowers_assign line p n v = record {
+    code_is = behind_one old d new e x (next d) (λ f z m. write_code f line p z.register) (λ z. []) h refl n ∙ (λ i. added old (code old.frame (assign line p e) (next old)) (append-nil (types e) i));
+    value_is = v ∙ (λ i. operand (h.value_is i).register (place_type p) line);
+  }
+
   pub lowers_update : (line : ℕ) (p : Place) (op : ArithmeticOperator) (t : IntegerType) (s : ℕ) → s ≡ next d + 3
-      → new ≡ added d (update_code d.function line p (place_type p) op t x.type_ x.register (next d)) (update_types p t) → y ≡ operand s (place_type p) line
+      → new ≡ added d (update_code d.frame line p (place_type p) op t x.type_ x.register (next d)) (update_types p t) → y ≡ operand s (place_type p) line
       → Lowers old new (update line p op t e) y
   lowers_update line p op t s from n v =
       let last : s ≡ next old + (top e + 4) = omega (arith, next_of old d e x h, from) in
@@ -139,30 +243,38 @@ module _ (old d new : Listed) (e : Expression) (x y : Operand) (h : Lowers old d
       }
 
   pub lowers_assertion : (mid : Listed) (line : ℕ)
-      → mid ≡ added d (at_line d.function line (operations.Assert x.register) ∷ []) [] → Lowers mid new (constant line Int 0) y
+      → mid ≡ added d (at_line d.frame line (operations.Assert x.register) ∷ []) [] → Lowers mid new (constant line Int 0) y
       → Lowers old new (assertion line e) y
   lowers_assertion mid line first k =
-      let at : next mid ≡ next d = next_same d mid (at_line d.function line (operations.Assert x.register) ∷ []) first in
+      let at : next mid ≡ next d = next_same d mid (at_line d.frame line (operations.Assert x.register) ∷ []) first in
       let last : next mid + 0 ≡ next old + (top e + 1) = omega (arith, at, next_of old d e x h) in
       record {
         code_is = behind_one old d new e x (next d) (λ f z m. at_line f line (operations.Assert z.register) ∷ at_line f line (operations.Constant m 0) ∷ []) (λ z. Int ∷ []) h refl
-            (adds_more d mid new (at_line d.function line (operations.Assert x.register) ∷ []) (at_line d.function line (operations.Constant (next d) 0) ∷ []) [] (Int ∷ []) first
-            (k.code_is ∙ (λ i. added mid (at_line (first i).function line (operations.Constant (at i) 0) ∷ []) (Int ∷ []))));
+            (adds_more d mid new (at_line d.frame line (operations.Assert x.register) ∷ []) (at_line d.frame line (operations.Constant (next d) 0) ∷ []) [] (Int ∷ []) first
+            (k.code_is ∙ (λ i. added mid (at_line (first i).frame line (operations.Constant (at i) 0) ∷ []) (Int ∷ []))));
         value_is = k.value_is ∙ (λ i. operand (last i) Int line);
       }
 
   pub lowers_assumption : (mid : Listed) (line : ℕ)
-      → mid ≡ added d (at_line d.function line (operations.Assume x.register) ∷ []) [] → Lowers mid new (constant line Int 0) y
+      → mid ≡ added d (at_line d.frame line (operations.Assume x.register) ∷ []) [] → Lowers mid new (constant line Int 0) y
       → Lowers old new (assumption line e) y
   lowers_assumption mid line first k =
-      let at : next mid ≡ next d = next_same d mid (at_line d.function line (operations.Assume x.register) ∷ []) first in
+      let at : next mid ≡ next d = next_same d mid (at_line d.frame line (operations.Assume x.register) ∷ []) first in
       let last : next mid + 0 ≡ next old + (top e + 1) = omega (arith, at, next_of old d e x h) in
       record {
         code_is = behind_one old d new e x (next d) (λ f z m. at_line f line (operations.Assume z.register) ∷ at_line f line (operations.Constant m 0) ∷ []) (λ z. Int ∷ []) h refl
-            (adds_more d mid new (at_line d.function line (operations.Assume x.register) ∷ []) (at_line d.function line (operations.Constant (next d) 0) ∷ []) [] (Int ∷ []) first
-            (k.code_is ∙ (λ i. added mid (at_line (first i).function line (operations.Constant (at i) 0) ∷ []) (Int ∷ []))));
+            (adds_more d mid new (at_line d.frame line (operations.Assume x.register) ∷ []) (at_line d.frame line (operations.Constant (next d) 0) ∷ []) [] (Int ∷ []) first
+            (k.code_is ∙ (λ i. added mid (at_line (first i).frame line (operations.Constant (at i) 0) ∷ []) (Int ∷ []))));
         value_is = k.value_is ∙ (λ i. operand (last i) Int line);
       }
+
+pub lowers_discard : (old d new : Listed) (e : Expression) (x y : Operand) (line : ℕ) → Lowers old d e x → Lowers d new (constant line Int 0) y → Lowers old new (discard line e) y
+lowers_discard old d new e x y line h k =
+    let last : next d + 0 ≡ next old + (top e + 1) = omega (arith, next_of old d e x h) in
+    record {
+      code_is = behind_one old d new e x (next d) (λ f z m. at_line f line (operations.Constant m 0) ∷ []) (λ z. Int ∷ []) h refl k.code_is;
+      value_is = k.value_is ∙ (λ i. operand (last i) Int line);
+    }
 
 -- ---- behind two
 
@@ -171,7 +283,7 @@ module _ (old mid d new : Listed) (a b : Expression) (x y z : Operand) (h : Lowe
   next_two = omega (arith, next_of old mid a x h, next_of mid d b y k)
 
   pub lowers_arithmetic : (line : ℕ) (op : ArithmeticOperator) (r : ℕ) → r ≡ next d
-      → new ≡ added d (at_line d.function line (operations.Arithmetic r op x.type_ y.type_ x.register y.register) ∷ []) (x.type_ ∷ []) → z ≡ operand (next d) x.type_ line
+      → new ≡ added d (at_line d.frame line (operations.Arithmetic r op x.type_ y.type_ x.register y.register) ∷ []) (x.type_ ∷ []) → z ≡ operand (next d) x.type_ line
       → Lowers old new (arithmetic line op a b) z
   lowers_arithmetic line op r at n v = record {
     code_is = behind_two old mid d new a b x y r (λ f u w m. at_line f line (operations.Arithmetic m op u.type_ w.type_ u.register w.register) ∷ []) (λ u. u.type_ ∷ []) h k at n;
@@ -179,7 +291,7 @@ module _ (old mid d new : Listed) (a b : Expression) (x y z : Operand) (h : Lowe
   }
 
   pub lowers_compare : (line : ℕ) (op : Comparison) (r : ℕ) → r ≡ next d
-      → new ≡ added d (at_line d.function line (operations.Compare r op x.type_ x.register y.register) ∷ []) (Int ∷ []) → z ≡ operand (next d) Int line
+      → new ≡ added d (at_line d.frame line (operations.Compare r op x.type_ x.register y.register) ∷ []) (Int ∷ []) → z ≡ operand (next d) Int line
       → Lowers old new (compare line op a b) z
   lowers_compare line op r at n v = record {
     code_is = behind_two old mid d new a b x y r (λ f u w m. at_line f line (operations.Compare m op u.type_ u.register w.register) ∷ []) (λ u. Int ∷ []) h k at n;
@@ -200,14 +312,14 @@ step_lowers : (old d1 d2 new : Listed) (one z : Operand) (into line : ℕ) (p : 
     → (let t = promoted (place_type p) in
     Lowers old d1 (constant line t 1) one
     → into ≡ next d2
-    → d2 ≡ added d1 (update_code d1.function line p (place_type p) (step_operation op) t one.type_ one.register (next d1)) (update_types p t)
-    → new ≡ added d2 (at_line d2.function line (operations.Copy into (if before then next d1 + 3 else next d1)) ∷ []) (place_type p ∷ [])
+    → d2 ≡ added d1 (update_code d1.frame line p (place_type p) (step_operation op) t one.type_ one.register (next d1)) (update_types p t)
+    → new ≡ added d2 (at_line d2.frame line (operations.Copy into (if before then next d1 + 3 else next d1)) ∷ []) (place_type p ∷ [])
     → z ≡ operand (next d2) (place_type p) line
     → Lowers old new (step line p op before) z)
 step_lowers old d1 d2 new one z into line p op before h is_into second third v =
     let t = promoted (place_type p) in
-    let updated = λ (f : ℕ) (u : Operand) (m : ℕ). update_code f line p (place_type p) (step_operation op) t u.type_ u.register m in
-    let two : next d2 ≡ next d1 + 4 = ap next second ∙ next_added d1 (updated d1.function one (next d1)) (update_types p t) in
+    let updated = λ (f : Frame) (u : Operand) (m : ℕ). update_code f line p (place_type p) (step_operation op) t u.type_ u.register m in
+    let two : next d2 ≡ next d1 + 4 = ap next second ∙ next_added d1 (updated d1.frame one (next d1)) (update_types p t) in
     let from : next old + 0 ≡ next old = omega arith in
     let start : next old + (0 + 1) ≡ next old + 1 = omega arith in
     let taken : next old + (0 + 1) + 3 ≡ next old + 4 = omega arith in
@@ -216,20 +328,20 @@ step_lowers old d1 d2 new one z into line p op before h is_into second third v =
     record {
       code_is =
           behind_one old d1 new (constant line t 1) one (next d1) (λ f u m. updated f u m ++ at_line f line (operations.Copy (m + 4) (if before then m + 3 else m)) ∷ []) (λ u. update_types p t ++ place_type p ∷ []) h refl
-          (adds_more d1 d2 new (updated d1.function one (next d1)) (at_line d1.function line (operations.Copy (next d1 + 4) (if before then next d1 + 3 else next d1)) ∷ []) (update_types p t) (place_type p ∷ []) second
-          (third ∙ (λ i. added d2 (at_line (second i).function line (operations.Copy ((is_into ∙ two) i) (if before then next d1 + 3 else next d1)) ∷ []) (place_type p ∷ []))))
-          ∙ (λ i. added old (at_line old.function line (operations.Constant (next old) 1) ∷ (update_code old.function line p (place_type p) (step_operation op) t t (from i) (start i) ++ at_line old.function line (operations.Copy (last i) (if before then taken i else start i)) ∷ [])) (t ∷ (update_types p t ++ place_type p ∷ [])));
+          (adds_more d1 d2 new (updated d1.frame one (next d1)) (at_line d1.frame line (operations.Copy (next d1 + 4) (if before then next d1 + 3 else next d1)) ∷ []) (update_types p t) (place_type p ∷ []) second
+          (third ∙ (λ i. added d2 (at_line (second i).frame line (operations.Copy ((is_into ∙ two) i) (if before then next d1 + 3 else next d1)) ∷ []) (place_type p ∷ []))))
+          ∙ (λ i. added old (at_line old.frame line (operations.Constant (next old) 1) ∷ (update_code old.frame line p (place_type p) (step_operation op) t t (from i) (start i) ++ at_line old.frame line (operations.Copy (last i) (if before then taken i else start i)) ∷ [])) (t ∷ (update_types p t ++ place_type p ∷ [])));
       value_is = v ∙ (λ i. operand (at i) (place_type p) line);
     }
 
 pub lowers_step : (old d1 d2 new : Listed) (one z : Operand) (updated : Updated) (value into line : ℕ) (p : Place) (op : StepOperator) (before : Bool) (t u : IntegerType) (sum : ArithmeticOperator)
     → t ≡ place_type p → u ≡ promoted t → sum ≡ step_operation op
     → Lowers old d1 (constant line u 1) one
-    → d2 ≡ added d1 (update_code d1.function line p (place_type p) sum u one.type_ one.register (next d1)) (update_types p u)
+    → d2 ≡ added d1 (update_code d1.frame line p (place_type p) sum u one.type_ one.register (next d1)) (update_types p u)
     → updated ≡ record { old = next d1; new = next d1 + 3 }
     → into ≡ next d2
     → value ≡ (if before then updated.new else updated.old)
-    → new ≡ added d2 (at_line d2.function line (operations.Copy into value) ∷ []) (t ∷ [])
+    → new ≡ added d2 (at_line d2.frame line (operations.Copy into value) ∷ []) (t ∷ [])
     → z ≡ operand (next d2) t line
     → Lowers old new (step line p op before) z
 lowers_step old d1 d2 new one z updated value into line p op before t u sum is_t is_u is_sum h second is_updated is_into is_value third v =
@@ -237,8 +349,8 @@ lowers_step old d1 d2 new one z updated value into line p op before t u sum is_t
     step_lowers old d1 d2 new one z into line p op before
     (subst (λ (w : IntegerType). Lowers old d1 (constant line w 1) one) same h)
     is_into
-    (second ∙ (λ i. added d1 (update_code d1.function line p (place_type p) (is_sum i) (same i) one.type_ one.register (next d1)) (update_types p (same i))))
-    (third ∙ (λ i. added d2 (at_line d2.function line (operations.Copy into ((is_value ∙ (λ k. if before then (is_updated k).new else (is_updated k).old)) i)) ∷ []) (is_t i ∷ [])))
+    (second ∙ (λ i. added d1 (update_code d1.frame line p (place_type p) (is_sum i) (same i) one.type_ one.register (next d1)) (update_types p (same i))))
+    (third ∙ (λ i. added d2 (at_line d2.frame line (operations.Copy into ((is_value ∙ (λ k. if before then (is_updated k).new else (is_updated k).old)) i)) ∷ []) (is_t i ∷ [])))
     (v ∙ (λ i. operand (next d2) (is_t i) line))
 
 -- ---- jumps
@@ -246,12 +358,12 @@ lowers_step old d1 d2 new one z updated value into line p op before t u sum is_t
 -- a jump that lands behind the code that follows it
 pub landed_behind : (d : Listed) (hole : Instruction) (xs : List Instruction) (ts : List IntegerType) (place line : ℕ) (test : Option ℕ)
     → place ≡ length d.instructions
-    → landed (added d (hole ∷ xs) ts) place line test ≡ added d (at_line d.function line (jump test (length xs)) ∷ xs) ts
+    → landed (added d (hole ∷ xs) ts) place line test ≡ added d (at_line d.frame line (jump test (length xs)) ∷ xs) ts
 landed_behind d hole xs ts place line test at =
     let all : length (d.instructions ++ hole ∷ xs) ≡ length d.instructions + length (hole ∷ xs) = length-append d.instructions (hole ∷ xs) in
     let count : length (d.instructions ++ hole ∷ xs) - (length d.instructions + 1) ≡ length xs = omega (arith, all) in
     (λ i. landed (added d (hole ∷ xs) ts) (at i) line test)
-    ∙ (λ i. record d { instructions = set-append_seam d.instructions hole xs (at_line d.function line (jump test (count i))) i; registers = d.registers ++ ts })
+    ∙ (λ i. record d { instructions = set-append_seam d.instructions hole xs (at_line d.frame line (jump test (count i))) i; registers = d.registers ++ ts })
 
 -- a hole that is filled
 pub filled_in : (d : Listed) (hole new : Instruction) (xs : List Instruction) (ts : List IntegerType) (place : ℕ)
@@ -264,7 +376,7 @@ filled_in d hole new xs ts place at =
 -- code behind a place that was left, and then landed
 module _ (old d new : Listed) (hole : Instruction) (xs : List Instruction) (ts : List IntegerType) (place line : ℕ) where
   pub lands : (test : Option ℕ) → place ≡ length old.instructions → d ≡ added old (hole ∷ xs) ts → new ≡ landed d place line test
-      → new ≡ added old (at_line old.function line (jump test (length xs)) ∷ xs) ts
+      → new ≡ added old (at_line old.frame line (jump test (length xs)) ∷ xs) ts
   lands test at before same = same ∙ (λ i. landed (before i) place line test) ∙ landed_behind old hole xs ts place line test at
 
   pub fills : (i : Instruction) → place ≡ length old.instructions → d ≡ added old (hole ∷ xs) ts → new ≡ filled d place i
@@ -279,24 +391,24 @@ pub lowers_and : (old d0 d1 d2 d3 d4 d5 new : Listed) (a b : Expression) (x y tr
     → Lowers old d0 a x
     → d1 ≡ added d0 (hole ∷ []) [] → skip ≡ length d0.instructions
     → Lowers d1 d2 b y
-    → d3 ≡ added d2 (truth_code d2.function line y.register (next d2)) (Int ∷ Int ∷ []) → truth ≡ operand (next d2 + 1) Int line
-    → d4 ≡ added d3 (at_line d3.function line (operations.Skip 1) ∷ []) []
+    → d3 ≡ added d2 (truth_code d2.frame line y.register (next d2)) (Int ∷ Int ∷ []) → truth ≡ operand (next d2 + 1) Int line
+    → d4 ≡ added d3 (at_line d3.frame line (operations.Skip 1) ∷ []) []
     → d5 ≡ landed d4 skip line (Some x.register)
-    → new ≡ added d5 (at_line d5.function line (operations.Constant truth.register 0) ∷ []) []
+    → new ≡ added d5 (at_line d5.frame line (operations.Constant truth.register 0) ∷ []) []
     → Lowers old new (logical line logicals.And a b) truth
 lowers_and old d0 d1 d2 d3 d4 d5 new a b x y truth skip line hole h first at k third is_truth fourth fifth last =
-    let f = d0.function in
+    let f = d0.frame in
     let m = next d0 in
     let from : next d1 ≡ m = next_same d0 d1 (hole ∷ []) first in
     let xs = code f b m in
     let r = m + top b in
-    let second : d2 ≡ added d1 (code f b m) (types b) = k.code_is ∙ (λ i. added d1 (code (first i).function b (from i)) (types b)) in
+    let second : d2 ≡ added d1 (code f b m) (types b) = k.code_is ∙ (λ i. added d1 (code (first i).frame b (from i)) (types b)) in
     let is_y : y.register ≡ r = (λ i. (k.value_is i).register) ∙ (λ i. from i + top b) in
     let after_y : next d2 ≡ r + 1 = omega (arith, from, value_before d1 d2 b y k) in
     let behind_y : next d2 + 1 ≡ r + 2 = omega (arith, after_y) in
-    let f1 : d1.function ≡ f = λ i. (first i).function in
-    let f2 : d2.function ≡ f = (λ i. (second i).function) ∙ f1 in
-    let f3 : d3.function ≡ f = (λ i. (third i).function) ∙ f2 in
+    let f1 : d1.frame ≡ f = λ i. (first i).frame in
+    let f2 : d2.frame ≡ f = (λ i. (second i).frame) ∙ f1 in
+    let f3 : d3.frame ≡ f = (λ i. (third i).frame) ∙ f2 in
     let truths = at_line f line (operations.IsZero (r + 1) r) ∷ at_line f line (operations.IsZero (r + 2) (r + 1)) ∷ [] in
     let third' : d3 ≡ added d2 truths (Int ∷ Int ∷ []) =
     third ∙ (λ i. added d2 (at_line (f2 i) line (operations.IsZero (after_y i) (is_y i)) ∷ at_line (f2 i) line (operations.IsZero (behind_y i) (after_y i)) ∷ []) (Int ∷ Int ∷ [])) in
@@ -312,7 +424,7 @@ lowers_and old d0 d1 d2 d3 d4 d5 new a b x y truth skip line hole h first at k t
     let jumps : d5 ≡ added d0 (at_line f line (operations.SkipIfZero x.register (length xs + 3)) ∷ (xs ++ tail)) ts =
     lands d0 d4 d5 hole (xs ++ tail) ts skip line (Some x.register) at all fifth
     ∙ (λ i. added d0 (at_line f line (operations.SkipIfZero x.register (count i)) ∷ (xs ++ tail)) ts) in
-    let f5 : d5.function ≡ f = λ i. (jumps i).function in
+    let f5 : d5.frame ≡ f = λ i. (jumps i).frame in
     let is_truth' : truth.register ≡ r + 2 = (λ i. (is_truth i).register) ∙ behind_y in
     let zero = at_line f line (operations.Constant (r + 2) 0) in
     let no_more : ts ++ [] ≡ ts = append-nil ts in
@@ -332,16 +444,16 @@ length_added d xs ts = length-append d.instructions xs
 
 pub lowers_or : (old d0 d1 d2 d3 d4 d5 d6 new : Listed) (a b : Expression) (x y truth : Operand) (one skip line : ℕ) (hole gap : Instruction)
     → Lowers old d0 a x
-    → d1 ≡ added d0 (at_line d0.function line (operations.SkipIfZero x.register 2) ∷ []) []
+    → d1 ≡ added d0 (at_line d0.frame line (operations.SkipIfZero x.register 2) ∷ []) []
     → d2 ≡ added d1 (hole ∷ []) [] → one ≡ length d1.instructions
     → d3 ≡ added d2 (gap ∷ []) [] → skip ≡ length d2.instructions
     → Lowers d3 d4 b y
-    → d5 ≡ added d4 (truth_code d4.function line y.register (next d4)) (Int ∷ Int ∷ []) → truth ≡ operand (next d4 + 1) Int line
-    → d6 ≡ filled d5 one (at_line d5.function line (operations.Constant truth.register 1))
+    → d5 ≡ added d4 (truth_code d4.frame line y.register (next d4)) (Int ∷ Int ∷ []) → truth ≡ operand (next d4 + 1) Int line
+    → d6 ≡ filled d5 one (at_line d5.frame line (operations.Constant truth.register 1))
     → new ≡ landed d6 skip line None
     → Lowers old new (logical line logicals.Or a b) truth
 lowers_or old d0 d1 d2 d3 d4 d5 d6 new a b x y truth one skip line hole gap h first second at third where_ k fourth is_truth fifth last =
-    let f = d0.function in
+    let f = d0.frame in
     let m = next d0 in
     let test = at_line f line (operations.SkipIfZero x.register 2) in
     let from1 : next d1 ≡ m = next_same d0 d1 (test ∷ []) first in
@@ -349,18 +461,18 @@ lowers_or old d0 d1 d2 d3 d4 d5 d6 new a b x y truth one skip line hole gap h fi
     let from : next d3 ≡ m = next_same d2 d3 (gap ∷ []) third ∙ from2 in
     let xs = code f b m in
     let r = m + top b in
-    let f1 : d1.function ≡ f = λ i. (first i).function in
-    let f2 : d2.function ≡ f = (λ i. (second i).function) ∙ f1 in
-    let f3 : d3.function ≡ f = (λ i. (third i).function) ∙ f2 in
+    let f1 : d1.frame ≡ f = λ i. (first i).frame in
+    let f2 : d2.frame ≡ f = (λ i. (second i).frame) ∙ f1 in
+    let f3 : d3.frame ≡ f = (λ i. (third i).frame) ∙ f2 in
     let right : d4 ≡ added d3 xs (types b) = k.code_is ∙ (λ i. added d3 (code (f3 i) b (from i)) (types b)) in
-    let f4 : d4.function ≡ f = (λ i. (right i).function) ∙ f3 in
+    let f4 : d4.frame ≡ f = (λ i. (right i).frame) ∙ f3 in
     let is_y : y.register ≡ r = (λ i. (k.value_is i).register) ∙ (λ i. from i + top b) in
     let after_y : next d4 ≡ r + 1 = omega (arith, from, value_before d3 d4 b y k) in
     let behind_y : next d4 + 1 ≡ r + 2 = omega (arith, after_y) in
     let truths = at_line f line (operations.IsZero (r + 1) r) ∷ at_line f line (operations.IsZero (r + 2) (r + 1)) ∷ [] in
     let fourth' : d5 ≡ added d4 truths (Int ∷ Int ∷ []) =
     fourth ∙ (λ i. added d4 (at_line (f4 i) line (operations.IsZero (after_y i) (is_y i)) ∷ at_line (f4 i) line (operations.IsZero (behind_y i) (after_y i)) ∷ []) (Int ∷ Int ∷ [])) in
-    let f5 : d5.function ≡ f = (λ i. (fourth' i).function) ∙ f4 in
+    let f5 : d5.frame ≡ f = (λ i. (fourth' i).frame) ∙ f4 in
     let ts = types b ++ Int ∷ Int ∷ [] in
     let tail = xs ++ truths in
     let all : d5 ≡ added d1 (hole ∷ gap ∷ tail) ts =
@@ -389,7 +501,7 @@ lowers_or old d0 d1 d2 d3 d4 d5 d6 new a b x y truth one skip line hole gap h fi
     }
 
 -- `?:` behind its test, whose value the register t has, with registers from m on
-abbrev choice_code : ℕ → ℕ → Expression → Expression → ℕ → ℕ → List Instruction
+abbrev choice_code : Frame → ℕ → Expression → Expression → ℕ → ℕ → List Instruction
 choice_code f line a b t m =
     let second = m + (top a + 1) in
     let result = second + (top b + 1) in
@@ -399,28 +511,28 @@ choice_code f line a b t m =
     ∷ at_line f line (operations.Skip (length (code f b second) + 1))
     ∷ (code f b second ++ at_line f line (operations.Copy result (second + top b)) ∷ []))
 
-pub lowers_choice : (old d0 d1 d2 d3 d4 d5 d6 d7 d8 new : Listed) (e a b : Expression) (test x y z : Operand) (skip copy over into line : ℕ) (hole gap space : Instruction)
+pub lowers_choice : (old d0 d1 d2 d3 d4 d5 d6 d7 d8 new : Listed) (e a b : Expression) (test x y z : Operand) (skip copied over into line : ℕ) (hole gap space : Instruction)
     → Lowers old d0 e test
     → d1 ≡ added d0 (hole ∷ []) [] → skip ≡ length d0.instructions
     → Lowers d1 d2 a x
-    → d3 ≡ added d2 (gap ∷ []) [] → copy ≡ length d2.instructions
+    → d3 ≡ added d2 (gap ∷ []) [] → copied ≡ length d2.instructions
     → d4 ≡ added d3 (space ∷ []) [] → over ≡ length d3.instructions
     → d5 ≡ landed d4 skip line (Some test.register)
     → Lowers d5 d6 b y
     → into ≡ next d6
-    → d7 ≡ added d6 (at_line d6.function line (operations.Copy into y.register) ∷ []) (x.type_ ∷ []) → z ≡ operand (next d6) x.type_ line
-    → d8 ≡ filled d7 copy (at_line d7.function line (operations.Copy into x.register))
+    → d7 ≡ added d6 (at_line d6.frame line (operations.Copy into y.register) ∷ []) (x.type_ ∷ []) → z ≡ operand (next d6) x.type_ line
+    → d8 ≡ filled d7 copied (at_line d7.frame line (operations.Copy into x.register))
     → new ≡ landed d8 over line None
     → Lowers old new (choice line e a b) z
-lowers_choice old d0 d1 d2 d3 d4 d5 d6 d7 d8 new e a b test x y z skip copy over into line hole gap space h first at k third where_copy fourth where_over fifth l is_into sixth is_z seventh last =
-    let f = d0.function in
+lowers_choice old d0 d1 d2 d3 d4 d5 d6 d7 d8 new e a b test x y z skip copied over into line hole gap space h first at k third where_copy fourth where_over fifth l is_into sixth is_z seventh last =
+    let f = d0.frame in
     let m = next d0 in
     let from : next d1 ≡ m = next_same d0 d1 (hole ∷ []) first in
     let xs = code f a m in
     let ta = types a in
-    let f1 : d1.function ≡ f = λ i. (first i).function in
+    let f1 : d1.frame ≡ f = λ i. (first i).frame in
     let yes : d2 ≡ added d1 xs ta = k.code_is ∙ (λ i. added d1 (code (f1 i) a (from i)) ta) in
-    let f2 : d2.function ≡ f = (λ i. (yes i).function) ∙ f1 in
+    let f2 : d2.frame ≡ f = (λ i. (yes i).frame) ∙ f1 in
     let is_x : x ≡ operand (m + top a) (number_type a) (line_of a) = k.value_is ∙ (λ i. operand (from i + top a) (number_type a) (line_of a)) in
     let before : d4 ≡ added d0 (hole ∷ (xs ++ gap ∷ space ∷ [])) (ta ++ []) =
     adds_more d0 d1 d4 (hole ∷ []) (xs ++ gap ∷ space ∷ []) [] (ta ++ []) first
@@ -435,11 +547,11 @@ lowers_choice old d0 d1 d2 d3 d4 d5 d6 d7 d8 new e a b test x y z skip copy over
     let after_two : d5 ≡ added e2 (gap ∷ space ∷ []) [] = jumps ∙ sym (adds_more d0 e2 (added e2 (gap ∷ space ∷ []) []) (jump1 ∷ xs) (gap ∷ space ∷ []) ta [] refl refl) in
     let second = m + (top a + 1) in
     let from2 : next d5 ≡ second = next_same e2 d5 (gap ∷ space ∷ []) after_two ∙ next_added d0 (jump1 ∷ xs) ta ∙ ap (λ n. m + n) (types_length a) in
-    let f5 : d5.function ≡ f = λ i. (jumps i).function in
+    let f5 : d5.frame ≡ f = λ i. (jumps i).frame in
     let ys = code f b second in
     let tb = types b in
     let no : d6 ≡ added d5 ys tb = l.code_is ∙ (λ i. added d5 (code (f5 i) b (from2 i)) tb) in
-    let f6 : d6.function ≡ f = (λ i. (no i).function) ∙ f5 in
+    let f6 : d6.frame ≡ f = (λ i. (no i).frame) ∙ f5 in
     let is_y : y.register ≡ second + top b = (λ i. (l.value_is i).register) ∙ (λ i. from2 i + top b) in
     let result = second + (top b + 1) in
     let is_result : next d6 ≡ result = omega (arith, value_before d5 d6 b y l, from2) in
@@ -447,7 +559,7 @@ lowers_choice old d0 d1 d2 d3 d4 d5 d6 d7 d8 new e a b test x y z skip copy over
     let t = number_type a in
     let copy2 = at_line f line (operations.Copy result (second + top b)) in
     let sixth' : d7 ≡ added d6 (copy2 ∷ []) (t ∷ []) = sixth ∙ (λ i. added d6 (at_line (f6 i) line (operations.Copy (into_is i) (is_y i)) ∷ []) ((is_x i).type_ ∷ [])) in
-    let f7 : d7.function ≡ f = (λ i. (sixth' i).function) ∙ f6 in
+    let f7 : d7.frame ≡ f = (λ i. (sixth' i).frame) ∙ f6 in
     let tail = ys ++ copy2 ∷ [] in
     let ts = tb ++ t ∷ [] in
     let two : d7 ≡ added e2 (gap ∷ space ∷ tail) ts =
@@ -459,7 +571,7 @@ lowers_choice old d0 d1 d2 d3 d4 d5 d6 d7 d8 new e a b test x y z skip copy over
     ∙ (let same : length d0.instructions + length (hole ∷ []) + length xs ≡ length d0.instructions + length (jump1 ∷ xs) = omega arith in same)
     ∙ sym (length_added d0 (jump1 ∷ xs) ta) in
     let filled_copy : d8 ≡ added e2 (copy1 ∷ space ∷ tail) ts =
-    fills e2 d7 d8 gap (space ∷ tail) ts copy line copy1 (where_copy ∙ long2) two (seventh ∙ (λ i. filled d7 copy (at_line (f7 i) line (operations.Copy (into_is i) (is_x i).register)))) in
+    fills e2 d7 d8 gap (space ∷ tail) ts copied line copy1 (where_copy ∙ long2) two (seventh ∙ (λ i. filled d7 copied (at_line (f7 i) line (operations.Copy (into_is i) (is_x i).register)))) in
     let e3 = added e2 (copy1 ∷ []) [] in
     let in_three : d8 ≡ added e3 (space ∷ tail) ts = filled_copy ∙ sym (adds_more e2 e3 (added e3 (space ∷ tail) ts) (copy1 ∷ []) (space ∷ tail) [] ts refl refl) in
     let long3 : length d3.instructions ≡ length e3.instructions =

@@ -1,53 +1,176 @@
 -- The code of an expression does what the expression means.
-use Rattle.std.proofs.Common.{◌≡◌, ℕ, ◌+◌, ◌<◌, ◌≤◌, Bool, true, false, List, [], ◌∷◌, ◌++◌, length, refl, ap, ◌∙◌, subst, arith}
-use Rattle.std.specs.Prelude.{not, ◌==◌, if◌then◌else◌}
+use Rattle.std.proofs.Common.{◌≡◌, ℕ, ◌+◌, ◌<◌, ◌≤◌, Bool, true, false, List, [], ◌∷◌, ◌++◌, length, map, take, drop, refl, sym, ap, ◌∙◌, subst, arith}
+use Rattle.std.specs.Prelude.{not, ◌==◌, nat_lt, nat_le, slice_index, slice_set, if◌then◌else◌}
+use Rattle.std.specs.List.{list_all}
+use Rattle.std.proofs.Math.ListN.{get_or-map}
+use Rattle.std.proofs.Math.Seq.{take-set-lt}
+use Rattle.std.proofs.lemmas.Bool.{false≢true}
+use Rattle.std.proofs.lemmas.Bool.Decides.{nat_tests}
+use Rattle.std.proofs.lemmas.List.{get_or-take, take-set-le, get_or_append_left, length-map, length-take-le, length-drop}
+use Rattle.c_types.specs.declared.types.ValueType.{ValueType}
+use Rattle.c_types.specs.declared.types.ValueType.TheVariants.{Void, Integer}
 use Rattle.c_types.specs.declared.integers.IntegerType.{IntegerType}
-use Rattle.c_types.specs.Integers.{promoted}
+use Rattle.c_types.specs.Integers.{bytes, promoted}
 use Rattle.core_tree.specs.declared.operators.ArithmeticOperator.{ArithmeticOperator}
 use Rattle.core_tree.specs.declared.operators.LogicalOperator.{LogicalOperator}
 use Rattle.core_tree.specs.declared.operators.LogicalOperator.TheVariants as logicals
 use Rattle.core_tree.specs.declared.expression.Place.{Place}
-use Rattle.core_tree.specs.declared.expression.Place.TheVariants.{Variable}
+use Rattle.core_tree.specs.declared.expression.Place.TheVariants.{Variable, Object}
 use Rattle.core_tree.specs.declared.operators.StepOperator.{StepOperator}
-use Rattle.core_tree.specs.Trees.{Expression, constant, read, convert, sign, is_zero, arithmetic, compare, logical, choice, assign, update, step, comma, assertion, assumption, draw}
+use Rattle.core_tree.specs.Trees.{Expression, constant, read, convert, sign, is_zero, arithmetic, compare, logical, choice, assign, update, step, comma, assertion, assumption, draw, part, discard, discard_structure, Structure, copy, load, choose, put, store, follow, section, list, string, Parts, no_part, number_part, structure_part}
 use Rattle.core_tree.specs.Operations.{drawn_width, is_true, truth_bits, converted, arithmetic_check, arithmetic_value, sign_check, sign_value, compared, step_operation}
-use Rattle.core_tree.specs.Typed.{place_type}
-use Rattle.c_values.specs.Variables.{Variables, read_variable, read_place, write_variable}
-use Rattle.actions.specs.Behaviour.{Behaviour}
-use Rattle.actions.specs.declared.action.Action.TheVariants.{Draw}
+use Rattle.core_tree.specs.Typed.{Sizes, place_type, type_of, size_of, is_within, is_place, fits_at, is_typed, is_structure, are_parts}
+use Rattle.c_values.specs.Variables.{Variables, pointer_to, low_bytes, put_at, zeros, number_of, number_at, block_of, put_bytes, cleared, read_variable}
+use Rattle.actions.specs.Behaviour.{Behaviour, shape_of, has_shape}
+use Rattle.actions.specs.declared.action.Action.TheVariants.{Read, Write, Draw}
 use Rattle.actions.specs.declared.action.Answer.{Answer}
 use Rattle.actions.specs.declared.action.Answer.TheVariants as answers
 use Rattle.actions.specs.declared.action.Next.TheVariants.{Broken, Blocked}
 use Rattle.words.specs.declared.check.Class.TheVariants.{Assertion}
 use Rattle.c_interp.specs.Meaning as source
-use Rattle.c_interp.specs.Meaning.{Running, number_type, drawn, decides, eval, unless_broken, updated, stepped, operated}
+use Rattle.c_interp.specs.Meaning.{Running, integer_of, number_type, drawn, decides, eval, eval_structure, eval_parts, unless_broken, reads, writes, tells_bytes, combined, updated, stepped, operated}
 use Rattle.goto_prog.specs.declared.code.Instruction.{Instruction}
 use Rattle.goto_prog.specs.declared.code.Operation.TheVariants as operations
-use Rattle.goto_prog.specs.Meaning.{word_of, Memory, register, with_register, at}
-use Rattle.goto_prog.specs.Threads.{behaving}
-use Rattle.goto_lower.specs.Lowering.{top, at_line, code, update_code, logical_code}
-use Rattle.goto_lower.proofs.Placing.{Places, begin, on, on-append, at-behind, Kept, kept-refl, kept-then, kept-set, set_same, set_other, set_room, same_final, same_ask, same_check}
+use Rattle.goto_prog.specs.Meaning.{word_of, bytes_in, bytes_of, Memory, register, with_register, with_blocks, at}
+use Rattle.goto_prog.specs.Threads.{behaving, ask}
+use Rattle.goto_lower.specs.Lowering.{Frame, top, structure_registers, parts_registers, at_line, read_code, write_code, code, structure_code, parts_code, text_code, update_code, logical_code}
+use Rattle.goto_lower.specs.Rooms.{Rooms, no_rooms, both, place_rooms, rooms, structure_rooms, parts_rooms}
+use Rattle.goto_lower.proofs.RegisterTypes.{left_of, right_of}
+use Rattle.goto_lower.proofs.BlockBytes.{put_size, low_count, few_bytes, put_more, put_none, taken_back, part_of_front, number_of_front, some_zeros, zeros_length, one_byte}
+use Rattle.goto_lower.proofs.Housing.{Housed, housed_left, housed_right, housed_under, housed_room, housed_behind, housed_zeros}
+use Rattle.goto_lower.proofs.Placing.{Places, begin, on, on-append, at-behind, written, Kept, Filled, kept-refl, kept-then, kept-set, kept-write, filled-write, filled-put, kept-filled, filled-kept, filled-within, set_same, set_other, set_room, same_final, same_ask, same_ask_when, same_check}
 
 -- what follows a value and the variables
 abbrev pub Follows : Type 0
 Follows = ℕ → Variables → Behaviour
 
--- the places go on with the value in register r, whatever the registers from n on are
-abbrev pub Goes : ℕ → Memory → Places → ℕ → Follows → Type 0
-Goes n m rest r follows = (m' : Memory) → Kept n m m' → begin rest m' ≡ follows (register m' r) m'.blocks
+-- what follows a structure value and the variables
+abbrev pub FollowsBytes : Type 0
+FollowsBytes = List ℕ → Variables → Behaviour
 
-module _ (running : Running) where
+pub test_less : (a b : ℕ) → nat_lt a b ≡ true → a < b
+test_less a b h = grind (arith, nat_tests)
+
+pub test_most : (a b : ℕ) → nat_le a b ≡ true → a ≤ b
+test_most a b h = grind (arith, nat_tests)
+
+pub test_equal : (a b : ℕ) → (a == b) ≡ true → a ≡ b
+test_equal a b h = grind (arith, nat_tests)
+
+-- over the sizes of the blocks behind the variables
+module _ (running : Running) (others : List ℕ) where
+  abbrev edge : ℕ
+  edge = length running.sizes
+
+  abbrev sizes : List ℕ
+  sizes = running.sizes ++ others
+
+  abbrev pub frame : ℕ → Frame
+  frame d = record { function = running.function; zeros = edge; free = d }
+
+  -- the variables are the first blocks
+  abbrev pub shown : Memory → Variables
+  shown m = take edge m.blocks
+
+  -- the blocks have their sizes, one behind the variables is 0, and those below d are there
+  pub record Placed (d : ℕ) (m : Memory) : Type 0 where
+    pub deep : edge < d
+    pub within : d ≤ length sizes
+    pub sized : map length m.blocks ≡ sizes
+    pub clean : block_of m.blocks edge ≡ zeros (slice_index sizes edge)
+
+  abbrev pub Houses : ℕ → Rooms → Type 0
+  Houses d r = Housed sizes edge d r
+
+  -- the places go on with the value in register r, whatever the registers from n on and the blocks from d on are
+  abbrev pub Goes : ℕ → ℕ → Memory → Places → ℕ → Follows → Type 0
+  Goes d n m rest r follows = (m' : Memory) → Kept edge d n m m' → begin rest m' ≡ follows (register m' r) (shown m')
+
+  -- the same with a value of so many bytes that a block has got
+  abbrev pub GoesInto : ℕ → ℕ → Memory → Places → ℕ → ℕ → ℕ → FollowsBytes → Type 0
+  GoesInto d n m rest into to size follows = (m' : Memory) (value : List ℕ) → length value ≡ size → Filled edge d n into to value m m' → begin rest m' ≡ follows value (shown m')
+
+  pub placed_kept : (d n : ℕ) (m m' : Memory) → Placed d m → Kept edge d n m m' → Placed d m'
+  placed_kept d n m m' placed kept = record {
+    deep = placed.deep;
+    within = placed.within;
+    sized = kept.sizes ∙ placed.sized;
+    clean = kept.held edge (omega arith) placed.deep ∙ placed.clean;
+  }
+
+  placed_filled : (d n into to : ℕ) (value : List ℕ) (m m' : Memory) → Placed d m → edge < into → Filled edge d n into to value m m' → Placed d m'
+  placed_filled d n into to value m m' placed behind filled = record {
+    deep = placed.deep;
+    within = placed.within;
+    sized = filled.sizes ∙ placed.sized;
+    clean = filled.held edge (omega arith) placed.deep (λ e. omega (arith, e, behind)) ∙ placed.clean;
+  }
+
+  pub placed_deeper : (d : ℕ) (m : Memory) → d < length sizes → Placed d m → Placed (d + 1) m
+  placed_deeper d m there placed = record { deep = omega (arith, placed.deep); within = omega (arith, there); sized = placed.sized; clean = placed.clean }
+
+  pub block_size : (d : ℕ) (m : Memory) → Placed d m → (i : ℕ) → length (block_of m.blocks i) ≡ slice_index sizes i
+  block_size d m placed i = sym (get_or-map length m.blocks i []) ∙ ap (λ xs. slice_index xs i) placed.sized
+
+  block_there : (d : ℕ) (m : Memory) → Placed d m → (i : ℕ) → i < d → i < length m.blocks
+  block_there d m placed i lt =
+      let count : length m.blocks ≡ length sizes = sym (length-map m.blocks length) ∙ ap length placed.sized in
+      omega (arith, lt, count, placed.within)
+
+  kept_size : (d n : ℕ) (m m' : Memory) → Placed d m → Kept edge d n m m' → (i : ℕ) → length (block_of m'.blocks i) ≡ length (block_of m.blocks i)
+  kept_size d n m m' placed kept i = block_size d m' (placed_kept d n m m' placed kept) i ∙ sym (block_size d m placed i)
+
+  -- ---- variables
+
+  pub variable_below : (v offset count : ℕ) → is_within running.sizes v offset count ≡ true → v < edge
+  variable_below v offset count within = test_less v edge (left_of (nat_lt v edge) (nat_le (offset + count) (slice_index running.sizes v)) within)
+
+  pub variable_room : (d : ℕ) (m : Memory) → Placed d m → (v offset count : ℕ) → is_within running.sizes v offset count ≡ true → offset + count ≤ length (block_of m.blocks v)
+  variable_room d m placed v offset count within =
+      let fits = test_most (offset + count) (slice_index running.sizes v) (right_of (nat_lt v edge) (nat_le (offset + count) (slice_index running.sizes v)) within) in
+      let size = block_size d m placed v ∙ get_or_append_left running.sizes others 0 v (variable_below v offset count within) in
+      omega (arith, fits, size)
+
+  pub shown_block : (m : Memory) (v : ℕ) → v < edge → block_of m.blocks v ≡ block_of (shown m) v
+  shown_block m v below = sym (get_or-take edge m.blocks v [] below)
+
+  pub shown_write : (m : Memory) (v offset : ℕ) (new : List ℕ) → v < edge → shown (written m v offset new) ≡ put_bytes (shown m) v offset new
+  shown_write m v offset new below =
+      take-set-lt edge m.blocks v (put_at offset new (block_of m.blocks v)) below ∙ (λ i. slice_set (shown m) v (put_at offset new (shown_block m v below i)))
+
+  pub shown_clear : (m : Memory) (v size : ℕ) → v < edge → shown (with_blocks m (cleared m.blocks v size)) ≡ cleared (shown m) v size
+  shown_clear m v size below = take-set-lt edge m.blocks v (zeros size) below
+
+  pub variable_size : (d : ℕ) (m : Memory) → Placed d m → (v : ℕ) → v < edge → length (block_of m.blocks v) ≡ slice_index running.sizes v
+  variable_size d m placed v below = block_size d m placed v ∙ get_or_append_left running.sizes others 0 v below
+
+  pub shown_other : (m : Memory) (b offset : ℕ) (new : List ℕ) → edge ≤ b → shown (written m b offset new) ≡ shown m
+  shown_other m b offset new behind = take-set-le edge m.blocks b (put_at offset new (block_of m.blocks b)) behind
+
+  pub low_room : (d : ℕ) (m : Memory) → Placed d m → (v offset : ℕ) (t : IntegerType) (x : ℕ) → is_within running.sizes v offset (bytes t) ≡ true → offset + length (low_bytes (bytes t) x) ≤ length (block_of m.blocks v)
+  low_room d m placed v offset t x within = omega (arith, low_count (bytes t) x (few_bytes t), variable_room d m placed v offset (bytes t) within)
+
+  part_long : (offset size : ℕ) (block : List ℕ) → offset + size ≤ length block → length (take size (drop offset block)) ≡ size
+  part_long offset size block fits = length-take-le size (drop offset block) (omega (arith, fits, length-drop offset block))
+
+  block_kept : (d n into to : ℕ) (value : List ℕ) (m m' : Memory) → Filled edge d n into to value m m' → length (block_of m'.blocks into) ≡ length (block_of m.blocks into)
+  block_kept d n into to value m m' filled = sym (get_or-map length m'.blocks into []) ∙ ap (λ xs. slice_index xs into) filled.sizes ∙ get_or-map length m.blocks into []
+
+  number_within : (size offset : ℕ) (t : ValueType) → fits_at size offset t ≡ true → offset + bytes (integer_of t) ≤ size
+  number_within size offset Void h = absurd (false≢true h)
+  number_within size offset (Integer t) h = test_most (offset + bytes t) size h
+
   -- one instruction that sets a register to x
-  pub sets : (n r x : ℕ) (m m' : Memory) (rest : Places) (follows : Follows)
-      → n ≤ r → r < length m.registers → Kept n m m'
-      → Goes n m rest r follows
-      → begin rest (with_register m' r x) ≡ follows x m'.blocks
-  sets n r x m m' rest follows above room kept goes =
-      goes (with_register m' r x) (kept-then n n m m' (with_register m' r x) (omega arith) kept (kept-set n r m' x above))
-      ∙ ap (λ y. follows y m'.blocks) (set_same m' r x (omega (arith, room, kept.room)))
+  pub sets : (d n r x : ℕ) (m m' : Memory) (rest : Places) (follows : Follows)
+      → n ≤ r → r < length m.registers → Kept edge d n m m'
+      → Goes d n m rest r follows
+      → begin rest (with_register m' r x) ≡ follows x (shown m')
+  sets d n r x m m' rest follows above room kept goes =
+      goes (with_register m' r x) (kept-then edge d n n m m' (with_register m' r x) (omega arith) kept (kept-set edge d n r m' x above))
+      ∙ ap (λ y. follows y (shown m')) (set_same m' r x (omega (arith, room, kept.room)))
 
-  pub goes-at : (n : ℕ) (m : Memory) (rest : Places) (r s : ℕ) (follows : Follows) → s ≡ r → Goes n m rest s follows → Goes n m rest r follows
-  goes-at n m rest r s follows same goes = subst (λ (q : ℕ). Goes n m rest q follows) same goes
+  pub goes-at : (d n : ℕ) (m : Memory) (rest : Places) (r s : ℕ) (follows : Follows) → s ≡ r → Goes d n m rest s follows → Goes d n m rest r follows
+  goes-at d n m rest r s follows same goes = subst (λ (q : ℕ). Goes d n m rest q follows) same goes
 
   pub split : (xs ys : List Instruction) (rest : Places) (m : Memory) → begin (on (xs ++ ys) rest) m ≡ begin (on xs (on ys rest)) m
   split xs ys rest m = ap (λ (ps : Places). begin ps m) (on-append xs ys rest)
@@ -55,6 +178,9 @@ module _ (running : Running) where
   -- past code, and k places more
   pub past : (xs ys : List Instruction) (rest : Places) (k : ℕ) (m : Memory) → at behaving (on (xs ++ ys) rest) (length xs + k) m ≡ at behaving (on ys rest) k m
   past xs ys rest k m = ap (λ (ps : Places). at behaving ps (length xs + k) m) (on-append xs ys rest) ∙ at-behind xs (on ys rest) k m
+
+  pub past_all : (xs : List Instruction) (rest : Places) (m : Memory) → at behaving (on xs rest) (length xs) m ≡ begin rest m
+  past_all xs rest m = (let same : length xs ≡ length xs + 0 = omega arith in ap (λ n. at behaving (on xs rest) n m) same) ∙ at-behind xs rest 0 m
 
   not_not : (b : Bool) → b ≡ not (not b)
   not_not true = refl
@@ -79,18 +205,18 @@ module _ (running : Running) where
   chosen false at r s r' old same still = still
 
   -- the truth of the register `from`, in the register two behind it
-  tested : (n k from : ℕ) (m m1 m2 : Memory) (rest : Places) (follows : Follows)
-      → n ≤ k → k ≤ from → from + 2 < length m.registers → Kept n m m1 → Kept k m1 m2
-      → Goes n m rest (from + 2) follows
+  tested : (d n k from : ℕ) (m m1 m2 : Memory) (rest : Places) (follows : Follows)
+      → n ≤ k → k ≤ from → from + 2 < length m.registers → Kept edge d n m m1 → Kept edge d k m1 m2
+      → Goes d n m rest (from + 2) follows
       → (let m3 = with_register m2 (from + 1) (truth_bits (register m2 from == 0)) in begin rest (with_register m3 (from + 2) (truth_bits (register m3 (from + 1) == 0))))
-      ≡ follows (truth_bits (is_true (register m2 from))) m2.blocks
-  tested n k from m m1 m2 rest follows above up room kept1 kept2 goes =
+      ≡ follows (truth_bits (is_true (register m2 from))) (shown m2)
+  tested d n k from m m1 m2 rest follows above up room kept1 kept2 goes =
       let test = truth_bits (register m2 from == 0) in
       let m3 = with_register m2 (from + 1) test in
-      let kept : Kept n m m2 = kept-then n k m m1 m2 above kept1 kept2 in
-      sets n (from + 2) (truth_bits (register m3 (from + 1) == 0)) m m3 rest follows (omega (arith, above, up)) room (kept-then n n m m2 m3 (omega arith) kept (kept-set n (from + 1) m2 test (omega (arith, above, up)))) goes
-      ∙ ap (λ x. follows (truth_bits (x == 0)) m2.blocks) (set_same m2 (from + 1) test (omega (arith, room, kept.room)))
-      ∙ ap (λ x. follows x m2.blocks) (zero_of_truth (register m2 from == 0))
+      let kept : Kept edge d n m m2 = kept-then edge d n k m m1 m2 above kept1 kept2 in
+      sets d n (from + 2) (truth_bits (register m3 (from + 1) == 0)) m m3 rest follows (omega (arith, above, up)) room (kept-then edge d n n m m2 m3 (omega arith) kept (kept-set edge d n (from + 1) m2 test (omega (arith, above, up)))) goes
+      ∙ ap (λ x. follows (truth_bits (x == 0)) (shown m2)) (set_same m2 (from + 1) test (omega (arith, room, kept.room)))
+      ∙ ap (λ x. follows x (shown m2)) (zero_of_truth (register m2 from == 0))
 
   pub same_word : (a : Answer) → word_of a ≡ drawn a
   same_word answers.Done = refl
@@ -100,175 +226,410 @@ module _ (running : Running) where
   same_word (answers.Number n) = refl
   same_word (answers.Value v) = refl
 
-  -- what an operation on a place does: the registers from k on hold the place's number, it converted, the result, and that converted back
-  updating : (line : ℕ) (p : Place) (op : ArithmeticOperator) (t u : IntegerType) (y k : ℕ) (m : Memory) (rest : Places) (follows : Follows)
-      → y < k → k + 3 < length m.registers
-      → ((m' : Memory) → Kept k m m' → register m' k ≡ read_place m.blocks p → begin rest m' ≡ follows (register m' (k + 3)) m'.blocks)
-      → begin (on (update_code running.function line p (place_type p) op t u y k) rest) m ≡ updated running p op t u (register m y) line m.blocks follows
-  updating line (Variable at_name place v offset) op t u y k m rest follows below room goes =
-      let old = read_variable m.blocks v offset place in
-      let m1 : Memory = with_register m k old in
-      let m2 : Memory = with_register m1 (k + 1) (converted place t (register m1 k)) in
-      let m3 : Memory = with_register m2 (k + 2) (arithmetic_value op t (register m2 (k + 1)) (register m2 y)) in
-      let m4 : Memory = with_register m3 (k + 3) (converted t place (register m3 (k + 2))) in
-      let m5 : Memory = record m4 { blocks = write_variable m4.blocks v offset place (register m4 (k + 3)) } in
-      let room1 : length m1.registers ≡ length m.registers = set_room m k old in
-      let room2 : length m2.registers ≡ length m1.registers = set_room m1 (k + 1) _ in
-      let room3 : length m3.registers ≡ length m2.registers = set_room m2 (k + 2) _ in
-      let room4 : length m4.registers ≡ length m3.registers = set_room m3 (k + 3) _ in
-      let loaded : register m1 k ≡ old = set_same m k old (omega (arith, room)) in
-      let left : register m2 (k + 1) ≡ converted place t old = set_same m1 (k + 1) _ (omega (arith, room, room1)) ∙ ap (converted place t) loaded in
-      let right : register m2 y ≡ register m y = set_other m1 (k + 1) _ y (λ e. omega (arith, e, below)) ∙ set_other m k old y (λ e. omega (arith, e, below)) in
-      let value : register m3 (k + 2) ≡ arithmetic_value op t (register m2 (k + 1)) (register m2 y) = set_same m2 (k + 2) _ (omega (arith, room, room1, room2)) in
-      let back : register m4 (k + 3) ≡ converted t place (arithmetic_value op t (register m2 (k + 1)) (register m2 y)) =
-      set_same m3 (k + 3) _ (omega (arith, room, room1, room2, room3)) ∙ ap (converted t place) value in
-      let still : register m4 k ≡ old =
-      set_other m3 (k + 3) _ k (λ e. omega (arith, e)) ∙ set_other m2 (k + 2) _ k (λ e. omega (arith, e)) ∙ set_other m1 (k + 1) _ k (λ e. omega (arith, e)) ∙ loaded in
-      let kept : Kept k m m4 =
-      kept-then k k m m1 m4 (omega arith) (kept-set k k m old (omega arith))
-      (kept-then k k m1 m2 m4 (omega arith) (kept-set k (k + 1) m1 _ (omega arith))
-      (kept-then k k m2 m3 m4 (omega arith) (kept-set k (k + 2) m2 _ (omega arith)) (kept-set k (k + 3) m3 _ (omega arith)))) in
-      same_check running (arithmetic_check op t u (register m2 (k + 1)) (register m2 y)) line (begin rest m5) (follows (register m4 (k + 3)) m5.blocks)
-      (goes m5 (record { below = kept.below; room = kept.room }) still)
-      ∙ (λ i. unless_broken running (arithmetic_check op t u (register m2 (k + 1)) (register m2 y)) line (follows (back i) (write_variable m.blocks v offset place (back i))))
-      ∙ (λ i. operated running op t u (left i) (right i) line (λ z. follows (converted t place z) (write_variable m.blocks v offset place (converted t place z))))
+  pub same_bytes : (a : Answer) → bytes_in a ≡ source.bytes_in a
+  same_bytes answers.Done = refl
+  same_bytes (answers.Bytes bs) = refl
+  same_bytes (answers.Size n) = refl
+  same_bytes (answers.Word w) = refl
+  same_bytes (answers.Number n) = refl
+  same_bytes (answers.Value v) = refl
 
-  -- code with registers from n on does what a meaning says; the register `last` behind n takes the value
-  abbrev pub Means : List Instruction → ℕ → ℕ → (Variables → Follows → Behaviour) → Type 0
-  Means xs n last meaning = (m : Memory) (rest : Places) (follows : Follows) → n + last < length m.registers → Goes n m rest (n + last) follows → begin (on xs rest) m ≡ meaning m.blocks follows
+  -- a read gives as many bytes as it asks for
+  read_size : (pointer count : ℕ) (a : Answer) → has_shape (shape_of (Read pointer count)) a ≡ true → length (bytes_in a) ≡ count
+  read_size pointer count answers.Done h = absurd (false≢true h)
+  read_size pointer count (answers.Bytes bs) h = test_equal (length bs) count (left_of _ _ h)
+  read_size pointer count (answers.Size n) h = absurd (false≢true h)
+  read_size pointer count (answers.Word w) h = absurd (false≢true h)
+  read_size pointer count (answers.Number n) h = absurd (false≢true h)
+  read_size pointer count (answers.Value v) h = absurd (false≢true h)
 
-  -- && and || behind their left operand, whose value the register n + left has
-  means_logical : (line : ℕ) (op : LogicalOperator) (xs : List Instruction) (last : ℕ) (meaning : Variables → Follows → Behaviour) (n left : ℕ) → Means xs (n + (left + 1)) last meaning
-      → (m m1 : Memory) (rest : Places) (follows : Follows)
-      → n + (left + (last + 3)) < length m.registers → Kept n m m1 → Goes n m rest (n + (left + (last + 3))) follows
-      → begin (on (logical_code running.function line op (n + left) xs (n + (left + 1) + last)) rest) m1
-      ≡ (if decides op (register m1 (n + left)) then follows (truth_bits (is_true (register m1 (n + left)))) m1.blocks else meaning m1.blocks (λ y. follows (truth_bits (is_true y))))
-  means_logical line logicals.And xs last meaning n left means m m1 rest follows room kept1 goes =
-      let second = n + (left + 1) in
-      let result = second + last + 2 in
-      let goes' : Goes n m rest result follows = goes-at n m rest result (n + (left + (last + 3))) follows (omega arith) goes in
-      by_test (register m1 (n + left) == 0) (λ b. if not (not b) then follows (truth_bits (not b)) m1.blocks else meaning m1.blocks (λ y. follows (truth_bits (is_true y)))) _ _
-      (past xs _ rest 3 m1
-      ∙ sets n result 0 m m1 rest follows (omega arith) (omega (arith, room)) kept1 goes')
-      (split xs _ rest m1
-      ∙ means m1 _ (λ y. follows (truth_bits (is_true y))) (omega (arith, room, kept1.room)) (λ m2 kept2.
-      tested n second (second + last) m m1 m2 rest follows (omega arith) (omega arith) (omega (arith, room)) kept1 kept2 goes'))
-  means_logical line logicals.Or xs last meaning n left means m m1 rest follows room kept1 goes =
-      let second = n + (left + 1) in
-      let result = second + last + 2 in
-      let goes' : Goes n m rest result follows = goes-at n m rest result (n + (left + (last + 3))) follows (omega arith) goes in
-      by_test (register m1 (n + left) == 0) (λ b. if not b then follows (truth_bits (not b)) m1.blocks else meaning m1.blocks (λ y. follows (truth_bits (is_true y)))) _ _
-      (split xs _ rest m1
-      ∙ means m1 _ (λ y. follows (truth_bits (is_true y))) (omega (arith, room, kept1.room)) (λ m2 kept2.
-      tested n second (second + last) m m1 m2 rest follows (omega arith) (omega arith) (omega (arith, room)) kept1 kept2 goes'))
-      (past xs _ rest 2 (with_register m1 result 1)
-      ∙ sets n result 1 m m1 rest follows (omega arith) (omega (arith, room)) kept1 goes')
+  -- over the sizes of the static objects
+  module _ (objects : List ℕ) where
+    abbrev pub known : Sizes
+    known = record { variables = running.sizes; objects = objects }
 
-  means_step : (line : ℕ) (p : Place) (op : StepOperator) (before : Bool) (n : ℕ) (m : Memory) (rest : Places) (follows : Follows)
-      → n + 5 < length m.registers → Goes n m rest (n + 5) follows
-      → begin (on (code running.function (step line p op before) n) rest) m ≡ stepped running p (step_operation op) before line m.blocks follows
-  means_step line p op before n m rest follows room goes =
-      let m1 = with_register m n 1 in
-      let kept1 : Kept n m m1 = kept-set n n m 1 (omega arith) in
-      let one : register m1 n ≡ 1 = set_same m n 1 (omega (arith, room)) in
-      let old = read_place m.blocks p in
-      let last : List Instruction = at_line running.function line (operations.Copy (n + 5) (if before then n + 4 else n + 1)) ∷ [] in
-      split (update_code running.function line p (place_type p) (step_operation op) (promoted (place_type p)) (promoted (place_type p)) n (n + 1)) last rest m1
-      ∙ updating line p (step_operation op) (promoted (place_type p)) (promoted (place_type p)) n (n + 1) m1 (on last rest) (λ new. follows (if before then new else old)) (omega arith) (omega (arith, room, kept1.room)) (λ m2 kept2 still.
-      sets n (n + 5) (register m2 (if before then n + 4 else n + 1)) m m2 rest follows (omega arith) room (kept-then n (n + 1) m m1 m2 (omega arith) kept1 kept2) goes
-      ∙ ap (λ x. follows x m2.blocks) (chosen before (register m2) (n + 4) (n + 1) (n + 1 + 3) old (omega arith) still))
-      ∙ ap (λ y. updated running p (step_operation op) (promoted (place_type p)) (promoted (place_type p)) y line m.blocks (λ new. follows (if before then new else old))) one
+    -- the code of a read of a place, into a register from n on
+    reading : (d n r : ℕ) (p : Place) (m : Memory) (rest : Places) (follows : Follows)
+        → is_place known p ≡ true → Houses d (place_rooms p) → Placed d m → n ≤ r → r < length m.registers → Goes d n m rest r follows
+        → begin (on (read_code (frame d) r p) rest) m ≡ reads running p (shown m) follows
+    reading d n r (Variable line t v offset) m rest follows typed housed placed above room goes =
+        sets d n r (read_variable m.blocks v offset t) m m rest follows above room (kept-refl edge d n m) goes
+        ∙ ap (λ x. follows x (shown m)) (ap (number_at t offset) (shown_block m v (variable_below v offset (bytes t) typed)))
+    reading d n r (Object line t k offset) m rest follows typed housed placed above room goes =
+        let free = housed_room sizes edge d (bytes t) no_rooms housed in
+        let there : d < length m.blocks = block_there (d + 1) m (placed_deeper d m free.there placed) d (omega arith) in
+        same_ask_when running (Read (pointer_to k offset) (bytes t)) line _ _ (λ a h.
+        let found = bytes_in a in
+        let long : length found ≡ bytes t = read_size (pointer_to k offset) (bytes t) a h in
+        let m1 : Memory = written m d 0 found in
+        let filled : Filled edge (d + 1) n d 0 found m m1 = filled-put edge (d + 1) n d 0 found m there (omega (arith, long, free.fits, block_size d m placed d)) in
+        sets d n r (read_variable m1.blocks d 0 t) m m1 rest follows above room (filled-kept edge d n 0 found m m1 filled) goes
+        ∙ (λ i. follows (number_at t 0 (filled.filled i)) (shown m1))
+        ∙ ap (λ x. follows x (shown m1)) (number_of_front t 0 found (block_of m.blocks d) (omega (arith, long)))
+        ∙ (λ i. follows (number_of t (same_bytes a i)) (shown_other m d 0 found (omega (arith, placed.deep)) i)))
 
-  pub means : (e : Expression) (n : ℕ) (m : Memory) (rest : Places) (follows : Follows)
-      → n + top e < length m.registers → Goes n m rest (n + top e) follows
-      → begin (on (code running.function e n) rest) m ≡ eval running e m.blocks follows
-  means (constant line t bits) n m rest follows room goes =
-      sets n n bits m m rest follows (omega arith) (omega (arith, room)) (kept-refl n m) (goes-at n m rest n (n + 0) follows (omega arith) goes)
-  means (read (Variable line t v offset)) n m rest follows room goes =
-      sets n n (read_variable m.blocks v offset t) m m rest follows (omega arith) (omega (arith, room)) (kept-refl n m) (goes-at n m rest n (n + 0) follows (omega arith) goes)
-  means (draw line t) n m rest follows room goes =
-      same_ask running (Draw (drawn_width t)) line _ _ (λ i a.
-      (sets n n (word_of a) m m rest follows (omega arith) (omega (arith, room)) (kept-refl n m) (goes-at n m rest n (n + 0) follows (omega arith) goes)
-      ∙ ap (λ x. follows x m.blocks) (same_word a)) i)
-  means (convert to e) n m rest follows room goes =
-      split (code running.function e n) _ rest m
-      ∙ means e n m _ (λ x. follows (converted (number_type e) to x)) (omega (arith, room)) (λ m' kept.
-      sets n (n + (top e + 1)) (converted (number_type e) to (register m' (n + top e))) m m' rest follows (omega arith) room kept goes)
-  means (sign line op e) n m rest follows room goes =
-      split (code running.function e n) _ rest m
-      ∙ means e n m _ (λ x after. unless_broken running (sign_check op (number_type e) x) line (follows (sign_value op (number_type e) x) after)) (omega (arith, room)) (λ m' kept.
-      same_check running (sign_check op (number_type e) (register m' (n + top e))) line _ _
-      (sets n (n + (top e + 1)) (sign_value op (number_type e) (register m' (n + top e))) m m' rest follows (omega arith) room kept goes))
-  means (is_zero line e) n m rest follows room goes =
-      split (code running.function e n) _ rest m
-      ∙ means e n m _ (λ x. follows (truth_bits (not (is_true x)))) (omega (arith, room)) (λ m' kept.
-      sets n (n + (top e + 1)) (truth_bits (register m' (n + top e) == 0)) m m' rest follows (omega arith) room kept goes
-      ∙ ap (λ b. follows (truth_bits b) m'.blocks) (not_not (register m' (n + top e) == 0)))
-  means (arithmetic line op a b) n m rest follows room goes =
-      let second = n + (top a + 1) in
-      split (code running.function a n) _ rest m
-      ∙ means a n m _ (λ x after. eval running b after (λ y last. operated running op (number_type a) (number_type b) x y line (λ z. follows z last))) (omega (arith, room)) (λ m1 kept1.
-      split (code running.function b second) _ rest m1
-      ∙ means b second m1 _ (λ y last. operated running op (number_type a) (number_type b) (register m1 (n + top a)) y line (λ z. follows z last)) (omega (arith, room, kept1.room)) (λ m2 kept2.
-      same_check running (arithmetic_check op (number_type a) (number_type b) (register m2 (n + top a)) (register m2 (second + top b))) line _ _
-      (sets n (n + (top a + (top b + 2))) (arithmetic_value op (number_type a) (register m2 (n + top a)) (register m2 (second + top b))) m m2 rest follows (omega arith) room
-      (kept-then n second m m1 m2 (omega arith) kept1 kept2) goes)
-      ∙ ap (λ x. operated running op (number_type a) (number_type b) x (register m2 (second + top b)) line (λ z. follows z m2.blocks)) (kept2.below (n + top a) (omega arith))))
-  means (compare line op a b) n m rest follows room goes =
-      let second = n + (top a + 1) in
-      split (code running.function a n) _ rest m
-      ∙ means a n m _ (λ x after. eval running b after (λ y. follows (truth_bits (compared op (number_type a) x y)))) (omega (arith, room)) (λ m1 kept1.
-      split (code running.function b second) _ rest m1
-      ∙ means b second m1 _ (λ y. follows (truth_bits (compared op (number_type a) (register m1 (n + top a)) y))) (omega (arith, room, kept1.room)) (λ m2 kept2.
-      sets n (n + (top a + (top b + 2))) (truth_bits (compared op (number_type a) (register m2 (n + top a)) (register m2 (second + top b)))) m m2 rest follows (omega arith) room
-      (kept-then n second m m1 m2 (omega arith) kept1 kept2) goes
-      ∙ ap (λ x. follows (truth_bits (compared op (number_type a) x (register m2 (second + top b)))) m2.blocks) (kept2.below (n + top a) (omega arith))))
-  means (logical line op a b) n m rest follows room goes =
-      split (code running.function a n) _ rest m
-      ∙ means a n m _ _ (omega (arith, room)) (λ m1 kept1. means_logical line op (code running.function b (n + (top a + 1))) (top b) (eval running b) n (top a) (means b (n + (top a + 1))) m m1 rest follows room kept1 goes)
-  means (choice line test a b) n m rest follows room goes =
-      let first = n + (top test + 1) in
-      let second = first + (top a + 1) in
-      let result = second + (top b + 1) in
-      let yes_code = code running.function a first in
-      let no_code = code running.function b second in
-      let goes' : Goes n m rest result follows = goes-at n m rest result (n + (top test + (top a + (top b + 3)))) follows (omega arith) goes in
-      split (code running.function test n) _ rest m
-      ∙ means test n m _ (λ x after. if is_true x then eval running a after follows else eval running b after follows) (omega (arith, room)) (λ m1 kept1.
-      turned (register m1 (n + top test) == 0) _ _ _ _
-      (past yes_code _ rest 2 m1
-      ∙ split no_code _ rest m1
-      ∙ means b second m1 _ follows (omega (arith, room, kept1.room)) (λ m2 kept2.
-      sets n result (register m2 (second + top b)) m m2 rest follows (omega arith) (omega (arith, room)) (kept-then n second m m1 m2 (omega arith) kept1 kept2) goes'))
-      (split yes_code _ rest m1
-      ∙ means a first m1 _ follows (omega (arith, room, kept1.room)) (λ m2 kept2.
-      past no_code _ rest 1 (with_register m2 result (register m2 (first + top a)))
-      ∙ sets n result (register m2 (first + top a)) m m2 rest follows (omega arith) (omega (arith, room)) (kept-then n first m m1 m2 (omega arith) kept1 kept2) goes')))
-  means (assign line (Variable place t v offset) e) n m rest follows room goes =
-      split (code running.function e n) _ rest m
-      ∙ means e n m _ (λ x after. follows x (write_variable after v offset t x)) (omega (arith, room)) (λ m' kept.
-      goes (record m' { blocks = write_variable m'.blocks v offset t (register m' (n + top e)) }) (record { below = kept.below; room = kept.room }))
-  means (update line p op t e) n m rest follows room goes =
-      split (code running.function e n) _ rest m
-      ∙ means e n m _ (λ y after. updated running p op t (number_type e) y line after follows) (omega (arith, room)) (λ m1 kept1.
-      updating line p op t (number_type e) (n + top e) (n + (top e + 1)) m1 rest follows (omega arith) (omega (arith, room, kept1.room)) (λ m2 kept2 still.
-      goes m2 (kept-then n (n + (top e + 1)) m m1 m2 (omega arith) kept1 kept2)
-      ∙ (let same : n + (top e + 4) ≡ n + (top e + 1) + 3 = omega arith in ap (λ r. follows (register m2 r) m2.blocks) same)))
-  means (step line p op before) n m rest follows room goes = means_step line p op before n m rest follows room goes
-  means (comma line a b) n m rest follows room goes =
-      let second = n + (top a + 1) in
-      split (code running.function a n) _ rest m
-      ∙ means a n m _ (λ x after. eval running b after follows) (omega (arith, room)) (λ m1 kept1.
-      means b second m1 rest follows (omega (arith, room, kept1.room)) (λ m2 kept2.
-      goes m2 (kept-then n second m m1 m2 (omega arith) kept1 kept2)
-      ∙ (let same : n + (top a + (top b + 1)) ≡ second + top b = omega arith in ap (λ r. follows (register m2 r) m2.blocks) same)))
-  means (assertion line e) n m rest follows room goes =
-      split (code running.function e n) _ rest m
-      ∙ means e n m _ (λ x after. if is_true x then follows 0 after else source.final (Broken Assertion line running.function)) (omega (arith, room)) (λ m' kept.
-      turned (register m' (n + top e) == 0) _ _ _ _ (same_final (Broken Assertion line running.function))
-      (sets n (n + (top e + 1)) 0 m m' rest follows (omega arith) room kept goes))
-  means (assumption line e) n m rest follows room goes =
-      split (code running.function e n) _ rest m
-      ∙ means e n m _ (λ x after. if is_true x then follows 0 after else source.final Blocked) (omega (arith, room)) (λ m' kept.
-      turned (register m' (n + top e) == 0) _ _ _ _ (same_final Blocked)
-      (sets n (n + (top e + 1)) 0 m m' rest follows (omega arith) room kept goes))
+    -- the code of a write of a place leaves the registers as they are
+    writing : (d n line r : ℕ) (p : Place) (m0 m : Memory) (rest : Places) (follows : Variables → Behaviour)
+        → is_place known p ≡ true → Houses d (place_rooms p) → Placed d m0 → Kept edge d n m0 m
+        → ((m' : Memory) → Kept edge d n m0 m' → m'.registers ≡ m.registers → begin rest m' ≡ follows (shown m'))
+        → begin (on (write_code (frame d) line p r) rest) m ≡ writes running p line (register m r) (shown m) follows
+    writing d n line r (Variable at_name t v offset) m0 m rest follows typed housed placed kept goes =
+        let variable = variable_below v offset (bytes t) typed in
+        let new = low_bytes (bytes t) (register m r) in
+        let fits = low_room d m (placed_kept d n m0 m placed kept) v offset t (register m r) typed in
+        goes (written m v offset new) (kept-write edge d n v offset new m0 m variable fits kept) refl
+        ∙ ap follows (shown_write m v offset new variable)
+    writing d n line r (Object at_name t k offset) m0 m rest follows typed housed placed kept goes =
+        let free = housed_room sizes edge d (bytes t) no_rooms housed in
+        let placed1 = placed_kept d n m0 m placed kept in
+        let there : d < length m.blocks = block_there (d + 1) m (placed_deeper d m free.there placed1) d (omega arith) in
+        let new = low_bytes (bytes t) (register m r) in
+        let long : length new ≡ bytes t = low_count (bytes t) (register m r) (few_bytes t) in
+        let m1 : Memory = written m d 0 new in
+        let filled : Filled edge (d + 1) n d 0 new m m1 = filled-put edge (d + 1) n d 0 new m there (omega (arith, long, free.fits, block_size d m placed1 d)) in
+        let kept1 : Kept edge d n m0 m1 = kept-then edge d n n m0 m m1 (omega arith) kept (filled-kept edge d n 0 new m m1 filled) in
+        let same : bytes_of m1.blocks d 0 (bytes t) ≡ new = (λ i. take (bytes t) (filled.filled i)) ∙ taken_back 0 (bytes t) new (block_of m.blocks d) long (omega arith) in
+        (λ i. ask (Write (pointer_to k offset) (same i) false) line running.function (λ a. begin rest m1))
+        ∙ same_ask running (Write (pointer_to k offset) new false) line _ _ (λ i a. (goes m1 kept1 refl ∙ ap follows (shown_other m d 0 new (omega (arith, placed.deep)))) i)
+
+    -- what an operation on a place does: the registers from k on hold the place's number, it converted, the result, and that converted back
+    updating : (d line : ℕ) (p : Place) (op : ArithmeticOperator) (t u : IntegerType) (y k : ℕ) (m : Memory) (rest : Places) (follows : ℕ → Follows)
+        → is_place known p ≡ true → Houses d (place_rooms p) → Placed d m → y < k → k + 3 < length m.registers
+        → ((m' : Memory) → Kept edge d k m m' → begin rest m' ≡ follows (register m' k) (register m' (k + 3)) (shown m'))
+        → begin (on (update_code (frame d) line p (place_type p) op t u y k) rest) m
+        ≡ reads running p (shown m) (λ old after. combined running p op t u old (register m y) line after (follows old))
+    updating d line p op t u y k m rest follows typed housed placed below room goes =
+        let from = place_type p in
+        split (read_code (frame d) k p) _ rest m
+        ∙ reading d k k p m _ (λ old after. combined running p op t u old (register m y) line after (follows old)) typed housed placed (omega arith) (omega (arith, room)) (λ m1 kept1.
+        let old = register m1 k in
+        let m2 : Memory = with_register m1 (k + 1) (converted from t old) in
+        let m3 : Memory = with_register m2 (k + 2) (arithmetic_value op t (register m2 (k + 1)) (register m2 y)) in
+        let m4 : Memory = with_register m3 (k + 3) (converted t from (register m3 (k + 2))) in
+        let new = register m4 (k + 3) in
+        let room2 : length m2.registers ≡ length m1.registers = set_room m1 (k + 1) _ in
+        let room3 : length m3.registers ≡ length m2.registers = set_room m2 (k + 2) _ in
+        let left : register m2 (k + 1) ≡ converted from t old = set_same m1 (k + 1) _ (omega (arith, room, kept1.room)) in
+        let right : register m2 y ≡ register m y = set_other m1 (k + 1) _ y (λ e. omega (arith, e, below)) ∙ kept1.below y below in
+        let value : register m3 (k + 2) ≡ arithmetic_value op t (register m2 (k + 1)) (register m2 y) = set_same m2 (k + 2) _ (omega (arith, room, kept1.room, room2)) in
+        let back : new ≡ converted t from (arithmetic_value op t (register m2 (k + 1)) (register m2 y)) =
+        set_same m3 (k + 3) _ (omega (arith, room, kept1.room, room2, room3)) ∙ ap (converted t from) value in
+        let still : register m4 k ≡ old = set_other m3 (k + 3) _ k (λ e. omega (arith, e)) ∙ set_other m2 (k + 2) _ k (λ e. omega (arith, e)) ∙ set_other m1 (k + 1) _ k (λ e. omega (arith, e)) in
+        let kept : Kept edge d k m m4 =
+        kept-then edge d k k m m1 m4 (omega arith) kept1
+        (kept-then edge d k k m1 m2 m4 (omega arith) (kept-set edge d k (k + 1) m1 _ (omega arith))
+        (kept-then edge d k k m2 m3 m4 (omega arith) (kept-set edge d k (k + 2) m2 _ (omega arith)) (kept-set edge d k (k + 3) m3 _ (omega arith)))) in
+        same_check running (arithmetic_check op t u (register m2 (k + 1)) (register m2 y)) line (begin (on (write_code (frame d) line p (k + 3)) rest) m4) (writes running p line new (shown m4) (follows old new))
+        (writing d k line (k + 3) p m m4 rest (follows old new) typed housed placed kept (λ m5 kept5 same.
+        goes m5 kept5
+        ∙ (λ i. follows (slice_index (same i) k) (slice_index (same i) (k + 3)) (shown m5))
+        ∙ ap (λ x. follows x new (shown m5)) still))
+        ∙ (λ i. unless_broken running (arithmetic_check op t u (register m2 (k + 1)) (register m2 y)) line (writes running p line (back i) (shown m1) (follows old (back i))))
+        ∙ (λ i. operated running op t u (left i) (right i) line (λ z. writes running p line (converted t from z) (shown m1) (follows old (converted t from z)))))
+
+    -- code with registers from n on and blocks from d on does what a meaning says; the register `last` behind n takes the value
+    abbrev pub Means : List Instruction → ℕ → ℕ → ℕ → (Variables → Follows → Behaviour) → Type 0
+    Means xs d n last meaning = (m : Memory) (rest : Places) (follows : Follows) → Placed d m → n + last < length m.registers → Goes d n m rest (n + last) follows → begin (on xs rest) m ≡ meaning (shown m) follows
+
+    -- && and || behind their left operand, whose value the register n + left has
+    means_logical : (d line : ℕ) (op : LogicalOperator) (xs : List Instruction) (last : ℕ) (meaning : Variables → Follows → Behaviour) (n left : ℕ) → Means xs d (n + (left + 1)) last meaning
+        → (m m1 : Memory) (rest : Places) (follows : Follows)
+        → Placed d m1 → n + (left + (last + 3)) < length m.registers → Kept edge d n m m1 → Goes d n m rest (n + (left + (last + 3))) follows
+        → begin (on (logical_code (frame d) line op (n + left) xs (n + (left + 1) + last)) rest) m1
+        ≡ (if decides op (register m1 (n + left)) then follows (truth_bits (is_true (register m1 (n + left)))) (shown m1) else meaning (shown m1) (λ y. follows (truth_bits (is_true y))))
+    means_logical d line logicals.And xs last meaning n left means m m1 rest follows placed room kept1 goes =
+        let second = n + (left + 1) in
+        let result = second + last + 2 in
+        let goes' : Goes d n m rest result follows = goes-at d n m rest result (n + (left + (last + 3))) follows (omega arith) goes in
+        by_test (register m1 (n + left) == 0) (λ b. if not (not b) then follows (truth_bits (not b)) (shown m1) else meaning (shown m1) (λ y. follows (truth_bits (is_true y)))) _ _
+        (past xs _ rest 3 m1
+        ∙ sets d n result 0 m m1 rest follows (omega arith) (omega (arith, room)) kept1 goes')
+        (split xs _ rest m1
+        ∙ means m1 _ (λ y. follows (truth_bits (is_true y))) placed (omega (arith, room, kept1.room)) (λ m2 kept2.
+        tested d n second (second + last) m m1 m2 rest follows (omega arith) (omega arith) (omega (arith, room)) kept1 kept2 goes'))
+    means_logical d line logicals.Or xs last meaning n left means m m1 rest follows placed room kept1 goes =
+        let second = n + (left + 1) in
+        let result = second + last + 2 in
+        let goes' : Goes d n m rest result follows = goes-at d n m rest result (n + (left + (last + 3))) follows (omega arith) goes in
+        by_test (register m1 (n + left) == 0) (λ b. if not b then follows (truth_bits (not b)) (shown m1) else meaning (shown m1) (λ y. follows (truth_bits (is_true y)))) _ _
+        (split xs _ rest m1
+        ∙ means m1 _ (λ y. follows (truth_bits (is_true y))) placed (omega (arith, room, kept1.room)) (λ m2 kept2.
+        tested d n second (second + last) m m1 m2 rest follows (omega arith) (omega arith) (omega (arith, room)) kept1 kept2 goes'))
+        (past xs _ rest 2 (with_register m1 result 1)
+        ∙ sets d n result 1 m m1 rest follows (omega arith) (omega (arith, room)) kept1 goes')
+
+    means_step : (d line : ℕ) (p : Place) (op : StepOperator) (before : Bool) (n : ℕ) (m : Memory) (rest : Places) (follows : Follows)
+        → is_place known p ≡ true → Houses d (place_rooms p) → Placed d m → n + 5 < length m.registers → Goes d n m rest (n + 5) follows
+        → begin (on (code (frame d) (step line p op before) n) rest) m ≡ stepped running p (step_operation op) before line (shown m) follows
+    means_step d line p op before n m rest follows typed housed placed room goes =
+        let u = promoted (place_type p) in
+        let m1 = with_register m n 1 in
+        let kept1 : Kept edge d n m m1 = kept-set edge d n n m 1 (omega arith) in
+        let one : register m1 n ≡ 1 = set_same m n 1 (omega (arith, room)) in
+        let last : List Instruction = at_line (frame d) line (operations.Copy (n + 5) (if before then n + 4 else n + 1)) ∷ [] in
+        split (update_code (frame d) line p (place_type p) (step_operation op) u u n (n + 1)) last rest m1
+        ∙ updating d line p (step_operation op) u u n (n + 1) m1 (on last rest) (λ old new. follows (if before then new else old)) typed housed (placed_kept d n m m1 placed kept1) (omega arith) (omega (arith, room, kept1.room)) (λ m2 kept2.
+        sets d n (n + 5) (register m2 (if before then n + 4 else n + 1)) m m2 rest follows (omega arith) room (kept-then edge d n (n + 1) m m1 m2 (omega arith) kept1 kept2) goes
+        ∙ ap (λ x. follows x (shown m2)) (chosen before (register m2) (n + 4) (n + 1) (n + 1 + 3) (register m2 (n + 1)) (omega arith) refl))
+        ∙ ap (λ y. reads running p (shown m) (λ old after. combined running p (step_operation op) u u old y line after (λ new. follows (if before then new else old)))) one
+
+    -- the bytes of a string, over the bytes so far
+    text_means : (text : List ℕ) (line d n into to size offset at_offset : ℕ) (value : List ℕ) (m0 m : Memory) (rest : Places) (follows : FollowsBytes)
+        → list_all (λ b. nat_lt b 256) text ≡ true → at_offset ≡ to + offset → Placed d m → edge < into → into < d
+        → length value ≡ size → to + size ≤ length (block_of m0.blocks into) → offset + length text ≤ size → n < length m.registers
+        → Filled edge d n into to value m0 m → GoesInto d n m0 rest into to size follows
+        → begin (on (text_code (frame d) line text n into at_offset) rest) m ≡ follows (put_at offset text value) (shown m)
+    text_means [] line d n into to size offset at_offset value m0 m rest follows typed where_at placed behind free long fits inner room so_far goes =
+        goes m value long so_far ∙ ap (λ block. follows block (shown m)) (sym (put_none offset value))
+    text_means (c ∷ cs) line d n into to size offset at_offset value m0 m rest follows typed where_at placed behind free long fits inner room so_far goes =
+        let m1 : Memory = with_register m n c in
+        let kept1 : Kept edge d n m m1 = kept-set edge d n n m c (omega arith) in
+        let byte = c ∷ [] in
+        let new : low_bytes 1 (register m1 n) ≡ byte = ap (low_bytes 1) (set_same m n c room) ∙ one_byte c (test_less c 256 (left_of _ _ typed)) in
+        let m2 : Memory = written m1 into (to + offset) byte in
+        let size1 = block_kept d n into to value m0 m so_far in
+        let there : to + offset + length byte ≤ length (block_of m1.blocks into) = omega (arith, inner, fits, size1) in
+        let one = kept-filled edge d n n into (to + offset) byte m m1 m2 (omega arith) (omega (arith, behind)) free kept1 (filled-put edge d n into (to + offset) byte m1 (block_there d m1 (placed_kept d n m m1 placed kept1) into free) there) in
+        let now : Filled edge d n into to (put_at offset byte value) m0 m2 = filled-within edge d n n into to offset value byte m0 m m2 (omega arith) (omega (arith, inner, long)) (omega (arith, long, fits)) so_far one in
+        (λ i. begin (on (text_code (frame d) line cs n into (at_offset + 1)) rest) (written m1 into (where_at i) (new i)))
+        ∙ text_means cs line d n into to size (offset + 1) (at_offset + 1) (put_at offset byte value) m0 m2 rest follows (right_of _ _ typed) (omega (arith, where_at)) (placed_filled d n into (to + offset) byte m m2 placed behind one) behind free
+        (put_size offset byte value (omega (arith, inner, long)) ∙ long) fits (omega (arith, inner)) (omega (arith, room, one.room)) now goes
+        ∙ (λ i. follows (put_more offset c cs value (omega (arith, inner, long)) i) (shown_other m1 into (to + offset) byte (omega (arith, behind)) i))
+
+    mutual
+      pub means : (e : Expression) (d n : ℕ) (m : Memory) (rest : Places) (follows : Follows)
+          → is_typed known e ≡ true → Houses d (rooms e) → Placed d m → n + top e < length m.registers → Goes d n m rest (n + top e) follows
+          → begin (on (code (frame d) e n) rest) m ≡ eval running e (shown m) follows
+      means (constant line t bits) d n m rest follows typed housed placed room goes =
+          sets d n n bits m m rest follows (omega arith) (omega (arith, room)) (kept-refl edge d n m) (goes-at d n m rest n (n + 0) follows (omega arith) goes)
+      means (read p) d n m rest follows typed housed placed room goes = reading d n n p m rest follows typed housed placed (omega arith) (omega (arith, room)) (goes-at d n m rest n (n + 0) follows (omega arith) goes)
+      means (draw line t) d n m rest follows typed housed placed room goes =
+          same_ask running (Draw (drawn_width t)) line _ _ (λ i a.
+          (sets d n n (word_of a) m m rest follows (omega arith) (omega (arith, room)) (kept-refl edge d n m) (goes-at d n m rest n (n + 0) follows (omega arith) goes)
+          ∙ ap (λ x. follows x (shown m)) (same_word a)) i)
+      means (convert to e) d n m rest follows typed housed placed room goes =
+          split (code (frame d) e n) _ rest m
+          ∙ means e d n m _ (λ x. follows (converted (number_type e) to x)) (right_of _ _ typed) housed placed (omega (arith, room)) (λ m' kept.
+          sets d n (n + (top e + 1)) (converted (number_type e) to (register m' (n + top e))) m m' rest follows (omega arith) room kept goes)
+      means (sign line op e) d n m rest follows typed housed placed room goes =
+          split (code (frame d) e n) _ rest m
+          ∙ means e d n m _ (λ x after. unless_broken running (sign_check op (number_type e) x) line (follows (sign_value op (number_type e) x) after)) (right_of _ _ typed) housed placed (omega (arith, room)) (λ m' kept.
+          same_check running (sign_check op (number_type e) (register m' (n + top e))) line _ _
+          (sets d n (n + (top e + 1)) (sign_value op (number_type e) (register m' (n + top e))) m m' rest follows (omega arith) room kept goes))
+      means (is_zero line e) d n m rest follows typed housed placed room goes =
+          split (code (frame d) e n) _ rest m
+          ∙ means e d n m _ (λ x. follows (truth_bits (not (is_true x)))) (right_of _ _ typed) housed placed (omega (arith, room)) (λ m' kept.
+          sets d n (n + (top e + 1)) (truth_bits (register m' (n + top e) == 0)) m m' rest follows (omega arith) room kept goes
+          ∙ ap (λ b. follows (truth_bits b) (shown m')) (not_not (register m' (n + top e) == 0)))
+      means (arithmetic line op a b) d n m rest follows typed housed placed room goes =
+          let second = n + (top a + 1) in
+          split (code (frame d) a n) _ rest m
+          ∙ means a d n m _ (λ x after. eval running b after (λ y last. operated running op (number_type a) (number_type b) x y line (λ z. follows z last))) (right_of _ _ (left_of _ _ typed)) (housed_left sizes edge d (rooms a) (rooms b) housed) placed (omega (arith, room)) (λ m1 kept1.
+          split (code (frame d) b second) _ rest m1
+          ∙ means b d second m1 _ (λ y last. operated running op (number_type a) (number_type b) (register m1 (n + top a)) y line (λ z. follows z last)) (right_of _ _ typed) (housed_right sizes edge d (rooms a) (rooms b) housed) (placed_kept d n m m1 placed kept1) (omega (arith, room, kept1.room)) (λ m2 kept2.
+          same_check running (arithmetic_check op (number_type a) (number_type b) (register m2 (n + top a)) (register m2 (second + top b))) line _ _
+          (sets d n (n + (top a + (top b + 2))) (arithmetic_value op (number_type a) (register m2 (n + top a)) (register m2 (second + top b))) m m2 rest follows (omega arith) room
+          (kept-then edge d n second m m1 m2 (omega arith) kept1 kept2) goes)
+          ∙ ap (λ x. operated running op (number_type a) (number_type b) x (register m2 (second + top b)) line (λ z. follows z (shown m2))) (kept2.below (n + top a) (omega arith))))
+      means (compare line op a b) d n m rest follows typed housed placed room goes =
+          let second = n + (top a + 1) in
+          split (code (frame d) a n) _ rest m
+          ∙ means a d n m _ (λ x after. eval running b after (λ y. follows (truth_bits (compared op (number_type a) x y)))) (right_of _ _ (left_of _ _ typed)) (housed_left sizes edge d (rooms a) (rooms b) housed) placed (omega (arith, room)) (λ m1 kept1.
+          split (code (frame d) b second) _ rest m1
+          ∙ means b d second m1 _ (λ y. follows (truth_bits (compared op (number_type a) (register m1 (n + top a)) y))) (right_of _ _ typed) (housed_right sizes edge d (rooms a) (rooms b) housed) (placed_kept d n m m1 placed kept1) (omega (arith, room, kept1.room)) (λ m2 kept2.
+          sets d n (n + (top a + (top b + 2))) (truth_bits (compared op (number_type a) (register m2 (n + top a)) (register m2 (second + top b)))) m m2 rest follows (omega arith) room
+          (kept-then edge d n second m m1 m2 (omega arith) kept1 kept2) goes
+          ∙ ap (λ x. follows (truth_bits (compared op (number_type a) x (register m2 (second + top b)))) (shown m2)) (kept2.below (n + top a) (omega arith))))
+      means (logical line op a b) d n m rest follows typed housed placed room goes =
+          split (code (frame d) a n) _ rest m
+          ∙ means a d n m _ _ (right_of _ _ (left_of _ _ typed)) (housed_left sizes edge d (rooms a) (rooms b) housed) placed (omega (arith, room)) (λ m1 kept1. means_logical d line op (code (frame d) b (n + (top a + 1))) (top b) (eval running b) n (top a) (λ m2 rest2 follows2 placed2. means b d (n + (top a + 1)) m2 rest2 follows2 (right_of _ _ typed) (housed_right sizes edge d (rooms a) (rooms b) housed) placed2) m m1 rest follows (placed_kept d n m m1 placed kept1) room kept1 goes)
+      means (choice line test a b) d n m rest follows typed housed placed room goes =
+          let first = n + (top test + 1) in
+          let second = first + (top a + 1) in
+          let result = second + (top b + 1) in
+          let yes_code = code (frame d) a first in
+          let no_code = code (frame d) b second in
+          let goes' : Goes d n m rest result follows = goes-at d n m rest result (n + (top test + (top a + (top b + 3)))) follows (omega arith) goes in
+          split (code (frame d) test n) _ rest m
+          ∙ means test d n m _ (λ x after. if is_true x then eval running a after follows else eval running b after follows) (right_of _ _ (left_of _ _ (left_of _ _ typed))) (housed_left sizes edge d (rooms test) (both (rooms a) (rooms b)) housed) placed (omega (arith, room)) (λ m1 kept1.
+          turned (register m1 (n + top test) == 0) _ _ _ _
+          (past yes_code _ rest 2 m1
+          ∙ split no_code _ rest m1
+          ∙ means b d second m1 _ follows (right_of _ _ typed) (housed_right sizes edge d (rooms a) (rooms b) (housed_right sizes edge d (rooms test) (both (rooms a) (rooms b)) housed)) (placed_kept d n m m1 placed kept1) (omega (arith, room, kept1.room)) (λ m2 kept2.
+          sets d n result (register m2 (second + top b)) m m2 rest follows (omega arith) (omega (arith, room)) (kept-then edge d n second m m1 m2 (omega arith) kept1 kept2) goes'))
+          (split yes_code _ rest m1
+          ∙ means a d first m1 _ follows (right_of _ _ (left_of _ _ typed)) (housed_left sizes edge d (rooms a) (rooms b) (housed_right sizes edge d (rooms test) (both (rooms a) (rooms b)) housed)) (placed_kept d n m m1 placed kept1) (omega (arith, room, kept1.room)) (λ m2 kept2.
+          past no_code _ rest 1 (with_register m2 result (register m2 (first + top a)))
+          ∙ sets d n result (register m2 (first + top a)) m m2 rest follows (omega arith) (omega (arith, room)) (kept-then edge d n first m m1 m2 (omega arith) kept1 kept2) goes')))
+      means (assign line p e) d n m rest follows typed housed placed room goes =
+          split (code (frame d) e n) _ rest m
+          ∙ means e d n m _ (λ x after. writes running p line x after (follows x)) (right_of _ _ typed) (housed_left sizes edge d (rooms e) (place_rooms p) housed) placed (omega (arith, room)) (λ m1 kept1.
+          writing d n line (n + top e) p m m1 rest (follows (register m1 (n + top e))) (left_of _ _ (left_of _ _ typed)) (housed_right sizes edge d (rooms e) (place_rooms p) housed) placed kept1 (λ m2 kept2 same.
+          goes m2 kept2 ∙ (λ i. follows (slice_index (same i) (n + top e)) (shown m2))))
+      means (update line p op t e) d n m rest follows typed housed placed room goes =
+          split (code (frame d) e n) _ rest m
+          ∙ means e d n m _ (λ y after. updated running p op t (number_type e) y line after follows) (right_of _ _ typed) (housed_left sizes edge d (rooms e) (place_rooms p) housed) placed (omega (arith, room)) (λ m1 kept1.
+          updating d line p op t (number_type e) (n + top e) (n + (top e + 1)) m1 rest (λ old. follows) (left_of _ _ (left_of _ _ typed)) (housed_right sizes edge d (rooms e) (place_rooms p) housed) (placed_kept d n m m1 placed kept1) (omega arith) (omega (arith, room, kept1.room)) (λ m2 kept2.
+          goes m2 (kept-then edge d n (n + (top e + 1)) m m1 m2 (omega arith) kept1 kept2)
+          ∙ (let same : n + (top e + 4) ≡ n + (top e + 1) + 3 = omega arith in ap (λ r. follows (register m2 r) (shown m2)) same)))
+      means (step line p op before) d n m rest follows typed housed placed room goes = means_step d line p op before n m rest follows typed housed placed room goes
+      means (comma line a b) d n m rest follows typed housed placed room goes =
+          let second = n + (top a + 1) in
+          split (code (frame d) a n) _ rest m
+          ∙ means a d n m _ (λ x after. eval running b after follows) (left_of _ _ typed) (housed_left sizes edge d (rooms a) (rooms b) housed) placed (omega (arith, room)) (λ m1 kept1.
+          means b d second m1 rest follows (right_of _ _ typed) (housed_right sizes edge d (rooms a) (rooms b) housed) (placed_kept d n m m1 placed kept1) (omega (arith, room, kept1.room)) (λ m2 kept2.
+          goes m2 (kept-then edge d n second m m1 m2 (omega arith) kept1 kept2)
+          ∙ (let same : n + (top a + (top b + 1)) ≡ second + top b = omega arith in ap (λ r. follows (register m2 r) (shown m2)) same)))
+      means (assertion line e) d n m rest follows typed housed placed room goes =
+          split (code (frame d) e n) _ rest m
+          ∙ means e d n m _ (λ x after. if is_true x then follows 0 after else source.final (Broken Assertion line running.function)) (right_of _ _ typed) housed placed (omega (arith, room)) (λ m' kept.
+          turned (register m' (n + top e) == 0) _ _ _ _ (same_final (Broken Assertion line running.function))
+          (sets d n (n + (top e + 1)) 0 m m' rest follows (omega arith) room kept goes))
+      means (assumption line e) d n m rest follows typed housed placed room goes =
+          split (code (frame d) e n) _ rest m
+          ∙ means e d n m _ (λ x after. if is_true x then follows 0 after else source.final Blocked) (right_of _ _ typed) housed placed (omega (arith, room)) (λ m' kept.
+          turned (register m' (n + top e) == 0) _ _ _ _ (same_final Blocked)
+          (sets d n (n + (top e + 1)) 0 m m' rest follows (omega arith) room kept goes))
+      means (part line t offset a) d n m rest follows typed housed placed room goes =
+          let free = housed_room sizes edge d (size_of a) (structure_rooms a) housed in
+          let inner = test_most (offset + bytes t) (size_of a) (left_of _ _ typed) in
+          split (structure_code (frame (d + 1)) a n d 0) _ rest m
+          ∙ structure_means a (d + 1) n d 0 m _ (λ value. follows (number_at t offset value)) (right_of _ _ typed) (housed_under sizes edge d (size_of a) (structure_rooms a) housed) (placed_deeper d m free.there placed)
+          placed.deep (omega arith) (omega (arith, free.fits, block_size d m placed d)) (omega (arith, room)) (λ m1 value long filled.
+          sets d n (n + structure_registers a) (read_variable m1.blocks d offset t) m m1 rest follows (omega arith) room (filled-kept edge d n 0 value m m1 filled) goes
+          ∙ (λ i. follows (number_at t offset (filled.filled i)) (shown m1))
+          ∙ ap (λ x. follows x (shown m1)) (number_of_front t offset value (block_of m.blocks d) (omega (arith, inner, long))))
+      means (discard line e) d n m rest follows typed housed placed room goes =
+          split (code (frame d) e n) _ rest m
+          ∙ means e d n m _ (λ x. follows 0) (right_of _ _ typed) housed placed (omega (arith, room)) (λ m' kept.
+          sets d n (n + (top e + 1)) 0 m m' rest follows (omega arith) room kept goes)
+      means (discard_structure a) d n m rest follows typed housed placed room goes =
+          let free = housed_room sizes edge d (size_of a) (structure_rooms a) housed in
+          split (structure_code (frame (d + 1)) a n d 0) _ rest m
+          ∙ structure_means a (d + 1) n d 0 m _ (λ value. follows 0) typed (housed_under sizes edge d (size_of a) (structure_rooms a) housed) (placed_deeper d m free.there placed)
+          placed.deep (omega arith) (omega (arith, free.fits, block_size d m placed d)) (omega (arith, room)) (λ m1 value long filled.
+          sets d n (n + structure_registers a) 0 m m1 rest follows (omega arith) room (filled-kept edge d n 0 value m m1 filled) goes)
+
+      -- the code of a structure value puts its bytes where they are wanted
+      pub structure_means : (a : Structure) (d n into to : ℕ) (m : Memory) (rest : Places) (follows : FollowsBytes)
+          → is_structure known a ≡ true → Houses d (structure_rooms a) → Placed d m → edge < into → into < d → to + size_of a ≤ length (block_of m.blocks into)
+          → n + structure_registers a ≤ length m.registers → GoesInto d n m rest into to (size_of a) follows
+          → begin (on (structure_code (frame d) a n into to) rest) m ≡ eval_structure running a (shown m) follows
+      structure_means (copy line v offset size) d n into to m rest follows typed housed placed behind free fits room goes =
+          let variable = variable_below v offset size typed in
+          let value = take size (drop offset (block_of m.blocks v)) in
+          let long : length value ≡ size = part_long offset size (block_of m.blocks v) (variable_room d m placed v offset size typed) in
+          goes (written m into to value) value long (filled-put edge d n into to value m (block_there d m placed into free) (omega (arith, fits, long)))
+          ∙ (λ i. follows (take size (drop offset (shown_block m v variable i))) (shown_other m into to value (omega (arith, behind)) i))
+      structure_means (load line k offset size) d n into to m rest follows typed housed placed behind free fits room goes =
+          same_ask_when running (Read (pointer_to k offset) size) line _ _ (λ a h.
+          let value = bytes_in a in
+          let long : length value ≡ size = read_size (pointer_to k offset) size a h in
+          goes (written m into to value) value long (filled-put edge d n into to value m (block_there d m placed into free) (omega (arith, fits, long)))
+          ∙ (λ i. follows (same_bytes a i) (shown_other m into to value (omega (arith, behind)) i)))
+      structure_means (choose line test a b) d n into to m rest follows typed housed placed behind free fits room goes =
+          let first = n + (top test + 1) in
+          let second = first + structure_registers a in
+          let yes_code = structure_code (frame d) a first into to in
+          let no_code = structure_code (frame d) b second into to in
+          let ways = housed_right sizes edge d (rooms test) (both (structure_rooms a) (structure_rooms b)) housed in
+          let same = test_equal (size_of a) (size_of b) (right_of _ _ (left_of _ _ (left_of _ _ (left_of _ _ typed)))) in
+          split (code (frame d) test n) _ rest m
+          ∙ means test d n m _ (λ x after. if is_true x then eval_structure running a after follows else eval_structure running b after follows) (right_of _ _ (left_of _ _ (left_of _ _ typed))) (housed_left sizes edge d (rooms test) (both (structure_rooms a) (structure_rooms b)) housed) placed (omega (arith, room)) (λ m1 kept1.
+          turned (register m1 (n + top test) == 0) _ _ _ _
+          (past yes_code _ rest 1 m1
+          ∙ structure_means b d second into to m1 rest follows (right_of _ _ typed) (housed_right sizes edge d (structure_rooms a) (structure_rooms b) ways) (placed_kept d n m m1 placed kept1) behind free (omega (arith, fits, same, kept_size d n m m1 placed kept1 into)) (omega (arith, room, kept1.room)) (λ m2 value long filled.
+          goes m2 value (omega (arith, long, same)) (kept-filled edge d n second into to value m m1 m2 (omega arith) (omega (arith, behind)) free kept1 filled)))
+          (split yes_code _ rest m1
+          ∙ structure_means a d first into to m1 _ follows (right_of _ _ (left_of _ _ typed)) (housed_left sizes edge d (structure_rooms a) (structure_rooms b) ways) (placed_kept d n m m1 placed kept1) behind free (omega (arith, fits, kept_size d n m m1 placed kept1 into)) (omega (arith, room, kept1.room)) (λ m2 value long filled.
+          past_all no_code rest m2
+          ∙ goes m2 value long (kept-filled edge d n first into to value m m1 m2 (omega arith) (omega (arith, behind)) free kept1 filled))))
+      structure_means (put line v offset a) d n into to m rest follows typed housed placed behind free fits room goes =
+          let variable = variable_below v offset (size_of a) (left_of _ _ typed) in
+          split (structure_code (frame d) a n into to) _ rest m
+          ∙ structure_means a d n into to m _ (λ value after. follows value (put_bytes after v offset value)) (right_of _ _ typed) housed placed behind free fits room (λ m1 value long filled.
+          let new = take (size_of a) (drop to (block_of m1.blocks into)) in
+          let same : new ≡ value = (λ i. take (size_of a) (drop to (filled.filled i))) ∙ taken_back to (size_of a) value (block_of m.blocks into) long (omega (arith, fits)) in
+          let placed1 = placed_filled d n into to value m m1 placed behind filled in
+          let there : offset + length new ≤ length (block_of m1.blocks v) = omega (arith, long, ap length same, variable_room d m1 placed1 v offset (size_of a) (left_of _ _ typed)) in
+          goes (written m1 v offset new) value long (filled-write edge d n into to v offset value new m m1 variable (omega (arith, behind)) there filled)
+          ∙ (λ i. follows value (shown_write m1 v offset new variable i))
+          ∙ (λ i. follows value (put_bytes (shown m1) v offset (same i))))
+      structure_means (store line k offset a) d n into to m rest follows typed housed placed behind free fits room goes =
+          split (structure_code (frame d) a n into to) _ rest m
+          ∙ structure_means a d n into to m _ (λ value after. tells_bytes running k offset value line (follows value after)) (right_of _ _ typed) housed placed behind free fits room (λ m1 value long filled.
+          let new = take (size_of a) (drop to (block_of m1.blocks into)) in
+          let same : new ≡ value = (λ i. take (size_of a) (drop to (filled.filled i))) ∙ taken_back to (size_of a) value (block_of m.blocks into) long (omega (arith, fits)) in
+          (λ i. ask (Write (pointer_to k offset) (same i) false) line running.function (λ done. begin rest m1))
+          ∙ same_ask running (Write (pointer_to k offset) value false) line _ _ (λ i done. goes m1 value long filled i))
+      structure_means (follow line e a) d n into to m rest follows typed housed placed behind free fits room goes =
+          split (code (frame d) e n) _ rest m
+          ∙ means e d n m _ (λ x after. eval_structure running a after follows) (left_of _ _ typed) (housed_left sizes edge d (rooms e) (structure_rooms a) housed) placed (omega (arith, room)) (λ m1 kept1.
+          structure_means a d (n + (top e + 1)) into to m1 rest follows (right_of _ _ typed) (housed_right sizes edge d (rooms e) (structure_rooms a) housed) (placed_kept d n m m1 placed kept1) behind free (omega (arith, fits, kept_size d n m m1 placed kept1 into)) (omega (arith, room, kept1.room)) (λ m2 value long filled.
+          goes m2 value long (kept-filled edge d n (n + (top e + 1)) into to value m m1 m2 (omega arith) (omega (arith, behind)) free kept1 filled)))
+      structure_means (section line offset size a) d n into to m rest follows typed housed placed behind free fits room goes =
+          let block = housed_room sizes edge d (size_of a) (structure_rooms a) housed in
+          let inner = test_most (offset + size) (size_of a) (left_of _ _ typed) in
+          split (structure_code (frame (d + 1)) a n d 0) _ rest m
+          ∙ structure_means a (d + 1) n d 0 m _ (λ value. follows (take size (drop offset value))) (right_of _ _ typed) (housed_under sizes edge d (size_of a) (structure_rooms a) housed) (placed_deeper d m block.there placed)
+          placed.deep (omega arith) (omega (arith, block.fits, block_size d m placed d)) room (λ m1 value long filled.
+          let part_of = take size (drop offset value) in
+          let new = take size (drop offset (block_of m1.blocks d)) in
+          let same : new ≡ part_of = (λ i. take size (drop offset (filled.filled i))) ∙ part_of_front offset size value (block_of m.blocks d) (omega (arith, inner, long)) in
+          let part_size : length part_of ≡ size = part_long offset size value (omega (arith, inner, long)) in
+          let kept = filled-kept edge d n 0 value m m1 filled in
+          let there : to + length part_of ≤ length (block_of m1.blocks into) = omega (arith, fits, part_size, kept_size d n m m1 placed kept into) in
+          let done : Filled edge d n into to part_of m (written m1 into to part_of) =
+          kept-filled edge d n n into to part_of m m1 (written m1 into to part_of) (omega arith) (omega (arith, behind)) free kept (filled-put edge d n into to part_of m1 (block_there d m1 (placed_kept d n m m1 placed kept) into free) there) in
+          (λ i. begin rest (written m1 into to (same i)))
+          ∙ goes (written m1 into to part_of) part_of part_size done
+          ∙ ap (follows part_of) (shown_other m1 into to part_of (omega (arith, behind))))
+      structure_means (list line size ps) d n into to m rest follows typed housed placed behind free fits room goes =
+          let new = take size (drop 0 (block_of m.blocks edge)) in
+          let zero : new ≡ zeros size = (λ i. take size (placed.clean i)) ∙ some_zeros size (slice_index sizes edge) (housed_zeros sizes edge d size (parts_rooms ps) housed) in
+          let start = filled-put edge d n into to (zeros size) m (block_there d m placed into free) (omega (arith, fits, zeros_length size)) in
+          let m1 : Memory = written m into to (zeros size) in
+          (λ i. begin (on (parts_code (frame d) line ps n into to) rest) (written m into to (zero i)))
+          ∙ parts_mean ps line d n into to size n (zeros size) m m1 rest follows (right_of _ _ typed) (housed_behind sizes edge d size (parts_rooms ps) housed) (placed_filled d n into to (zeros size) m m1 placed behind start) behind free (zeros_length size) fits (omega arith) room start goes
+          ∙ (λ i. eval_parts running ps (zeros size) (shown_other m into to (zeros size) (omega (arith, behind)) i) follows)
+      structure_means (string line size text) d n into to m rest follows typed housed placed behind free fits room goes =
+          let new = take size (drop 0 (block_of m.blocks edge)) in
+          let zero : new ≡ zeros size = (λ i. take size (placed.clean i)) ∙ some_zeros size (slice_index sizes edge) (housed_zeros sizes edge d size no_rooms housed) in
+          let start = filled-put edge d n into to (zeros size) m (block_there d m placed into free) (omega (arith, fits, zeros_length size)) in
+          let m1 : Memory = written m into to (zeros size) in
+          let few = test_most (length text) size (right_of _ _ (left_of _ _ typed)) in
+          (λ i. begin (on (text_code (frame d) line text n into to) rest) (written m into to (zero i)))
+          ∙ text_means text line d n into to size 0 to (zeros size) m m1 rest follows (right_of _ _ typed) (omega arith) (placed_filled d n into to (zeros size) m m1 placed behind start) behind free (zeros_length size) fits (omega (arith, few)) (omega (arith, room)) start goes
+          ∙ (λ i. follows (put_at 0 text (zeros size)) (shown_other m into to (zeros size) (omega (arith, behind)) i))
+
+      -- the parts of an initializer, over the bytes so far
+      pub parts_mean : (ps : Parts) (line d n into to size from : ℕ) (value : List ℕ) (m0 m : Memory) (rest : Places) (follows : FollowsBytes)
+          → are_parts known size ps ≡ true → Houses d (parts_rooms ps) → Placed d m → edge < into → into < d
+          → length value ≡ size → to + size ≤ length (block_of m0.blocks into) → from ≤ n → n + parts_registers ps ≤ length m.registers
+          → Filled edge d from into to value m0 m → GoesInto d from m0 rest into to size follows
+          → begin (on (parts_code (frame d) line ps n into to) rest) m ≡ eval_parts running ps value (shown m) follows
+      parts_mean no_part line d n into to size from value m0 m rest follows typed housed placed behind free long fits above room so_far goes = goes m value long so_far
+      parts_mean (number_part offset e others) line d n into to size from value m0 m rest follows typed housed placed behind free long fits above room so_far goes =
+          let t = number_type e in
+          let inner = number_within size offset (type_of e) (left_of _ _ (left_of _ _ typed)) in
+          split (code (frame d) e n) _ rest m
+          ∙ means e d n m _ (λ x after. eval_parts running others (put_at offset (low_bytes (bytes t) x) value) after follows) (right_of _ _ (left_of _ _ typed)) (housed_left sizes edge d (rooms e) (parts_rooms others) housed) placed (omega (arith, room)) (λ m1 kept1.
+          let new = low_bytes (bytes t) (register m1 (n + top e)) in
+          let count = low_count (bytes t) (register m1 (n + top e)) (few_bytes t) in
+          let m2 : Memory = written m1 into (to + offset) new in
+          let placed1 = placed_kept d n m m1 placed kept1 in
+          let size1 = block_kept d from into to value m0 m so_far in
+          let there : to + offset + length new ≤ length (block_of m1.blocks into) = omega (arith, inner, count, fits, size1, kept_size d n m m1 placed kept1 into) in
+          let one = kept-filled edge d n n into (to + offset) new m m1 m2 (omega arith) (omega (arith, behind)) free kept1 (filled-put edge d n into (to + offset) new m1 (block_there d m1 placed1 into free) there) in
+          let now : Filled edge d from into to (put_at offset new value) m0 m2 = filled-within edge d from n into to offset value new m0 m m2 above (omega (arith, inner, count, long)) (omega (arith, long, fits)) so_far one in
+          parts_mean others line d (n + (top e + 1)) into to size from (put_at offset new value) m0 m2 rest follows (right_of _ _ typed) (housed_right sizes edge d (rooms e) (parts_rooms others) housed) (placed_filled d n into (to + offset) new m m2 placed behind one) behind free
+          (put_size offset new value (omega (arith, inner, count, long)) ∙ long) fits (omega (arith, above)) (omega (arith, room, kept1.room)) now goes
+          ∙ (λ i. eval_parts running others (put_at offset new value) (shown_other m1 into (to + offset) new (omega (arith, behind)) i) follows))
+      parts_mean (structure_part offset a others) line d n into to size from value m0 m rest follows typed housed placed behind free long fits above room so_far goes =
+          let inner = test_most (offset + size_of a) size (left_of _ _ (left_of _ _ typed)) in
+          let size1 = block_kept d from into to value m0 m so_far in
+          split (structure_code (frame d) a n into (to + offset)) _ rest m
+          ∙ structure_means a d n into (to + offset) m _ (λ part_of after. eval_parts running others (put_at offset part_of value) after follows) (right_of _ _ (left_of _ _ typed)) (housed_left sizes edge d (structure_rooms a) (parts_rooms others) housed) placed behind free (omega (arith, inner, fits, size1)) (omega (arith, room)) (λ m1 part_of part_size one.
+          let now : Filled edge d from into to (put_at offset part_of value) m0 m1 = filled-within edge d from n into to offset value part_of m0 m m1 above (omega (arith, inner, part_size, long)) (omega (arith, long, fits)) so_far one in
+          parts_mean others line d (n + structure_registers a) into to size from (put_at offset part_of value) m0 m1 rest follows (right_of _ _ typed) (housed_right sizes edge d (structure_rooms a) (parts_rooms others) housed) (placed_filled d n into (to + offset) part_of m m1 placed behind one) behind free
+          (put_size offset part_of value (omega (arith, inner, part_size, long)) ∙ long) fits (omega (arith, above)) (omega (arith, room, one.room)) now goes)

@@ -1,8 +1,12 @@
+pub mod BlockBytes
+pub mod Housing
 pub mod Placing
 pub mod ExpressionCode
 pub mod StatementCode
 pub mod Drafting
+pub mod DraftingStructures
 pub mod DraftingStatements
+pub mod Greater
 pub mod RegisterTypes
 pub mod CodeFits
 pub mod SameThread

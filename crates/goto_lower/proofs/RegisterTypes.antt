@@ -108,6 +108,14 @@ has_behind before (t ∷ ts) =
 pub has_itself : (ts : List IntegerType) → Has ts 0 ts
 has_itself ts = has_behind [] ts
 
+-- ---- tests
+
+pub less_true : (a b : ℕ) → a < b → nat_lt a b ≡ true
+less_true a b h = grind (arith, nat_tests)
+
+pub at_most_true : (a b : ℕ) → a ≤ b → nat_le a b ≡ true
+at_most_true a b h = grind (arith, nat_tests)
+
 -- ---- bytes
 
 some_bytes : (t : IntegerType) → nat_le 1 (bytes t) ≡ true
@@ -140,12 +148,6 @@ module _ (registers : List IntegerType) (blocks : List ℕ) where
 
   -- ---- operations
 
-  less_true : (a b : ℕ) → a < b → nat_lt a b ≡ true
-  less_true a b h = grind (arith, nat_tests)
-
-  pub at_most_true : (a b : ℕ) → a ≤ b → nat_le a b ≡ true
-  at_most_true a b h = grind (arith, nat_tests)
-
   pub there_is : (r : ℕ) (t : IntegerType) → Register registers r t → is_there registers r ≡ true
   there_is r t h = less_true r (length registers) h.there
 
@@ -176,6 +178,9 @@ module _ (registers : List IntegerType) (blocks : List ℕ) where
 
   pub clear_fits : (b : ℕ) → nat_lt b (length blocks) ≡ true → operation_fits registers blocks 0 (operations.Clear b (slice_index blocks b)) ≡ true
   clear_fits b there = both _ _ there (to_same (slice_index blocks b) (slice_index blocks b) refl)
+
+  pub copy_bytes_fits : (into to from offset count : ℕ) → is_within blocks into to count ≡ true → is_within blocks from offset count ≡ true → operation_fits registers blocks 0 (operations.CopyBytes into to from offset count) ≡ true
+  copy_bytes_fits into to from offset count there within = both _ _ there within
 
   -- a value that fills a block
   pub filled_there : (b : ℕ) (t : ValueType) → fills blocks b t ≡ true → nat_lt b (length blocks) ≡ true

@@ -1,10 +1,10 @@
 -- The types of the registers of a tree, in the order of their numbers.
 use Rattle.std.specs.Prelude.{ℕ, Bool, true, List, [], ◌∷◌, ◌++◌, replicate}
 use Rattle.c_types.specs.declared.integers.IntegerType.{IntegerType}
-use Rattle.c_types.specs.declared.integers.IntegerType.TheVariants.{Int, UnsignedLong}
+use Rattle.c_types.specs.declared.integers.IntegerType.TheVariants.{Int, UnsignedChar, UnsignedLong}
 use Rattle.c_types.specs.Integers.{promoted}
 use Rattle.core_tree.specs.declared.expression.Place.{Place}
-use Rattle.core_tree.specs.Trees.{Expression, constant, read, convert, sign, is_zero, arithmetic, compare, logical, choice, assign, update, step, comma, assertion, assumption, draw, Statement, block, if_then, if_else, evaluate, returns, Items, done, declares, initializes, does}
+use Rattle.core_tree.specs.Trees.{Expression, constant, read, convert, sign, is_zero, arithmetic, compare, logical, choice, assign, update, step, comma, assertion, assumption, draw, part, discard, discard_structure, Structure, copy, load, choose, put, store, follow, section, list, string, Parts, no_part, number_part, structure_part, Statement, block, if_then, if_else, evaluate, returns, Items, done, declares, initializes, initializes_structure, does}
 use Rattle.core_tree.specs.Typed.{place_type}
 use Rattle.c_interp.specs.Meaning.{number_type}
 use Rattle.goto_lower.specs.Lowering.{first_registers}
@@ -13,23 +13,43 @@ use Rattle.goto_lower.specs.Lowering.{first_registers}
 abbrev pub update_types : Place → IntegerType → List IntegerType
 update_types p t = place_type p ∷ t ∷ t ∷ place_type p ∷ []
 
-abbrev pub types : Expression → List IntegerType
-types (constant line t bits) = t ∷ []
-types (read p) = place_type p ∷ []
-types (convert to e) = types e ++ to ∷ []
-types (sign line op e) = types e ++ number_type e ∷ []
-types (is_zero line e) = types e ++ Int ∷ []
-types (arithmetic line op a b) = types a ++ (types b ++ number_type a ∷ [])
-types (compare line op a b) = types a ++ (types b ++ Int ∷ [])
-types (logical line op a b) = types a ++ (types b ++ Int ∷ Int ∷ [])
-types (choice line test a b) = types test ++ (types a ++ (types b ++ number_type a ∷ []))
-types (assign line p e) = types e
-types (update line p op t e) = types e ++ update_types p t
-types (step line p op before) = promoted (place_type p) ∷ (update_types p (promoted (place_type p)) ++ place_type p ∷ [])
-types (comma line a b) = types a ++ types b
-types (assertion line e) = types e ++ Int ∷ []
-types (assumption line e) = types e ++ Int ∷ []
-types (draw line t) = t ∷ []
+abbrev mutual
+  pub types : Expression → List IntegerType
+  types (constant line t bits) = t ∷ []
+  types (read p) = place_type p ∷ []
+  types (convert to e) = types e ++ to ∷ []
+  types (sign line op e) = types e ++ number_type e ∷ []
+  types (is_zero line e) = types e ++ Int ∷ []
+  types (arithmetic line op a b) = types a ++ (types b ++ number_type a ∷ [])
+  types (compare line op a b) = types a ++ (types b ++ Int ∷ [])
+  types (logical line op a b) = types a ++ (types b ++ Int ∷ Int ∷ [])
+  types (choice line test a b) = types test ++ (types a ++ (types b ++ number_type a ∷ []))
+  types (assign line p e) = types e
+  types (update line p op t e) = types e ++ update_types p t
+  types (step line p op before) = promoted (place_type p) ∷ (update_types p (promoted (place_type p)) ++ place_type p ∷ [])
+  types (comma line a b) = types a ++ types b
+  types (assertion line e) = types e ++ Int ∷ []
+  types (assumption line e) = types e ++ Int ∷ []
+  types (draw line t) = t ∷ []
+  types (part line t offset a) = structure_types a ++ t ∷ []
+  types (discard line e) = types e ++ Int ∷ []
+  types (discard_structure a) = structure_types a ++ Int ∷ []
+
+  pub structure_types : Structure → List IntegerType
+  structure_types (copy line v offset size) = []
+  structure_types (load line k offset size) = []
+  structure_types (choose line test a b) = types test ++ (structure_types a ++ structure_types b)
+  structure_types (put line v offset a) = structure_types a
+  structure_types (store line k offset a) = structure_types a
+  structure_types (follow line e a) = types e ++ structure_types a
+  structure_types (section line offset size a) = structure_types a
+  structure_types (list line size ps) = parts_types ps
+  structure_types (string line size text) = UnsignedChar ∷ []
+
+  pub parts_types : Parts → List IntegerType
+  parts_types no_part = []
+  parts_types (number_part offset e rest) = types e ++ parts_types rest
+  parts_types (structure_part offset a rest) = structure_types a ++ parts_types rest
 
 module _ (variables : List ℕ) where
   -- a drawn word has 8 bytes at most
@@ -40,6 +60,7 @@ module _ (variables : List ℕ) where
   entry_types done = []
   entry_types (declares line v rest) = first_types v true ++ entry_types rest
   entry_types (initializes line v drawn e rest) = first_types v drawn ++ entry_types rest
+  entry_types (initializes_structure line v drawn a rest) = first_types v drawn ++ entry_types rest
   entry_types (does s rest) = entry_types rest
 
   abbrev mutual
@@ -54,4 +75,5 @@ module _ (variables : List ℕ) where
     items_types done = []
     items_types (declares line v rest) = items_types rest
     items_types (initializes line v drawn e rest) = types e ++ items_types rest
+    items_types (initializes_structure line v drawn a rest) = structure_types a ++ items_types rest
     items_types (does s rest) = statement_types s ++ items_types rest

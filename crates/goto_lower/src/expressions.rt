@@ -2,18 +2,20 @@
 
 ghost use Rattle.std.specs.Prelude.{◌≡◌, [], ◌∷◌, ◌++◌, ◌+◌, ◌<◌, ◌^◌, if◌then◌else◌, IfOk, OnOk};
 ghost use Rattle.c_types.specs.Integers.{promoted};
-ghost use Rattle.core_tree.specs.Trees.{Expression, view, constant, read, convert, sign, is_zero, arithmetic, compare, logical, choice, assign, update, step, comma, assertion, assumption, draw};
+ghost use Rattle.core_tree.specs.Trees.{Expression, view, constant, read, convert, sign, is_zero, arithmetic, compare, logical, choice, assign, update, step, comma, assertion, assumption, draw, part, discard, discard_structure, view_structure};
 ghost use Rattle.core_tree.specs.Typed.{place_type};
 ghost use Rattle.core_tree.specs.Operations as operations;
-ghost use Rattle.goto_lower.specs.Lowering.{store, update_code, truth_code};
+ghost use Rattle.goto_lower.specs.Lowering.{write_code, update_code, truth_code};
 ghost use Rattle.goto_lower.specs.Registers.{update_types};
 ghost use Rattle.goto_lower.specs.Drafts.{Listed, next, added, operand, Lowers};
 
 use crate::draft::Draft;
 use crate::operand::{Operand, Updated, step_value};
+use crate::structures::line_of_structure;
 use c_types::{IntegerType, promote};
 use core_tree::{
-    ArithmeticOperator, Comparison, CoreExpr, LogicalOperator, Place, SignOperator, StepOperator,
+    ArithmeticOperator, Comparison, CoreExpr, CoreStructure, LogicalOperator, Place, SignOperator,
+    StepOperator,
 };
 use goto_prog::Operation;
 use std::alloc::AllocError;
@@ -44,6 +46,12 @@ fn type_of_place(place: Place) -> IntegerType
             line: _,
             type_,
             variable: _,
+            offset: _,
+        }
+        | Place::Object {
+            line: _,
+            type_,
+            object: _,
             offset: _,
         } => type_,
     }
@@ -91,12 +99,37 @@ impl<'a> Draft<'a> {
                 };
                 self.set(line, type_, operation)
             }
+            Place::Object {
+                line,
+                type_,
+                object,
+                offset,
+            } => {
+                let block = self.free();
+                self.push(
+                    line,
+                    Operation::ReadObject {
+                        block,
+                        at: 0,
+                        object,
+                        offset,
+                        count: type_.size(),
+                    },
+                )?;
+                let operation = Operation::Load {
+                    into: self.next(),
+                    type_,
+                    block,
+                    offset: 0,
+                };
+                self.set(line, type_, operation)
+            }
         }
     }
 
     // A write of a register into a place.
     fn store(&mut self, line: u32, place: Place, operand: usize) -> Result<(), AllocError>
-        ensures { OnOk result (self.new ≡ added self.old (store self.old.function line place operand ∷ []) []) }
+        ensures { OnOk result (self.new ≡ added self.old (write_code self.old.frame line place operand) []) }
     {
         match place {
             Place::Variable {
@@ -112,6 +145,34 @@ impl<'a> Draft<'a> {
                         offset,
                         count: type_.size(),
                         operand,
+                    },
+                )
+            }
+            Place::Object {
+                line: _,
+                type_,
+                object,
+                offset,
+            } => {
+                let block = self.free();
+                let count = type_.size();
+                self.push(
+                    line,
+                    Operation::Store {
+                        block,
+                        offset: 0,
+                        count,
+                        operand,
+                    },
+                )?;
+                self.push(
+                    line,
+                    Operation::WriteObject {
+                        object,
+                        offset,
+                        block,
+                        at: 0,
+                        count,
                     },
                 )
             }
@@ -174,7 +235,7 @@ impl<'a> Draft<'a> {
         type_: IntegerType,
         y: Operand,
     ) -> Result<Updated, AllocError>
-        ensures code { OnOk result (self.new ≡ added self.old (update_code self.old.function line place (place_type place) operator type_ y.type_ y.register (next self.old)) (update_types place type_)) }
+        ensures code { OnOk result (self.new ≡ added self.old (update_code self.old.frame line place (place_type place) operator type_ y.type_ y.register (next self.old)) (update_types place type_)) }
         ensures registers { IfOk result (λ u. u ≡ record { old = next self.old; new = next self.old + 3 }) }
     {
         let loaded = self.load(place)?;
@@ -262,6 +323,12 @@ impl<'a> Draft<'a> {
         self.constant(line, IntegerType::Int, 0)
     }
 
+    fn discard(&mut self, line: u32, _x: Operand) -> Result<Operand, AllocError>
+        ensures { (old : Listed) (e : Expression) → Lowers old self.old e _x → IfOk result (λ y. Lowers old self.new (discard line e) y) }
+    {
+        self.constant(line, IntegerType::Int, 0)
+    }
+
     // ---- behind two operands
 
     fn arithmetic(
@@ -307,7 +374,7 @@ impl<'a> Draft<'a> {
 
     // 1 where the operand isn't 0, else 0.
     fn truth(&mut self, line: u32, x: Operand) -> Result<Operand, AllocError>
-        ensures code { OnOk result (self.new ≡ added self.old (truth_code self.old.function line x.register (next self.old)) (IntegerType.Int ∷ IntegerType.Int ∷ [])) }
+        ensures code { OnOk result (self.new ≡ added self.old (truth_code self.old.frame line x.register (next self.old)) (IntegerType.Int ∷ IntegerType.Int ∷ [])) }
         ensures value { IfOk result (λ y. y ≡ operand (next self.old + 1) IntegerType.Int line) }
     {
         let operation = Operation::IsZero {
@@ -378,6 +445,38 @@ impl<'a> Draft<'a> {
         self.fill(copy, line, Operation::Copy { into, operand });
         self.land(over, line, None);
         Ok(result)
+    }
+
+    // ---- of structure values
+
+    // The number at an offset of a structure value.
+    #[cycle(expression)]
+    fn member(
+        &mut self,
+        line: u32,
+        type_: IntegerType,
+        offset: u32,
+        value: &CoreStructure,
+    ) -> Result<Operand, AllocError>
+        ensures { IfOk result (λ x. Lowers self.old self.new (part line type_ offset (view_structure value.now)) x) }
+    {
+        let block = self.temporary(value)?;
+        let operation = Operation::Load {
+            into: self.next(),
+            type_,
+            block,
+            offset,
+        };
+        self.set(line, type_, operation)
+    }
+
+    // A structure value that isn't used.
+    #[cycle(expression)]
+    fn discard_structure(&mut self, value: &CoreStructure) -> Result<Operand, AllocError>
+        ensures { IfOk result (λ x. Lowers self.old self.new (discard_structure (view_structure value.now)) x) }
+    {
+        let _block = self.temporary(value)?;
+        self.constant(line_of_structure(value), IntegerType::Int, 0)
     }
 
     /// Adds the code of an expression.
@@ -479,6 +578,17 @@ impl<'a> Draft<'a> {
                 self.assumption(*line, x)
             }
             CoreExpr::Draw { line, type_ } => self.draw(*line, *type_),
+            CoreExpr::Member {
+                line,
+                type_,
+                offset,
+                value,
+            } => self.member(*line, *type_, *offset, value),
+            CoreExpr::Discard { line, operand } => {
+                let x = self.expression(operand)?;
+                self.discard(*line, x)
+            }
+            CoreExpr::DiscardStructure { value } => self.discard_structure(value),
         }
     }
 }

@@ -5,6 +5,8 @@ mod draft;
 mod expressions;
 mod lowering;
 mod operand;
+mod rooms;
 mod statements;
+mod structures;
 
 pub use lowering::lower;

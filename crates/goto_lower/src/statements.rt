@@ -1,17 +1,17 @@
 //! The code of statements.
 
 ghost use Rattle.std.specs.Prelude.{◌≡◌, ℕ, suc, ◌+◌, [], ◌∷◌, ◌++◌, OnOk};
-ghost use Rattle.core_tree.specs.Trees.{view_statement, items_of, with_item, done, Items};
+ghost use Rattle.core_tree.specs.Trees.{view_structure, view_statement, items_of, with_item, done, Items};
 ghost use Rattle.c_values.specs.Variables as variables;
-ghost use Rattle.goto_lower.specs.Lowering.{size_of, initial_store, first_code};
-ghost use Rattle.goto_lower.specs.Registers.{first_types};
+ghost use Rattle.goto_lower.specs.Lowering.{size_of, initial_store, initial_code, first_code};
+ghost use Rattle.goto_lower.specs.Registers.{structure_types, first_types};
 ghost use Rattle.goto_lower.specs.Drafts.{next, added, after_words, after_statement, after_entry, after_items};
 
 use crate::draft::Draft;
 use crate::operand::Operand;
 use c_types::IntegerType;
 use c_values::{drawn_count, word_count};
-use core_tree::{CoreItem, CoreStatement};
+use core_tree::{CoreItem, CoreStatement, CoreStructure, structure_size};
 use goto_prog::Operation;
 use std::alloc::AllocError;
 
@@ -52,7 +52,7 @@ impl<'a> Draft<'a> {
 
     // The first value of a variable: drawn, or each byte 0.
     fn first_value(&mut self, line: u32, variable: u32, drawn: bool) -> Result<(), AllocError>
-        ensures { OnOk result (self.new ≡ added self.old (first_code self.old.function self.old.variables line variable drawn (next self.old)) (first_types self.old.variables variable drawn)) }
+        ensures { OnOk result (self.new ≡ added self.old (first_code self.old.frame self.old.variables line variable drawn (next self.old)) (first_types self.old.variables variable drawn)) }
     {
         if drawn {
             return self.draw_words(line, variable);
@@ -62,9 +62,31 @@ impl<'a> Draft<'a> {
         self.push(line, Operation::Clear { block, size })
     }
 
+    // The structure value of an initializer, by a block that is free.
+    fn initialize_structure(
+        &mut self,
+        line: u32,
+        variable: u32,
+        value: &CoreStructure,
+    ) -> Result<(), AllocError>
+        ensures { OnOk result (self.new ≡ added self.old (initial_code self.old.frame self.old.variables line variable (view_structure value.now) (next self.old)) (structure_types (view_structure value.now))) }
+    {
+        let from = self.temporary(value)?;
+        self.push(
+            line,
+            Operation::CopyBytes {
+                into: variable as usize,
+                at: 0,
+                from,
+                offset: 0,
+                count: structure_size(value),
+            },
+        )
+    }
+
     // A write of the value of an initializer into its variable.
     fn initialize(&mut self, line: u32, variable: u32, value: Operand) -> Result<(), AllocError>
-        ensures { OnOk result (self.new ≡ added self.old (initial_store self.old.function self.old.variables line variable value.type_ value.register ∷ []) []) }
+        ensures { OnOk result (self.new ≡ added self.old (initial_store self.old.frame self.old.variables line variable value.type_ value.register ∷ []) []) }
     {
         self.push(
             line,
@@ -85,6 +107,12 @@ impl<'a> Draft<'a> {
         match item {
             CoreItem::Declare { line, variable } => self.first_value(*line, *variable, true),
             CoreItem::Initialize {
+                line,
+                variable,
+                drawn,
+                value: _,
+            } => self.first_value(*line, *variable, *drawn),
+            CoreItem::InitializeStructure {
                 line,
                 variable,
                 drawn,
@@ -122,6 +150,12 @@ impl<'a> Draft<'a> {
                 let value = self.expression(value)?;
                 self.initialize(*line, *variable, value)
             }
+            CoreItem::InitializeStructure {
+                line,
+                variable,
+                drawn: _,
+                value,
+            } => self.initialize_structure(*line, *variable, value),
             CoreItem::Statement { statement } => self.statement(statement),
         }
     }

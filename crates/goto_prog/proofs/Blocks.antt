@@ -79,6 +79,27 @@ sizes_put sizes blocks b offset count bits d same within few =
     let fits = subst (λ n. offset + n ≤ length block) (sym (low_count count bits few)) (block_room sizes blocks b offset count d same within) in
     map-set_same length blocks b (put_at offset (low_bytes count bits) block) d (put_size offset (low_bytes count bits) block fits) ∙ same
 
+pub sizes_put_bytes : (sizes : List ℕ) (blocks : List (List ℕ)) (b offset : ℕ) (new d : List ℕ) → map length blocks ≡ sizes → is_within sizes b offset (length new) ≡ true
+    → map length (slice_set blocks b (put_at offset new (get_or blocks b d))) ≡ sizes
+sizes_put_bytes sizes blocks b offset new d same within =
+    map-set_same length blocks b (put_at offset new (get_or blocks b d)) d (put_size offset new (get_or blocks b d) (block_room sizes blocks b offset (length new) d same within)) ∙ same
+
+-- a copy of bytes leaves the sizes
+part_size : (block : List ℕ) (offset count : ℕ) → offset + count ≤ length block → length (take count (drop offset block)) ≡ count
+part_size block offset count fits = let long = length-drop offset block in length-take-le count (drop offset block) (omega (arith, long, fits))
+
+pub part_within : (sizes : List ℕ) (blocks : List (List ℕ)) (into to from offset count : ℕ) (d e : List ℕ) → map length blocks ≡ sizes → is_within sizes into to count ≡ true → is_within sizes from offset count ≡ true
+    → to + length (take count (drop offset (get_or blocks from d))) ≤ length (get_or blocks into e)
+part_within sizes blocks into to from offset count d e same there within =
+    let long = part_size (get_or blocks from d) offset count (block_room sizes blocks from offset count d same within) in
+    omega (arith, long, block_room sizes blocks into to count e same there)
+
+pub sizes_copied : (sizes : List ℕ) (blocks : List (List ℕ)) (into to from offset count : ℕ) (d e : List ℕ) → map length blocks ≡ sizes → is_within sizes into to count ≡ true → is_within sizes from offset count ≡ true
+    → map length (slice_set blocks into (put_at to (take count (drop offset (get_or blocks from d))) (get_or blocks into e))) ≡ sizes
+sizes_copied sizes blocks into to from offset count d e same there within =
+    let new = take count (drop offset (get_or blocks from d)) in
+    map-set_same length blocks into (put_at to new (get_or blocks into e)) e (put_size to new (get_or blocks into e) (part_within sizes blocks into to from offset count d e same there within)) ∙ same
+
 pub clear_there : (sizes : List ℕ) (blocks : List (List ℕ)) (b size : ℕ) → map length blocks ≡ sizes → is_block sizes b size ≡ true → b < length blocks
 clear_there sizes blocks b size same is = there_among sizes blocks b same (both (nat_lt b (length sizes)) (size == slice_index sizes b) is).0
 

@@ -22,7 +22,10 @@ use Rattle.words.proofs.Powers.{pow_grows}
 use Rattle.goto_prog.specs.declared.code.Instruction.{Instruction}
 use Rattle.goto_prog.specs.declared.code.Operation.{Operation}
 use Rattle.goto_prog.specs.declared.code.Operation.TheVariants as operations
-use Rattle.goto_prog.specs.Meaning.{Memory, word_of, register, with_register, own_class, calculated, check_class, at, or_else, operates, places}
+use Rattle.actions.specs.ByteList.{are_bytes}
+use Rattle.core_tree.specs.Typed.{is_within}
+use Rattle.c_values.specs.Variables.{pointer_to, put_bytes}
+use Rattle.goto_prog.specs.Meaning.{Memory, word_of, bytes_in, register, with_register, with_blocks, bytes_of, own_class, calculated, check_class, at, or_else, operates, places}
 use Rattle.goto_prog.specs.Threads.{behaving, final, ask}
 use Rattle.goto_prog.specs.CodeThread.{Listing, runs, code_program}
 use Rattle.goto_prog.specs.Fitting.{is_there, check_fits, operation_fits, code_fits}
@@ -36,6 +39,7 @@ free strict p line f (operations.Copy r a) ps m = refl
 free strict p line f (operations.Load r t b offset) ps m = refl
 free strict p line f (operations.Store b offset count a) ps m = refl
 free strict p line f (operations.Clear b size) ps m = refl
+free strict p line f (operations.CopyBytes into to from offset count) ps m = refl
 free strict p line f (operations.Convert r from to a) ps m = refl
 free strict p line f (operations.Sign r op t a) ps m = refl
 free strict p line f (operations.Arithmetic r op t u a b) ps m = refl
@@ -47,6 +51,8 @@ free strict p line f (operations.Check c) ps m = refl
 free strict p line f (operations.Assert a) ps m = refl
 free strict p line f (operations.Assume a) ps m = refl
 free strict p line f (operations.Draw r bits) ps m = refl
+free strict p line f (operations.ReadObject b to k offset count) ps m = refl
+free strict p line f (operations.WriteObject k offset b from count) ps m = refl
 free strict p line f operations.Exit ps m = refl
 
 pub places-free : (strict : Bool) (p q : ℕ) (xs : List Instruction) → places behaving strict p xs ≡ places behaving strict q xs
@@ -111,6 +117,7 @@ calculation_fits rs bs n (operations.Copy r a) calculates h = h
 calculation_fits rs bs n (operations.Load r t b offset) calculates h = h
 calculation_fits rs bs n (operations.Store b offset count a) calculates h = h
 calculation_fits rs bs n (operations.Clear b size) calculates h = h
+calculation_fits rs bs n (operations.CopyBytes into to from offset count) calculates h = h
 calculation_fits rs bs n (operations.Convert r from to a) calculates h = h
 calculation_fits rs bs n (operations.Sign r op t a) calculates h = h
 calculation_fits rs bs n (operations.Arithmetic r op t u a b) calculates h = h
@@ -122,6 +129,8 @@ calculation_fits rs bs n (operations.Check c) calculates h = h
 calculation_fits rs bs n (operations.Assert a) calculates h = h
 calculation_fits rs bs n (operations.Assume a) calculates h = h
 calculation_fits rs bs n (operations.Draw r bits) calculates h = h
+calculation_fits rs bs n (operations.ReadObject b to k offset count) calculates h = h
+calculation_fits rs bs n (operations.WriteObject k offset b from count) calculates h = h
 calculation_fits rs bs n operations.Exit calculates h = h
 
 -- ---- steps
@@ -176,6 +185,7 @@ module _ (r : Running) (i : Instruction) (found : slice_get r.code.instructions 
   calculates (operations.Load q t b offset) h = plain _
   calculates (operations.Store b offset count a) h = plain _
   calculates (operations.Clear b size) h = plain _
+  calculates (operations.CopyBytes into to from offset count) h = plain _
   calculates (operations.Convert q from to a) h = plain _
   calculates (operations.Sign q op t a) h = refl
   calculates (operations.Arithmetic q op t u a b) h = refl
@@ -187,6 +197,8 @@ module _ (r : Running) (i : Instruction) (found : slice_get r.code.instructions 
   calculates (operations.Assert a) h = absurd (false≢true h)
   calculates (operations.Assume a) h = absurd (false≢true h)
   calculates (operations.Draw q bits) h = absurd (false≢true h)
+  calculates (operations.ReadObject b to k offset count) h = absurd (false≢true h)
+  calculates (operations.WriteObject k offset b from count) h = absurd (false≢true h)
   calculates operations.Exit h = absurd (false≢true h)
 
   pub goes_calculated : is_calculation i.operation ≡ true → strict_class i.operation ≡ None → GoesOn r (record r { place = r.place + 1 + 0; memory = calculated i.operation r.memory })
@@ -233,6 +245,20 @@ module _ (r : Running) (i : Instruction) (found : slice_get r.code.instructions 
 
   pub stops_draw : (q bits : ℕ) → Is (operations.Draw q bits) → Stops r r (Act (actions.Draw bits) i.line i.function)
   stops_draw q bits is = record {
+    unchanged = refl;
+    next_is = sym (λ k. (at_place r.strict r.code r.place i r.memory found ∙ ap operated is) k []);
+    acting = λ act. ap acts found ∙ ap is_action is;
+  }
+
+  pub stops_read : (b to k offset count : ℕ) → Is (operations.ReadObject b to k offset count) → Stops r r (Act (actions.Read (pointer_to k offset) count) i.line i.function)
+  stops_read b to k offset count is = record {
+    unchanged = refl;
+    next_is = sym (λ k. (at_place r.strict r.code r.place i r.memory found ∙ ap operated is) k []);
+    acting = λ act. ap acts found ∙ ap is_action is;
+  }
+
+  pub stops_write : (k offset b from count : ℕ) → Is (operations.WriteObject k offset b from count) → Stops r r (Act (actions.Write (pointer_to k offset) (bytes_of r.memory.blocks b from count) false) i.line i.function)
+  stops_write k offset b from count is = record {
     unchanged = refl;
     next_is = sym (λ k. (at_place r.strict r.code r.place i r.memory found ∙ ap operated is) k []);
     acting = λ act. ap acts found ∙ ap is_action is;
@@ -323,6 +349,30 @@ draw_width r i q bits found code is = (draw_parts r i q bits found code is).2
 pub draw_most : (r : Running) (i : Instruction) (q bits : ℕ) → slice_get r.code.instructions r.place ≡ Some i → code_fits r.code.registers r.code.blocks r.code.instructions ≡ true → i.operation ≡ operations.Draw q bits → bits ≤ 64
 draw_most r i q bits found code is = omega (arith, draw_width r i q bits found code is, at_most_64 (slice_index_or r.code.registers q types.Int))
 
+-- ---- accesses to static objects
+
+pub read_here : (r : Running) (i : Instruction) (b to k offset count : ℕ) → slice_get r.code.instructions r.place ≡ Some i → code_fits r.code.registers r.code.blocks r.code.instructions ≡ true → i.operation ≡ operations.ReadObject b to k offset count → is_within r.code.blocks b to count ≡ true
+read_here r i b to k offset count found code is =
+    let n = length (drop (r.place + 1) r.code.instructions) in
+    subst (λ o. operation_fits r.code.registers r.code.blocks n o ≡ true) is (fits_at r.code.registers r.code.blocks r.code.instructions r.place i code found)
+
+pub write_here : (r : Running) (i : Instruction) (k offset b from count : ℕ) → slice_get r.code.instructions r.place ≡ Some i → code_fits r.code.registers r.code.blocks r.code.instructions ≡ true → i.operation ≡ operations.WriteObject k offset b from count → is_within r.code.blocks b from count ≡ true
+write_here r i k offset b from count found code is =
+    let n = length (drop (r.place + 1) r.code.instructions) in
+    subst (λ o. operation_fits r.code.registers r.code.blocks n o ≡ true) is (fits_at r.code.registers r.code.blocks r.code.instructions r.place i code found)
+
+same_count : (m n : ℕ) → (m == n) ≡ true → m ≡ n
+same_count m n h = grind (arith, nat_tests)
+
+-- an answer to a read of so many bytes has as many
+pub read_size : (p n : ℕ) (a : Answer) → has_shape (shape_of (actions.Read p n)) a ≡ true → length (bytes_in a) ≡ n
+read_size p n (answers.Bytes bs) h = same_count (length bs) n (both (length bs == n) (are_bytes bs) h).0
+read_size p n answers.Done h = absurd (false≢true h)
+read_size p n (answers.Word w) h = absurd (false≢true h)
+read_size p n (answers.Size m) h = absurd (false≢true h)
+read_size p n (answers.Number m) h = absurd (false≢true h)
+read_size p n (answers.Value v) h = absurd (false≢true h)
+
 -- ---- answers
 
 taken : (action : Action) (line f : ℕ) (follows : Answer → Behaviour) (a : Answer) (b : Bool) → has_shape (shape_of action) a ≡ b → b ≡ true → (λ answers. ask action line f follows (a ∷ answers)) ≡ follows a
@@ -336,6 +386,32 @@ module _ (r : Running) (i : Instruction) (found : slice_get r.code.instructions 
 
   pub shape_of_draw : (q bits : ℕ) → i.operation ≡ operations.Draw q bits → has_shape (shape_of (actions.Draw bits)) a ≡ true
   shape_of_draw q bits is = subst (λ (b : Behaviour). accepts (b []) a ≡ true) (behaves_as (operations.Draw q bits) is) fits
+
+  pub shape_of_read : (b to k offset count : ℕ) → i.operation ≡ operations.ReadObject b to k offset count → has_shape (shape_of (actions.Read (pointer_to k offset) count)) a ≡ true
+  shape_of_read b to k offset count is = subst (λ (x : Behaviour). accepts (x []) a ≡ true) (behaves_as (operations.ReadObject b to k offset count) is) fits
+
+  shape_of_write : (k offset b from count : ℕ) → i.operation ≡ operations.WriteObject k offset b from count → has_shape (shape_of (actions.Write (pointer_to k offset) (bytes_of r.memory.blocks b from count) false)) a ≡ true
+  shape_of_write k offset b from count is = subst (λ (x : Behaviour). accepts (x []) a ≡ true) (behaves_as (operations.WriteObject k offset b from count) is) fits
+
+  pub takes_read : (b to k offset count : ℕ) → i.operation ≡ operations.ReadObject b to k offset count
+      → thread_of (record r { place = r.place + 1 + 0; memory = with_blocks r.memory (put_bytes r.memory.blocks b to (bytes_in a)) }) ≡ answered (thread_of r) a
+  takes_read b to k offset count is =
+      let m = with_blocks r.memory (put_bytes r.memory.blocks b to (bytes_in a)) in
+      let follows = λ (x : Answer). at behaving (behind r.strict r.code r.place) 0 (with_blocks r.memory (put_bytes r.memory.blocks b to (bytes_in x))) in
+      let later : runs r.strict r.code (r.place + 1 + 0) m ≡ after (thread_of r).behaves a =
+      sym (go_on r.strict r.code r.place 0 m)
+      ∙ sym (taken (actions.Read (pointer_to k offset) count) i.line i.function follows a true (shape_of_read b to k offset count is) refl)
+      ∙ ap (λ (x : Behaviour). after x a) (sym (behaves_as (operations.ReadObject b to k offset count) is)) in
+      λ k. record { behaves = later k; program = code_program r.strict r.functions }
+
+  pub takes_write : (k offset b from count : ℕ) → i.operation ≡ operations.WriteObject k offset b from count → thread_of (record r { place = r.place + 1 + 0 }) ≡ answered (thread_of r) a
+  takes_write k offset b from count is =
+      let follows = λ (x : Answer). at behaving (behind r.strict r.code r.place) 0 r.memory in
+      let later : runs r.strict r.code (r.place + 1 + 0) r.memory ≡ after (thread_of r).behaves a =
+      sym (go_on r.strict r.code r.place 0 r.memory)
+      ∙ sym (taken (actions.Write (pointer_to k offset) (bytes_of r.memory.blocks b from count) false) i.line i.function follows a true (shape_of_write k offset b from count is) refl)
+      ∙ ap (λ (x : Behaviour). after x a) (sym (behaves_as (operations.WriteObject k offset b from count) is)) in
+      λ k. record { behaves = later k; program = code_program r.strict r.functions }
 
   shape_of_exit : i.operation ≡ operations.Exit → has_shape (shape_of actions.Exit) a ≡ true
   shape_of_exit is = subst (λ (b : Behaviour). accepts (b []) a ≡ true) (behaves_as operations.Exit is) fits

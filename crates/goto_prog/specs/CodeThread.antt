@@ -5,9 +5,9 @@ use Rattle.words.specs.declared.check.Class.{Class}
 use Rattle.words.specs.declared.check.Class.TheVariants.{Assertion}
 use Rattle.c_types.specs.declared.integers.IntegerType.{IntegerType}
 use Rattle.core_tree.specs.Operations.{arithmetic_check, sign_check}
-use Rattle.c_values.specs.Variables.{first_variables}
+use Rattle.c_values.specs.Variables.{pointer_to, first_variables, put_bytes}
 use Rattle.actions.specs.declared.action.Action.{Action}
-use Rattle.actions.specs.declared.action.Action.TheVariants.{Draw, Exit}
+use Rattle.actions.specs.declared.action.Action.TheVariants.{Read, Write, Draw, Exit}
 use Rattle.actions.specs.declared.action.Answer.{Answer}
 use Rattle.actions.specs.declared.action.Next.{Next}
 use Rattle.actions.specs.declared.action.Next.TheVariants.{Act, Ended, Blocked, Broken}
@@ -15,7 +15,7 @@ use Rattle.actions.specs.Behaviour.{Behaviour, Program, Thread, shape_of, has_sh
 use Rattle.goto_prog.specs.declared.code.Instruction.{Instruction}
 use Rattle.goto_prog.specs.declared.code.Operation.{Operation}
 use Rattle.goto_prog.specs.declared.code.Operation.TheVariants as operations
-use Rattle.goto_prog.specs.Meaning.{Memory, at, or_else, check_class, operates, places, does, register, with_register, word_of}
+use Rattle.goto_prog.specs.Meaning.{Memory, at, or_else, check_class, operates, places, does, register, with_register, with_blocks, bytes_of, word_of, bytes_in}
 use Rattle.goto_prog.specs.Threads.{behaving, ask, final}
 
 -- ---- threads
@@ -60,6 +60,8 @@ IsEnd (Broken class line f) = Unit {0}
 
 -- an action of code, and what follows its answers
 abbrev IsStep : Action → (Answer → Behaviour) → Type 0
+IsStep (Read p n) follows = Unit {0}
+IsStep (Write p new first) follows = Unit {0}
 IsStep (Draw bits) follows = Unit {0}
 IsStep Exit follows = (a : Answer) → follows a ≡ final (Ended (word_64 0))
 IsStep _ follows = ⊥
@@ -106,6 +108,8 @@ module _ (program : Program) where
   ends_by false x y a h = tt
 
   action_creates : (action : Action) (line f : ℕ) (follows : Answer → Behaviour) → IsStep action follows → CanStart program (Act action line f)
+  action_creates (Read p n) line f follows step = tt
+  action_creates (Write p new first) line f follows step = tt
   action_creates (Draw bits) line f follows step = tt
   action_creates Exit line f follows step = tt
   action_creates _ line f follows step = absurd step
@@ -116,6 +120,8 @@ module _ (program : Program) where
 
   action_ends : (action : Action) (line f : ℕ) (follows : Answer → Behaviour) → IsStep action follows → (a : Answer)
       → EndsAfter (Act action line f) a (if has_shape (shape_of action) a then follows a [] else Blocked)
+  action_ends (Read p n) line f follows step a = tt
+  action_ends (Write p new first) line f follows step a = tt
   action_ends (Draw bits) line f follows step a = tt
   action_ends Exit line f follows step a = λ ok. exit_ends (has_shape (shape_of Exit) a) (follows a []) (λ i. step a i []) ok
   action_ends _ line f follows step a = absurd step
@@ -163,6 +169,7 @@ module _ (program : Program) where
   operation_fine strict place line f (operations.Load r t b offset) ps m fine = at_fine ps 0 _ fine
   operation_fine strict place line f (operations.Store b offset count a) ps m fine = at_fine ps 0 _ fine
   operation_fine strict place line f (operations.Clear b size) ps m fine = at_fine ps 0 _ fine
+  operation_fine strict place line f (operations.CopyBytes into to from offset count) ps m fine = at_fine ps 0 _ fine
   operation_fine strict place line f (operations.Convert r from to a) ps m fine = at_fine ps 0 _ fine
   operation_fine strict place line f (operations.Sign r op t a) ps m fine = strict_fine strict (sign_check op t (register m a)) line f _ (at_fine ps 0 _ fine)
   operation_fine strict place line f (operations.Arithmetic r op t u a b) ps m fine = strict_fine strict (arithmetic_check op t u (register m a) (register m b)) line f _ (at_fine ps 0 _ fine)
@@ -175,6 +182,11 @@ module _ (program : Program) where
   operation_fine strict place line f (operations.Assume a) ps m fine = choice_fine (register m a == 0) _ _ (final_behaves Blocked tt) (at_fine ps 0 m fine)
   operation_fine strict place line f (operations.Draw r bits) ps m fine =
       ask_behaves (Draw bits) line f (λ a. at behaving ps 0 (with_register m r (word_of a))) tt (λ a. at_fine ps 0 (with_register m r (word_of a)) fine)
+  operation_fine strict place line f (operations.ReadObject b to k offset count) ps m fine =
+      ask_behaves (Read (pointer_to k offset) count) line f (λ a. at behaving ps 0 (with_blocks m (put_bytes m.blocks b to (bytes_in a)))) tt
+      (λ a. at_fine ps 0 (with_blocks m (put_bytes m.blocks b to (bytes_in a))) fine)
+  operation_fine strict place line f (operations.WriteObject k offset b from count) ps m fine =
+      ask_behaves (Write (pointer_to k offset) (bytes_of m.blocks b from count) false) line f (λ a. at behaving ps 0 m) tt (λ a. at_fine ps 0 m fine)
   operation_fine strict place line f operations.Exit ps m fine =
       ask_behaves Exit line f (λ a. final (Ended (word_64 0))) (λ a. refl) (λ a. final_behaves (Ended (word_64 0)) tt)
 

@@ -56,6 +56,7 @@ operation_fits registers blocks behind (operations.Copy r a) = is_there register
 operation_fits registers blocks behind (operations.Load r t b offset) = is_register registers r t && is_within blocks b offset (bytes t)
 operation_fits registers blocks behind (operations.Store b offset count a) = has_bytes registers a count && is_within blocks b offset count
 operation_fits registers blocks behind (operations.Clear b size) = is_block blocks b size
+operation_fits registers blocks behind (operations.CopyBytes into to from offset count) = is_within blocks into to count && is_within blocks from offset count
 operation_fits registers blocks behind (operations.Convert r from to a) = is_register registers r to && is_register registers a from
 operation_fits registers blocks behind (operations.Sign r op t a) = is_register registers r t && is_register registers a t
 operation_fits registers blocks behind (operations.Arithmetic r op t u a b) = are_operands_of op t u && is_register registers r t && is_register registers a t && is_register registers b u
@@ -67,6 +68,8 @@ operation_fits registers blocks behind (operations.Check c) = check_fits registe
 operation_fits registers blocks behind (operations.Assert a) = is_there registers a
 operation_fits registers blocks behind (operations.Assume a) = is_there registers a
 operation_fits registers blocks behind (operations.Draw r bits) = is_there registers r && nat_le 1 bits && nat_le bits (width (slice_index_or registers r types.Int))
+operation_fits registers blocks behind (operations.ReadObject b to k offset count) = is_within blocks b to count
+operation_fits registers blocks behind (operations.WriteObject k offset b from count) = is_within blocks b from count
 operation_fits registers blocks behind operations.Exit = true
 
 abbrev pub code_fits : List IntegerType → List ℕ → List Instruction → Bool

@@ -1,5 +1,5 @@
 -- What flat code does: each instruction chooses among the meanings of the places behind it. What an action and an end are is a parameter, so that behaviours of threads and runs under given answers are two readings of one definition.
-use Rattle.std.specs.Prelude.{ℕ, zero, suc, ◌==◌, Bool, not, List, [], ◌∷◌, Option, Some, None, slice_index, slice_set, if◌then◌else◌}
+use Rattle.std.specs.Prelude.{ℕ, zero, suc, ◌==◌, Bool, false, not, List, [], ◌∷◌, take, drop, Option, Some, None, slice_index, slice_set, if◌then◌else◌}
 use Rattle.words.specs.declared.check.Class.{Class}
 use Rattle.words.specs.declared.check.Class.TheVariants as classes
 use Rattle.actions.specs.declared.action.Action.{Action}
@@ -11,7 +11,7 @@ use Rattle.actions.specs.declared.action.Next.TheVariants.{Ended, Blocked, Broke
 use Rattle.actions.specs.Behaviour.{word_64}
 use Rattle.core_tree.specs.Operations.{truth_bits, converted, unless, division_check, count_check, left_shift_check, arithmetic_check, arithmetic_value, sign_check, sign_value, compared}
 use Rattle.core_tree.specs.declared.operators.SignOperator.TheVariants as signs
-use Rattle.c_values.specs.Variables.{Variables, low_bytes, put_bytes, cleared, read_variable}
+use Rattle.c_values.specs.Variables.{Variables, pointer_to, block_of, low_bytes, put_bytes, cleared, read_variable}
 use Rattle.goto_prog.specs.declared.code.Condition.{Condition}
 use Rattle.goto_prog.specs.declared.code.Condition.TheVariants as checks
 use Rattle.goto_prog.specs.declared.code.Operation.{Operation}
@@ -32,6 +32,10 @@ with_register m r bits = record m { registers = slice_set m.registers r bits }
 
 abbrev pub with_blocks : Memory → Variables → Memory
 with_blocks m blocks = record m { blocks = blocks }
+
+-- so many bytes of a block, from an offset on
+abbrev pub bytes_of : Variables → ℕ → ℕ → ℕ → List ℕ
+bytes_of blocks b offset count = take count (drop offset (block_of blocks b))
 
 -- ---- checks
 
@@ -59,6 +63,7 @@ calculated (operations.Copy r a) m = with_register m r (register m a)
 calculated (operations.Load r t b offset) m = with_register m r (read_variable m.blocks b offset t)
 calculated (operations.Store b offset count a) m = with_blocks m (put_bytes m.blocks b offset (low_bytes count (register m a)))
 calculated (operations.Clear b size) m = with_blocks m (cleared m.blocks b size)
+calculated (operations.CopyBytes into to from offset count) m = with_blocks m (put_bytes m.blocks into to (bytes_of m.blocks from offset count))
 calculated (operations.Convert r from to a) m = with_register m r (converted from to (register m a))
 calculated (operations.Sign r op t a) m = with_register m r (sign_value op t (register m a))
 calculated (operations.Arithmetic r op t u a b) m = with_register m r (arithmetic_value op t (register m a) (register m b))
@@ -77,6 +82,11 @@ pub record Reading (R : Type 0) : Type 0 where
 abbrev pub word_of : Answer → ℕ
 word_of (answers.Word w) = w.bits
 word_of _ = 0
+
+-- the bytes that it gives
+abbrev pub bytes_in : Answer → List ℕ
+bytes_in (answers.Bytes bs) = bs
+bytes_in _ = []
 
 -- ---- code
 
@@ -99,6 +109,7 @@ module _ {R : Type 0} (o : Reading R) where
   operates strict place line f (operations.Load r t b offset) ps m = at ps 0 (with_register m r (read_variable m.blocks b offset t))
   operates strict place line f (operations.Store b offset count a) ps m = at ps 0 (with_blocks m (put_bytes m.blocks b offset (low_bytes count (register m a))))
   operates strict place line f (operations.Clear b size) ps m = at ps 0 (with_blocks m (cleared m.blocks b size))
+  operates strict place line f (operations.CopyBytes into to from offset count) ps m = at ps 0 (with_blocks m (put_bytes m.blocks into to (bytes_of m.blocks from offset count)))
   operates strict place line f (operations.Convert r from to a) ps m = at ps 0 (with_register m r (converted from to (register m a)))
   operates strict place line f (operations.Sign r op t a) ps m =
       or_else (if strict then sign_check op t (register m a) else None) line f (at ps 0 (with_register m r (sign_value op t (register m a))))
@@ -112,6 +123,10 @@ module _ {R : Type 0} (o : Reading R) where
   operates strict place line f (operations.Assert a) ps m = if register m a == 0 then o.stop (Broken classes.Assertion line f) else at ps 0 m
   operates strict place line f (operations.Assume a) ps m = if register m a == 0 then o.stop Blocked else at ps 0 m
   operates strict place line f (operations.Draw r bits) ps m = o.ask (actions.Draw bits) line f place (λ a. at ps 0 (with_register m r (word_of a)))
+  operates strict place line f (operations.ReadObject b to k offset count) ps m =
+      o.ask (actions.Read (pointer_to k offset) count) line f place (λ a. at ps 0 (with_blocks m (put_bytes m.blocks b to (bytes_in a))))
+  operates strict place line f (operations.WriteObject k offset b from count) ps m =
+      o.ask (actions.Write (pointer_to k offset) (bytes_of m.blocks b from count) false) line f place (λ a. at ps 0 m)
   operates strict place line f operations.Exit ps m = o.ask actions.Exit line f place (λ a. o.stop (Ended (word_64 0)))
 
   -- the meanings of the places of code, the first of which is the place with this number

@@ -46,6 +46,7 @@ is_calculation (operations.Copy r a) = true
 is_calculation (operations.Load r t b offset) = true
 is_calculation (operations.Store b offset count a) = true
 is_calculation (operations.Clear b size) = true
+is_calculation (operations.CopyBytes into to from offset count) = true
 is_calculation (operations.Convert r from to a) = true
 is_calculation (operations.Sign r op t a) = true
 is_calculation (operations.Arithmetic r op t u a b) = true
@@ -56,6 +57,8 @@ is_calculation _ = false
 -- an instruction that acts
 abbrev pub is_action : Operation → Bool
 is_action (operations.Draw r bits) = true
+is_action (operations.ReadObject b to k offset count) = true
+is_action (operations.WriteObject k offset b from count) = true
 is_action operations.Exit = true
 is_action _ = false
 

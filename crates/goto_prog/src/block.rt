@@ -1,4 +1,4 @@
-ghost use Rattle.std.specs.Prelude.{◌≡◌, ◌+◌, ◌≤◌, length, IfOk};
+ghost use Rattle.std.specs.Prelude.{◌≡◌, ◌+◌, ◌≤◌, length, take, drop, IfOk};
 ghost use Rattle.c_values.specs.Variables.{low_bytes, put_at, zeros, number_at};
 ghost use Rattle.c_values.specs.Numbers.{typed};
 
@@ -45,6 +45,24 @@ impl Block {
         ensures { self.new ≡ put_at offset (low_bytes count bits) self.old }
     {
         write_block(&mut self.bytes, offset as usize, count as usize, bits);
+    }
+
+    // A copy of so many bytes, from an offset on.
+    pub fn part(&self, alloc: Global, offset: u32, count: u32) -> Result<Vec<u8>, AllocError>
+        requires { offset + count ≤ length self.now }
+        ensures { IfOk result (λ part. part.items ≡ take count (drop offset self.now)) }
+    {
+        let start = offset as usize;
+        Vec::from_slice(alloc, &self.bytes[start..start + count as usize])
+    }
+
+    // Writes bytes in the place of as many, from an offset on.
+    pub fn put(&mut self, at: u32, new: &[u8])
+        requires { at + length new.now ≤ length self.old }
+        ensures { self.new ≡ put_at at new.now self.old }
+    {
+        let start = at as usize;
+        self.bytes[start..start + new.len()].copy_from_slice(new);
     }
 
     // Sets each byte to 0.

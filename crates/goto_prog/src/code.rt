@@ -75,6 +75,14 @@ pub enum Operation {
         block: usize,
         size: u32,
     },
+    /// Writes so many bytes of the block `from`, from `offset` on, into the block `into`, from `at` on.
+    CopyBytes {
+        into: usize,
+        at: u32,
+        from: usize,
+        offset: u32,
+        count: u32,
+    },
     /// Sets a register to another's word, converted (C11 6.3.1).
     Convert {
         into: usize,
@@ -134,6 +142,22 @@ pub enum Operation {
     Draw {
         into: usize,
         bits: u32,
+    },
+    /// Reads so many bytes of a static object, from `offset` on, into a block, from `at` on.
+    ReadObject {
+        block: usize,
+        at: u32,
+        object: u32,
+        offset: u32,
+        count: u32,
+    },
+    /// Writes so many bytes of a block, from `at` on, into a static object, from `offset` on.
+    WriteObject {
+        object: u32,
+        offset: u32,
+        block: usize,
+        at: u32,
+        count: u32,
     },
     /// Ends the process.
     Exit,

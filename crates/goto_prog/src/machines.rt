@@ -51,12 +51,11 @@ impl<'a> Machine for StrictThread<'a> {
     }
 
     fn advance(&mut self) -> Result<Next, AllocError> {
-        Ok(self.runner.settle())
+        self.runner.settle()
     }
 
     fn answer(&mut self, answer: &Answer) -> Result<(), AllocError> {
-        self.runner.take(answer);
-        Ok(())
+        self.runner.take(answer)
     }
 
     ghost valid = { λ s. is_thread s.strict s.functions s.code s.place s.memory };
@@ -104,12 +103,11 @@ impl<'a> Machine for PlainThread<'a> {
     }
 
     fn advance(&mut self) -> Result<Next, AllocError> {
-        Ok(self.runner.settle())
+        self.runner.settle()
     }
 
     fn answer(&mut self, answer: &Answer) -> Result<(), AllocError> {
-        self.runner.take(answer);
-        Ok(())
+        self.runner.take(answer)
     }
 
     ghost valid = { λ s. is_thread s.strict s.functions s.code s.place s.memory };
@@ -152,12 +150,11 @@ impl<'a> Machine for UnrolledThread<'a> {
     }
 
     fn advance(&mut self) -> Result<Next, AllocError> {
-        Ok(self.runner.settle())
+        self.runner.settle()
     }
 
     fn answer(&mut self, answer: &Answer) -> Result<(), AllocError> {
-        self.runner.take(answer);
-        Ok(())
+        self.runner.take(answer)
     }
 
     ghost valid = { λ s. is_thread s.strict s.functions s.code s.place s.memory };

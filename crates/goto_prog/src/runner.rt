@@ -2,9 +2,9 @@ ghost use Rattle.c_types.specs.Integers.{width, bytes};
 ghost use Rattle.c_values.specs.Variables.{first_variables, low_bytes, put_bytes, cleared, read_variable};
 ghost use Rattle.core_tree.specs.Operations.{arithmetic_value};
 ghost use Rattle.core_tree.specs.Typed.{is_within};
-ghost use Rattle.std.specs.Prelude.{◌≡◌, ◌==◌, ◌+◌, ◌<◌, ◌≤◌, ◌^◌, true, length, drop, IfSome, map, slice_index_or, IfOk, slice_get};
+ghost use Rattle.std.specs.Prelude.{◌≡◌, ◌==◌, ◌+◌, ◌<◌, ◌≤◌, ◌^◌, true, length, drop, IfSome, map, slice_index_or, IfOk, OnOk, OnErr, slice_get};
 ghost use Rattle.c_values.specs.Numbers.{typed, are_operands_of};
-ghost use Rattle.goto_prog.specs.Meaning.{register, with_register, with_blocks, own_class, calculated, check_class};
+ghost use Rattle.goto_prog.specs.Meaning.{register, with_register, with_blocks, bytes_of, own_class, calculated, check_class};
 ghost use Rattle.goto_prog.specs.Fitting.{code_fits, is_there, is_register, is_wide, has_bytes, is_block, check_fits, operation_fits};
 ghost use Rattle.goto_prog.specs.Running.{begun, is_calculation};
 
@@ -138,6 +138,44 @@ impl<'a> Runner<'a> {
         self.blocks[block].clear();
     }
 
+    // Writes bytes of a block into a block.
+    #[tactic(auto, using(crate::proofs::Blocks::block_there, crate::proofs::Blocks::block_room, crate::proofs::Blocks::part_within, crate::proofs::Blocks::sizes_copied))]
+    fn copy_bytes(
+        &mut self,
+        into: usize,
+        at: u32,
+        from: usize,
+        offset: u32,
+        count: u32,
+    ) -> Result<(), AllocError>
+        requires into { is_within self.old.code.blocks into at count ≡ true }
+        requires from { is_within self.old.code.blocks from offset count ≡ true }
+        ensures ok { OnOk result (self.new ≡ record self.old { memory = with_blocks self.old.memory (put_bytes self.old.memory.blocks into at (bytes_of self.old.memory.blocks from offset count)) }) }
+        ensures err { OnErr result (self.new ≡ self.old) }
+    {
+        let part = self.blocks[from].part(self.alloc, offset, count)?;
+        self.blocks[into].put(at, &part);
+        Ok(())
+    }
+
+    // A copy of so many bytes of a block, from an offset on.
+    #[tactic(auto, using(crate::proofs::Blocks::block_there, crate::proofs::Blocks::block_room))]
+    pub(crate) fn part(&self, block: usize, offset: u32, count: u32) -> Result<Vec<u8>, AllocError>
+        requires { is_within self.now.code.blocks block offset count ≡ true }
+        ensures { IfOk result (λ part. part.items ≡ bytes_of self.now.memory.blocks block offset count) }
+    {
+        self.blocks[block].part(self.alloc, offset, count)
+    }
+
+    // Writes bytes into a block, from an offset on.
+    #[tactic(auto, using(crate::proofs::Blocks::block_there, crate::proofs::Blocks::block_room, crate::proofs::Blocks::sizes_put_bytes))]
+    pub(crate) fn put_bytes(&mut self, block: usize, at: u32, new: &[u8])
+        requires { is_within self.old.code.blocks block at (length new.now) ≡ true }
+        ensures { self.new ≡ record self.old { memory = with_blocks self.old.memory (put_bytes self.old.memory.blocks block at new.now) } }
+    {
+        self.blocks[block].put(at, new);
+    }
+
     // Sets a register to an operation's result.
     fn operate(&mut self, into: usize, operator: ArithmeticOperator, left: Number, right: Number)
         requires operands { are_operands_of operator left.type right.type ≡ true }
@@ -169,10 +207,11 @@ impl<'a> Runner<'a> {
     }
 
     // Sets the register or the block that an operation sets.
-    pub fn calculate(&mut self, operation: Operation)
+    pub fn calculate(&mut self, operation: Operation) -> Result<(), AllocError>
         requires calculation { is_calculation operation ≡ true }
         requires fits { operation_fits self.old.code.registers self.old.code.blocks 0 operation ≡ true }
-        ensures { self.new ≡ record self.old { memory = calculated operation self.old.memory } }
+        ensures ok { OnOk result (self.new ≡ record self.old { memory = calculated operation self.old.memory }) }
+        ensures err { OnErr result (self.new ≡ self.old) }
     {
         match operation {
             Operation::Constant { into, bits } => self.put(into, bits),
@@ -193,6 +232,13 @@ impl<'a> Runner<'a> {
                 operand,
             } => self.store(block, offset, count, operand),
             Operation::Clear { block, size } => self.clear(block, size),
+            Operation::CopyBytes {
+                into,
+                at,
+                from,
+                offset,
+                count,
+            } => self.copy_bytes(into, at, from, offset, count)?,
             Operation::Convert {
                 into,
                 from,
@@ -250,8 +296,23 @@ impl<'a> Runner<'a> {
             Operation::Assert { operand: _ } => {}
             Operation::Assume { operand: _ } => {}
             Operation::Draw { into: _, bits: _ } => {}
+            Operation::ReadObject {
+                block: _,
+                at: _,
+                object: _,
+                offset: _,
+                count: _,
+            } => {}
+            Operation::WriteObject {
+                object: _,
+                offset: _,
+                block: _,
+                at: _,
+                count: _,
+            } => {}
             Operation::Exit => {}
         }
+        Ok(())
     }
 
     // The check that an operation of strict code breaks by itself.

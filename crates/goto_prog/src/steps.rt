@@ -1,28 +1,31 @@
-ghost use Rattle.std.specs.Prelude.{◌≡◌, true, false, slice_get, Some, None, if◌then◌else◌};
+ghost use Rattle.std.specs.Prelude.{◌≡◌, true, false, IfOk, OnErr, slice_get, Some, None, if◌then◌else◌};
 ghost use Rattle.goto_prog.specs.Meaning.{own_class};
 ghost use Rattle.goto_prog.specs.Fitting.{code_fits};
 ghost use Rattle.goto_prog.specs.Running.{is_calculation, Steps, Stops};
 
 use crate::code::{Condition, Instruction, Operation};
 use crate::runner::Runner;
-use actions::{Action, DrawBits, Next};
+use actions::{Action, Bytes, DrawBits, Next};
+use c_values::pointer_to;
+use std::alloc::AllocError;
 use words::{Class, Word};
 
 impl<'a> Runner<'a> {
     // An instruction that sets a register or a block.
     #[tactic(auto, using(crate::proofs::Stepping::fits_here, crate::proofs::Stepping::room_here, crate::proofs::Stepping::goes_calculated, crate::proofs::Stepping::stops_calculated))]
-    fn calculation(&mut self, i: Instruction) -> Option<Next>
+    fn calculation(&mut self, i: Instruction) -> Result<Option<Next>, AllocError>
         requires found { slice_get self.old.code.instructions self.old.place ≡ Some i }
         requires code { code_fits self.old.code.registers self.old.code.blocks self.old.code.instructions ≡ true }
         requires calculation { is_calculation i.operation ≡ true }
-        ensures { Steps self.old self.new result }
+        ensures steps { IfOk result (Steps self.old self.new) }
+        ensures err { OnErr result (self.new ≡ self.old) }
     {
         if let Some(class) = self.broken_calculation(i) {
-            return Some(Next::Broken(class, i.line, i.function));
+            return Ok(Some(Next::Broken(class, i.line, i.function)));
         }
-        self.calculate(i.operation);
+        self.calculate(i.operation)?;
         self.pass(0);
-        None
+        Ok(None)
     }
 
     // The check that it breaks by itself in strict code.
@@ -118,29 +121,45 @@ impl<'a> Runner<'a> {
     }
 
     // One step: it goes on, or this is next.
-    pub fn step(&mut self) -> Option<Next>
-        ensures { Steps self.old self.new result }
+    pub fn step(&mut self) -> Result<Option<Next>, AllocError>
+        ensures steps { IfOk result (Steps self.old self.new) }
+        ensures err { OnErr result (self.new ≡ self.old) }
     {
         match self.instruction() {
             Some(i) => self.perform(i),
-            None => Some(Next::Ended(Word::new(0, 64))),
+            None => Ok(Some(Next::Ended(Word::new(0, 64)))),
         }
     }
 
     // The instruction at the place.
-    fn perform(&mut self, i: Instruction) -> Option<Next>
+    fn perform(&mut self, i: Instruction) -> Result<Option<Next>, AllocError>
         requires found { slice_get self.old.code.instructions self.old.place ≡ Some i }
         requires code { code_fits self.old.code.registers self.old.code.blocks self.old.code.instructions ≡ true }
-        ensures { Steps self.old self.new result }
+        ensures steps { IfOk result (Steps self.old self.new) }
+        ensures err { OnErr result (self.new ≡ self.old) }
     {
         match i.operation {
-            Operation::Skip { count } => self.skip(i, count),
-            Operation::SkipIfZero { operand, count } => self.skip_if_zero(i, operand, count),
-            Operation::Check { condition } => self.check(i, condition),
-            Operation::Assert { operand } => self.assertion(i, operand),
-            Operation::Assume { operand } => self.assumption(i, operand),
-            Operation::Draw { into, bits } => Some(self.draw(i, into, bits)),
-            Operation::Exit => Some(self.exit(i)),
+            Operation::Skip { count } => Ok(self.skip(i, count)),
+            Operation::SkipIfZero { operand, count } => Ok(self.skip_if_zero(i, operand, count)),
+            Operation::Check { condition } => Ok(self.check(i, condition)),
+            Operation::Assert { operand } => Ok(self.assertion(i, operand)),
+            Operation::Assume { operand } => Ok(self.assumption(i, operand)),
+            Operation::Draw { into, bits } => Ok(Some(self.draw(i, into, bits))),
+            Operation::ReadObject {
+                block,
+                at,
+                object,
+                offset,
+                count,
+            } => Ok(Some(self.read_object(i, (block, at), (object, offset), count))),
+            Operation::WriteObject {
+                object,
+                offset,
+                block,
+                at,
+                count,
+            } => { Ok(Some(self.write_object(i, (object, offset), (block, at), count)?)) }
+            Operation::Exit => Ok(Some(self.exit(i))),
             Operation::Constant { into: _, bits: _ } => self.calculation(i),
             Operation::Copy {
                 into: _,
@@ -159,6 +178,13 @@ impl<'a> Runner<'a> {
                 operand: _,
             } => self.calculation(i),
             Operation::Clear { block: _, size: _ } => self.calculation(i),
+            Operation::CopyBytes {
+                into: _,
+                at: _,
+                from: _,
+                offset: _,
+                count: _,
+            } => self.calculation(i),
             Operation::Convert {
                 into: _,
                 from: _,
@@ -202,6 +228,43 @@ impl<'a> Runner<'a> {
         ensures { Stops self.now self.now result }
     {
         Next::Act(Action::Draw(DrawBits::new(bits)), i.line, i.function)
+    }
+
+    // A read of a static object is next.
+    #[tactic(auto, using(crate::proofs::Stepping::stops_read))]
+    fn read_object(&self, i: Instruction, into: (usize, u32), from: (u32, u32), count: u32) -> Next
+        requires found { slice_get self.now.code.instructions self.now.place ≡ Some i }
+        requires is { i.operation ≡ Operation.ReadObject into.0 into.1 from.0 from.1 count }
+        ensures { Stops self.now self.now result }
+    {
+        let _ = into;
+        Next::Act(
+            Action::Read(pointer_to(from.0, from.1), count),
+            i.line,
+            i.function,
+        )
+    }
+
+    // A write of a static object is next.
+    #[tactic(auto, using(crate::proofs::Stepping::stops_write, crate::proofs::Stepping::write_here))]
+    fn write_object(
+        &self,
+        i: Instruction,
+        into: (u32, u32),
+        from: (usize, u32),
+        count: u32,
+    ) -> Result<Next, AllocError>
+        requires found { slice_get self.now.code.instructions self.now.place ≡ Some i }
+        requires code { code_fits self.now.code.registers self.now.code.blocks self.now.code.instructions ≡ true }
+        requires is { i.operation ≡ Operation.WriteObject into.0 into.1 from.0 from.1 count }
+        ensures { IfOk result (λ n. Stops self.now self.now n) }
+    {
+        let bytes = self.part(from.0, from.1, count)?;
+        Ok(Next::Act(
+            Action::Write(pointer_to(into.0, into.1), Bytes::new(bytes), false),
+            i.line,
+            i.function,
+        ))
     }
 
     // The end of the process is next.

@@ -15,6 +15,8 @@ use words::Class;
 #[derive(Clone, Copy, Debug, PartialEq, Eq)]
 enum Told {
     Draws,
+    Reads(u64, u32),
+    Writes(u64, u8),
     Exits,
     Ends,
     Blocks,
@@ -34,6 +36,11 @@ fn shown(next: &Next) -> Told {
 fn shown_action(action: &Action) -> Told {
     match action {
         Action::Draw(_) => Told::Draws,
+        Action::Read(pointer, count) => Told::Reads(*pointer, *count),
+        Action::Write(pointer, bytes, false) => match bytes.as_slice().first() {
+            Some(byte) => Told::Writes(*pointer, *byte),
+            None => Told::Other,
+        },
         Action::Exit => Told::Exits,
         _ => Told::Other,
     }
@@ -245,7 +252,8 @@ fn checks(alloc: Global, left: u32, right: u32) -> Result<Code, AllocError> {
     Ok(Code::new(types, blocks, instructions, false))
 }
 
-// `bits` into the bytes 3 and 4 of an object of 12, the short at an offset is as expected, and none is left behind a clear.
+// `bits` into the bytes 3 and 4 of an object of 12, the short at an offset is as expected, and none is
+// left behind a clear but what was copied away; that is copied back, and it exits where it isn't 0.
 fn bytes(alloc: Global, bits: u64, at: u32, expected: u16) -> Result<Code, AllocError>
     requires { at ≤ 10 }
 {
@@ -287,7 +295,27 @@ fn bytes(alloc: Global, bits: u64, at: u32, expected: u16) -> Result<Code, Alloc
             }
         ),
         at_line(5, Operation::Assert { operand: 3 }),
+        at_line(
+            6,
+            Operation::CopyBytes {
+                into: 1,
+                at: 1,
+                from: 0,
+                offset: 3,
+                count: 2
+            }
+        ),
         at_line(6, Operation::Clear { block: 0, size: 12 }),
+        at_line(
+            6,
+            Operation::CopyBytes {
+                into: 0,
+                at: 10,
+                from: 1,
+                offset: 1,
+                count: 2
+            }
+        ),
         at_line(
             7,
             Operation::Load {
@@ -305,10 +333,26 @@ fn bytes(alloc: Global, bits: u64, at: u32, expected: u16) -> Result<Code, Alloc
             }
         ),
         at_line(8, Operation::Assert { operand: 3 }),
+        at_line(
+            9,
+            Operation::Load {
+                into: 1,
+                type_: SHORT,
+                block: 0,
+                offset: 10
+            }
+        ),
+        at_line(
+            9,
+            Operation::SkipIfZero {
+                operand: 1,
+                count: 1
+            }
+        ),
         at_line(9, Operation::Exit),
     ]?;
     let types = Vec::from_slice(alloc, &[IntegerType::UnsignedLong, SHORT, SHORT, INT])?;
-    let blocks = Vec::from_slice(alloc, &[12])?;
+    let blocks = Vec::from_slice(alloc, &[12, 3])?;
     Ok(Code::new(types, blocks, instructions, false))
 }
 
@@ -400,6 +444,74 @@ fn stores_and_loads_name_bytes(rt: HostRuntime) -> Result<(), Fail> {
             told
         );
         assert_eq!(rt; plain_next(alloc, bytes(alloc, bits, at, expected)?)?, told);
+    }
+    Ok(())
+}
+
+// `g = bits;`, or `g;` where these bits are 0, of a static object with the number 3, in its bytes 4 to 7
+fn accesses(alloc: Global, bits: u32) -> Result<Code, AllocError> {
+    let instructions = vec![in alloc;
+        at_line(
+            1,
+            Operation::Constant {
+                into: 0,
+                bits: bits as u64
+            }
+        ),
+        at_line(
+            1,
+            Operation::Store {
+                block: 0,
+                offset: 1,
+                count: 4,
+                operand: 0
+            }
+        ),
+        at_line(
+            2,
+            Operation::SkipIfZero {
+                operand: 0,
+                count: 1
+            }
+        ),
+        at_line(
+            3,
+            Operation::WriteObject {
+                object: 3,
+                offset: 4,
+                block: 0,
+                at: 1,
+                count: 4
+            }
+        ),
+        at_line(
+            4,
+            Operation::ReadObject {
+                block: 0,
+                at: 0,
+                object: 3,
+                offset: 4,
+                count: 4
+            }
+        ),
+    ]?;
+    let types = Vec::from_slice(alloc, &[INT])?;
+    let blocks = Vec::from_slice(alloc, &[5])?;
+    Ok(Code::new(types, blocks, instructions, false))
+}
+
+#[test]
+fn machines_ask_for_accesses(rt: HostRuntime) -> Result<(), Fail> {
+    let alloc = rt.alloc();
+    let pointer = 3 * 4_294_967_296 + 4;
+    let rows = [
+        (0, Told::Reads(pointer, 4)),
+        (0x0201, Told::Writes(pointer, 1)),
+    ];
+    for (bits, expected) in rows {
+        assert_eq!(rt; strict_next(alloc, accesses(alloc, bits)?)?, expected);
+        assert_eq!(rt; plain_next(alloc, accesses(alloc, bits)?)?, expected);
+        assert_eq!(rt; unrolled_next(alloc, accesses(alloc, bits)?)?, expected);
     }
     Ok(())
 }

@@ -1,8 +1,8 @@
 ghost use Rattle.std.specs.Prelude.{◌≡◌, ◌+◌, ◌≤◌, min};
-ghost use Rattle.core_tree.specs.Trees.{view, view_statement, items_of, with_item};
-ghost use Rattle.goto_unwind.specs.Counts.{expression_places, statement_places, items_places};
+ghost use Rattle.core_tree.specs.Trees.{view, view_structure, parts_of, with_part, view_statement, items_of, with_item};
+ghost use Rattle.goto_unwind.specs.Counts.{expression_places, structure_places, parts_places, statement_places, items_places};
 
-use core_tree::{CoreExpr, CoreItem, CoreStatement};
+use core_tree::{CoreExpr, CoreItem, CorePart, CoreStatement, CoreStructure};
 
 /// The greatest number of places.
 pub(crate) const MOST_PLACES: u32 = 2_000_000;
@@ -22,6 +22,7 @@ fn node(parts: u32) -> u32
 }
 
 /// The places of an expression.
+#[cycle(expression)]
 pub(crate) fn expression_places(expr: &CoreExpr) -> u32
     ensures { result ≡ min (expression_places (view expr.now)) 2000001 }
 {
@@ -92,6 +93,98 @@ pub(crate) fn expression_places(expr: &CoreExpr) -> u32
         CoreExpr::Assertion { line: _, condition } => node(expression_places(condition)),
         CoreExpr::Assumption { line: _, condition } => node(expression_places(condition)),
         CoreExpr::Draw { line: _, type_: _ } => 1,
+        CoreExpr::Member {
+            line: _,
+            type_: _,
+            offset: _,
+            value,
+        } => node(structure_places(value)),
+        CoreExpr::Discard { line: _, operand } => node(expression_places(operand)),
+        CoreExpr::DiscardStructure { value } => structure_places(value),
+    }
+}
+
+/// The places of a structure value.
+#[cycle(expression)]
+fn structure_places(structure: &CoreStructure) -> u32
+    ensures { result ≡ min (structure_places (view_structure structure.now)) 2000001 }
+{
+    match structure {
+        CoreStructure::Read {
+            line: _,
+            variable: _,
+            offset: _,
+            size: _,
+        } => 2,
+        CoreStructure::Load {
+            line: _,
+            object: _,
+            offset: _,
+            size: _,
+        } => 2,
+        CoreStructure::Choice {
+            line: _,
+            test,
+            yes,
+            no,
+        } => {
+            let branches = sum(structure_places(yes), structure_places(no));
+            node(sum(expression_places(test), branches))
+        }
+        CoreStructure::Assign {
+            line: _,
+            variable: _,
+            offset: _,
+            value,
+        } => node(node(structure_places(value))),
+        CoreStructure::Store {
+            line: _,
+            object: _,
+            offset: _,
+            value,
+        } => node(node(structure_places(value))),
+        CoreStructure::Comma {
+            line: _,
+            left,
+            right,
+        } => node(sum(expression_places(left), structure_places(right))),
+        CoreStructure::Member {
+            line: _,
+            offset: _,
+            size: _,
+            value,
+        } => node(structure_places(value)),
+        CoreStructure::List {
+            line: _,
+            size: _,
+            parts,
+        } => parts_places(parts),
+        CoreStructure::String {
+            line: _,
+            size: _,
+            bytes: _,
+        } => 1,
+    }
+}
+
+#[cycle(expression)]
+fn parts_places(parts: &[CorePart]) -> u32
+    ensures { result ≡ min (parts_places (parts_of parts.now)) 2000001 }
+{
+    let mut places = 0;
+    for part in parts {
+        places = sum(places, part_places(part));
+    }
+    places
+}
+
+#[cycle(expression)]
+fn part_places(part: &CorePart) -> u32
+    ensures { (rest : _) → min (parts_places (with_part part.now rest)) 2000001 ≡ min (result + parts_places rest) 2000001 }
+{
+    match part {
+        CorePart::Number { offset: _, value } => expression_places(value),
+        CorePart::Structure { offset: _, value } => structure_places(value),
     }
 }
 
@@ -145,6 +238,12 @@ fn item_places(item: &CoreItem) -> u32
             drawn: _,
             value,
         } => node(expression_places(value)),
+        CoreItem::InitializeStructure {
+            line: _,
+            variable: _,
+            drawn: _,
+            value,
+        } => node(structure_places(value)),
         CoreItem::Statement { statement } => statement_places(statement),
     }
 }

@@ -6,7 +6,7 @@ ghost use Rattle.goto_unwind.specs.Counts.{passed, HasCause};
 ghost use Rattle.goto_unwind.specs.declared.unrolling.UnwindError.TheVariants as errors;
 
 use crate::counting::main_places;
-use crate::objects::{MOST_OBJECT_BYTES, object_bytes};
+use crate::objects::{MOST_OBJECT_BYTES, MOST_OBJECTS, object_bytes};
 use crate::trees::MOST_PLACES;
 use c_profile::Admitted;
 use core_tree::{Bounds, Limit};
@@ -46,10 +46,12 @@ impl<T: Drop> From<AllocFailed<T>> for UnwindError {
 pub fn passed_limit(file: &Admitted, _bounds: &Bounds) -> Option<Limit>
     ensures { result ≡ passed (view_core file.now) _bounds.now }
 {
-    let functions = file.core().functions();
-    if main_places(functions) > MOST_PLACES {
+    let core = file.core();
+    if main_places(core.functions()) > MOST_PLACES {
         Some(Limit::Places)
-    } else if object_bytes(functions) > MOST_OBJECT_BYTES {
+    } else if core.objects().len() > MOST_OBJECTS as usize {
+        Some(Limit::Objects)
+    } else if object_bytes(core) > MOST_OBJECT_BYTES {
         Some(Limit::ObjectBytes)
     } else {
         None

@@ -1,4 +1,5 @@
 pub mod Telling
+pub mod WordBytes
 pub mod Readings
 pub mod Valuations
 pub mod Needs
@@ -9,6 +10,7 @@ pub mod Setting
 pub mod Blocks
 pub mod Merging
 pub mod Noting
+pub mod AnswerWords
 pub mod Arriving
 pub mod Passing
 pub mod Writing

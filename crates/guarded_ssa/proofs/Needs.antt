@@ -3,18 +3,19 @@ use Rattle.std.proofs.Common.{◌≡◌, ℕ, zero, suc, Bool, true, false, List
 use Rattle.std.specs.Prelude.{not, ◌==◌, if◌then◌else◌, slice_index, slice_set}
 use Rattle.words.specs.declared.check.Class.TheVariants as classes
 use Rattle.actions.specs.declared.action.Action.TheVariants as actions
+use Rattle.actions.specs.declared.action.Answer.TheVariants as answers
 use Rattle.actions.specs.declared.action.Next.TheVariants.{Blocked, Broken}
 use Rattle.core_tree.specs.Operations.{truth_bits, converted, unless, division_check, arithmetic_check, sign_check, count_check, left_shift_check, arithmetic_value, sign_value, compared}
 use Rattle.core_tree.specs.declared.operators.SignOperator.TheVariants as signs
-use Rattle.c_values.specs.Variables.{Variables, low_bytes, put_bytes, cleared, read_variable}
+use Rattle.c_values.specs.Variables.{Variables, pointer_to, low_bytes, put_bytes, cleared, read_variable}
 use Rattle.goto_prog.specs.declared.code.Condition.{Condition}
 use Rattle.goto_prog.specs.declared.code.Condition.TheVariants as checks
 use Rattle.goto_prog.specs.declared.code.Operation.{Operation}
 use Rattle.goto_prog.specs.declared.code.Operation.TheVariants as operations
 use Rattle.goto_prog.specs.declared.code.Instruction.{Instruction}
-use Rattle.goto_prog.specs.Meaning.{Memory, register, with_register, word_of, check_class, calculated}
+use Rattle.goto_prog.specs.Meaning.{Memory, register, with_register, with_blocks, bytes_of, word_of, bytes_in, check_class, calculated}
 use Rattle.guarded_ssa.specs.Runs.{answer_at}
-use Rattle.guarded_ssa.specs.Ways.{stopped, Ways, either, arrived, updated, kept, on, breaks, tells, leaves, first_way, later_ways, told}
+use Rattle.guarded_ssa.specs.Ways.{asked, stopped, Ways, either, arrived, updated, kept, on, breaks, tells, leaves, first_way, later_ways, told}
 use Rattle.guarded_ssa.specs.Reads.{IsRead, AreRead, Covers, Agree, Alike, AllAlike}
 
 module _ (until : List ℕ) where
@@ -116,6 +117,8 @@ module _ (until : List ℕ) where
         record { size = agree.size; needed = λ k l. agree.needed k (read_later place k l); blocks = λ i. put_bytes (q i) b offset (low_bytes count (p i)) }
     agree_calculated (operations.Clear b size) read =
         record { size = agree.size; needed = λ k l. agree.needed k (read_later place k l); blocks = ap (λ (bs : Variables). cleared bs b size) agree.blocks }
+    agree_calculated (operations.CopyBytes into to from offset count) read =
+        record { size = agree.size; needed = λ k l. agree.needed k (read_later place k l); blocks = ap (λ (bs : Variables). put_bytes bs into to (bytes_of bs from offset count)) agree.blocks }
     agree_calculated (operations.Convert r from to a) read = agree_set r _ _ (ap (converted from to) (agree.needed a read.0))
     agree_calculated (operations.Sign r op t a) read = agree_set r _ _ (ap (sign_value op t) (agree.needed a read.0))
     agree_calculated (operations.Arithmetic r op t u a b) read =
@@ -125,11 +128,12 @@ module _ (until : List ℕ) where
     agree_calculated (operations.IsZero r a) read = agree_set r _ _ (ap (λ x. truth_bits (x == 0)) (agree.needed a read.0))
     agree_calculated _ read = agree_later place m n agree
 
-    module _ (v : ℕ → ℕ) (line f : ℕ) where
-      same_told : (o : Operation) → AreRead until place o → tells v place line f o m ≡ tells v place line f o n
+    module _ (v : ℕ → ℕ) (apart line f : ℕ) where
+      same_told : (o : Operation) → AreRead until place o → tells v apart place line f o m ≡ tells v apart place line f o n
       same_told (operations.Check c) read = ap (λ x. breaks x line f) (same_check c read)
       same_told (operations.Assert a) read = ap (λ x. if x == 0 then stopped (Broken classes.Assertion line f) ∷ [] else []) (agree.needed a read.0)
       same_told (operations.Assume a) read = ap (λ x. if x == 0 then stopped Blocked ∷ [] else []) (agree.needed a read.0)
+      same_told (operations.WriteObject k offset b from count) read = ap (λ (bs : Variables). asked (actions.Write (pointer_to k offset) (bytes_of bs b from count) false) line f answers.Done ∷ []) agree.blocks
       same_told _ read = refl
 
   alike_updated : (place : ℕ) (w x : Option Memory) (f : Memory → Memory) → ((m n : Memory) → Agree until place m n → Agree until (suc place) (f m) (f n)) → Alike until place w x → Alike until (suc place) (updated f w) (updated f x)
@@ -150,25 +154,31 @@ module _ (until : List ℕ) where
   alike_kept place (Some m) None test same h = absurd h
   alike_kept place (Some m) (Some n) test same h = kept_by place (test m) (test n) m n (same m n h) (agree_later place m n h)
 
-  module _ (v : ℕ → ℕ) (place : ℕ) (w x : Option Memory) (ws xs : Ways) (h : Alike until place w x) (k : AllAlike until (suc place) ws xs) where
+  module _ (v : ℕ → ℕ) (apart place : ℕ) (w x : Option Memory) (ws xs : Ways) (h : Alike until place w x) (k : AllAlike until (suc place) ws xs) where
     goes_on : (o : Operation) → AreRead until place o → AllAlike until (suc place) (arrived 0 (updated (calculated o) w) ws) (arrived 0 (updated (calculated o) x) xs)
     goes_on o read = arrived_alike (suc place) 0 _ _ ws xs (alike_updated place w x (calculated o) (λ m n agree. agree_calculated place m n agree o read) h) k
 
-    leaves_alike : (o : Operation) → AreRead until place o → AllAlike until (suc place) (leaves v place o w ws) (leaves v place o x xs)
+    leaves_alike : (o : Operation) → AreRead until place o → AllAlike until (suc place) (leaves v apart place o w ws) (leaves v apart place o x xs)
     leaves_alike (operations.Skip n) read = arrived_alike (suc place) n w x ws xs (alike_later place w x h) k
     leaves_alike (operations.SkipIfZero a n) read =
         let same : (m m' : Memory) → Agree until place m m' → register m a ≡ register m' a = λ m m' agree. agree.needed a read.0 in
         arrived_alike (suc place) n (kept (λ m. register m a == 0) w) (kept (λ m. register m a == 0) x) _ _ (alike_kept place w x (λ m. register m a == 0) (λ m m' agree. ap (λ y. y == 0) (same m m' agree)) h)
         (arrived_alike (suc place) 0 (kept (λ m. not (register m a == 0)) w) (kept (λ m. not (register m a == 0)) x) ws xs (alike_kept place w x (λ m. not (register m a == 0)) (λ m m' agree. ap (λ y. not (y == 0)) (same m m' agree)) h) k)
     leaves_alike (operations.Draw r bits) read =
-        let a = word_of (answer_at v place (actions.Draw bits)) in
+        let a = word_of (answer_at v apart place (actions.Draw bits)) in
         arrived_alike (suc place) 0 _ _ ws xs (alike_updated place w x (λ m. with_register m r a) (λ m n agree. agree_set place m n agree r a a refl) h) k
+    leaves_alike (operations.ReadObject b to object offset count) read =
+        let new = bytes_in (answer_at v apart place (actions.Read (pointer_to object offset) count)) in
+        arrived_alike (suc place) 0 _ _ ws xs (alike_updated place w x (λ m. with_blocks m (put_bytes m.blocks b to new)) (λ m n agree.
+        record { size = agree.size; needed = λ r l. agree.needed r (read_later place r l); blocks = ap (λ (bs : Variables). put_bytes bs b to new) agree.blocks }) h) k
+    leaves_alike (operations.WriteObject object offset b from count) read = goes_on (operations.WriteObject object offset b from count) read
     leaves_alike operations.Exit read = k
     leaves_alike (operations.Constant r bits) read = goes_on (operations.Constant r bits) read
     leaves_alike (operations.Copy r a) read = goes_on (operations.Copy r a) read
     leaves_alike (operations.Load r t b offset) read = goes_on (operations.Load r t b offset) read
     leaves_alike (operations.Store b offset count a) read = goes_on (operations.Store b offset count a) read
     leaves_alike (operations.Clear b size) read = goes_on (operations.Clear b size) read
+    leaves_alike (operations.CopyBytes into to from offset count) read = goes_on (operations.CopyBytes into to from offset count) read
     leaves_alike (operations.Convert r from to a) read = goes_on (operations.Convert r from to a) read
     leaves_alike (operations.Sign r op t a) read = goes_on (operations.Sign r op t a) read
     leaves_alike (operations.Arithmetic r op t u a b) read = goes_on (operations.Arithmetic r op t u a b) read
@@ -180,35 +190,35 @@ module _ (until : List ℕ) where
 
   -- ---- code
 
-  module _ (v : ℕ → ℕ) where
-    same_on : (place line f : ℕ) (o : Operation) (w x : Option Memory) → AreRead until place o → Alike until place w x → on w (tells v place line f o) ≡ on x (tells v place line f o)
+  module _ (v : ℕ → ℕ) (apart : ℕ) where
+    same_on : (place line f : ℕ) (o : Operation) (w x : Option Memory) → AreRead until place o → Alike until place w x → on w (tells v apart place line f o) ≡ on x (tells v apart place line f o)
     same_on place line f o None None read h = refl
     same_on place line f o None (Some n) read h = absurd h
     same_on place line f o (Some m) None read h = absurd h
-    same_on place line f o (Some m) (Some n) read h = same_told place m n h v line f o read
+    same_on place line f o (Some m) (Some n) read h = same_told place m n h v apart line f o read
 
-    first_alike : (place : ℕ) (ws xs : Ways) → AllAlike until place ws xs → Alike until place (first_way v ws) (first_way v xs)
+    first_alike : (place : ℕ) (ws xs : Ways) → AllAlike until place ws xs → Alike until place (first_way v apart ws) (first_way v apart xs)
     first_alike place [] [] h = tt
     first_alike place [] (x ∷ xs) h = absurd h
     first_alike place (w ∷ ws) [] h = absurd h
     first_alike place (w ∷ ws) (x ∷ xs) h = h.0
 
-    later_alike : (place : ℕ) (ws xs : Ways) → AllAlike until place ws xs → AllAlike until (suc place) (later_ways v ws) (later_ways v xs)
+    later_alike : (place : ℕ) (ws xs : Ways) → AllAlike until place ws xs → AllAlike until (suc place) (later_ways v apart ws) (later_ways v apart xs)
     later_alike place [] [] h = tt
     later_alike place [] (x ∷ xs) h = absurd h
     later_alike place (w ∷ ws) [] h = absurd h
     later_alike place (w ∷ ws) (x ∷ xs) h = h.1
 
-    pub told_alike : (place : ℕ) (code : List Instruction) (ws xs : Ways) → Covers until place code → AllAlike until place ws xs → told v place code ws ≡ told v place code xs
+    pub told_alike : (place : ℕ) (code : List Instruction) (ws xs : Ways) → Covers until place code → AllAlike until place ws xs → told v apart place code ws ≡ told v apart place code xs
     told_alike place [] ws xs covers h = refl
     told_alike place (i ∷ code) ws xs covers h =
-        let p = same_on place i.line i.function i.operation (first_way v ws) (first_way v xs) covers.0 (first_alike place ws xs h) in
-        let q = told_alike (suc place) code (leaves v place i.operation (first_way v ws) (later_ways v ws)) (leaves v place i.operation (first_way v xs) (later_ways v xs)) covers.1
-        (leaves_alike v place (first_way v ws) (first_way v xs) (later_ways v ws) (later_ways v xs) (first_alike place ws xs h) (later_alike place ws xs h) i.operation covers.0) in
+        let p = same_on place i.line i.function i.operation (first_way v apart ws) (first_way v apart xs) covers.0 (first_alike place ws xs h) in
+        let q = told_alike (suc place) code (leaves v apart place i.operation (first_way v apart ws) (later_ways v apart ws)) (leaves v apart place i.operation (first_way v apart xs) (later_ways v apart xs)) covers.1
+        (leaves_alike v apart place (first_way v apart ws) (first_way v apart xs) (later_ways v apart ws) (later_ways v apart xs) (first_alike place ws xs h) (later_alike place ws xs h) i.operation covers.0) in
         λ k. p k ++ q k
 
     -- the same, one instruction on
-    pub told_step : (place : ℕ) (i : Instruction) (code : List Instruction) (w : Option Memory) (ws xs : Ways) → Covers until (suc place) code → AllAlike until (suc place) xs (leaves v place i.operation w ws)
-        → on w (tells v place i.line i.function i.operation) ++ told v (suc place) code xs ≡ told v place (i ∷ code) (w ∷ ws)
+    pub told_step : (place : ℕ) (i : Instruction) (code : List Instruction) (w : Option Memory) (ws xs : Ways) → Covers until (suc place) code → AllAlike until (suc place) xs (leaves v apart place i.operation w ws)
+        → on w (tells v apart place i.line i.function i.operation) ++ told v apart (suc place) code xs ≡ told v apart place (i ∷ code) (w ∷ ws)
     told_step place i code w ws xs covers h =
-        ap (λ ys. on w (tells v place i.line i.function i.operation) ++ ys) (told_alike (suc place) code xs (leaves v place i.operation w ws) covers h)
+        ap (λ ys. on w (tells v apart place i.line i.function i.operation) ++ ys) (told_alike (suc place) code xs (leaves v apart place i.operation w ws) covers h)

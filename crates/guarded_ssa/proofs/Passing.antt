@@ -21,23 +21,27 @@ use Rattle.word_dag.specs.declared.nodes.Id.{Id}
 use Rattle.word_dag.specs.declared.nodes.Node.{Node}
 use Rattle.word_dag.specs.Meaning.{value, holds}
 use Rattle.word_dag.specs.Growth.{Extends, Makes}
-use Rattle.word_dag.proofs.Grown.{extends_itself, extends_more, within_stays}
-use Rattle.value_nodes.specs.Values.{IsWord, IsTest}
+use Rattle.word_dag.proofs.Grown.{extends_itself, extends_more, within_stays, all_within_stays, map_stays, map_widths_stay}
+use Rattle.value_nodes.specs.Bytes.{AreBytesOf}
+use Rattle.guarded_ssa.specs.Runs.{bytes_of_words, words_by}
+use Rattle.value_nodes.specs.Values.{IsWord, IsTest, AreBytes}
 use Rattle.goto_prog.specs.declared.code.Condition.{Condition}
 use Rattle.goto_prog.specs.declared.code.Condition.TheVariants as checks
+use Rattle.goto_prog.specs.declared.code.Instruction.{Instruction}
 use Rattle.goto_prog.specs.declared.code.Operation.{Operation}
 use Rattle.goto_prog.specs.declared.code.Operation.TheVariants as operations
-use Rattle.goto_prog.specs.Meaning.{Memory, register, with_register, check_class, calculated}
+use Rattle.goto_prog.specs.Meaning.{Memory, register, with_register, with_blocks, bytes_of, check_class, calculated}
 use Rattle.goto_prog.specs.Fitting.{is_there, is_register, is_wide, is_ranged, check_fits, operation_fits}
 use Rattle.c_values.specs.Numbers.{are_operands_of}
+use Rattle.c_values.specs.Variables.{pointer_to, word_count, put_bytes}
 use Rattle.goto_prog.specs.CodeThread.{Listing}
 use Rattle.goto_prog.specs.Running.{is_calculation}
 use Rattle.guarded_ssa.specs.declared.forms.Event.{Event}
-use Rattle.guarded_ssa.specs.declared.forms.EventKind.TheVariants.{Draw, Exit, Check, Assume}
+use Rattle.guarded_ssa.specs.declared.forms.EventKind.TheVariants.{Draw, Read, Write, Exit, Check, Assume}
 use Rattle.guarded_ssa.specs.declared.slots.Slot.{Slot}
 use Rattle.guarded_ssa.specs.declared.pass.Pass.{Pass}
 use Rattle.guarded_ssa.specs.Ways.{Seen, asked, stopped, Ways, arrived, updated, kept, on, breaks, tells, leaves}
-use Rattle.guarded_ssa.specs.Forms.{IsBit, EventIn, FormIn, kind_seen, event_seen, seen}
+use Rattle.guarded_ssa.specs.Forms.{IsBit, AreWords, EventIn, FormIn, kind_seen, event_seen, seen}
 use Rattle.guarded_ssa.specs.Reads.{AllAlike}
 use Rattle.guarded_ssa.specs.Held.{BytesIn, SlotIn, PendingIn, PassIn, Arrives, Tells, Passes, held, stored, gone, ways}
 use Rattle.guarded_ssa.specs.Registers.{ZerosIn, AreLive, Written, find, word_or_0}
@@ -122,31 +126,33 @@ assigned_gone v d e code s t o r id x h sets is value_is so =
 
 -- ---- passing without an event
 
-leads_on : (o : Operation) → is_calculation o ≡ true → (v : ℕ → ℕ) (place : ℕ) (w : Option Memory) (ws : Ways) → leaves v place o w ws ≡ arrived 0 (updated (calculated o) w) ws
-leads_on (operations.Constant r bits) h v place w ws = refl
-leads_on (operations.Copy r a) h v place w ws = refl
-leads_on (operations.Load r t b offset) h v place w ws = refl
-leads_on (operations.Store b offset count a) h v place w ws = refl
-leads_on (operations.Clear b size) h v place w ws = refl
-leads_on (operations.Convert r from to a) h v place w ws = refl
-leads_on (operations.Sign r op t a) h v place w ws = refl
-leads_on (operations.Arithmetic r op t u a b) h v place w ws = refl
-leads_on (operations.Compare r op t a b) h v place w ws = refl
-leads_on (operations.IsZero r a) h v place w ws = refl
-leads_on _ h v place w ws = absurd (false≢true h)
+leads_on : (o : Operation) → is_calculation o ≡ true → (v : ℕ → ℕ) (apart place : ℕ) (w : Option Memory) (ws : Ways) → leaves v apart place o w ws ≡ arrived 0 (updated (calculated o) w) ws
+leads_on (operations.Constant r bits) h v apart place w ws = refl
+leads_on (operations.Copy r a) h v apart place w ws = refl
+leads_on (operations.Load r t b offset) h v apart place w ws = refl
+leads_on (operations.Store b offset count a) h v apart place w ws = refl
+leads_on (operations.Clear b size) h v apart place w ws = refl
+leads_on (operations.CopyBytes into to from offset count) h v apart place w ws = refl
+leads_on (operations.Convert r from to a) h v apart place w ws = refl
+leads_on (operations.Sign r op t a) h v apart place w ws = refl
+leads_on (operations.Arithmetic r op t u a b) h v apart place w ws = refl
+leads_on (operations.Compare r op t a b) h v apart place w ws = refl
+leads_on (operations.IsZero r a) h v apart place w ws = refl
+leads_on _ h v apart place w ws = absurd (false≢true h)
 
-silent : (o : Operation) → is_calculation o ≡ true → (v : ℕ → ℕ) (place line f : ℕ) (m : Memory) → tells v place line f o m ≡ []
-silent (operations.Constant r bits) h v place line f m = refl
-silent (operations.Copy r a) h v place line f m = refl
-silent (operations.Load r t b offset) h v place line f m = refl
-silent (operations.Store b offset count a) h v place line f m = refl
-silent (operations.Clear b size) h v place line f m = refl
-silent (operations.Convert r from to a) h v place line f m = refl
-silent (operations.Sign r op t a) h v place line f m = refl
-silent (operations.Arithmetic r op t u a b) h v place line f m = refl
-silent (operations.Compare r op t a b) h v place line f m = refl
-silent (operations.IsZero r a) h v place line f m = refl
-silent _ h v place line f m = absurd (false≢true h)
+silent : (o : Operation) → is_calculation o ≡ true → (v : ℕ → ℕ) (apart place line f : ℕ) (m : Memory) → tells v apart place line f o m ≡ []
+silent (operations.Constant r bits) h v apart place line f m = refl
+silent (operations.Copy r a) h v apart place line f m = refl
+silent (operations.Load r t b offset) h v apart place line f m = refl
+silent (operations.Store b offset count a) h v apart place line f m = refl
+silent (operations.Clear b size) h v apart place line f m = refl
+silent (operations.CopyBytes into to from offset count) h v apart place line f m = refl
+silent (operations.Convert r from to a) h v apart place line f m = refl
+silent (operations.Sign r op t a) h v apart place line f m = refl
+silent (operations.Arithmetic r op t u a b) h v apart place line f m = refl
+silent (operations.Compare r op t a b) h v apart place line f m = refl
+silent (operations.IsZero r a) h v apart place line f m = refl
+silent _ h v apart place line f m = absurd (false≢true h)
 
 nothing_on : (w : Option Memory) (tell : Memory → List Seen) → ((m : Memory) → tell m ≡ []) → on w tell ≡ []
 nothing_on None tell h = refl
@@ -157,17 +163,17 @@ append_nil [] = refl
 append_nil (x ∷ xs) = ap (λ ys. x ∷ ys) (append_nil xs)
 
 module _ (until : List ℕ) (code : Listing) (place line f : ℕ) (o : Operation) (d d1 e : List Node) (s s1 : Slot) (p q : Pass) (x : Extends d d1) (within : PassIn d code p) where
-  pub passes_by_slot : (n : ℕ) → Extends d1 e → ((v : ℕ → ℕ) (m : Memory) → tells v place line f o m ≡ []) → ((v : ℕ → ℕ) (ws : Ways) → leaves v place o (gone v d code s) ws ≡ arrived n (gone v d1 code s1) ws)
+  pub passes_by_slot : (n : ℕ) → Extends d1 e → ((v : ℕ → ℕ) (m : Memory) → tells v (length code.instructions) place line f o m ≡ []) → ((v : ℕ → ℕ) (ws : Ways) → leaves v (length code.instructions) place o (gone v d code s) ws ≡ arrived n (gone v d1 code s1) ws)
       → Arrives until code place n s1 d1 e p q → Passes until code place line f o s d e p q
   passes_by_slot n y none leads arrives = record {
     within = arrives.within;
     size = arrives.size;
     told = λ v. ap (seen v e) arrives.told ∙ seen_stays d e (extends_more d d1 e x y) v p.events.items within.events ∙ sym (append_nil (seen v d p.events.items))
-        ∙ ap (λ ys. seen v d p.events.items ++ ys) (sym (nothing_on (gone v d code s) (tells v place line f o) (none v)));
+        ∙ ap (λ ys. seen v d p.events.items ++ ys) (sym (nothing_on (gone v d code s) (tells v (length code.instructions) place line f o) (none v)));
     leads = λ v. subst (AllAlike until (suc place) (ways v e code q.pending.items)) (ap (arrived n (gone v d1 code s1)) (ways_stay d d1 x v code p.pending.items within.pending) ∙ sym (leads v (ways v d code p.pending.items))) (arrives.leads v);
   }
 
-  pub passes_by_event : (event : Event) → ((v : ℕ → ℕ) → event_seen v d1 event ≡ on (gone v d code s) (tells v place line f o)) → ((v : ℕ → ℕ) (ws : Ways) → leaves v place o (gone v d code s) ws ≡ arrived 0 (gone v d1 code s1) ws)
+  pub passes_by_event : (event : Event) → ((v : ℕ → ℕ) → event_seen v d1 event ≡ on (gone v d code s) (tells v (length code.instructions) place line f o)) → ((v : ℕ → ℕ) (ws : Ways) → leaves v (length code.instructions) place o (gone v d code s) ws ≡ arrived 0 (gone v d1 code s1) ws)
       → Tells until code place event s1 d1 e p q → Passes until code place line f o s d e p q
   passes_by_event event same leads tells_it = record {
     within = tells_it.within;
@@ -180,7 +186,7 @@ module _ (until : List ℕ) (code : Listing) (place line f : ℕ) (o : Operation
 pub passes_calculated : (until : List ℕ) (code : Listing) (place line f : ℕ) (o : Operation) (d d1 e : List Node) (s s1 : Slot) (p q : Pass) → Extends d d1 → PassIn d code p → Extends d1 e → is_calculation o ≡ true
     → ((v : ℕ → ℕ) → gone v d1 code s1 ≡ updated (calculated o) (gone v d code s)) → Arrives until code place 0 s1 d1 e p q → Passes until code place line f o s d e p q
 passes_calculated until code place line f o d d1 e s s1 p q x within y calculation same arrives =
-    passes_by_slot until code place line f o d d1 e s s1 p q x within 0 y (λ v m. silent o calculation v place line f m) (λ v ws. leads_on o calculation v place (gone v d code s) ws ∙ ap (λ w. arrived 0 w ws) (sym (same v))) arrives
+    passes_by_slot until code place line f o d d1 e s s1 p q x within 0 y (λ v m. silent o calculation v (length code.instructions) place line f m) (λ v ws. leads_on o calculation v (length code.instructions) place (gone v d code s) ws ∙ ap (λ w. arrived 0 w ws) (sym (same v))) arrives
 
 pub passes_skip : (until : List ℕ) (code : Listing) (place line f n : ℕ) (d e : List Node) (s : Slot) (p q : Pass) → PassIn d code p → Extends d e → Arrives until code place n s d e p q → Passes until code place line f (operations.Skip n) s d e p q
 passes_skip until code place line f n d e s p q within y arrives =
@@ -194,7 +200,7 @@ passes_branch until code place line f a n d d1 d2 e s first second p p1 q x y z 
   within = two.within;
   size = two.size ∙ one.size;
   told = λ v. ap (seen v e) (two.told ∙ one.told) ∙ seen_stays d e (extends_more d d2 e (extends_more d d1 d2 x y) z) v p.events.items within.events ∙ sym (append_nil (seen v d p.events.items))
-      ∙ ap (λ ys. seen v d p.events.items ++ ys) (sym (nothing_on (gone v d code s) (tells v place line f (operations.SkipIfZero a n)) (λ m. refl)));
+      ∙ ap (λ ys. seen v d p.events.items ++ ys) (sym (nothing_on (gone v d code s) (tells v (length code.instructions) place line f (operations.SkipIfZero a n)) (λ m. refl)));
   leads = λ v.
       let w0 = kept (λ m. register m a == 0) (gone v d code s) in
       let w1 = kept (λ m. not (register m a == 0)) (gone v d code s) in
@@ -298,7 +304,7 @@ module _ (until : List ℕ) (code : Listing) (place line f : ℕ) (d d1 e : List
   passes_checked c failing class made fits is tells_it =
       passes_by_event until code place line f (operations.Check c) d d1 e s s p q x within (record { guard = s.guard; line = line; function = f; kind = Check class failing })
       (λ v. let m = held v d code s in
-      event_by v d d1 code s (record { guard = s.guard; line = line; function = f; kind = Check class failing }) (tells v place line f (operations.Check c)) x slot refl
+      event_by v d d1 code s (record { guard = s.guard; line = line; function = f; kind = Check class failing }) (tells v (length code.instructions) place line f (operations.Check c)) x slot refl
       (ap (λ k. if holds (value v d1 failing) then stopped (Broken k line f) ∷ [] else []) is ∙ breaks_by (check_class c m) (class_of c) (holds (value v d1 failing)) line f (one_class code.registers c m fits) (test_holds v d1 failing _ made)))
       goes_same tells_it
 
@@ -309,7 +315,7 @@ module _ (until : List ℕ) (code : Listing) (place line f : ℕ) (d d1 e : List
       → Tells until code place (record { guard = s.guard; line = line; function = f; kind = Check classes.Assertion failing }) s d1 e p q → Passes until code place line f (operations.Assert a) s d e p q
   passes_asserted a node failing made is tells_it =
       passes_by_event until code place line f (operations.Assert a) d d1 e s s p q x within (record { guard = s.guard; line = line; function = f; kind = Check classes.Assertion failing })
-      (λ v. event_by v d d1 code s (record { guard = s.guard; line = line; function = f; kind = Check classes.Assertion failing }) (tells v place line f (operations.Assert a)) x slot refl
+      (λ v. event_by v d d1 code s (record { guard = s.guard; line = line; function = f; kind = Check classes.Assertion failing }) (tells v (length code.instructions) place line f (operations.Assert a)) x slot refl
       (ap (λ b. if b then stopped (Broken classes.Assertion line f) ∷ [] else []) (zero_is v a node failing made (is v))))
       goes_same tells_it
 
@@ -317,7 +323,7 @@ module _ (until : List ℕ) (code : Listing) (place line f : ℕ) (d d1 e : List
       → Tells until code place (record { guard = s.guard; line = line; function = f; kind = Assume failing }) s d1 e p q → Passes until code place line f (operations.Assume a) s d e p q
   passes_assumed a node failing made is tells_it =
       passes_by_event until code place line f (operations.Assume a) d d1 e s s p q x within (record { guard = s.guard; line = line; function = f; kind = Assume failing })
-      (λ v. event_by v d d1 code s (record { guard = s.guard; line = line; function = f; kind = Assume failing }) (tells v place line f (operations.Assume a)) x slot refl
+      (λ v. event_by v d d1 code s (record { guard = s.guard; line = line; function = f; kind = Assume failing }) (tells v (length code.instructions) place line f (operations.Assume a)) x slot refl
       (ap (λ b. if b then stopped Blocked ∷ [] else []) (zero_is v a node failing made (is v))))
       goes_same tells_it
 
@@ -345,7 +351,7 @@ pub passes_draw : (until : List ℕ) (code : Listing) (place line f r bits w : �
 passes_draw until code place line f r bits w d d1 d2 e s next answer result p q x y within slot made wide gone_is tells_it =
     let z = extends_more d d1 d2 x y in
     passes_by_event until code place line f (operations.Draw r bits) d d2 e s next p q z within (record { guard = s.guard; line = line; function = f; kind = Draw bits answer })
-    (λ v. event_by v d d2 code s (record { guard = s.guard; line = line; function = f; kind = Draw bits answer }) (tells v place line f (operations.Draw r bits)) z slot refl
+    (λ v. event_by v d d2 code s (record { guard = s.guard; line = line; function = f; kind = Draw bits answer }) (tells v (length code.instructions) place line f (operations.Draw r bits)) z slot refl
     (ap (λ n. asked (actions.Draw bits) line f (answers.Word (word bits n)) ∷ []) (y.value_stays v answer made.there ∙ made.value_is v)))
     (λ v ws.
     let n : value v d2 result ≡ low_bits bits (v place) = wide.value_is v ∙ made.value_is v in
@@ -364,6 +370,56 @@ passes_exit until code place line f d s p q within slot events pending =
       within = told_in d code p q event within (exit_in d code s line f slot) events pending;
       size = ap length pending;
       told = λ v. ap (seen v d) events ∙ seen_push v d p.events.items event
-          ∙ ap (λ ys. seen v d p.events.items ++ ys) (event_by v d d code s event (tells v place line f operations.Exit) (extends_itself d) slot refl refl);
+          ∙ ap (λ ys. seen v d p.events.items ++ ys) (event_by v d d code s event (tells v (length code.instructions) place line f operations.Exit) (extends_itself d) slot refl refl);
       leads = λ v. subst (AllAlike until (suc place) (ways v d code q.pending.items)) (ap (ways v d code) pending) (all_alike_itself until (suc place) (ways v d code q.pending.items));
     }
+
+-- ---- accesses
+
+pub passes_read : (until : List ℕ) (code : Listing) (place line f b to object offset count : ℕ) (d d1 d2 e : List Node) (s next : Slot) (answer bytes : List Id) (p q : Pass) → Extends d d1 → Extends d1 d2 → PassIn d code p → SlotIn d code s
+    → AreWords d1 count answer → ((v : ℕ → ℕ) → map (value v d1) answer ≡ words_by v (length code.instructions) (word_count count) place count) → AreBytesOf d2 bytes (λ v. bytes_of_words count (map (value v d1) answer))
+    → ((v : ℕ → ℕ) → gone v d2 code next ≡ updated (λ m. with_blocks m (put_bytes m.blocks b to (map (value v d2) bytes))) (gone v d2 code s))
+    → Tells until code place (record { guard = s.guard; line = line; function = f; kind = Read object offset count answer }) next d2 e p q → Passes until code place line f (operations.ReadObject b to object offset count) s d e p q
+passes_read until code place line f b to object offset count d d1 d2 e s next answer bytes p q x y within slot words made wide gone_is tells_it =
+    let z = extends_more d d1 d2 x y in
+    let event : Event = record { guard = s.guard; line = line; function = f; kind = Read object offset count answer } in
+    passes_by_event until code place line f (operations.ReadObject b to object offset count) d d2 e s next p q z within event
+    (λ v. event_by v d d2 code s event (tells v (length code.instructions) place line f (operations.ReadObject b to object offset count)) z slot refl
+    (ap (λ (ws : List ℕ). asked (actions.Read (pointer_to object offset) count) line f (answers.Bytes (bytes_of_words count ws)) ∷ []) (map_stays v d1 d2 answer y words.there ∙ made v)))
+    (λ v ws.
+    let n : map (value v d2) bytes ≡ bytes_of_words count (words_by v (length code.instructions) (word_count count) place count) = wide.values_are v ∙ ap (bytes_of_words count) (made v) in
+    let g = gone_stays d d2 z v code s slot in
+    ap (λ w'. arrived 0 w' ws) (sym (gone_is v ∙ (λ i. updated (λ m. with_blocks m (put_bytes m.blocks b to (n i))) (g i)))))
+    tells_it
+
+-- the same nodes, by other names
+pub read_made : (d d1 : List Node) (count : ℕ) (answer given nodes bytes ids : List Id) → ids ≡ bytes → given ≡ answer → nodes ≡ answer → AreBytesOf d1 bytes (λ v. bytes_of_words count (map (value v d) given)) → AreBytesOf d1 ids (λ v. bytes_of_words count (map (value v d) nodes))
+read_made d d1 count answer given nodes bytes ids one two three made = record {
+  words = subst (AreBytes d1) (sym one) made.words;
+  values_are = λ v. ap (map (value v d1)) one ∙ made.values_are v ∙ ap (λ (is : List Id). bytes_of_words count (map (value v d) is)) (two ∙ sym three);
+}
+
+pub read_answer : (v : ℕ → ℕ) (d : List Node) (place count : ℕ) (answer nodes : List Id) (is own : List Instruction) → nodes ≡ answer → is ≡ own → map (value v d) answer ≡ words_by v (length is) (word_count count) place count
+    → map (value v d) nodes ≡ words_by v (length own) (word_count count) place count
+read_answer v d place count answer nodes is own same same_is made = ap (map (value v d)) same ∙ made ∙ ap (λ (xs : List Instruction). words_by v (length xs) (word_count count) place count) same_is
+
+pub read_in : (d d1 d2 : List Node) (code : Listing) (s : Slot) (answer : List Id) (line f object offset count : ℕ) → Extends d d1 → Extends d1 d2 → SlotIn d code s → AreWords d1 count answer
+    → EventIn d2 (record { guard = s.guard; line = line; function = f; kind = Read object offset count answer })
+read_in d d1 d2 code s answer line f object offset count x y h words = record {
+  guard = bit_of_word d2 s.guard (slot_stays d d2 (extends_more d d1 d2 x y) code s h).guard;
+  kind = record { there = all_within_stays d1 d2 answer y words.there; widths = map_widths_stay d1 d2 answer y words.there ∙ words.widths };
+}
+
+pub write_in : (d : List Node) (code : Listing) (s : Slot) (bytes : List Id) (line f object offset : ℕ) → SlotIn d code s → AreBytes d bytes → EventIn d (record { guard = s.guard; line = line; function = f; kind = Write object offset bytes })
+write_in d code s bytes line f object offset h all = record { guard = bit_of_word d s.guard h.guard; kind = all }
+
+-- the bytes of a block, as the slot has them
+pub passes_write : (until : List ℕ) (code : Listing) (place line f object offset b from count : ℕ) (d e : List Node) (s : Slot) (bytes : List Id) (p q : Pass) → PassIn d code p → SlotIn d code s → ((v : ℕ → ℕ) → map (value v d) bytes ≡ bytes_of (held v d code s).blocks b from count)
+    → Tells until code place (record { guard = s.guard; line = line; function = f; kind = Write object offset bytes }) s d e p q → Passes until code place line f (operations.WriteObject object offset b from count) s d e p q
+passes_write until code place line f object offset b from count d e s bytes p q within slot made tells_it =
+    let x = extends_itself d in
+    let event : Event = record { guard = s.guard; line = line; function = f; kind = Write object offset bytes } in
+    passes_by_event until code place line f (operations.WriteObject object offset b from count) d d e s s p q x within event
+    (λ v. event_by v d d code s event (tells v (length code.instructions) place line f (operations.WriteObject object offset b from count)) x slot refl
+    (ap (λ (new : List ℕ). asked (actions.Write (pointer_to object offset) new false) line f answers.Done ∷ []) (made v)))
+    (goes_same until code place line f d d e s p q x within slot) tells_it

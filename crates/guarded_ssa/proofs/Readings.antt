@@ -1,17 +1,19 @@
 -- Two readings of code whose asks and ends are related give related meanings at each place.
-use Rattle.std.proofs.Common.{ℕ, zero, suc, Bool, true, false, List, [], ◌∷◌, Option, Some, None}
+use Rattle.std.proofs.Common.{◌+◌, ◌<◌, ◌≤◌, ℕ, zero, suc, Bool, true, false, List, [], ◌∷◌, length, Option, Some, None, arith}
 use Rattle.std.specs.Prelude.{◌==◌, if◌then◌else◌}
 use Rattle.words.specs.declared.check.Class.{Class}
 use Rattle.words.specs.declared.check.Class.TheVariants as classes
 use Rattle.actions.specs.Behaviour.{word_64}
+use Rattle.actions.specs.declared.action.Action.{Action}
 use Rattle.actions.specs.declared.action.Action.TheVariants as actions
+use Rattle.c_values.specs.Variables.{pointer_to, put_bytes}
 use Rattle.actions.specs.declared.action.Answer.{Answer}
 use Rattle.actions.specs.declared.action.Next.{Next}
 use Rattle.actions.specs.declared.action.Next.TheVariants.{Act, Ended, Blocked, Broken}
 use Rattle.goto_prog.specs.declared.code.Operation.{Operation}
 use Rattle.goto_prog.specs.declared.code.Operation.TheVariants as operations
 use Rattle.goto_prog.specs.declared.code.Instruction.{Instruction}
-use Rattle.goto_prog.specs.Meaning.{Memory, Reading, register, with_register, word_of, check_class, at, or_else, operates, places, does, calculated}
+use Rattle.goto_prog.specs.Meaning.{Memory, Reading, register, with_register, with_blocks, bytes_of, word_of, bytes_in, check_class, at, or_else, operates, places, does, calculated}
 
 -- nothing is done next
 abbrev pub IsEnd : Next → Type 0
@@ -20,11 +22,19 @@ IsEnd (Ended v) = Unit {0}
 IsEnd Blocked = Unit {0}
 IsEnd (Broken class line f) = Unit {0}
 
-module _ {R S : Type 0} (o : Reading R) (q : Reading S) (T : ℕ → R → S → Type 0)
+-- the actions that code asks for
+abbrev pub IsAsked : Action → Type 0
+IsAsked (actions.Draw bits) = Unit {0}
+IsAsked (actions.Read p n) = Unit {0}
+IsAsked (actions.Write p bytes first) = Unit {0}
+IsAsked actions.Exit = Unit {0}
+IsAsked _ = ⊥
+
+-- of so many places
+module _ {R S : Type 0} (most : ℕ) (o : Reading R) (q : Reading S) (T : ℕ → R → S → Type 0)
     (lower : (p : ℕ) (r : R) (s : S) → T (suc p) r s → T p r s)
     (stops : (p : ℕ) (end : Next) → IsEnd end → T p (o.stop end) (q.stop end))
-    (draws : (p bits line f : ℕ) (g : Answer → R) (h : Answer → S) → ((a : Answer) → T (suc p) (g a) (h a)) → T p (o.ask (actions.Draw bits) line f p g) (q.ask (actions.Draw bits) line f p h))
-    (exits : (p line f : ℕ) (g : Answer → R) (h : Answer → S) → ((a : Answer) → T (suc p) (g a) (h a)) → T p (o.ask actions.Exit line f p g) (q.ask actions.Exit line f p h)) where
+    (asks : (p : ℕ) (action : Action) (line f : ℕ) (g : Answer → R) (h : Answer → S) → IsAsked action → p < most → ((a : Answer) → T (suc p) (g a) (h a)) → T p (o.ask action line f p g) (q.ask action line f p h)) where
   abbrev AllRelated : ℕ → List (Memory → R) → List (Memory → S) → Type 0
   AllRelated p [] [] = Unit {0}
   AllRelated p [] (s ∷ ss) = ⊥
@@ -52,7 +62,7 @@ module _ {R S : Type 0} (o : Reading R) (q : Reading S) (T : ℕ → R → S →
   choice_related p true r r' s s' h k = h
   choice_related p false r r' s s' h k = k
 
-  module _ (p : ℕ) (rs : List (Memory → R)) (ss : List (Memory → S)) (h : AllRelated (suc p) rs ss) where
+  module _ (p : ℕ) (few : p < most) (rs : List (Memory → R)) (ss : List (Memory → S)) (h : AllRelated (suc p) rs ss) where
     goes : (n : ℕ) (m : Memory) → T p (at o rs n m) (at q ss n m)
     goes n m = at_related p rs ss n m (all_lower p rs ss h)
 
@@ -62,6 +72,7 @@ module _ {R S : Type 0} (o : Reading R) (q : Reading S) (T : ℕ → R → S →
     operation_related line f (operations.Load r t b offset) m = goes 0 (calculated (operations.Load r t b offset) m)
     operation_related line f (operations.Store b offset count a) m = goes 0 (calculated (operations.Store b offset count a) m)
     operation_related line f (operations.Clear b size) m = goes 0 (calculated (operations.Clear b size) m)
+    operation_related line f (operations.CopyBytes into to from offset count) m = goes 0 (calculated (operations.CopyBytes into to from offset count) m)
     operation_related line f (operations.Convert r t u a) m = goes 0 (calculated (operations.Convert r t u a) m)
     operation_related line f (operations.Sign r op t a) m = goes 0 (calculated (operations.Sign r op t a) m)
     operation_related line f (operations.Arithmetic r op t u a b) m = goes 0 (calculated (operations.Arithmetic r op t u a b) m)
@@ -73,14 +84,19 @@ module _ {R S : Type 0} (o : Reading R) (q : Reading S) (T : ℕ → R → S →
     operation_related line f (operations.Assert a) m = choice_related p (register m a == 0) _ _ _ _ (stops p (Broken classes.Assertion line f) tt) (goes 0 m)
     operation_related line f (operations.Assume a) m = choice_related p (register m a == 0) _ _ _ _ (stops p Blocked tt) (goes 0 m)
     operation_related line f (operations.Draw r bits) m =
-        draws p bits line f (λ a. at o rs 0 (with_register m r (word_of a))) (λ a. at q ss 0 (with_register m r (word_of a))) (λ a. at_related (suc p) rs ss 0 (with_register m r (word_of a)) h)
-    operation_related line f operations.Exit m = exits p line f (λ a. o.stop (Ended (word_64 0))) (λ a. q.stop (Ended (word_64 0))) (λ a. stops (suc p) (Ended (word_64 0)) tt)
+        asks p (actions.Draw bits) line f (λ a. at o rs 0 (with_register m r (word_of a))) (λ a. at q ss 0 (with_register m r (word_of a))) tt few (λ a. at_related (suc p) rs ss 0 (with_register m r (word_of a)) h)
+    operation_related line f (operations.ReadObject b to object offset count) m =
+        let next = λ (a : Answer). with_blocks m (put_bytes m.blocks b to (bytes_in a)) in
+        asks p (actions.Read (pointer_to object offset) count) line f (λ a. at o rs 0 (next a)) (λ a. at q ss 0 (next a)) tt few (λ a. at_related (suc p) rs ss 0 (next a) h)
+    operation_related line f (operations.WriteObject object offset b from count) m =
+        asks p (actions.Write (pointer_to object offset) (bytes_of m.blocks b from count) false) line f (λ a. at o rs 0 m) (λ a. at q ss 0 m) tt few (λ a. at_related (suc p) rs ss 0 m h)
+    operation_related line f operations.Exit m = asks p actions.Exit line f (λ a. o.stop (Ended (word_64 0))) (λ a. q.stop (Ended (word_64 0))) tt few (λ a. stops (suc p) (Ended (word_64 0)) tt)
 
-  places_related : (p : ℕ) (code : List Instruction) → AllRelated p (places o false p code) (places q false p code)
-  places_related p [] = tt
-  places_related p (i ∷ code) =
-      let rest = places_related (suc p) code in
-      ((λ m. operation_related p (places o false (suc p) code) (places q false (suc p) code) rest i.line i.function i.operation m), all_lower p (places o false (suc p) code) (places q false (suc p) code) rest)
+  places_related : (p : ℕ) (code : List Instruction) → p + length code ≤ most → AllRelated p (places o false p code) (places q false p code)
+  places_related p [] room = tt
+  places_related p (i ∷ code) room =
+      let rest = places_related (suc p) code (omega (arith, room)) in
+      ((λ m. operation_related p (omega (arith, room)) (places o false (suc p) code) (places q false (suc p) code) rest i.line i.function i.operation m), all_lower p (places o false (suc p) code) (places q false (suc p) code) rest)
 
-  pub does_related : (p : ℕ) (code : List Instruction) (m : Memory) → T p (does o false p code m) (does q false p code m)
-  does_related p code m = at_related p (places o false p code) (places q false p code) 0 m (places_related p code)
+  pub does_related : (p : ℕ) (code : List Instruction) (m : Memory) → p + length code ≤ most → T p (does o false p code m) (does q false p code m)
+  does_related p code m room = at_related p (places o false p code) (places q false p code) 0 m (places_related p code room)

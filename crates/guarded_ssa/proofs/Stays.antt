@@ -1,5 +1,5 @@
 -- What a valuation sees stays in a graph that has grown.
-use Rattle.std.proofs.Common.{◌≡◌, ℕ, List, [], ◌∷◌, ◌++◌, Option, Some, None, inl, inr, refl, sym, ap, ◌∙◌}
+use Rattle.std.proofs.Common.{◌≡◌, ℕ, false, List, [], ◌∷◌, ◌++◌, Option, Some, None, inl, inr, refl, sym, ap, ◌∙◌}
 use Rattle.std.specs.Prelude.{◌==◌, slice_index_or, if◌then◌else◌}
 use Rattle.std.specs.List.{All}
 use Rattle.std.proofs.lemmas.List.Elements.{All-head, All-tail, All-weaker}
@@ -14,13 +14,15 @@ use Rattle.c_types.specs.Integers.{width as type_width}
 use Rattle.word_dag.specs.declared.nodes.Id.{Id}
 use Rattle.word_dag.specs.declared.nodes.Node.{Node}
 use Rattle.word_dag.specs.Meaning.{value, holds}
-use Rattle.word_dag.specs.Growth.{Extends}
+use Rattle.word_dag.specs.Growth.{Within, Extends}
+use Rattle.c_values.specs.Variables.{pointer_to}
+use Rattle.guarded_ssa.specs.Runs.{bytes_of_words}
 use Rattle.word_dag.proofs.Grown.{within_stays, all_within_stays, map_stays, map_widths_stay}
 use Rattle.value_nodes.specs.Values.{IsWord, IsValue}
 use Rattle.goto_prog.specs.CodeThread.{Listing}
 use Rattle.guarded_ssa.specs.declared.forms.Event.{Event}
 use Rattle.guarded_ssa.specs.declared.forms.EventKind.{EventKind}
-use Rattle.guarded_ssa.specs.declared.forms.EventKind.TheVariants.{Draw, Exit, Check, Assume}
+use Rattle.guarded_ssa.specs.declared.forms.EventKind.TheVariants.{Draw, Read, Write, Exit, Check, Assume}
 use Rattle.guarded_ssa.specs.declared.registers.Live.{Live}
 use Rattle.guarded_ssa.specs.declared.registers.Zeros.{Zeros}
 use Rattle.guarded_ssa.specs.declared.slots.Slot.{Slot}
@@ -103,6 +105,8 @@ module _ (d e : List Node) (x : Extends d e) where
 
   kind_stays : (k : EventKind) → KindIn d k → KindIn e k
   kind_stays (Draw bits answer) h = (within_stays d e answer x h.0, x.width_stays answer h.0 ∙ h.1)
+  kind_stays (Read k offset count answer) h = record { there = all_within_stays d e answer x h.there; widths = map_widths_stay d e answer x h.there ∙ h.widths }
+  kind_stays (Write k offset bytes) h = All-weaker (λ (i : Id). IsWord d i 8) (λ (i : Id). IsWord e i 8) (λ i. word_stays i 8) bytes h
   kind_stays Exit h = tt
   kind_stays (Check class failing) h = bit_stays failing h
   kind_stays (Assume failing) h = bit_stays failing h
@@ -115,6 +119,9 @@ module _ (d e : List Node) (x : Extends d e) where
 
   kind_seen_stays : (v : ℕ → ℕ) (line f : ℕ) (k : EventKind) → KindIn d k → kind_seen v e line f k ≡ kind_seen v d line f k
   kind_seen_stays v line f (Draw bits answer) h = ap (λ n. asked (actions.Draw bits) line f (answers.Word (word bits n)) ∷ []) (x.value_stays v answer h.0)
+  kind_seen_stays v line f (Read k offset count answer) h = ap (λ (words : List ℕ). asked (actions.Read (pointer_to k offset) count) line f (answers.Bytes (bytes_of_words count words)) ∷ []) (map_stays v d e answer x h.there)
+  kind_seen_stays v line f (Write k offset bytes) h =
+      ap (λ (new : List ℕ). asked (actions.Write (pointer_to k offset) new false) line f answers.Done ∷ []) (map_stays v d e bytes x (All-weaker (λ (i : Id). IsWord d i 8) (Within d) (λ i word. word.there) bytes h))
   kind_seen_stays v line f Exit h = refl
   kind_seen_stays v line f (Check class failing) h = ap (λ n. if holds n then stopped (Broken class line f) ∷ [] else []) (x.value_stays v failing h.there)
   kind_seen_stays v line f (Assume failing) h = ap (λ n. if holds n then stopped Blocked ∷ [] else []) (x.value_stays v failing h.there)

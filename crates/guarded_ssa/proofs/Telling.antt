@@ -5,12 +5,14 @@ use Rattle.words.specs.declared.check.Class.{Class}
 use Rattle.words.specs.declared.check.Class.TheVariants as classes
 use Rattle.actions.specs.Behaviour.{word_64}
 use Rattle.actions.specs.declared.action.Action.TheVariants as actions
+use Rattle.actions.specs.declared.action.Answer.TheVariants as answers
+use Rattle.c_values.specs.Variables.{pointer_to, put_bytes}
 use Rattle.actions.specs.declared.action.Next.{Next}
 use Rattle.actions.specs.declared.action.Next.TheVariants.{Ended, Blocked, Broken}
 use Rattle.goto_prog.specs.declared.code.Operation.{Operation}
 use Rattle.goto_prog.specs.declared.code.Operation.TheVariants as operations
 use Rattle.goto_prog.specs.declared.code.Instruction.{Instruction}
-use Rattle.goto_prog.specs.Meaning.{Memory, register, with_register, word_of, check_class, calculated, or_else, at, operates, places}
+use Rattle.goto_prog.specs.Meaning.{Memory, register, with_register, with_blocks, bytes_of, word_of, bytes_in, check_class, calculated, or_else, at, operates, places}
 use Rattle.guarded_ssa.specs.Runs.{Run, stops, asks, answer_at, running}
 use Rattle.guarded_ssa.specs.Ways.{stopped, read, Ways, arrived, breaks, tells, leaves, told}
 
@@ -37,7 +39,7 @@ remaining (Some m ∷ ws) (p ∷ ps) = p m
 remaining (None ∷ ws) [] = end
 remaining (None ∷ ws) (p ∷ ps) = remaining ws ps
 
-module _ (v : ℕ → ℕ) where
+module _ (v : ℕ → ℕ) (apart : ℕ) where
   abbrev Places : Type 0
   Places = List (Memory → Run)
 
@@ -58,7 +60,7 @@ module _ (v : ℕ → ℕ) where
   single_nowhere (Some m ∷ ws) none = absurd none
 
   -- one way arrives where there was none
-  arrives : (n : ℕ) (m : Memory) (ws : Ways) (ps : Places) → Nowhere ws → length ps ≤ length ws → remaining (arrived n (Some m) ws) ps ≡ at (running v) ps n m
+  arrives : (n : ℕ) (m : Memory) (ws : Ways) (ps : Places) → Nowhere ws → length ps ≤ length ws → remaining (arrived n (Some m) ws) ps ≡ at (running v apart) ps n m
   arrives n m [] [] none room = refl
   arrives n m [] (p ∷ ps) none room = absurd (omega (arith, room))
   arrives zero m (w ∷ ws) [] none room = refl
@@ -86,12 +88,13 @@ module _ (v : ℕ → ℕ) where
   length_arrived zero x (w ∷ ws) = refl
   length_arrived (suc n) x (w ∷ ws) = ap suc (length_arrived n x ws)
 
-  pub leaves_none : (place : ℕ) (o : Operation) (ws : Ways) → leaves v place o None ws ≡ ws
+  pub leaves_none : (place : ℕ) (o : Operation) (ws : Ways) → leaves v apart place o None ws ≡ ws
   leaves_none place (operations.Constant r bits) ws = arrived_none 0 ws
   leaves_none place (operations.Copy r a) ws = arrived_none 0 ws
   leaves_none place (operations.Load r t b offset) ws = arrived_none 0 ws
   leaves_none place (operations.Store b offset count a) ws = arrived_none 0 ws
   leaves_none place (operations.Clear b size) ws = arrived_none 0 ws
+  leaves_none place (operations.CopyBytes into to from offset count) ws = arrived_none 0 ws
   leaves_none place (operations.Convert r from to a) ws = arrived_none 0 ws
   leaves_none place (operations.Sign r op t a) ws = arrived_none 0 ws
   leaves_none place (operations.Arithmetic r op t u a b) ws = arrived_none 0 ws
@@ -103,42 +106,45 @@ module _ (v : ℕ → ℕ) where
   leaves_none place (operations.Assert a) ws = arrived_none 0 ws
   leaves_none place (operations.Assume a) ws = arrived_none 0 ws
   leaves_none place (operations.Draw r bits) ws = arrived_none 0 ws
+  leaves_none place (operations.ReadObject b to k offset count) ws = arrived_none 0 ws
+  leaves_none place (operations.WriteObject k offset b from count) ws = arrived_none 0 ws
   leaves_none place operations.Exit ws = refl
 
   -- ---- one step from a place that is reached
 
   abbrev Tells : ℕ → List Instruction → Type 0
-  Tells place code = (ws : Ways) → Single ws → length code ≤ length ws → read (told v place code ws) end ≡ remaining ws (places (running v) false place code)
+  Tells place code = (ws : Ways) → Single ws → length code ≤ length ws → read (told v apart place code ws) end ≡ remaining ws (places (running v apart) false place code)
 
-  length_places : (place : ℕ) (code : List Instruction) → length (places (running v) false place code) ≡ length code
+  length_places : (place : ℕ) (code : List Instruction) → length (places (running v apart) false place code) ≡ length code
   length_places place [] = refl
   length_places place (i ∷ code) = ap suc (length_places (suc place) code)
 
   module _ (place : ℕ) (code : List Instruction) (tell : Tells place code) (m : Memory) (ws : Ways) (none : Nowhere ws) (room : length code ≤ length ws) where
-    goes : (n : ℕ) (m' : Memory) → read (told v place code (arrived n (Some m') ws)) end ≡ at (running v) (places (running v) false place code) n m'
+    goes : (n : ℕ) (m' : Memory) → read (told v apart place code (arrived n (Some m') ws)) end ≡ at (running v apart) (places (running v apart) false place code) n m'
     goes n m' =
         tell (arrived n (Some m') ws) (single_arrived n m' ws none) (omega (arith, room, length_arrived n (Some m') ws))
-        ∙ arrives n m' ws (places (running v) false place code) none (omega (arith, room, length_places place code))
+        ∙ arrives n m' ws (places (running v apart) false place code) none (omega (arith, room, length_places place code))
 
-    jumps : (b : Bool) (n : ℕ) → read (told v place code (arrived n (if b then Some m else None) (arrived 0 (if not b then Some m else None) ws))) end
-        ≡ (if b then at (running v) (places (running v) false place code) n m else at (running v) (places (running v) false place code) 0 m)
-    jumps true n = ap (λ xs. read (told v place code (arrived n (Some m) xs)) end) (arrived_none 0 ws) ∙ goes n m
-    jumps false n = ap (λ xs. read (told v place code xs) end) (arrived_none n (arrived 0 (Some m) ws)) ∙ goes 0 m
+    jumps : (b : Bool) (n : ℕ) → read (told v apart place code (arrived n (if b then Some m else None) (arrived 0 (if not b then Some m else None) ws))) end
+        ≡ (if b then at (running v apart) (places (running v apart) false place code) n m else at (running v apart) (places (running v apart) false place code) 0 m)
+    jumps true n = ap (λ xs. read (told v apart place code (arrived n (Some m) xs)) end) (arrived_none 0 ws) ∙ goes n m
+    jumps false n = ap (λ xs. read (told v apart place code xs) end) (arrived_none n (arrived 0 (Some m) ws)) ∙ goes 0 m
 
-    breaks_or : (c : Option Class) (line f : ℕ) → read (breaks c line f ++ told v place code (arrived 0 (Some m) ws)) end ≡ or_else (running v) c line f (at (running v) (places (running v) false place code) 0 m)
+    breaks_or : (c : Option Class) (line f : ℕ) → read (breaks c line f ++ told v apart place code (arrived 0 (Some m) ws)) end ≡ or_else (running v apart) c line f (at (running v apart) (places (running v apart) false place code) 0 m)
     breaks_or None line f = goes 0 m
     breaks_or (Some c) line f = refl
 
-    ends_or : (b : Bool) (next : Next) → read ((if b then stopped next ∷ [] else []) ++ told v place code (arrived 0 (Some m) ws)) end ≡ (if b then stops next else at (running v) (places (running v) false place code) 0 m)
+    ends_or : (b : Bool) (next : Next) → read ((if b then stopped next ∷ [] else []) ++ told v apart place code (arrived 0 (Some m) ws)) end ≡ (if b then stops next else at (running v apart) (places (running v apart) false place code) 0 m)
     ends_or true next = refl
     ends_or false next = goes 0 m
 
-    step : (line f from : ℕ) (o : Operation) → read (tells v from line f o m ++ told v place code (leaves v from o (Some m) ws)) end ≡ operates (running v) false from line f o (places (running v) false place code) m
+    step : (line f from : ℕ) (o : Operation) → read (tells v apart from line f o m ++ told v apart place code (leaves v apart from o (Some m) ws)) end ≡ operates (running v apart) false from line f o (places (running v apart) false place code) m
     step line f from (operations.Constant r bits) = goes 0 (calculated (operations.Constant r bits) m)
     step line f from (operations.Copy r a) = goes 0 (calculated (operations.Copy r a) m)
     step line f from (operations.Load r t b offset) = goes 0 (calculated (operations.Load r t b offset) m)
     step line f from (operations.Store b offset count a) = goes 0 (calculated (operations.Store b offset count a) m)
     step line f from (operations.Clear b size) = goes 0 (calculated (operations.Clear b size) m)
+    step line f from (operations.CopyBytes into to b offset count) = goes 0 (calculated (operations.CopyBytes into to b offset count) m)
     step line f from (operations.Convert r t u a) = goes 0 (calculated (operations.Convert r t u a) m)
     step line f from (operations.Sign r op t a) = goes 0 (calculated (operations.Sign r op t a) m)
     step line f from (operations.Arithmetic r op t u a b) = goes 0 (calculated (operations.Arithmetic r op t u a b) m)
@@ -150,7 +156,12 @@ module _ (v : ℕ → ℕ) where
     step line f from (operations.Assert a) = ends_or (register m a == 0) (Broken classes.Assertion line f)
     step line f from (operations.Assume a) = ends_or (register m a == 0) Blocked
     step line f from (operations.Draw r bits) =
-        ap (asks (actions.Draw bits) line f (answer_at v from (actions.Draw bits))) (goes 0 (with_register m r (word_of (answer_at v from (actions.Draw bits)))))
+        ap (asks (actions.Draw bits) line f (answer_at v apart from (actions.Draw bits))) (goes 0 (with_register m r (word_of (answer_at v apart from (actions.Draw bits)))))
+    step line f from (operations.ReadObject b to k offset count) =
+        let action = actions.Read (pointer_to k offset) count in
+        let answer = answer_at v apart from action in
+        ap (asks action line f answer) (goes 0 (with_blocks m (put_bytes m.blocks b to (bytes_in answer))))
+    step line f from (operations.WriteObject k offset b at count) = ap (asks (actions.Write (pointer_to k offset) (bytes_of m.blocks b at count) false) line f answers.Done) (goes 0 m)
     step line f from operations.Exit = refl
 
   -- ---- all of it
@@ -159,6 +170,6 @@ module _ (v : ℕ → ℕ) where
   tells_all [] place ws single room = sym (remaining_none ws)
   tells_all (i ∷ code) place [] single room = absurd (omega (arith, room))
   tells_all (i ∷ code) place (None ∷ ws) single room =
-      ap (λ xs. read (told v (suc place) code xs) end) (leaves_none place i.operation ws) ∙ tells_all code (suc place) ws single (omega (arith, room))
+      ap (λ xs. read (told v apart (suc place) code xs) end) (leaves_none place i.operation ws) ∙ tells_all code (suc place) ws single (omega (arith, room))
   tells_all (i ∷ code) place (Some m ∷ ws) single room =
       step (suc place) code (tells_all code (suc place)) m ws single (omega (arith, room)) i.line i.function place i.operation

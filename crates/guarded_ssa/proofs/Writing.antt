@@ -6,7 +6,7 @@ use Rattle.std.proofs.lemmas.List.{length-map, length-take-le, length-drop, take
 use Rattle.std.proofs.lemmas.List.Elements.{All-take, All-drop}
 use Rattle.c_types.specs.declared.integers.IntegerType.{IntegerType}
 use Rattle.core_tree.specs.Typed.{is_within}
-use Rattle.c_values.specs.Variables.{zeros, low_bytes, put_at, block_of, put_bytes}
+use Rattle.c_values.specs.Variables.{Variables, zeros, low_bytes, put_at, block_of, put_bytes}
 use Rattle.word_dag.specs.declared.nodes.Id.{Id}
 use Rattle.word_dag.specs.declared.nodes.Node.{Node}
 use Rattle.word_dag.specs.Meaning.{value, holds}
@@ -14,7 +14,7 @@ use Rattle.word_dag.specs.Growth.{Extends}
 use Rattle.value_nodes.specs.Values.{IsWord, AreBytes}
 use Rattle.value_nodes.specs.Bytes.{AreBytesOf}
 use Rattle.goto_prog.specs.declared.code.Operation.TheVariants as operations
-use Rattle.goto_prog.specs.Meaning.{Memory, register, with_blocks, calculated}
+use Rattle.goto_prog.specs.Meaning.{Memory, register, with_blocks, bytes_of, calculated}
 use Rattle.goto_prog.specs.Fitting.{is_block, has_bytes}
 use Rattle.goto_prog.specs.CodeThread.{Listing}
 use Rattle.goto_prog.proofs.Blocks.{bytes_few}
@@ -127,3 +127,34 @@ module _ (d : List Node) (code : Listing) (s : Slot) (b place size : ℕ) (sizes
         let same = take-map f size (drop place s.bytes.items) in
         let rest = drop-map f place s.bytes.items in
         ap (map f) own ∙ sym same ∙ ap (take size) (sym rest) ∙ (λ i. take (size_is i) (drop (place_at i) (map f s.bytes.items))) ∙ sym (block_is code.blocks (map f s.bytes.items) b lt)
+
+-- ---- the nodes of some bytes of a block
+
+module _ (d : List Node) (block ids : List Id) (offset count : ℕ) (is : ids ≡ take count (drop offset block)) where
+  some_bytes : AreBytes d block → AreBytes d ids
+  some_bytes all = subst (AreBytes d) (sym is) (All-take (λ i. IsWord d i 8) count (drop offset block) (All-drop (λ i. IsWord d i 8) offset block all))
+
+  some_values : (v : ℕ → ℕ) (blocks : Variables) (b : ℕ) → map (value v d) block ≡ block_of blocks b → map (value v d) ids ≡ bytes_of blocks b offset count
+  some_values v blocks b values =
+      let f = value v d in
+      ap (map f) is ∙ sym (take-map f count (drop offset block)) ∙ ap (take count) (sym (drop-map f offset block)) ∙ ap (λ (bs : List ℕ). take count (drop offset bs)) values
+
+  pub some_made : (code : Listing) (s : Slot) (b : ℕ) → AreBytes d block → ((v : ℕ → ℕ) → map (value v d) block ≡ block_of (held v d code s).blocks b) → AreBytesOf d ids (λ v. bytes_of (held v d code s).blocks b offset count)
+  some_made code s b all values = record { words = some_bytes all; values_are = λ v. some_values v (held v d code s).blocks b (values v) }
+
+  pub some_size : (sizes : List ℕ) (b : ℕ) → is_within sizes b offset count ≡ true → length block ≡ slice_index sizes b → length ids ≡ count
+  some_size sizes b there size = ap length is ∙ length-take-le count (drop offset block) (omega (arith, (lies sizes b offset count there).1, size, length-drop offset block))
+
+pub section_fits : (sizes : List ℕ) (b offset count size : ℕ) → is_within sizes b offset count ≡ true → size ≡ slice_index sizes b → offset + count ≤ size
+section_fits sizes b offset count size there same = omega (arith, (lies sizes b offset count there).1, same)
+
+pub within_by_size : (sizes : List ℕ) (b offset count size : ℕ) → is_within sizes b offset count ≡ true → size ≡ count → is_within sizes b offset size ≡ true
+within_by_size sizes b offset count size there same = subst (λ n. is_within sizes b offset n ≡ true) (sym same) there
+
+pub copy_gone : (v : ℕ → ℕ) (d : List Node) (code : Listing) (s t : Slot) (into to from offset count : ℕ) (ids nodes : List Id) → nodes ≡ ids → map (value v d) ids ≡ bytes_of (held v d code s).blocks from offset count
+    → gone v d code t ≡ updated (λ m. with_blocks m (put_bytes m.blocks into to (map (value v d) nodes))) (gone v d code s) → gone v d code t ≡ updated (calculated (operations.CopyBytes into to from offset count)) (gone v d code s)
+copy_gone v d code s t into to from offset count ids nodes nodes_are values so =
+    let f = value v d in
+    let m = held v d code s in
+    let bytes : map f nodes ≡ bytes_of m.blocks from offset count = ap (map f) nodes_are ∙ values in
+    so ∙ same_update v d code s (λ k. with_blocks k (put_bytes k.blocks into to (map f nodes))) (calculated (operations.CopyBytes into to from offset count)) (ap (λ (bs : List ℕ). with_blocks m (put_bytes m.blocks into to bs)) bytes)

@@ -1,7 +1,9 @@
 -- What guarded events tell under a valuation of the variables, and which thread they are a form of.
-use Rattle.std.specs.Prelude.{◌≡◌, ℕ, List, [], ◌∷◌, ◌++◌, All, if◌then◌else◌}
+use Rattle.std.specs.Prelude.{◌≡◌, ℕ, false, List, [], ◌∷◌, ◌++◌, map, All, if◌then◌else◌}
 use Rattle.words.specs.BitVector.{word}
 use Rattle.actions.specs.Behaviour.{Behaviour, word_64}
+use Rattle.actions.specs.Objects.{Objects}
+use Rattle.c_values.specs.Variables.{pointer_to, word_count}
 use Rattle.actions.specs.LocalRun.{Exchange, IsLocalRun}
 use Rattle.actions.specs.declared.action.Action.TheVariants as actions
 use Rattle.actions.specs.declared.action.Answer.TheVariants as answers
@@ -11,10 +13,11 @@ use Rattle.word_dag.specs.declared.nodes.Id.{Id}
 use Rattle.word_dag.specs.declared.nodes.Node.{Node}
 use Rattle.word_dag.specs.Meaning.{width, value, holds}
 use Rattle.word_dag.specs.Growth.{Within}
+use Rattle.value_nodes.specs.Values.{AreBytes}
 use Rattle.guarded_ssa.specs.declared.forms.Event.{Event}
 use Rattle.guarded_ssa.specs.declared.forms.EventKind.{EventKind}
-use Rattle.guarded_ssa.specs.declared.forms.EventKind.TheVariants.{Draw, Exit, Check, Assume}
-use Rattle.guarded_ssa.specs.Runs.{Run, stops, asks}
+use Rattle.guarded_ssa.specs.declared.forms.EventKind.TheVariants.{Draw, Read, Write, Exit, Check, Assume}
+use Rattle.guarded_ssa.specs.Runs.{Run, stops, asks, bytes_of_words, word_widths}
 use Rattle.guarded_ssa.specs.Ways.{Seen, asked, stopped, read}
 
 -- ---- under one valuation
@@ -22,6 +25,9 @@ use Rattle.guarded_ssa.specs.Ways.{Seen, asked, stopped, read}
 -- where the guard is true
 abbrev pub kind_seen : (ℕ → ℕ) → List Node → (line function : ℕ) → EventKind → List Seen
 kind_seen v d line f (Draw bits answer) = asked (actions.Draw bits) line f (answers.Word (word bits (value v d answer))) ∷ []
+kind_seen v d line f (Read k offset count answer) =
+    asked (actions.Read (pointer_to k offset) count) line f (answers.Bytes (bytes_of_words count (map (value v d) answer))) ∷ []
+kind_seen v d line f (Write k offset bytes) = asked (actions.Write (pointer_to k offset) (map (value v d) bytes) false) line f answers.Done ∷ []
 kind_seen v d line f Exit = asked actions.Exit line f answers.Done ∷ stopped (Ended (word_64 0)) ∷ []
 kind_seen v d line f (Check class failing) = if holds (value v d failing) then stopped (Broken class line f) ∷ [] else []
 kind_seen v d line f (Assume failing) = if holds (value v d failing) then stopped Blocked ∷ [] else []
@@ -59,8 +65,15 @@ pub record IsBit (d : List Node) (i : Id) : Type 0 where
   pub there : Within d i
   pub width_is : width d i ≡ 1
 
+-- the words of so many bytes
+pub record AreWords (d : List Node) (count : ℕ) (ids : List Id) : Type 0 where
+  pub there : All (Within d) ids
+  pub widths : map (width d) ids ≡ word_widths (word_count count) count
+
 abbrev pub KindIn : List Node → EventKind → Type 0
 KindIn d (Draw bits answer) = Within d answer × (width d answer ≡ bits)
+KindIn d (Read k offset count answer) = AreWords d count answer
+KindIn d (Write k offset bytes) = AreBytes d bytes
 KindIn d Exit = Unit {0}
 KindIn d (Check class failing) = IsBit d failing
 KindIn d (Assume failing) = IsBit d failing
@@ -73,8 +86,13 @@ pub record EventIn (d : List Node) (e : Event) : Type 0 where
 abbrev pub FormIn : List Node → List Event → Type 0
 FormIn d es = All (EventIn d) es
 
--- one form, of thread 0
-abbrev pub AreForms : Behaviour → List Node → List (List Event) → Type 0
-AreForms b d [] = ⊥
-AreForms b d (es ∷ []) = IsForm b d es × FormIn d es
-AreForms b d (es ∷ (more ∷ others)) = ⊥
+-- the events of a thread, and the store at the start of the program
+pub record Form : Type 0 where
+  pub events : List Event
+  pub store : Objects
+
+-- one form, of thread 0, with this store
+abbrev pub AreForms : Behaviour → Objects → List Node → List Form → Type 0
+AreForms b objects d [] = ⊥
+AreForms b objects d (f ∷ []) = IsForm b d f.events × FormIn d f.events × (f.store ≡ objects)
+AreForms b objects d (f ∷ (more ∷ others)) = ⊥

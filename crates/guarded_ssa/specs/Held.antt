@@ -99,12 +99,12 @@ pub record Tells (until : List ℕ) (code : Listing) (place : ℕ) (event : Even
 pub record Passes (until : List ℕ) (code : Listing) (place line function : ℕ) (o : Operation) (s : Slot) (d e : List Node) (p q : Pass) : Type 0 where
   pub within : PassIn e code q
   pub size : length q.pending.items ≡ length p.pending.items
-  pub told : (v : ℕ → ℕ) → seen v e q.events.items ≡ seen v d p.events.items ++ on (gone v d code s) (tells v place line function o)
-  pub leads : (v : ℕ → ℕ) → AllAlike until (suc place) (ways v e code q.pending.items) (leaves v place o (gone v d code s) (ways v d code p.pending.items))
+  pub told : (v : ℕ → ℕ) → seen v e q.events.items ≡ seen v d p.events.items ++ on (gone v d code s) (tells v (length code.instructions) place line function o)
+  pub leads : (v : ℕ → ℕ) → AllAlike until (suc place) (ways v e code q.pending.items) (leaves v (length code.instructions) place o (gone v d code s) (ways v d code p.pending.items))
 
 -- an instruction has been passed over: what the events and the rest of the code tell is the same as before it
 pub record Visits (until : List ℕ) (code : Listing) (place : ℕ) (i : Instruction) (d e : List Node) (p q : Pass) : Type 0 where
   pub within : PassIn e code q
   pub size : suc (length q.pending.items) ≡ length p.pending.items
   pub goes : (v : ℕ → ℕ) (rest : List Instruction) → Covers until (suc place) rest
-      → seen v e q.events.items ++ told v (suc place) rest (ways v e code q.pending.items) ≡ seen v d p.events.items ++ told v place (i ∷ rest) (ways v d code p.pending.items)
+      → seen v e q.events.items ++ told v (length code.instructions) (suc place) rest (ways v e code q.pending.items) ≡ seen v d p.events.items ++ told v (length code.instructions) place (i ∷ rest) (ways v d code p.pending.items)

@@ -31,6 +31,7 @@ first_read (operations.Copy r a) = Some a
 first_read (operations.Load r t b offset) = None
 first_read (operations.Store b offset count a) = Some a
 first_read (operations.Clear b size) = None
+first_read (operations.CopyBytes into to from offset count) = None
 first_read (operations.Convert r from to a) = Some a
 first_read (operations.Sign r op t a) = Some a
 first_read (operations.Arithmetic r op t u a b) = Some a
@@ -42,6 +43,8 @@ first_read (operations.Check c) = first_checked c
 first_read (operations.Assert a) = Some a
 first_read (operations.Assume a) = Some a
 first_read (operations.Draw r bits) = None
+first_read (operations.ReadObject b to k offset count) = None
+first_read (operations.WriteObject k offset b from count) = None
 first_read operations.Exit = None
 
 abbrev pub second_read : Operation → Option ℕ
@@ -50,6 +53,7 @@ second_read (operations.Copy r a) = None
 second_read (operations.Load r t b offset) = None
 second_read (operations.Store b offset count a) = None
 second_read (operations.Clear b size) = None
+second_read (operations.CopyBytes into to from offset count) = None
 second_read (operations.Convert r from to a) = None
 second_read (operations.Sign r op t a) = None
 second_read (operations.Arithmetic r op t u a b) = Some b
@@ -61,6 +65,8 @@ second_read (operations.Check c) = second_checked c
 second_read (operations.Assert a) = None
 second_read (operations.Assume a) = None
 second_read (operations.Draw r bits) = None
+second_read (operations.ReadObject b to k offset count) = None
+second_read (operations.WriteObject k offset b from count) = None
 second_read operations.Exit = None
 
 -- ---- `until` gives for each register the place behind its last read

@@ -1,5 +1,5 @@
 -- One pass over code under a valuation: at most one place is reached with a memory, its instruction tells what it does and leaves for other places.
-use Rattle.std.specs.Prelude.{ℕ, zero, suc, ◌==◌, Bool, not, List, [], ◌∷◌, ◌++◌, Option, Some, None, if◌then◌else◌}
+use Rattle.std.specs.Prelude.{ℕ, zero, suc, ◌==◌, Bool, false, not, List, [], ◌∷◌, ◌++◌, Option, Some, None, if◌then◌else◌}
 use Rattle.words.specs.declared.check.Class.{Class}
 use Rattle.words.specs.declared.check.Class.TheVariants as classes
 use Rattle.actions.specs.Behaviour.{word_64}
@@ -11,7 +11,8 @@ use Rattle.actions.specs.declared.action.Next.TheVariants.{Ended, Blocked, Broke
 use Rattle.goto_prog.specs.declared.code.Operation.{Operation}
 use Rattle.goto_prog.specs.declared.code.Operation.TheVariants as operations
 use Rattle.goto_prog.specs.declared.code.Instruction.{Instruction}
-use Rattle.goto_prog.specs.Meaning.{Memory, register, with_register, word_of, check_class, calculated}
+use Rattle.c_values.specs.Variables.{pointer_to, put_bytes}
+use Rattle.goto_prog.specs.Meaning.{Memory, register, with_register, with_blocks, bytes_of, word_of, bytes_in, check_class, calculated}
 use Rattle.guarded_ssa.specs.Runs.{Run, stops, asks, answer_at}
 
 -- ---- what is told
@@ -59,21 +60,27 @@ breaks (Some c) line f = stopped (Broken c line f) ∷ []
 
 -- ---- one instruction, reached with w
 
-module _ (v : ℕ → ℕ) where
+module _ (v : ℕ → ℕ) (apart : ℕ) where
   -- what an operation at a place tells
   abbrev pub tells : (place line function : ℕ) → Operation → Memory → List Seen
   tells place line f (operations.Check c) m = breaks (check_class c m) line f
   tells place line f (operations.Assert a) m = if register m a == 0 then stopped (Broken classes.Assertion line f) ∷ [] else []
   tells place line f (operations.Assume a) m = if register m a == 0 then stopped Blocked ∷ [] else []
-  tells place line f (operations.Draw r bits) m = asked (actions.Draw bits) line f (answer_at v place (actions.Draw bits)) ∷ []
-  tells place line f operations.Exit m = asked actions.Exit line f (answer_at v place actions.Exit) ∷ stopped (Ended (word_64 0)) ∷ []
+  tells place line f (operations.Draw r bits) m = asked (actions.Draw bits) line f (answer_at v apart place (actions.Draw bits)) ∷ []
+  tells place line f (operations.ReadObject b to k offset count) m =
+      let action = actions.Read (pointer_to k offset) count in asked action line f (answer_at v apart place action) ∷ []
+  tells place line f (operations.WriteObject k offset b from count) m =
+      let action = actions.Write (pointer_to k offset) (bytes_of m.blocks b from count) false in asked action line f (answer_at v apart place action) ∷ []
+  tells place line f operations.Exit m = asked actions.Exit line f (answer_at v apart place actions.Exit) ∷ stopped (Ended (word_64 0)) ∷ []
   tells place line f _ m = []
 
   -- where it leads: checks and assumptions change no way, since what is told behind an end doesn't count
   abbrev pub leaves : (place : ℕ) → Operation → Option Memory → Ways → Ways
   leaves place (operations.Skip n) w ws = arrived n w ws
   leaves place (operations.SkipIfZero a n) w ws = arrived n (kept (λ m. register m a == 0) w) (arrived 0 (kept (λ m. not (register m a == 0)) w) ws)
-  leaves place (operations.Draw r bits) w ws = arrived 0 (updated (λ m. with_register m r (word_of (answer_at v place (actions.Draw bits)))) w) ws
+  leaves place (operations.Draw r bits) w ws = arrived 0 (updated (λ m. with_register m r (word_of (answer_at v apart place (actions.Draw bits)))) w) ws
+  leaves place (operations.ReadObject b to k offset count) w ws =
+      arrived 0 (updated (λ m. with_blocks m (put_bytes m.blocks b to (bytes_in (answer_at v apart place (actions.Read (pointer_to k offset) count))))) w) ws
   leaves place operations.Exit w ws = ws
   leaves place o w ws = arrived 0 (updated (calculated o) w) ws
 

@@ -5,8 +5,9 @@ ghost use Rattle.c_values.specs.Variables.{block_of, put_bytes, read_variable};
 ghost use Rattle.word_dag.specs.Growth.{Extends};
 ghost use Rattle.word_dag.specs.Meaning.{value};
 ghost use Rattle.value_nodes.specs.Values.{IsValue, AreBytes};
+ghost use Rattle.value_nodes.specs.Bytes.{AreBytesOf};
 ghost use Rattle.goto_prog.specs.Fitting.{is_block, has_bytes};
-ghost use Rattle.goto_prog.specs.Meaning.{with_blocks, calculated};
+ghost use Rattle.goto_prog.specs.Meaning.{with_blocks, bytes_of, calculated};
 ghost use Rattle.guarded_ssa.specs.Ways.{updated};
 ghost use Rattle.guarded_ssa.specs.Held.{SlotIn, held, gone, total, starts_from, nodes_put};
 
@@ -110,8 +111,28 @@ impl Slot {
         Ok(id)
     }
 
+    // The nodes of so many bytes of a block, from an offset on.
+    pub fn bytes(
+        &self,
+        dag: &Dag,
+        plan: &Plan,
+        b: usize,
+        offset: u32,
+        count: u32,
+    ) -> Result<Vec<Id>, AllocError>
+        requires starts { plan.now.starts.items ≡ starts_from 0 plan.now.code.now.blocks }
+        requires within { SlotIn dag.now plan.now.code.now self.now }
+        requires there { is_within plan.now.code.now.blocks b offset count ≡ true }
+        ensures made { IfOk result (λ ids. AreBytesOf dag.now ids.items (λ v. bytes_of (held v dag.now plan.now.code.now self.now).blocks b offset count)) }
+        ensures size { IfOk result (λ ids. length ids.items ≡ count) }
+    {
+        let block = self.block(dag, plan, b);
+        let bytes = section(block, offset as usize, count as usize).to_vec(plan.alloc)?;
+        Ok(bytes)
+    }
+
     // The memory with bytes of a block replaced, from an offset on.
-    fn written(mut self, dag: &Dag, plan: &Plan, block: usize, offset: u32, new: &[Id]) -> Slot
+    pub fn written(mut self, dag: &Dag, plan: &Plan, block: usize, offset: u32, new: &[Id]) -> Slot
         requires starts { plan.now.starts.items ≡ starts_from 0 plan.now.code.now.blocks }
         requires within { SlotIn dag.now plan.now.code.now self }
         requires block { is_within plan.now.code.now.blocks block offset (length new.now) ≡ true }
@@ -165,6 +186,28 @@ impl Slot {
     {
         let bytes = vec![in plan.alloc; self.zeros.byte; size as usize]?;
         let next = self.written(dag, plan, block, 0, &bytes);
+        Ok(next)
+    }
+
+    // The memory with the bytes of a block from an offset on, so many, copied to an offset of a block: their
+    // nodes are the same.
+    pub fn with_bytes_copied(
+        self,
+        dag: &Dag,
+        plan: &Plan,
+        into: (usize, u32),
+        from: (usize, u32),
+        count: u32,
+    ) -> Result<Slot, AllocError>
+        requires starts { plan.now.starts.items ≡ starts_from 0 plan.now.code.now.blocks }
+        requires within { SlotIn dag.now plan.now.code.now self }
+        requires into { is_within plan.now.code.now.blocks into.0 into.1 count ≡ true }
+        requires from { is_within plan.now.code.now.blocks from.0 from.1 count ≡ true }
+        ensures within { IfOk result (SlotIn dag.now plan.now.code.now) }
+        ensures gone { IfOk result (λ s. (v : ℕ → ℕ) → gone v dag.now plan.now.code.now s ≡ updated (calculated (Operation.CopyBytes into.0 into.1 from.0 from.1 count)) (gone v dag.now plan.now.code.now self)) }
+    {
+        let bytes = self.bytes(dag, plan, from.0, from.1, count)?;
+        let next = self.written(dag, plan, into.0, into.1, &bytes);
         Ok(next)
     }
 }

@@ -16,7 +16,7 @@ use word_dag::Dag;
 fn events_of(alloc: Global, dag: &mut Dag, code: &Code) -> Result<Vec<Event>, AllocError>
     ensures extends { Extends dag.old dag.new }
     ensures within { IfOk result (λ es. FormIn dag.new es.items) }
-    ensures told { IfOk result (λ es. (v : ℕ → ℕ) → seen v dag.new es.items ≡ told v 0 code.now.instructions (Some (first_memory code.now) ∷ replicate (length code.now.instructions) None)) }
+    ensures told { IfOk result (λ es. (v : ℕ → ℕ) → seen v dag.new es.items ≡ told v (length code.now.instructions) 0 code.now.instructions (Some (first_memory code.now) ∷ replicate (length code.now.instructions) None)) }
 {
     let instructions = code.instructions();
     if instructions.len() > u32::MAX as usize {
@@ -30,19 +30,21 @@ fn events_of(alloc: Global, dag: &mut Dag, code: &Code) -> Result<Vec<Event>, Al
     Ok(pass.events)
 }
 
-/// The form of thread 0 of unrolled code, over nodes that are made in the graph. The answer to a draw is a
-/// variable with the number of the draw's place. Where there is no memory, or the code has 2 ^ 32
-/// instructions or more, the graph may have grown.
+/// The form of thread 0 of unrolled code, over nodes that are made in the graph, with the code's store at the
+/// start. The answer to a draw is a variable with the number of the draw's place; the answer to a read is a
+/// variable for each word of 8 bytes, the first with the number of the read's place, and each other with
+/// that of the one before and of how many instructions the code has. Where there is no memory, or a number
+/// of a place or a variable isn't below 2 ^ 32, the graph may have grown.
 pub fn threads(
     alloc: Global,
     unrolled: &Unrolled,
     dag: &mut Dag,
 ) -> Result<Vec<ThreadForm>, AllocError>
     ensures extends { Extends dag.old dag.new }
-    ensures forms { IfOk result (λ fs. AreForms (plain_thread unrolled.now).behaves dag.new fs.items) }
+    ensures forms { IfOk result (λ fs. AreForms (plain_thread unrolled.now).behaves unrolled.now.store dag.new fs.items) }
 {
     let events = events_of(alloc, dag, unrolled.main())?;
     let mut forms = Vec::new(alloc);
-    forms.push(ThreadForm::new(events))?;
+    forms.push(ThreadForm::new(events, unrolled.store().clone()?))?;
     Ok(forms)
 }

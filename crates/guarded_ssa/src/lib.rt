@@ -1,7 +1,8 @@
-//! The runs of unrolled code as guarded events over a word graph: whatever the answers to its draws are,
-//! the events whose guards are true tell the run that they give.
+//! The runs of unrolled code as guarded events over a word graph: whatever the answers to its draws and
+//! reads are, the events whose guards are true tell the run that they give.
 #![tactic(auto)]
 
+mod answers;
 mod bytes;
 mod forming;
 mod forms;
@@ -12,7 +13,7 @@ mod slots;
 mod values;
 
 pub use forming::threads;
-pub use forms::{Event, EventId, EventKind, ThreadForm};
+pub use forms::{Event, EventId, EventKind, Nodes, ThreadForm};
 
 #[cfg(test)]
 mod tests;

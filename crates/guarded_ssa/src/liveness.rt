@@ -100,8 +100,29 @@ fn reads(operation: Operation) -> (Option<usize>, Option<usize>)
             offset: _,
         }
         | Operation::Clear { block: _, size: _ }
+        | Operation::CopyBytes {
+            into: _,
+            at: _,
+            from: _,
+            offset: _,
+            count: _,
+        }
         | Operation::Skip { count: _ }
         | Operation::Draw { into: _, bits: _ }
+        | Operation::ReadObject {
+            block: _,
+            at: _,
+            object: _,
+            offset: _,
+            count: _,
+        }
+        | Operation::WriteObject {
+            object: _,
+            offset: _,
+            block: _,
+            at: _,
+            count: _,
+        }
         | Operation::Exit => (None, None),
     }
 }

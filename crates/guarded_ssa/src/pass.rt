@@ -25,13 +25,15 @@ ghost use Rattle.std.specs.Prelude.{
 ghost use Rattle.word_dag.specs.Growth.{Within, Extends};
 ghost use Rattle.word_dag.specs.Meaning.{width, value};
 ghost use Rattle.c_types.specs.Integers.{width as type_width};
+ghost use Rattle.core_tree.specs.Typed.{is_within};
 ghost use Rattle.goto_prog.specs.Fitting.{is_there, is_register, check_fits, operation_fits};
 ghost use Rattle.goto_prog.specs.Running.{is_calculation};
 ghost use Rattle.guarded_ssa.specs.Forms.{EventIn};
 ghost use Rattle.goto_prog.specs.CodeThread.{first_memory};
 ghost use Rattle.guarded_ssa.specs.Held.{SlotIn, PassIn, Arrives, Tells, Passes, Visits, ways, starts_from};
 
-use crate::forms::{Event, EventKind};
+use crate::answers::{answer_words, bytes_of_words};
+use crate::forms::{Event, EventKind, Nodes};
 use crate::liveness::Plan;
 use crate::slots::Slot;
 use crate::values::class_of;
@@ -337,6 +339,84 @@ impl Pass {
         Ok(())
     }
 
+    // A read of a static object: its answer is variables, the first of which is that of its place.
+    fn read(
+        &mut self,
+        dag: &mut Dag,
+        plan: &Plan,
+        place: usize,
+        i: Instruction,
+        slot: Slot,
+        into: (usize, u32),
+        from: (u32, u32),
+        count: u32,
+    ) -> Result<(), AllocError>
+        requires starts { plan.now.starts.items ≡ starts_from 0 plan.now.code.now.blocks }
+        requires until { length plan.now.until.items ≡ length plan.now.code.now.registers }
+        requires room { place + length self.old.pending.items < 2 ^ 64 }
+        requires within { PassIn dag.old plan.now.code.now self.old }
+        requires slot { SlotIn dag.old plan.now.code.now slot }
+        requires place { place < 2 ^ 32 }
+        requires few { length plan.now.code.now.instructions < 2 ^ 33 }
+        requires into { is_within plan.now.code.now.blocks into.0 into.1 count ≡ true }
+        ensures extends { Extends dag.old dag.new }
+        ensures passes { OnOk result (Passes plan.now.until.items plan.now.code.now place i.line i.function (Operation.ReadObject into.0 into.1 from.0 from.1 count) slot dag.old dag.new self.old self.new) }
+    {
+        let apart = plan.code.instructions().len();
+        let answer = answer_words(plan.alloc, dag, place, apart, count)?;
+        let bytes = bytes_of_words(plan.alloc, dag, &answer, count)?;
+        let event = Event {
+            guard: slot.guard,
+            line: i.line,
+            function: i.function,
+            kind: EventKind::Read {
+                object: from.0,
+                offset: from.1,
+                count,
+                answer: Nodes::new(answer),
+            },
+        };
+        let next = slot.written(dag, plan, into.0, into.1, &bytes);
+        self.tell_and_go(dag, plan, place, next, event)?;
+        Ok(())
+    }
+
+    // A write of a static object.
+    fn write(
+        &mut self,
+        dag: &mut Dag,
+        plan: &Plan,
+        place: usize,
+        i: Instruction,
+        slot: Slot,
+        into: (u32, u32),
+        from: (usize, u32),
+        count: u32,
+    ) -> Result<(), AllocError>
+        requires starts { plan.now.starts.items ≡ starts_from 0 plan.now.code.now.blocks }
+        requires until { length plan.now.until.items ≡ length plan.now.code.now.registers }
+        requires room { place + length self.old.pending.items < 2 ^ 64 }
+        requires within { PassIn dag.old plan.now.code.now self.old }
+        requires slot { SlotIn dag.old plan.now.code.now slot }
+        requires from { is_within plan.now.code.now.blocks from.0 from.1 count ≡ true }
+        ensures extends { Extends dag.old dag.new }
+        ensures passes { OnOk result (Passes plan.now.until.items plan.now.code.now place i.line i.function (Operation.WriteObject into.0 into.1 from.0 from.1 count) slot dag.old dag.new self.old self.new) }
+    {
+        let bytes = slot.bytes(dag, plan, from.0, from.1, count)?;
+        let event = Event {
+            guard: slot.guard,
+            line: i.line,
+            function: i.function,
+            kind: EventKind::Write {
+                object: into.0,
+                offset: into.1,
+                bytes: Nodes::new(bytes),
+            },
+        };
+        self.tell_and_go(dag, plan, place, slot, event)?;
+        Ok(())
+    }
+
     // The end of the process.
     fn exit(
         &mut self,
@@ -375,6 +455,7 @@ impl Pass {
         requires within { PassIn dag.old plan.now.code.now self.old }
         requires slot { SlotIn dag.old plan.now.code.now slot }
         requires place { place < 2 ^ 32 }
+        requires few { length plan.now.code.now.instructions < 2 ^ 33 }
         requires fits { operation_fits plan.now.code.now.registers plan.now.code.now.blocks (length (drop (place + 1) plan.now.code.now.instructions)) i.operation ≡ true }
         ensures extends { Extends dag.old dag.new }
         ensures passes { OnOk result (Passes plan.now.until.items plan.now.code.now place i.line i.function (i.operation) slot dag.old dag.new self.old self.new) }
@@ -388,6 +469,42 @@ impl Pass {
             Operation::Assert { operand } => self.assert(dag, plan, place, i, slot, operand),
             Operation::Assume { operand } => self.assume(dag, plan, place, i, slot, operand),
             Operation::Draw { into, bits } => { self.draw(dag, plan, place, i, slot, into, bits) }
+            Operation::ReadObject {
+                block,
+                at,
+                object,
+                offset,
+                count,
+            } => {
+                self.read(
+                    dag,
+                    plan,
+                    place,
+                    i,
+                    slot,
+                    (block, at),
+                    (object, offset),
+                    count,
+                )
+            }
+            Operation::WriteObject {
+                object,
+                offset,
+                block,
+                at,
+                count,
+            } => {
+                self.write(
+                    dag,
+                    plan,
+                    place,
+                    i,
+                    slot,
+                    (object, offset),
+                    (block, at),
+                    count,
+                )
+            }
             Operation::Exit => self.exit(dag, plan, place, i, slot),
             Operation::Constant { into: _, bits: _ }
             | Operation::Copy {
@@ -407,6 +524,13 @@ impl Pass {
                 operand: _,
             }
             | Operation::Clear { block: _, size: _ }
+            | Operation::CopyBytes {
+                into: _,
+                at: _,
+                from: _,
+                offset: _,
+                count: _,
+            }
             | Operation::Convert {
                 into: _,
                 from: _,
@@ -455,6 +579,7 @@ impl Pass {
         requires next { 0 < length self.old.pending.items }
         requires within { PassIn dag.old plan.now.code.now self.old }
         requires place { place < 2 ^ 32 }
+        requires few { length plan.now.code.now.instructions < 2 ^ 33 }
         requires fits { operation_fits plan.now.code.now.registers plan.now.code.now.blocks (length (drop (place + 1) plan.now.code.now.instructions)) i.operation ≡ true }
         ensures extends { Extends dag.old dag.new }
         ensures visits { OnOk result (Visits plan.now.until.items plan.now.code.now place i dag.old dag.new self.old self.new) }

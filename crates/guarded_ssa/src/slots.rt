@@ -262,6 +262,13 @@ impl Slot {
                 operand,
             } => self.stored(dag, plan, block, offset, count, operand),
             Operation::Clear { block, size } => self.cleared(dag, plan, block, size),
+            Operation::CopyBytes {
+                into,
+                at,
+                from,
+                offset,
+                count,
+            } => self.with_bytes_copied(dag, plan, (into, at), (from, offset), count),
             Operation::Constant { into: _, bits: _ }
             | Operation::Copy {
                 into: _,

@@ -110,7 +110,8 @@ fn one_sided(alloc: Global) -> Result<Code, AllocError> {
 }
 
 // `unsigned long x = <input>`, whose bytes 3 and 4 are written over bytes 0 and 1: `assert(x == 0x0807060504030504);`.
-// A block of three bytes stands in front, which is written and cleared: `assert(!y[1]);`
+// A block of three bytes stands in front, which is written and cleared; then byte 1 is copied to its last:
+// `assert(!y[1]);` and, of both bytes, `assert(z == 0x0500);`.
 fn pieces(alloc: Global) -> Result<Code, AllocError> {
     let long = IntegerType::UnsignedLong;
     let short = IntegerType::UnsignedShort;
@@ -161,6 +162,16 @@ fn pieces(alloc: Global) -> Result<Code, AllocError> {
         ),
         at(6, Operation::Clear { block: 0, size: 3 }),
         at(
+            6,
+            Operation::CopyBytes {
+                into: 0,
+                at: 2,
+                from: 1,
+                offset: 1,
+                count: 1
+            }
+        ),
+        at(
             7,
             Operation::Load {
                 into: 0,
@@ -204,8 +215,35 @@ fn pieces(alloc: Global) -> Result<Code, AllocError> {
             }
         ),
         at(8, Operation::Assert { operand: 4 }),
+        at(
+            9,
+            Operation::Load {
+                into: 1,
+                type_: short,
+                block: 0,
+                offset: 1
+            }
+        ),
+        at(
+            9,
+            Operation::Constant {
+                into: 5,
+                bits: 0x0500
+            }
+        ),
+        at(
+            9,
+            Operation::Compare {
+                into: 4,
+                operator: Comparison::Equal,
+                type_: short,
+                left: 1,
+                right: 5
+            }
+        ),
+        at(9, Operation::Assert { operand: 4 }),
     ]?;
-    let registers = vec![in alloc; long, short, long, byte, int]?;
+    let registers = vec![in alloc; long, short, long, byte, int, short]?;
     let blocks = vec![in alloc; 3, 8]?;
     Ok(Code::new(registers, blocks, instructions, true))
 }
@@ -245,7 +283,7 @@ fn drawn_first(rest: Vec<Instruction>) -> Result<Vec<Instruction>, AllocError>
 }
 
 // A drawn structure of 4,096 bytes with members of type int at 100 and 4,092, and one that stands across two
-// words: `if (x.a) x.b = 7; if (x.b) x.c = x.a; assert(x.c);`
+// words: `if (x.a) x.b = 7; if (x.b) x.c = x.a; assert(x.c);`. Its first 1,024 bytes are copied between.
 fn large(alloc: Global) -> Result<Code, AllocError> {
     let int = IntegerType::Int;
     let at = |line: u32, operation: Operation| Instruction {
@@ -291,6 +329,16 @@ fn large(alloc: Global) -> Result<Code, AllocError> {
         ),
         at(
             3,
+            Operation::CopyBytes {
+                into: 0,
+                at: 2048,
+                from: 0,
+                offset: 0,
+                count: 1024
+            }
+        ),
+        at(
+            3,
             Operation::SkipIfZero {
                 operand: 3,
                 count: 1
@@ -327,28 +375,45 @@ fn bits(words: &[Word], id: Id) -> Option<u64> {
 }
 
 // What an event tells where the nodes have these words.
-fn told(words: &[Word], event: Event) -> Option<&'static str> {
+fn told(words: &[Word], event: &Event) -> Option<&'static str> {
     if bits(words, event.guard)? == 0 {
         return None;
     }
-    match event.kind {
+    match &event.kind {
         EventKind::Draw { bits: _, answer } => {
-            if bits(words, answer)? == 3 {
+            if bits(words, *answer)? == 3 {
                 Some("draws 3")
             } else {
                 Some("draws")
             }
         }
+        EventKind::Read {
+            object: _,
+            offset: _,
+            count: _,
+            answer: _,
+        } => Some("reads"),
+        EventKind::Write {
+            object: _,
+            offset: _,
+            bytes,
+        } => {
+            if bits(words, *bytes.as_slice().first()?)? == 3 {
+                Some("writes 3")
+            } else {
+                Some("writes")
+            }
+        }
         EventKind::Exit => Some("exits"),
         EventKind::Check { class, failing } => {
-            if bits(words, failing)? == 1 && class == Class::Assertion {
+            if bits(words, *failing)? == 1 && *class == Class::Assertion {
                 Some("breaks")
             } else {
                 None
             }
         }
         EventKind::Assume { failing } => {
-            if bits(words, failing)? == 1 {
+            if bits(words, *failing)? == 1 {
                 Some("blocks")
             } else {
                 None
@@ -378,9 +443,9 @@ fn events_of_a_choice(rt: HostRuntime) -> Result<(), Fail> {
         assert_eq!(rt; events.len(), 3);
         assert_eq!(rt; events[0].line, 1);
         assert_eq!(rt; events[1].line, 3);
-        assert_eq!(rt; told(&words, events[0]), *first, "input {input}");
-        assert_eq!(rt; told(&words, events[1]), *second, "input {input}");
-        assert_eq!(rt; told(&words, events[2]), Some("exits"), "input {input}");
+        assert_eq!(rt; told(&words, &events[0]), *first, "input {input}");
+        assert_eq!(rt; told(&words, &events[1]), *second, "input {input}");
+        assert_eq!(rt; told(&words, &events[2]), Some("exits"), "input {input}");
     }
     Ok(())
 }
@@ -399,7 +464,7 @@ fn registers_set_on_one_side(rt: HostRuntime) -> Result<(), Fail> {
         let words = dag.words(alloc, &valuation)?;
         let events = forms[0].events();
         assert_eq!(rt; events.len(), 2);
-        assert_eq!(rt; told(&words, events[1]), *second, "input {input}");
+        assert_eq!(rt; told(&words, &events[1]), *second, "input {input}");
     }
     Ok(())
 }
@@ -411,27 +476,29 @@ fn bytes_of_blocks(rt: HostRuntime) -> Result<(), Fail> {
     let unrolled = Unrolled::new(vec![in alloc; pieces(alloc)?]?, 0, store);
     let mut dag = Dag::new(alloc);
     let forms = threads(alloc, &unrolled, &mut dag)?;
-    // The input, and what the first assertion tells.
+    // The input, and what the first and the last assertion tell.
     let rows = [
-        (0x0807_0605_0403_0201, None),
-        (0x0807_0605_0403_ffff, None),
-        (0x0807_0605_0403_0504, None),
-        (0x0907_0605_0403_0201, Some("breaks")),
-        (0x0807_0605_1403_0201, Some("breaks")),
+        (0x0807_0605_0403_0201, None, None),
+        (0x0807_0605_0403_ffff, None, None),
+        (0x0807_0605_0403_0504, None, None),
+        (0x0907_0605_0403_0201, Some("breaks"), None),
+        (0x0807_0605_1403_0201, Some("breaks"), None),
+        (0x0807_0615_0403_0201, Some("breaks"), Some("breaks")),
     ];
-    for (input, first) in rows.iter() {
+    for (input, first, last) in rows.iter() {
         let valuation = Valuation::from_values(vec![in alloc; *input]?);
         let words = dag.words(alloc, &valuation)?;
         let events = forms[0].events();
-        assert_eq!(rt; events.len(), 3);
-        assert_eq!(rt; told(&words, events[1]), *first, "input {input}");
-        assert_eq!(rt; told(&words, events[2]), None, "input {input}");
+        assert_eq!(rt; events.len(), 4);
+        assert_eq!(rt; told(&words, &events[1]), *first, "input {input}");
+        assert_eq!(rt; told(&words, &events[2]), None, "input {input}");
+        assert_eq!(rt; told(&words, &events[3]), *last, "input {input}");
     }
     Ok(())
 }
 
 // The words of the block are made, and cut into bytes; the code behind them makes a few nodes for each of the
-// bytes that it writes, reads and joins.
+// bytes that it writes, reads and joins, and none for those that it copies.
 #[test]
 fn nodes_of_a_large_block(rt: HostRuntime) -> Result<(), Fail> {
     let alloc = rt.alloc();
@@ -441,5 +508,96 @@ fn nodes_of_a_large_block(rt: HostRuntime) -> Result<(), Fail> {
     let forms = threads(alloc, &unrolled, &mut dag)?;
     assert_eq!(rt; forms[0].events().len(), 513);
     assert!(rt; dag.len() <= 4096 + 2 * 512 + 60);
+    Ok(())
+}
+
+// `char a[11]` is a static object: `if (a[10] == 3) a[0] = a[10] else;`, by a block of 11 bytes
+fn accesses(alloc: Global) -> Result<Code, AllocError> {
+    let at = |line: u32, operation: Operation| Instruction {
+        line,
+        function: 0,
+        operation,
+    };
+    let byte = IntegerType::UnsignedChar;
+    let instructions = vec![in alloc;
+        at(
+            1,
+            Operation::ReadObject {
+                block: 0,
+                at: 0,
+                object: 1,
+                offset: 0,
+                count: 11
+            }
+        ),
+        at(
+            2,
+            Operation::Load {
+                into: 0,
+                type_: byte,
+                block: 0,
+                offset: 10
+            }
+        ),
+        at(3, Operation::Constant { into: 1, bits: 3 }),
+        at(
+            3,
+            Operation::Compare {
+                into: 2,
+                operator: Comparison::Equal,
+                type_: byte,
+                left: 0,
+                right: 1
+            }
+        ),
+        at(
+            3,
+            Operation::SkipIfZero {
+                operand: 2,
+                count: 1
+            }
+        ),
+        at(
+            4,
+            Operation::WriteObject {
+                object: 1,
+                offset: 0,
+                block: 0,
+                at: 10,
+                count: 1
+            }
+        ),
+        at(5, Operation::Exit),
+    ]?;
+    let registers = vec![in alloc; byte, byte, IntegerType::Int]?;
+    let blocks = vec![in alloc; 11]?;
+    Ok(Code::new(registers, blocks, instructions, true))
+}
+
+#[test]
+fn reads_are_answered_in_words(rt: HostRuntime) -> Result<(), Fail> {
+    let alloc = rt.alloc();
+    // The second word of the read's answer, whose lowest byte but two is the one that is tested, and what
+    // the write tells.
+    let rows = [
+        (0x030000, Some("writes 3")),
+        (0x3030000, Some("writes 3")),
+        (0x040003, None),
+        (0, None),
+    ];
+    for (second, write) in &rows {
+        let mut dag = Dag::new(alloc);
+        let unrolled = Unrolled::new(vec![in alloc; accesses(alloc)?]?, 0, Store::new(alloc));
+        let forms = threads(alloc, &unrolled, &mut dag)?;
+        // the read's variables are 0 and 7, of 64 and of 24 bits
+        let values = vec![in alloc; 9, 0, 0, 0, 0, 0, 0, *second]?;
+        let words = dag.words(alloc, &Valuation::from_values(values))?;
+        assert_eq!(rt; forms.len(), 1);
+        let events = forms[0].events();
+        assert_eq!(rt; events.len(), 3);
+        assert_eq!(rt; told(&words, &events[0]), Some("reads"));
+        assert_eq!(rt; told(&words, &events[1]), *write, "second word {second}");
+        assert_eq!(rt; told(&words, &events[2]), Some("exits"));
+    }
     Ok(())
 }

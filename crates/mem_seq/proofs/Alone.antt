@@ -1,31 +1,31 @@
--- Runs in which there is thread 0 alone, which draws and exits.
-use Rattle.std.proofs.Common.{◌≡◌, ◌<◌, ◌^◌, ℕ, zero, suc, Bool, true, false, List, [], ◌∷◌, ◌++◌, length, Option, Some, None, refl, sym, ◌∙◌, ap, subst, arith, true≢false}
-use Rattle.std.specs.Prelude.{slice_index, slice_get, nat_lt, ◌==◌, ◌&&◌, if◌then◌else◌}
+-- Runs in which there is thread 0 alone, which draws, reads, writes and exits.
+use Rattle.std.proofs.Common.{◌≡◌, ℕ, suc, Bool, true, false, List, [], ◌∷◌, Option, Some, None, refl, ◌∙◌, ap, arith}
+use Rattle.std.specs.Prelude.{nat_lt, ◌==◌}
 use Rattle.std.proofs.lemmas.Bool.Decides.{nat_tests}
-use Rattle.words.specs.BitVector.{BitVector, word}
+use Rattle.words.specs.BitVector.{word}
 use Rattle.words.specs.declared.check.Class.{Class}
-use Rattle.words.specs.declared.check.Check.{Check}
 use Rattle.words.specs.Operators.{low_bits}
 use Rattle.words.proofs.Ranges.{low_bits_below}
-use Rattle.actions.specs.Objects.{Objects}
+use Rattle.actions.specs.declared.thread_state.ThreadState.TheVariants.{Running}
+use Rattle.actions.specs.Objects.{Objects, bytes_at, with_bytes, break_in, write_break}
+use Rattle.actions.specs.Memory.{Memory, keeps, puts}
+use Rattle.actions.specs.Row.{Row, comes, sees_bytes, moves, outcome_in, unless}
 use Rattle.actions.specs.declared.action.Action.{Action}
 use Rattle.actions.specs.declared.action.Action.TheVariants as actions
 use Rattle.actions.specs.declared.action.Answer.{Answer}
 use Rattle.actions.specs.declared.action.Answer.TheVariants as answers
 use Rattle.actions.specs.declared.action.Next.{Next}
-use Rattle.actions.specs.declared.action.Next.TheVariants.{Act, Ended, Blocked, Broken}
-use Rattle.actions.specs.Behaviour.{Behaviour, Program, after, accepts, has_shape, shape_of}
-use Rattle.actions.specs.LocalRun.{Exchange, IsLocalRun}
+use Rattle.actions.specs.declared.action.Next.TheVariants.{Act}
+use Rattle.actions.specs.Behaviour.{Behaviour, Program, after, has_shape, shape_of}
 use Rattle.interleave.specs.declared.counts.Counts.{Counts}
 use Rattle.interleave.specs.declared.turn.Turn.{Turn}
 use Rattle.interleave.specs.declared.turn.Turn.TheVariants as turned
-use Rattle.interleave.specs.declared.turn.Outcome.{Outcome}
 use Rattle.interleave.specs.declared.turn.Outcome.TheVariants as ending
 use Rattle.interleave.specs.Inputs.{InputLists, words_of}
 use Rattle.interleave.specs.Own.{next_word, counted}
-use Rattle.interleave.specs.World.{World, Member, Common, first_common, first_world, no_counts}
-use Rattle.interleave.specs.Turn.{turn, with_next, check_of}
-use Rattle.interleave.specs.Run.{run, unless_broken}
+use Rattle.interleave.specs.World.{World, Member, first_common}
+use Rattle.interleave.specs.Turn.{turn, settled, with_next, check_of}
+use Rattle.interleave.specs.Run.{run}
 
 pub not_below : (t : ℕ) → nat_lt (suc t) 0 ≡ false
 not_below t = grind (arith, nat_tests)
@@ -71,6 +71,49 @@ module _ (objects : Objects) (program : Program) where
   pub over_fine : (b : Behaviour) (counts : Counts) (inputs : InputLists) (schedule : List ℕ) → (run (over b counts) inputs schedule).0 ≡ ending.Fine
   over_fine b counts inputs [] = refl
   over_fine b counts inputs (t ∷ schedule) = over_fine b counts inputs schedule
+
+-- ---- accesses
+
+module _ (objects : Objects) (program : Program) (b : Behaviour) (counts : Counts) (inputs : InputLists) where
+  abbrev here : World
+  here = alone objects program b counts
+
+  abbrev shared : Memory
+  shared = record { objects = objects; threads = (0, Running) ∷ [] }
+
+  -- a turn that breaks a check, or that moves to the next state
+  abbrev pub turned_by : Option Class → ℕ → ℕ → World → Turn × World
+  turned_by None line f next = (turned.Moved, next)
+  turned_by (Some class) line f next = (turned.Broken (check_of class line f 0), here)
+
+  abbrev comes_to : Action → ℕ → ℕ → Row → Option Class → Turn × World
+  comes_to action line f row c = settled here 0 (words_of inputs 0) (member objects program b counts) action line f (outcome_in shared (unless c row))
+
+  abbrev pub after_read : ℕ → ℕ → World
+  after_read p n = alone objects program (after b (answers.Bytes (bytes_at objects p n))) counts
+
+  read_settles : (c : Option Class) (p n line f : ℕ) → comes_to (actions.Read p n) line f (sees_bytes p n (λ bytes. comes (moves (answers.Bytes bytes) keeps))) c ≡ turned_by c line f (after_read p n)
+  read_settles None p n line f = refl
+  read_settles (Some class) p n line f = refl
+
+  pub read_turn : (c : Option Class) (p n line f : ℕ) → b [] ≡ Act (actions.Read p n) line f → break_in objects false p n ≡ c → turn here 0 inputs ≡ turned_by c line f (after_read p n)
+  read_turn c p n line f is class =
+      own_turn objects program b counts inputs (Act (actions.Read p n) line f) is
+      ∙ ap (comes_to (actions.Read p n) line f (sees_bytes p n (λ bytes. comes (moves (answers.Bytes bytes) keeps)))) class
+      ∙ read_settles c p n line f
+
+  abbrev pub after_told : ℕ → List ℕ → World
+  after_told p new = alone (with_bytes objects p new) program (after b answers.Done) counts
+
+  write_settles : (c : Option Class) (p : ℕ) (new : List ℕ) (first : Bool) (line f : ℕ) → comes_to (actions.Write p new first) line f (comes (moves answers.Done (puts p new))) c ≡ turned_by c line f (after_told p new)
+  write_settles None p new first line f = refl
+  write_settles (Some class) p new first line f = refl
+
+  pub write_turn : (c : Option Class) (p : ℕ) (new : List ℕ) (first : Bool) (line f : ℕ) → b [] ≡ Act (actions.Write p new first) line f → write_break objects p new first ≡ c → turn here 0 inputs ≡ turned_by c line f (after_told p new)
+  write_turn c p new first line f is class =
+      own_turn objects program b counts inputs (Act (actions.Write p new first) line f) is
+      ∙ ap (comes_to (actions.Write p new first) line f (comes (moves answers.Done (puts p new)))) class
+      ∙ write_settles c p new first line f
 
 pub given_fits : (n x : ℕ) → has_shape (shape_of (actions.Draw n)) (answers.Word (word n (low_bits n x))) ≡ true
 given_fits n x = grind (arith, nat_tests, low_bits_below n x)

@@ -1,7 +1,7 @@
 -- The run that a form gives under a valuation is a run of the file, and each run of the file that breaks a check is given by one.
-use Rattle.std.proofs.Common.{◌≡◌, ◌<◌, ◌+◌, ◌^◌, ℕ, zero, suc, Bool, true, false, List, [], ◌∷◌, ◌++◌, length, Option, Some, None, refl, sym, ◌∙◌, ap, subst, arith, true≢false, append_assoc, length-append, add-one}
-use Rattle.std.specs.Prelude.{All, slice_index, slice_get, nat_lt, ◌==◌, ◌&&◌, if◌then◌else◌}
-use Rattle.std.proofs.lemmas.List.Elements.{All-head, All-tail}
+use Rattle.std.proofs.Common.{◌≡◌, ◌<◌, ◌+◌, ◌^◌, ℕ, zero, suc, Bool, true, false, List, [], ◌∷◌, ◌++◌, length, Option, Some, None, refl, sym, ◌∙◌, ap, subst, arith, true≢false, append_assoc, length-append, map}
+use Rattle.std.specs.Prelude.{All, slice_index, slice_get, nat_lt, ◌&&◌, if◌then◌else◌}
+use Rattle.std.proofs.lemmas.List.Elements.{All-head, All-tail, All-weaker}
 use Rattle.std.proofs.lemmas.Bool.Decides.{nat_tests}
 use Rattle.std.proofs.Math.Nat.{mod-eq_of_lt}
 use Rattle.words.specs.BitVector.{BitVector, word}
@@ -10,9 +10,14 @@ use Rattle.words.specs.declared.check.Check.{Check}
 use Rattle.words.specs.Operators.{low_bits}
 use Rattle.word_dag.specs.declared.nodes.Id.{Id}
 use Rattle.word_dag.specs.declared.nodes.Node.{Node}
-use Rattle.word_dag.specs.Meaning.{value, holds, bit_value}
+use Rattle.word_dag.specs.Meaning.{value, holds}
+use Rattle.word_dag.specs.Fitting.{is_ordered}
 use Rattle.word_dag.specs.Growth.{Within, Extends}
-use Rattle.actions.specs.Objects.{Objects}
+use Rattle.value_nodes.specs.Values.{IsWord, AreBytes}
+use Rattle.value_nodes.proofs.Made.{word_below}
+use Rattle.c_values.specs.Variables.{pointer_to}
+use Rattle.actions.specs.ByteList.{are_bytes}
+use Rattle.actions.specs.Objects.{Objects, bytes_at, with_bytes, break_in, write_break, unless_changed, after_write}
 use Rattle.actions.specs.declared.action.Action.{Action}
 use Rattle.actions.specs.declared.action.Action.TheVariants as actions
 use Rattle.actions.specs.declared.action.Answer.{Answer}
@@ -28,147 +33,237 @@ use Rattle.interleave.specs.declared.turn.Outcome.{Outcome}
 use Rattle.interleave.specs.declared.turn.Outcome.TheVariants as ending
 use Rattle.interleave.specs.Inputs.{InputLists, words_of}
 use Rattle.interleave.specs.Own.{next_word, counted}
-use Rattle.interleave.specs.World.{World, Member, first_world, no_counts}
-use Rattle.interleave.specs.View.{next_at}
-use Rattle.interleave.specs.Turn.{turn, with_next, check_of}
+use Rattle.interleave.specs.World.{World, first_world, no_counts}
+use Rattle.interleave.specs.Turn.{turn, check_of}
 use Rattle.interleave.specs.Run.{run, unless_broken}
-use Rattle.interleave.specs.Replay.{Replays, IsDrawnWhole, MovesTo, Moves, used_by}
+use Rattle.interleave.specs.Replay.{Replays, IsDrawnWhole, MovesTo, used_by}
 use Rattle.guarded_ssa.specs.declared.forms.Event.{Event}
 use Rattle.guarded_ssa.specs.declared.forms.EventKind.{EventKind}
 use Rattle.guarded_ssa.specs.declared.forms.EventKind.TheVariants as kinds
-use Rattle.guarded_ssa.specs.Runs.{Run, stops, asks}
+use Rattle.guarded_ssa.specs.Runs.{Run, stops, asks, bytes_of_words}
 use Rattle.guarded_ssa.specs.Ways.{Seen, asked, stopped, read}
 use Rattle.guarded_ssa.specs.Forms.{kind_seen, event_seen, seen, run_read, Begins, IsForm, EventIn, KindIn, FormIn}
-use Rattle.mem_seq.specs.Runs.{is_break, breaks, answer_words, drawn_words, inputs_for, turns, end_check, broken_check}
-use Rattle.mem_seq.proofs.Alone.{alone, over, member, given, other_turn, own_turn, draw_turn, exit_turn, over_fine, given_fits, not_below, not_zero}
+use Rattle.mem_seq.specs.Accesses.{AreObjects, access_class, same_bytes, is_given, stored_by, unless, checked, agrees}
+use Rattle.mem_seq.specs.Runs.{is_break, breaks, drawn_words, inputs_for, turns, end_check, broken_check}
+use Rattle.mem_seq.proofs.Stores.{left_true, right_true, same_itself, bytes_same, bytes_fit, write_leaves}
+use Rattle.mem_seq.proofs.Alone.{alone, given, other_turn, own_turn, draw_turn, exit_turn, turned_by, after_read, after_told, read_turn, write_turn, over_fine, given_fits, not_below, not_zero}
 
--- ---- actions that one thread without shared objects makes
+-- ---- actions that one thread makes by itself
 
-abbrev pub IsDrawOrExit : Next → Type 0
-IsDrawOrExit (Act (actions.Draw n) line f) = Unit {0}
-IsDrawOrExit (Act actions.Exit line f) = Unit {0}
-IsDrawOrExit (Act _ line f) = ⊥
-IsDrawOrExit _ = Unit {0}
+abbrev pub IsQuiet : Next → Type 0
+IsQuiet (Act (actions.Draw n) line f) = Unit {0}
+IsQuiet (Act (actions.Read p n) line f) = Unit {0}
+IsQuiet (Act (actions.Write p bytes first) line f) = are_bytes bytes ≡ true
+IsQuiet (Act actions.Exit line f) = Unit {0}
+IsQuiet (Act _ line f) = ⊥
+IsQuiet _ = Unit {0}
 
-abbrev pub Draws : Behaviour → Type 0
-Draws b = (xs : List Exchange) (next : Next) → IsLocalRun b xs next → IsDrawOrExit next
+abbrev pub IsEnd : Next → Type 0
+IsEnd (Act action line f) = ⊥
+IsEnd _ = Unit {0}
 
--- a run of draws, whose end is behind an exit at most
-abbrev pub OnlyDraws : Run → Type 0
-OnlyDraws (stops end) = IsDrawOrExit end
-OnlyDraws (asks (actions.Draw n) line f a rest) = OnlyDraws rest
-OnlyDraws (asks actions.Exit line f a rest) = rest ≡ stops (Ended (word_64 0))
-OnlyDraws (asks _ line f a rest) = ⊥
+quiet_end : (end : Next) → IsEnd end → IsQuiet end
+quiet_end (Act action line f) is = absurd is
+quiet_end (Ended w) is = tt
+quiet_end Blocked is = tt
+quiet_end (Broken class line f) is = tt
 
-module _ (v : ℕ → ℕ) (d : List Node) where
-  draws_kind : (line f : ℕ) (k : EventKind) (more : List Seen) → OnlyDraws (read more (stops (Ended (word_64 0)))) → OnlyDraws (read (kind_seen v d line f k ++ more) (stops (Ended (word_64 0))))
-  draws_kind line f (kinds.Draw bits answer) more later = later
-  draws_kind line f kinds.Exit more later = refl
-  draws_kind line f (kinds.Check class failing) more later = stop_or (holds (value v d failing)) where
-    stop_or : (b : Bool) → OnlyDraws (read ((if b then stopped (Broken class line f) ∷ [] else []) ++ more) (stops (Ended (word_64 0))))
+abbrev pub Quiets : Behaviour → Type 0
+Quiets b = (xs : List Exchange) (next : Next) → IsLocalRun b xs next → IsQuiet next
+
+-- a run of draws and accesses, whose end is behind an exit at most
+abbrev pub OnlyQuiet : Run → Type 0
+OnlyQuiet (stops end) = IsEnd end
+OnlyQuiet (asks (actions.Draw n) line f a rest) = OnlyQuiet rest
+OnlyQuiet (asks (actions.Read p n) line f a rest) = OnlyQuiet rest
+OnlyQuiet (asks (actions.Write p bytes first) line f a rest) = (are_bytes bytes ≡ true) × OnlyQuiet rest
+OnlyQuiet (asks actions.Exit line f a rest) = rest ≡ stops (Ended (word_64 0))
+OnlyQuiet (asks _ line f a rest) = ⊥
+
+byte_is : (n : ℕ) → n < 2 ^ 8 → nat_lt n 256 ≡ true
+byte_is n h = grind (arith, nat_tests)
+
+pub values_bytes : (v : ℕ → ℕ) (d : List Node) (ids : List Id) → is_ordered d ≡ true → AreBytes d ids → are_bytes (map (value v d) ids) ≡ true
+values_bytes v d [] ordered words = refl
+values_bytes v d (i ∷ ids) ordered words =
+    let first = byte_is (value v d i) (word_below v d i 8 ordered (All-head (λ (k : Id). IsWord d k 8) i ids words)) in
+    λ k. first k && values_bytes v d ids ordered (All-tail (λ (k : Id). IsWord d k 8) i ids words) k
+
+module _ (v : ℕ → ℕ) (d : List Node) (ordered : is_ordered d ≡ true) where
+  quiet_kind : (line f : ℕ) (k : EventKind) (more : List Seen) → KindIn d k → OnlyQuiet (read more (stops (Ended (word_64 0)))) → OnlyQuiet (read (kind_seen v d line f k ++ more) (stops (Ended (word_64 0))))
+  quiet_kind line f (kinds.Draw bits answer) more there later = later
+  quiet_kind line f (kinds.Read object offset count answer) more there later = later
+  quiet_kind line f (kinds.Write object offset bytes) more there later = (values_bytes v d bytes ordered there, later)
+  quiet_kind line f kinds.Exit more there later = refl
+  quiet_kind line f (kinds.Check class failing) more there later = stop_or (holds (value v d failing)) where
+    stop_or : (b : Bool) → OnlyQuiet (read ((if b then stopped (Broken class line f) ∷ [] else []) ++ more) (stops (Ended (word_64 0))))
     stop_or true = tt
     stop_or false = later
-  draws_kind line f (kinds.Assume failing) more later = stop_or (holds (value v d failing)) where
-    stop_or : (b : Bool) → OnlyDraws (read ((if b then stopped Blocked ∷ [] else []) ++ more) (stops (Ended (word_64 0))))
+  quiet_kind line f (kinds.Assume failing) more there later = stop_or (holds (value v d failing)) where
+    stop_or : (b : Bool) → OnlyQuiet (read ((if b then stopped Blocked ∷ [] else []) ++ more) (stops (Ended (word_64 0))))
     stop_or true = tt
     stop_or false = later
 
-  draws_event : (b : Bool) (line f : ℕ) (k : EventKind) (more : List Seen) → OnlyDraws (read more (stops (Ended (word_64 0))))
-      → OnlyDraws (read ((if b then kind_seen v d line f k else []) ++ more) (stops (Ended (word_64 0))))
-  draws_event true line f k more later = draws_kind line f k more later
-  draws_event false line f k more later = later
+  quiet_event : (b : Bool) (line f : ℕ) (k : EventKind) (more : List Seen) → KindIn d k → OnlyQuiet (read more (stops (Ended (word_64 0))))
+      → OnlyQuiet (read ((if b then kind_seen v d line f k else []) ++ more) (stops (Ended (word_64 0))))
+  quiet_event true line f k more there later = quiet_kind line f k more there later
+  quiet_event false line f k more there later = later
 
-  pub read_draws : (es : List Event) → OnlyDraws (run_read v d es)
-  read_draws [] = tt
-  read_draws (e ∷ es) = draws_event (holds (value v d e.guard)) e.line e.function e.kind (seen v d es) (read_draws es)
+  pub read_quiet : (es : List Event) → FormIn d es → OnlyQuiet (run_read v d es)
+  read_quiet [] there = tt
+  read_quiet (e ∷ es) there = quiet_event (holds (value v d e.guard)) e.line e.function e.kind (seen v d es) (All-head (EventIn d) e es there).kind (read_quiet es (All-tail (EventIn d) e es there))
 
-ended_draws : (xs : List Exchange) (next : Next) → Begins xs next (stops (Ended (word_64 0))) → IsDrawOrExit next
-ended_draws [] next begins = subst IsDrawOrExit begins tt
-ended_draws (x ∷ xs) next begins = absurd begins
+ended_quiet : (xs : List Exchange) (next : Next) → Begins xs next (stops (Ended (word_64 0))) → IsQuiet next
+ended_quiet [] next begins = subst IsQuiet begins tt
+ended_quiet (x ∷ xs) next begins = absurd begins
 
-pub begins_draws : (r : Run) → OnlyDraws r → (xs : List Exchange) (next : Next) → Begins xs next r → IsDrawOrExit next
-begins_draws (stops end) only [] next begins = subst IsDrawOrExit begins only
-begins_draws (stops end) only (x ∷ xs) next begins = absurd begins
-begins_draws (asks (actions.Draw n) line f a rest) only [] next begins = subst IsDrawOrExit begins tt
-begins_draws (asks (actions.Draw n) line f a rest) only (x ∷ xs) next begins = begins_draws rest only xs next begins.4
-begins_draws (asks actions.Exit line f a rest) only [] next begins = subst IsDrawOrExit begins tt
-begins_draws (asks actions.Exit line f a rest) only (x ∷ xs) next begins = ended_draws xs next (subst (λ (r : Run). Begins xs next r) only begins.4)
-begins_draws (asks _ line f a rest) only xs next begins = absurd only
+pub begins_quiet : (r : Run) → OnlyQuiet r → (xs : List Exchange) (next : Next) → Begins xs next r → IsQuiet next
+begins_quiet (stops end) only [] next begins = subst IsQuiet begins (quiet_end end only)
+begins_quiet (stops end) only (x ∷ xs) next begins = absurd begins
+begins_quiet (asks (actions.Draw n) line f a rest) only [] next begins = subst IsQuiet begins tt
+begins_quiet (asks (actions.Draw n) line f a rest) only (x ∷ xs) next begins = begins_quiet rest only xs next begins.4
+begins_quiet (asks (actions.Read p n) line f a rest) only [] next begins = subst IsQuiet begins tt
+begins_quiet (asks (actions.Read p n) line f a rest) only (x ∷ xs) next begins = begins_quiet rest only xs next begins.4
+begins_quiet (asks (actions.Write p bytes first) line f a rest) only [] next begins = subst IsQuiet begins only.0
+begins_quiet (asks (actions.Write p bytes first) line f a rest) only (x ∷ xs) next begins = begins_quiet rest only.1 xs next begins.4
+begins_quiet (asks actions.Exit line f a rest) only [] next begins = subst IsQuiet begins tt
+begins_quiet (asks actions.Exit line f a rest) only (x ∷ xs) next begins = ended_quiet xs next (subst (λ (r : Run). Begins xs next r) only begins.4)
+begins_quiet (asks _ line f a rest) only xs next begins = absurd only
 
-pub form_draws : (b : Behaviour) (d : List Node) (es : List Event) → IsForm b d es → Draws b
-form_draws b d es form = λ xs next local. let h = form.has xs next local in begins_draws (run_read h.0 d es) (read_draws h.0 d es) xs next h.1
+pub form_quiet : (b : Behaviour) (d : List Node) (es : List Event) → is_ordered d ≡ true → FormIn d es → IsForm b d es → Quiets b
+form_quiet b d es ordered there form = λ xs next local. let h = form.has xs next local in begins_quiet (run_read h.0 d es) (read_quiet h.0 d ordered es there) xs next h.1
 
--- ---- a run of the file that breaks a check is a local run that does
+-- ---- a run of the file that breaks a check is a local run whose reads get what the store holds, and what is next breaks it
 
-pub record Found (b : Behaviour) (check : Check) : Type 0 where
+-- by itself, or by its access to the store
+abbrev pub BreaksNext : Objects → Next → Check → Type 0
+BreaksNext objects (Act action line f) check = (class : Class) × (access_class objects action ≡ Some class) × (check_of class line f 0 ≡ check)
+BreaksNext objects (Broken class line f) check = check_of class line f 0 ≡ check
+BreaksNext objects _ check = ⊥
+
+abbrev pub EndsIn : Objects → List Exchange → Next → Check → Type 0
+EndsIn objects [] next check = BreaksNext objects next check
+EndsIn objects (x ∷ xs) next check = (access_class objects x.action ≡ None) × (is_given objects x.action x.answer ≡ true) × EndsIn (stored_by objects x.action) xs next check
+
+pub record Found (objects : Objects) (b : Behaviour) (check : Check) : Type 0 where
   pub exchanges : List Exchange
-  pub class : Class
-  pub line : ℕ
-  pub function : ℕ
-  pub local : IsLocalRun b exchanges (Broken class line function)
-  pub check_is : check_of class line function 0 ≡ check
+  pub next : Next
+  pub local : IsLocalRun b exchanges next
+  pub ends : EndsIn objects exchanges next check
 
 accepted : (b : Behaviour) (action : Action) (line f : ℕ) (a : Answer) → b [] ≡ Act action line f → has_shape (shape_of action) a ≡ true → accepts (b []) a ≡ true
 accepted b action line f a is fits = ap (λ (n : Next). accepts n a) is ∙ fits
 
-found_behind : (b : Behaviour) (action : Action) (line f : ℕ) (a : Answer) (check : Check) → b [] ≡ Act action line f → accepts (b []) a ≡ true → Found (after b a) check → Found b check
-found_behind b action line f a check is ok found =
+found_behind : (objects : Objects) (b : Behaviour) (action : Action) (line f : ℕ) (a : Answer) (check : Check) → b [] ≡ Act action line f → accepts (b []) a ≡ true → access_class objects action ≡ None → is_given objects action a ≡ true
+    → Found (stored_by objects action) (after b a) check → Found objects b check
+found_behind objects b action line f a check is ok fine given found =
     record {
       exchanges = record { action = action; line = line; function = f; answer = a } ∷ found.exchanges;
-      class = found.class;
-      line = found.line;
-      function = found.function;
+      next = found.next;
       local = (is, ok, found.local);
-      check_is = found.check_is;
+      ends = (fine, given, found.ends);
     }
 
-draws_behind : (b : Behaviour) (action : Action) (line f : ℕ) (a : Answer) → b [] ≡ Act action line f → accepts (b []) a ≡ true → Draws b → Draws (after b a)
-draws_behind b action line f a is ok draws = λ xs next local. draws (record { action = action; line = line; function = f; answer = a } ∷ xs) next (is, ok, local)
+quiets_behind : (b : Behaviour) (action : Action) (line f : ℕ) (a : Answer) → b [] ≡ Act action line f → accepts (b []) a ≡ true → Quiets b → Quiets (after b a)
+quiets_behind b action line f a is ok quiet = λ xs next local. quiet (record { action = action; line = line; function = f; answer = a } ∷ xs) next (is, ok, local)
 
-module _ (objects : Objects) (program : Program) (inputs : InputLists) (check : Check) where
-  abbrev Ends : Behaviour → Counts → List ℕ → Type 0
-  Ends b counts schedule = (run (alone objects program b counts) inputs schedule).0 ≡ ending.Broken check
+module _ (program : Program) (inputs : InputLists) (check : Check) where
+  abbrev Ends : Objects → Behaviour → Counts → List ℕ → Type 0
+  Ends objects b counts schedule = (run (alone objects program b counts) inputs schedule).0 ≡ ending.Broken check
 
-  module _ (schedule : List ℕ) (later : (b : Behaviour) (counts : Counts) → Draws b → Ends b counts schedule → Found b check) where
+  module _ (schedule : List ℕ) (later : (objects : Objects) (b : Behaviour) (counts : Counts) → AreObjects objects → Quiets b → Ends objects b counts schedule → Found objects b check) where
     abbrev goes_on : Turn × World → Outcome
     goes_on r = (unless_broken r.0 r.1 (λ next. run next inputs schedule)).0
 
-    found_next : (b : Behaviour) (counts : Counts) (next : Next) → Draws b → b [] ≡ next → Ends b counts (0 ∷ schedule) → Found b check
-    found_next b counts (Act (actions.Draw n) line f) draws is ends =
+    found_read : (objects : Objects) (b : Behaviour) (counts : Counts) (p n line f : ℕ) (c : Option Class) → break_in objects false p n ≡ c → AreObjects objects → Quiets b → b [] ≡ Act (actions.Read p n) line f
+        → goes_on (turned_by objects program b counts inputs c line f (after_read objects program b counts inputs p n)) ≡ ending.Broken check → Found objects b check
+    found_read objects b counts p n line f (Some class) broken all quiet is ends =
+        record { exchanges = []; next = Act (actions.Read p n) line f; local = is; ends = (class, broken, (let same : ending.Broken (check_of class line f 0) ≡ ending.Broken check = ends in cc)) }
+    found_read objects b counts p n line f None fine all quiet is ends =
+        let a = answers.Bytes (bytes_at objects p n) in
+        let ok : accepts (b []) a ≡ true = accepted b (actions.Read p n) line f a is (bytes_fit objects p n all fine) in
+        found_behind objects b (actions.Read p n) line f a check is ok fine (same_itself (bytes_at objects p n))
+        (later objects (after b a) counts all (quiets_behind b (actions.Read p n) line f a is ok quiet) ends)
+
+    found_write : (objects : Objects) (b : Behaviour) (counts : Counts) (p : ℕ) (new : List ℕ) (first : Bool) (line f : ℕ) (c : Option Class) → write_break objects p new first ≡ c → AreObjects objects → Quiets b
+        → b [] ≡ Act (actions.Write p new first) line f → goes_on (turned_by objects program b counts inputs c line f (after_told objects program b counts inputs p new)) ≡ ending.Broken check → Found objects b check
+    found_write objects b counts p new first line f (Some class) broken all quiet is ends =
+        record { exchanges = []; next = Act (actions.Write p new first) line f; local = is; ends = (class, broken, (let same : ending.Broken (check_of class line f 0) ≡ ending.Broken check = ends in cc)) }
+    found_write objects b counts p new first line f None fine all quiet is ends =
+        let bytes : are_bytes new ≡ true = quiet [] (Act (actions.Write p new first) line f) is in
+        let stored : with_bytes objects p new ≡ after_write objects p new first = ap (λ (c : Option Class). unless_changed c objects (with_bytes objects p new)) (sym fine) in
+        let ok : accepts (b []) answers.Done ≡ true = accepted b (actions.Write p new first) line f answers.Done is refl in
+        found_behind objects b (actions.Write p new first) line f answers.Done check is ok fine refl
+        (later (after_write objects p new first) (after b answers.Done) counts (write_leaves objects p new first all bytes) (quiets_behind b (actions.Write p new first) line f answers.Done is ok quiet)
+        (subst (λ (os : Objects). Ends os (after b answers.Done) counts schedule) stored ends))
+
+    found_next : (objects : Objects) (b : Behaviour) (counts : Counts) (next : Next) → AreObjects objects → Quiets b → b [] ≡ next → Ends objects b counts (0 ∷ schedule) → Found objects b check
+    found_next objects b counts (Act (actions.Draw n) line f) all quiet is ends =
         let a = given objects program n (words_of inputs 0) counts in
         let ok : accepts (b []) a ≡ true = accepted b (actions.Draw n) line f a is (given_fits n (next_word (words_of inputs 0) counts.used)) in
-        found_behind b (actions.Draw n) line f a check is ok
-        (later (after b a) (counted (words_of inputs 0) counts (actions.Draw n)) (draws_behind b (actions.Draw n) line f a is ok draws) (sym (ap goes_on (draw_turn objects program b counts inputs n line f is)) ∙ ends))
-    found_next b counts (Act actions.Exit line f) draws is ends =
+        found_behind objects b (actions.Draw n) line f a check is ok refl refl
+        (later objects (after b a) (counted (words_of inputs 0) counts (actions.Draw n)) all (quiets_behind b (actions.Draw n) line f a is ok quiet) (sym (ap goes_on (draw_turn objects program b counts inputs n line f is)) ∙ ends))
+    found_next objects b counts (Act (actions.Read p n) line f) all quiet is ends =
+        found_read objects b counts p n line f (break_in objects false p n) refl all quiet is (sym (ap goes_on (read_turn objects program b counts inputs (break_in objects false p n) p n line f is refl)) ∙ ends)
+    found_next objects b counts (Act (actions.Write p new first) line f) all quiet is ends =
+        found_write objects b counts p new first line f (write_break objects p new first) refl all quiet is (sym (ap goes_on (write_turn objects program b counts inputs (write_break objects p new first) p new first line f is refl)) ∙ ends)
+    found_next objects b counts (Act actions.Exit line f) all quiet is ends =
         absurd (let fine : ending.Fine ≡ ending.Broken check = sym (over_fine objects program (after b answers.Done) counts inputs schedule) ∙ sym (ap goes_on (exit_turn objects program b counts inputs line f is)) ∙ ends in cc)
-    found_next b counts (Act action line f) draws is ends = absurd (draws [] (Act action line f) is)
-    found_next b counts (Ended w) draws is ends = later b counts draws (sym (ap goes_on (own_turn objects program b counts inputs (Ended w) is)) ∙ ends)
-    found_next b counts Blocked draws is ends = later b counts draws (sym (ap goes_on (own_turn objects program b counts inputs Blocked is)) ∙ ends)
-    found_next b counts (Broken class line f) draws is ends =
+    found_next objects b counts (Act action line f) all quiet is ends = absurd (quiet [] (Act action line f) is)
+    found_next objects b counts (Ended w) all quiet is ends = later objects b counts all quiet (sym (ap goes_on (own_turn objects program b counts inputs (Ended w) is)) ∙ ends)
+    found_next objects b counts Blocked all quiet is ends = later objects b counts all quiet (sym (ap goes_on (own_turn objects program b counts inputs Blocked is)) ∙ ends)
+    found_next objects b counts (Broken class line f) all quiet is ends =
         record {
           exchanges = [];
-          class = class;
-          line = line;
-          function = f;
+          next = Broken class line f;
           local = is;
-          check_is = let same : ending.Broken (check_of class line f 0) ≡ ending.Broken check = sym (ap goes_on (own_turn objects program b counts inputs (Broken class line f) is)) ∙ ends in cc;
+          ends = let same : ending.Broken (check_of class line f 0) ≡ ending.Broken check = sym (ap goes_on (own_turn objects program b counts inputs (Broken class line f) is)) ∙ ends in cc;
         }
 
-  pub found : (schedule : List ℕ) (b : Behaviour) (counts : Counts) → Draws b → Ends b counts schedule → Found b check
-  found [] b counts draws ends = absurd (let same : ending.Fine ≡ ending.Broken check = ends in cc)
-  found (zero ∷ schedule) b counts draws ends = found_next schedule (found schedule) b counts (b []) draws refl ends
-  found (suc t ∷ schedule) b counts draws ends =
-      found schedule b counts draws (sym (ap (λ (r : Turn × World). (unless_broken r.0 r.1 (λ next. run next inputs schedule)).0) (other_turn objects program b counts t inputs)) ∙ ends)
+  pub found : (schedule : List ℕ) (objects : Objects) (b : Behaviour) (counts : Counts) → AreObjects objects → Quiets b → Ends objects b counts schedule → Found objects b check
+  found [] objects b counts all quiet ends = absurd (let same : ending.Fine ≡ ending.Broken check = ends in cc)
+  found (zero ∷ schedule) objects b counts all quiet ends = found_next schedule (found schedule) objects b counts (b []) all quiet refl ends
+  found (suc t ∷ schedule) objects b counts all quiet ends =
+      found schedule objects b counts all quiet (sym (ap (λ (r : Turn × World). (unless_broken r.0 r.1 (λ next. run next inputs schedule)).0) (other_turn objects program b counts t inputs)) ∙ ends)
 
--- and a valuation gives it
-break_of_end : (end : Next) (class : Class) (line f : ℕ) → end ≡ Broken class line f → (is_break end ≡ true) × (end_check end ≡ check_of class line f 0)
-break_of_end end class line f is = (ap is_break is, ap end_check is)
+-- ---- and the run of a valuation that begins with it agrees with the store and breaks the check
 
-pub begins_break : (r : Run) (xs : List Exchange) (class : Class) (line f : ℕ) → Begins xs (Broken class line f) r → (breaks r ≡ true) × (broken_check r ≡ check_of class line f 0)
-begins_break (stops end) [] class line f begins = break_of_end end class line f begins
-begins_break (stops end) (x ∷ xs) class line f begins = absurd begins
-begins_break (asks action at g a rest) [] class line f begins = absurd (let same : Act action at g ≡ Broken class line f = begins in cc)
-begins_break (asks action at g a rest) (x ∷ xs) class line f begins = begins_break rest xs class line f begins.4
+abbrev pub AreEnds : Run → Type 0
+AreEnds (stops end) = IsEnd end
+AreEnds (asks action line f a rest) = AreEnds rest
+
+pub quiet_ends : (r : Run) → OnlyQuiet r → AreEnds r
+quiet_ends (stops end) only = only
+quiet_ends (asks (actions.Draw n) line f a rest) only = quiet_ends rest only
+quiet_ends (asks (actions.Read p n) line f a rest) only = quiet_ends rest only
+quiet_ends (asks (actions.Write p bytes first) line f a rest) only = quiet_ends rest only.1
+quiet_ends (asks actions.Exit line f a rest) only = subst AreEnds (sym only) tt
+quiet_ends (asks _ line f a rest) only = absurd only
+
+pub record Broke (objects : Objects) (r : Run) (check : Check) : Type 0 where
+  pub agreed : agrees objects (checked objects r) ≡ true
+  pub broken : breaks (checked objects r) ≡ true
+  pub check_is : broken_check (checked objects r) ≡ check
+
+broke_end : (objects : Objects) (end : Next) (check : Check) → IsEnd end → BreaksNext objects end check → Broke objects (stops end) check
+broke_end objects (Act action line f) check is ends = absurd is
+broke_end objects (Ended w) check is ends = absurd ends
+broke_end objects Blocked check is ends = absurd ends
+broke_end objects (Broken class line f) check is ends = record { agreed = refl; broken = refl; check_is = ends }
+
+pub begins_break : (r : Run) (objects : Objects) (xs : List Exchange) (next : Next) (check : Check) → AreEnds r → Begins xs next r → EndsIn objects xs next check → Broke objects r check
+begins_break (stops end) objects [] next check are begins ends = broke_end objects end check are (subst (λ (n : Next). BreaksNext objects n check) (sym begins) ends)
+begins_break (stops end) objects (x ∷ xs) next check are begins ends = absurd begins
+begins_break (asks action line f a rest) objects [] next check are begins ends =
+    let h = subst (λ (n : Next). BreaksNext objects n check) (sym begins) ends in
+    let stopped_is : checked objects (asks action line f a rest) ≡ stops (Broken h.0 line f) = λ i. unless (h.1 i) line f (asks action line f a (checked (stored_by objects action) rest)) in
+    record { agreed = ap (agrees objects) stopped_is; broken = ap breaks stopped_is; check_is = ap broken_check stopped_is ∙ h.2 }
+begins_break (asks action line f a rest) objects (x ∷ xs) next check are begins ends =
+    let fine : access_class objects action ≡ None = ap (access_class objects) (sym begins.0) ∙ ends.0 in
+    let given : is_given objects action a ≡ true = (λ i. is_given objects (sym begins.0 i) (sym begins.3 i)) ∙ ends.1 in
+    let later = begins_break rest (stored_by objects action) xs next check are begins.4 (subst (λ (k : Action). EndsIn (stored_by objects k) xs next check) begins.0 ends.2) in
+    let goes : checked objects (asks action line f a rest) ≡ asks action line f a (checked (stored_by objects action) rest) = λ i. unless (fine i) line f (asks action line f a (checked (stored_by objects action) rest)) in
+    record { agreed = ap (agrees objects) goes ∙ (λ i. given i && later.agreed i); broken = ap breaks goes ∙ later.broken; check_is = ap broken_check goes ∙ later.check_is }
 
 -- ---- the run of a valuation is a whole local run
 
@@ -220,28 +315,33 @@ append_nil : (xs : List ℕ) → xs ++ [] ≡ xs
 append_nil [] = refl
 append_nil (x ∷ xs) = ap (λ ys. x ∷ ys) (append_nil xs)
 
-module _ (objects : Objects) (program : Program) (inputs : InputLists) (others : (t : ℕ) → words_of inputs (suc t) ≡ []) where
-  unused : (b : Behaviour) (counts : Counts) (t : ℕ) → used_by (alone objects program b counts) (suc t) ≡ 0
-  unused b counts t = simp (not_below t, not_zero t)
+module _ (program : Program) (inputs : InputLists) (others : (t : ℕ) → words_of inputs (suc t) ≡ []) where
+  unused : (objects : Objects) (b : Behaviour) (counts : Counts) (t : ℕ) → used_by (alone objects program b counts) (suc t) ≡ 0
+  unused objects b counts t = simp (not_below t, not_zero t)
 
-  used_all : (b : Behaviour) (counts : Counts) → counts.used ≡ length (words_of inputs 0) → (t : ℕ) → used_by (alone objects program b counts) t ≡ length (words_of inputs t)
-  used_all b counts used zero = used
-  used_all b counts used (suc t) = unused b counts t ∙ sym (ap length (others t))
+  used_all : (objects : Objects) (b : Behaviour) (counts : Counts) → counts.used ≡ length (words_of inputs 0) → (t : ℕ) → used_by (alone objects program b counts) t ≡ length (words_of inputs t)
+  used_all objects b counts used zero = used
+  used_all objects b counts used (suc t) = unused objects b counts t ∙ sym (ap length (others t))
 
-  replays_end : (b : Behaviour) (counts : Counts) (end : Next) → b [] ≡ end → is_break end ≡ true → counts.used ≡ length (words_of inputs 0)
-      → Replays (alone objects program b counts) inputs (0 ∷ []) (end_check end)
-  replays_end b counts (Broken class line f) is broken used =
+  -- a turn that breaks the check
+  replays_now : (objects : Objects) (b : Behaviour) (counts : Counts) (check : Check) → turn (alone objects program b counts) 0 inputs ≡ (turned.Broken check, alone objects program b counts) → counts.used ≡ length (words_of inputs 0)
+      → Replays (alone objects program b counts) inputs (0 ∷ []) check
+  replays_now objects b counts check turn_is used =
       record {
-        breaks = ap (λ (r : Turn × World). (unless_broken r.0 r.1 (λ next. (ending.Fine, next))).0) (own_turn objects program b counts inputs (Broken class line f) is);
+        breaks = ap (λ (r : Turn × World). (unless_broken r.0 r.1 (λ next. (ending.Fine, next))).0) turn_is;
         front = [];
         last = 0;
         whole = refl;
         reached = alone objects program b counts;
         moves = refl;
-        breaks_there = ap (λ (r : Turn × World). r.0) (own_turn objects program b counts inputs (Broken class line f) is);
-        drawn_all = used_all b counts used;
+        breaks_there = ap (λ (r : Turn × World). r.0) turn_is;
+        drawn_all = used_all objects b counts used;
       }
-  replays_end b counts _ is broken used = absurd (true≢false (sym broken))
+
+  replays_end : (objects : Objects) (b : Behaviour) (counts : Counts) (end : Next) → b [] ≡ end → is_break end ≡ true → counts.used ≡ length (words_of inputs 0)
+      → Replays (alone objects program b counts) inputs (0 ∷ []) (end_check end)
+  replays_end objects b counts (Broken class line f) is broken used = replays_now objects b counts (check_of class line f 0) (own_turn objects program b counts inputs (Broken class line f) is) used
+  replays_end objects b counts _ is broken used = absurd (true≢false (sym broken))
 
   -- a turn in front of a run
   replays_behind : (w next : World) (schedule : List ℕ) (check : Check) → MovesTo inputs 0 w next → Replays next inputs schedule check → Replays w inputs (0 ∷ schedule) check
@@ -260,28 +360,66 @@ module _ (objects : Objects) (program : Program) (inputs : InputLists) (others :
   drawn_whole : (next : Next) (n line f : ℕ) (word : Option ℕ) (x : ℕ) → next ≡ Act (actions.Draw n) line f → word ≡ Some x → x < 2 ^ n → IsDrawnWhole (Some next) word
   drawn_whole next n line f word x is has small = subst (λ (o : Option ℕ). IsDrawnWhole (Some next) o) (sym has) (subst (λ (m : Next). IsDrawnWhole (Some m) (Some x)) (sym is) small)
 
-  pub replays_from : (r : Run) (b : Behaviour) (counts : Counts) (front : List ℕ) → words_of inputs 0 ≡ front ++ drawn_words r → counts.used ≡ length front
-      → OnlyDraws r → IsWhole b r → breaks r ≡ true → Replays (alone objects program b counts) inputs (turns r) (broken_check r)
-  replays_from (stops end) b counts front words used only is broken =
-      replays_end b counts end is broken (used ∙ sym (ap (λ (xs : List ℕ). length xs) (append_nil front)) ∙ sym (ap length words))
-  replays_from (asks (actions.Draw n) line f (answers.Word w) rest) b counts front words used only is broken =
+  none_left : (counts : Counts) (front : List ℕ) → words_of inputs 0 ≡ front ++ [] → counts.used ≡ length front → counts.used ≡ length (words_of inputs 0)
+  none_left counts front words used = used ∙ sym (ap (λ (xs : List ℕ). length xs) (append_nil front)) ∙ sym (ap length words)
+
+  -- the run that is left, whose words are behind those in front
+  abbrev pub Left : Run → Objects → Behaviour → Counts → Type 0
+  Left r objects b counts = (front : List ℕ) → words_of inputs 0 ≡ front ++ drawn_words r → counts.used ≡ length front → agrees objects r ≡ true → breaks r ≡ true → Replays (alone objects program b counts) inputs (turns r) (broken_check r)
+
+  left_read : (objects : Objects) (b : Behaviour) (counts : Counts) (p n line f : ℕ) (bs : List ℕ) (rest : Run) (c : Option Class) → break_in objects false p n ≡ c → b [] ≡ Act (actions.Read p n) line f
+      → Left rest objects (after b (answers.Bytes bs)) counts → Left (unless c line f (asks (actions.Read p n) line f (answers.Bytes bs) rest)) objects b counts
+  left_read objects b counts p n line f bs rest (Some class) broken_by is later front words used agreed broken =
+      replays_now objects b counts (check_of class line f 0) (read_turn objects program b counts inputs (Some class) p n line f is broken_by) (none_left counts front words used)
+  left_read objects b counts p n line f bs rest None fine is later front words used agreed broken =
+      let given : bs ≡ bytes_at objects p n = bytes_same bs (bytes_at objects p n) (left_true (same_bytes bs (bytes_at objects p n)) (agrees objects rest) agreed) in
+      let moved : MovesTo inputs 0 (alone objects program b counts) (alone objects program (after b (answers.Bytes bs)) counts) = record {
+        turn_is = read_turn objects program b counts inputs None p n line f is fine ∙ (λ i. (turned.Moved, alone objects program (after b (answers.Bytes (sym given i))) counts));
+        drawn = subst (λ (m : Next). IsDrawnWhole (Some m) (slice_get (words_of inputs 0) counts.used)) (sym is) tt;
+      } in
+      replays_behind (alone objects program b counts) (alone objects program (after b (answers.Bytes bs)) counts) (turns rest) (broken_check rest) moved
+      (later front words used (right_true (same_bytes bs (bytes_at objects p n)) (agrees objects rest) agreed) broken)
+
+  left_write : (objects : Objects) (b : Behaviour) (counts : Counts) (p : ℕ) (new : List ℕ) (first : Bool) (line f : ℕ) (rest : Run) (c : Option Class) → write_break objects p new first ≡ c → b [] ≡ Act (actions.Write p new first) line f
+      → Left rest (after_write objects p new first) (after b answers.Done) counts → Left (unless c line f (asks (actions.Write p new first) line f answers.Done rest)) objects b counts
+  left_write objects b counts p new first line f rest (Some class) broken_by is later front words used agreed broken =
+      replays_now objects b counts (check_of class line f 0) (write_turn objects program b counts inputs (Some class) p new first line f is broken_by) (none_left counts front words used)
+  left_write objects b counts p new first line f rest None fine is later front words used agreed broken =
+      let next = alone (after_write objects p new first) program (after b answers.Done) counts in
+      let stored : with_bytes objects p new ≡ after_write objects p new first = ap (λ (c : Option Class). unless_changed c objects (with_bytes objects p new)) (sym fine) in
+      let moved : MovesTo inputs 0 (alone objects program b counts) next = record {
+        turn_is = write_turn objects program b counts inputs None p new first line f is fine ∙ (λ i. (turned.Moved, alone (stored i) program (after b answers.Done) counts));
+        drawn = subst (λ (m : Next). IsDrawnWhole (Some m) (slice_get (words_of inputs 0) counts.used)) (sym is) tt;
+      } in
+      replays_behind (alone objects program b counts) next (turns rest) (broken_check rest) moved (later front words used agreed broken)
+
+  pub replays_from : (r : Run) (objects : Objects) (b : Behaviour) (counts : Counts) → OnlyQuiet r → IsWhole b r → Left (checked objects r) objects b counts
+  replays_from (stops end) objects b counts only is front words used agreed broken = replays_end objects b counts end is broken (none_left counts front words used)
+  replays_from (asks (actions.Draw n) line f (answers.Word w) rest) objects b counts only is front words used agreed broken =
+      let left = drawn_words (checked objects rest) in
       let shape = draw_shape n w is.1 in
       let all = words_of inputs 0 in
-      let next_is : next_word all counts.used ≡ w.bits = (λ k. slice_index (words k) (used k)) ∙ word_at front w.bits (drawn_words rest) in
+      let next_is : next_word all counts.used ≡ w.bits = (λ k. slice_index (words k) (used k)) ∙ word_at front w.bits left in
       let answer_is : given objects program n all counts ≡ answers.Word w = given_same n (next_word all counts.used) w next_is shape.0 shape.1 in
       let counts_behind = counted all counts (actions.Draw n) in
       let turn_is : turn (alone objects program b counts) 0 inputs ≡ (turned.Moved, alone objects program (after b (answers.Word w)) counts_behind) =
       draw_turn objects program b counts inputs n line f is.0 ∙ ap (λ (a : Answer). (turned.Moved, alone objects program (after b a) counts_behind)) answer_is in
       let moved : MovesTo inputs 0 (alone objects program b counts) (alone objects program (after b (answers.Word w)) counts_behind) = record {
         turn_is = turn_is;
-        drawn = drawn_whole (b []) n line f (slice_get all counts.used) w.bits is.0 ((λ k. slice_get (words k) (used k)) ∙ some_word_at front w.bits (drawn_words rest)) shape.1;
+        drawn = drawn_whole (b []) n line f (slice_get all counts.used) w.bits is.0 ((λ k. slice_get (words k) (used k)) ∙ some_word_at front w.bits left) shape.1;
       } in
-      replays_behind (alone objects program b counts) (alone objects program (after b (answers.Word w)) counts_behind) (turns rest) (broken_check rest) moved
-      (replays_from rest (after b (answers.Word w)) counts_behind (front ++ w.bits ∷ []) (words ∙ sym (append_assoc front (w.bits ∷ []) (drawn_words rest)))
-      (used_more counts.used front all w.bits (drawn_words rest) used words) only is.2 broken)
-  replays_from (asks (actions.Draw n) line f a rest) b counts front words used only is broken = absurd (true≢false (sym is.1))
-  replays_from (asks actions.Exit line f a rest) b counts front words used only is broken = absurd (true≢false (sym broken ∙ ap breaks only))
-  replays_from (asks _ line f a rest) b counts front words used only is broken = absurd only
+      replays_behind (alone objects program b counts) (alone objects program (after b (answers.Word w)) counts_behind) (turns (checked objects rest)) (broken_check (checked objects rest)) moved
+      (replays_from rest objects (after b (answers.Word w)) counts_behind only is.2 (front ++ w.bits ∷ []) (words ∙ sym (append_assoc front (w.bits ∷ []) left))
+      (used_more counts.used front all w.bits left used words) agreed broken)
+  replays_from (asks (actions.Draw n) line f a rest) objects b counts only is front words used agreed broken = absurd (true≢false (sym is.1))
+  replays_from (asks (actions.Read p n) line f (answers.Bytes bs) rest) objects b counts only is front words used agreed broken =
+      left_read objects b counts p n line f bs (checked objects rest) (break_in objects false p n) refl is.0 (replays_from rest objects (after b (answers.Bytes bs)) counts only is.2) front words used agreed broken
+  replays_from (asks (actions.Read p n) line f a rest) objects b counts only is front words used agreed broken = absurd (true≢false (sym is.1))
+  replays_from (asks (actions.Write p new first) line f answers.Done rest) objects b counts only is front words used agreed broken =
+      left_write objects b counts p new first line f (checked (after_write objects p new first) rest) (write_break objects p new first) refl is.0 (replays_from rest (after_write objects p new first) (after b answers.Done) counts only.1 is.2) front words used agreed broken
+  replays_from (asks (actions.Write p new first) line f a rest) objects b counts only is front words used agreed broken = absurd (true≢false (sym is.1))
+  replays_from (asks actions.Exit line f a rest) objects b counts only is front words used agreed broken = absurd (true≢false (sym broken ∙ ap (λ (r : Run). breaks (checked objects r)) only))
+  replays_from (asks _ line f a rest) objects b counts only is front words used agreed broken = absurd only
 
 -- the inputs that a run means
 inputs_own : (words : List ℕ) → words_of (inputs_for words) 0 ≡ words
@@ -292,14 +430,22 @@ inputs_others : (words : List ℕ) (t : ℕ) → words_of (inputs_for words) (su
 inputs_others [] t = refl
 inputs_others (w ∷ words) t = simp (not_below t, not_zero t)
 
-pub run_replays : (t : Thread) (objects : Objects) (r : Run) → OnlyDraws r → IsWhole t.behaves r → breaks r ≡ true → Replays (first_world t objects) (inputs_for (drawn_words r)) (turns r) (broken_check r)
-run_replays t objects r only is broken =
-    replays_from objects t.program (inputs_for (drawn_words r)) (inputs_others (drawn_words r)) r t.behaves (record no_counts { objects = length objects }) [] (inputs_own (drawn_words r)) refl only is broken
+pub run_replays : (t : Thread) (objects : Objects) (r : Run) → OnlyQuiet r → IsWhole t.behaves r → agrees objects (checked objects r) ≡ true → breaks (checked objects r) ≡ true
+    → Replays (first_world t objects) (inputs_for (drawn_words (checked objects r))) (turns (checked objects r)) (broken_check (checked objects r))
+run_replays t objects r only is agreed broken =
+    let words = drawn_words (checked objects r) in
+    replays_from t.program (inputs_for words) (inputs_others words) r objects t.behaves (record no_counts { objects = length objects }) only is [] (inputs_own words) refl agreed broken
 
 -- ---- a graph that grows keeps what events tell
 
-kind_stays : (v : ℕ → ℕ) (d e : List Node) (line f : ℕ) (k : EventKind) → Extends d e → KindIn d k → kind_seen v e line f k ≡ kind_seen v d line f k
+values_stay : (v : ℕ → ℕ) (d e : List Node) (ids : List Id) → Extends d e → All (Within d) ids → map (value v e) ids ≡ map (value v d) ids
+values_stay v d e [] x there = refl
+values_stay v d e (i ∷ ids) x there = λ k. x.value_stays v i (All-head (Within d) i ids there) k ∷ values_stay v d e ids x (All-tail (Within d) i ids there) k
+
+pub kind_stays : (v : ℕ → ℕ) (d e : List Node) (line f : ℕ) (k : EventKind) → Extends d e → KindIn d k → kind_seen v e line f k ≡ kind_seen v d line f k
 kind_stays v d e line f (kinds.Draw bits answer) x there = λ k. asked (actions.Draw bits) line f (answers.Word (word bits (x.value_stays v answer there.0 k))) ∷ []
+kind_stays v d e line f (kinds.Read object offset count answer) x there = λ k. asked (actions.Read (pointer_to object offset) count) line f (answers.Bytes (bytes_of_words count (values_stay v d e answer x there.there k))) ∷ []
+kind_stays v d e line f (kinds.Write object offset bytes) x there = λ k. asked (actions.Write (pointer_to object offset) (values_stay v d e bytes x (All-weaker (λ (i : Id). IsWord d i 8) (Within d) (λ i word. word.there) bytes there) k) false) line f answers.Done ∷ []
 kind_stays v d e line f kinds.Exit x there = refl
 kind_stays v d e line f (kinds.Check class failing) x there = λ k. if holds (x.value_stays v failing there.there k) then stopped (Broken class line f) ∷ [] else []
 kind_stays v d e line f (kinds.Assume failing) x there = λ k. if holds (x.value_stays v failing there.there k) then stopped Blocked ∷ [] else []

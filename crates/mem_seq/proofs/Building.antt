@@ -1,18 +1,21 @@
 -- The goal of a formula, from the last event to the first.
-use Rattle.std.proofs.Common.{◌≡◌, ◌<◌, ◌≤◌, ◌+◌, ◌-◌, ◌^◌, ℕ, zero, suc, Bool, true, false, not, ◌&&◌, ◌||◌, List, [], ◌∷◌, ◌++◌, length, get_or, drop, refl, sym, ◌∙◌, ap, subst, arith}
-use Rattle.std.specs.Prelude.{All, if◌then◌else◌}
+use Rattle.std.proofs.Common.{◌≡◌, ◌<◌, ◌≤◌, ◌+◌, ◌-◌, ℕ, zero, suc, Bool, true, false, not, ◌&&◌, ◌||◌, List, [], ◌∷◌, ◌++◌, length, get_or, map, take, drop, Option, Some, None, refl, sym, ◌∙◌, ap, subst, arith, append_assoc, append-nil}
+use Rattle.std.specs.Prelude.{All, min, if◌then◌else◌}
 use Rattle.std.proofs.Math.Seq.{drop-cons}
-use Rattle.std.proofs.lemmas.List.{get_or_default}
+use Rattle.std.proofs.lemmas.List.{take_more}
+use Rattle.std.proofs.lemmas.List.Elements.{All-head, All-tail, All-weaker}
+use Rattle.words.specs.declared.check.Class.{Class}
 use Rattle.actions.specs.Behaviour.{Thread, word_64}
 use Rattle.actions.specs.Objects.{Objects}
-use Rattle.actions.specs.declared.action.Next.TheVariants.{Ended, Broken}
+use Rattle.actions.specs.declared.action.Action.{Action}
+use Rattle.actions.specs.declared.action.Answer.{Answer}
+use Rattle.actions.specs.declared.action.Next.TheVariants.{Ended}
 use Rattle.word_dag.specs.declared.nodes.Id.{Id}
 use Rattle.word_dag.specs.declared.nodes.Node.{Node}
 use Rattle.word_dag.specs.Meaning.{width, value, holds, bit_value}
 use Rattle.word_dag.specs.Fitting.{is_ordered}
 use Rattle.word_dag.specs.Growth.{Within, Extends}
 use Rattle.word_dag.proofs.Grown.{extends_more}
-use Rattle.word_dag.proofs.Bounds.{value_below}
 use Rattle.word_dag.proofs.Truth.{bit_holds, holds_bit}
 use Rattle.value_nodes.specs.Values.{IsWord, IsTest}
 use Rattle.value_nodes.proofs.Made.{word_below}
@@ -20,42 +23,102 @@ use Rattle.interleave.specs.World.{first_world, no_counts}
 use Rattle.guarded_ssa.specs.declared.forms.Event.{Event}
 use Rattle.guarded_ssa.specs.declared.forms.EventKind.{EventKind}
 use Rattle.guarded_ssa.specs.declared.forms.EventKind.TheVariants as kinds
-use Rattle.guarded_ssa.specs.Runs.{Run, stops}
+use Rattle.guarded_ssa.specs.Runs.{Run, stops, asks}
 use Rattle.guarded_ssa.specs.Ways.{Seen, asked, stopped, read}
-use Rattle.guarded_ssa.specs.Forms.{kind_seen, event_seen, seen, run_read, Begins, IsForm, IsBit, EventIn, KindIn, FormIn}
+use Rattle.guarded_ssa.specs.Forms.{kind_seen, event_seen, seen, run_read, Begins, Form, IsForm, IsBit, EventIn, KindIn, FormIn}
 use Rattle.mem_seq.specs.declared.formula.Formula.{Formula}
-use Rattle.mem_seq.specs.Runs.{is_break, breaks, broken_check}
-use Rattle.mem_seq.specs.Goals.{breaks_from}
-use Rattle.mem_seq.specs.Formulas.{IsFormula, FormulaIn}
-use Rattle.mem_seq.proofs.Breaking.{event_stays, run_stays, form_draws, found, begins_break, whole, read_draws, run_replays}
+use Rattle.mem_seq.specs.declared.memory.Note.{Note}
+use Rattle.mem_seq.specs.declared.memory.Note.TheVariants as notes
+use Rattle.mem_seq.specs.Accesses.{AreObjects, access_class, is_given, stored_by, unless, checked, agrees, behind}
+use Rattle.mem_seq.specs.Runs.{breaks, broken_check}
+use Rattle.mem_seq.specs.Goals.{breaks_or, breaks_from}
+use Rattle.mem_seq.specs.Notes.{NoteIn, IsNote, AreNotes}
+use Rattle.mem_seq.specs.Formulas.{run_of, IsFormula, FormulaIn}
+use Rattle.mem_seq.proofs.Stores.{left_true, right_true}
+use Rattle.mem_seq.proofs.Breaking.{OnlyQuiet, kind_stays, event_stays, run_stays, form_quiet, found, quiet_ends, begins_break, whole, read_quiet, run_replays}
 
 -- ---- one event
 
-drawn_later : (b : Bool) (told : List Seen) (later : Bool) → breaks_from told later ≡ later → later ≡ breaks_from (if b then told else []) later
-drawn_later true told later same = sym same
-drawn_later false told later same = refl
+same_test : (d : List Node) (i : Id) (x y : (ℕ → ℕ) → Bool) → ((v : ℕ → ℕ) → x v ≡ y v) → IsTest d i x → IsTest d i y
+same_test d i x y same test = record { there = test.there; width_is = test.width_is; value_is = λ v. test.value_is v ∙ ap bit_value (same v) }
 
-draw_later : (v : ℕ → ℕ) (d : List Node) (e : Event) (bits : ℕ) (answer : Id) (later : Bool) → e.kind ≡ kinds.Draw bits answer → later ≡ breaks_from (event_seen v d e) later
-draw_later v d e bits answer later is =
-    drawn_later (holds (value v d e.guard)) (kind_seen v d e.line e.function e.kind) later (ap (λ (k : EventKind). breaks_from (kind_seen v d e.line e.function k) later) is)
+-- by whether its guard is true
+guarded : (b : Bool) (objects : Objects) (told : List Seen) (x later : Bool) → breaks_from objects told later ≡ x → (if b then x else later) ≡ breaks_from objects (if b then told else []) later
+guarded true objects told x later is = sym is
+guarded false objects told x later is = refl
 
--- a draw breaks nothing
-pub draw_test : (d : List Node) (e : Event) (bits : ℕ) (answer later : Id) → is_ordered d ≡ true → IsWord d later 1 → e.kind ≡ kinds.Draw bits answer
-    → IsTest d later (λ v. breaks_from (event_seen v d e) (holds (value v d later)))
-draw_test d e bits answer later ordered word is =
-    record {
-      there = word.there;
-      width_is = word.width_is;
-      value_is = λ v. sym (bit_holds (value v d later) (word_below v d later 1 ordered word)) ∙ ap bit_value (draw_later v d e bits answer (holds (value v d later)) is);
-    }
+if_same : (b x : Bool) → x ≡ (if b then x else x)
+if_same true x = refl
+if_same false x = refl
+
+if_true : (b later : Bool) → (b || later) ≡ (if b then true else later)
+if_true true later = refl
+if_true false later = refl
+
+if_given : (b t later : Bool) → ((not b || t) && later) ≡ (if b then t && later else later)
+if_given true t later = refl
+if_given false t later = refl
+
+module _ (d e : List Node) (ev : Event) (later : Id) (stores : (ℕ → ℕ) → Objects) where
+  abbrev guard : (ℕ → ℕ) → Bool
+  guard v = holds (value v d ev.guard)
+
+  abbrev next : (ℕ → ℕ) → Bool
+  next v = holds (value v d later)
+
+  pub passes_test : is_ordered d ≡ true → IsWord d later 1 → IsNote stores d ev notes.Passes → IsTest d later (λ v. breaks_from (stores v) (event_seen v d ev) (holds (value v d later)))
+  passes_test ordered word note =
+      record {
+        there = word.there;
+        width_is = word.width_is;
+        value_is = λ v. sym (bit_holds (value v d later) (word_below v d later 1 ordered word))
+            ∙ ap bit_value (if_same (guard v) (next v) ∙ guarded (guard v) (stores v) (kind_seen v d ev.line ev.function ev.kind) (next v) (next v) (note v (next v)));
+      }
+
+  pub breaks_test : (i : Id) → IsNote stores d ev notes.Breaks → IsTest e i (λ v. holds (value v d ev.guard) || holds (value v d later)) → IsTest e i (λ v. breaks_from (stores v) (event_seen v d ev) (holds (value v d later)))
+  breaks_test i note test =
+      same_test e i _ _ (λ v. if_true (guard v) (next v) ∙ guarded (guard v) (stores v) (kind_seen v d ev.line ev.function ev.kind) true (next v) (note v (next v))) test
+
+  pub gives_test : (i t : Id) → IsNote stores d ev (notes.Gives t) → IsTest e i (λ v. (not (holds (value v d ev.guard)) || holds (value v d t)) && holds (value v d later))
+      → IsTest e i (λ v. breaks_from (stores v) (event_seen v d ev) (holds (value v d later)))
+  gives_test i t note test =
+      same_test e i _ _ (λ v. if_given (guard v) (holds (value v d t)) (next v) ∙ guarded (guard v) (stores v) (kind_seen v d ev.line ev.function ev.kind) (holds (value v d t) && next v) (next v) (note v (next v))) test
+
+  alone_by : (b : Bool) (v : ℕ → ℕ) (told : List Seen) (x : Bool) → breaks_from (stores v) told x ≡ breaks_from [] told x → breaks_from [] (if b then told else []) x ≡ breaks_from (stores v) (if b then told else []) x
+  alone_by true v told x is = sym is
+  alone_by false v told x is = refl
+
+  pub alone_test : (i : Id) → IsNote stores d ev notes.Alone → IsTest e i (λ v. breaks_from [] (event_seen v d ev) (holds (value v d later))) → IsTest e i (λ v. breaks_from (stores v) (event_seen v d ev) (holds (value v d later)))
+  alone_test i note test = same_test e i _ _ (λ v. alone_by (guard v) v (kind_seen v d ev.line ev.function ev.kind) (next v) (note v (next v))) test
+
+pub test_is : (d : List Node) (i : Id) (f : (ℕ → ℕ) → Bool) → IsTest d i f → (v : ℕ → ℕ) → holds (value v d i) ≡ f v
+test_is d i f made v = ap holds (made.value_is v) ∙ holds_bit (f v)
+
+pub gives_made : (d d1 d2 e : List Node) (g t later other given i : Id) → Extends d d1 → Extends d1 d2 → IsBit d t → IsWord d later 1 → IsTest d1 other (λ v. not (holds (value v d g))) → IsTest d2 given (λ v. holds (value v d1 other) || holds (value v d1 t))
+    → IsTest e i (λ v. holds (value v d2 given) && holds (value v d2 later)) → IsTest e i (λ v. (not (holds (value v d g)) || holds (value v d t)) && holds (value v d later))
+gives_made d d1 d2 e g t later other given i x y bit word other_is given_is test =
+    same_test e i _ _ (λ v.
+    let a = test_is d1 other _ other_is v in
+    let b = x.value_stays v t bit.there in
+    let c = (extends_more d d1 d2 x y).value_stays v later word.there in
+    (λ k. test_is d2 given _ given_is v k && holds (c k)) ∙ (λ k. (a k || holds (b k)) && holds (value v d later))) test
 
 -- ---- events that stay
 
 bit_stays : (d e : List Node) (i : Id) → Extends d e → IsBit d i → IsBit e i
 bit_stays d e i x bit = record { there = omega (arith, x.longer, bit.there); width_is = x.width_stays i bit.there ∙ bit.width_is }
 
+widths_stay : (d e : List Node) (ids : List Id) → Extends d e → All (Within d) ids → map (width e) ids ≡ map (width d) ids
+widths_stay d e [] x there = refl
+widths_stay d e (i ∷ ids) x there = λ k. x.width_stays i (All-head (Within d) i ids there) k ∷ widths_stay d e ids x (All-tail (Within d) i ids there) k
+
 kind_in_stays : (d e : List Node) (k : EventKind) → Extends d e → KindIn d k → KindIn e k
 kind_in_stays d e (kinds.Draw bits answer) x there = (omega (arith, x.longer, there.0), x.width_stays answer there.0 ∙ there.1)
+kind_in_stays d e (kinds.Read object offset count answer) x there = record {
+  there = All-weaker (Within d) (Within e) (λ i h. omega (arith, x.longer, h)) answer there.there;
+  widths = widths_stay d e answer x there.there ∙ there.widths;
+}
+kind_in_stays d e (kinds.Write object offset bytes) x there = All-weaker (λ (i : Id). IsWord d i 8) (λ (i : Id). IsWord e i 8) (λ i h. record { there = omega (arith, x.longer, h.there); width_is = x.width_stays i h.there ∙ h.width_is }) bytes there
 kind_in_stays d e kinds.Exit x there = tt
 kind_in_stays d e (kinds.Check class failing) x there = bit_stays d e failing x there
 kind_in_stays d e (kinds.Assume failing) x there = bit_stays d e failing x there
@@ -66,23 +129,89 @@ event_in_stays d e ev x there = record { guard = bit_stays d e ev.guard x there.
 pub form_in_stays : (d e : List Node) (es : List Event) → Extends d e → FormIn d es → FormIn e es
 form_in_stays d e es x there = λ k i l. event_in_stays d e (get_or es k i) x (there k i l)
 
+pub event_there : (d e : List Node) (es : List Event) (k : ℕ) (ev : Event) → Extends d e → FormIn d es → k < length es → ev ≡ get_or es k ev → EventIn e ev
+event_there d e es k ev x form lt is = event_in_stays d e ev x (subst (EventIn d) (sym is) (form k ev lt))
+
+pub note_in_stays : (d e : List Node) (n : Note) → Extends d e → NoteIn d n → NoteIn e n
+note_in_stays d e notes.Passes x there = tt
+note_in_stays d e notes.Breaks x there = tt
+note_in_stays d e (notes.Gives i) x there = bit_stays d e i x there
+note_in_stays d e notes.Alone x there = tt
+
+pub note_stays : (d e : List Node) (ev : Event) (n : Note) (stores : (ℕ → ℕ) → Objects) → Extends d e → EventIn d ev → NoteIn d n → IsNote stores d ev n → IsNote stores e ev n
+note_stays d e ev notes.Passes stores x there within is = λ v later. (λ k. breaks_from (stores v) (kind_stays v d e ev.line ev.function ev.kind x there.kind k) later) ∙ is v later
+note_stays d e ev notes.Breaks stores x there within is = λ v later. (λ k. breaks_from (stores v) (kind_stays v d e ev.line ev.function ev.kind x there.kind k) later) ∙ is v later
+note_stays d e ev (notes.Gives i) stores x there within is = λ v later.
+    (λ k. breaks_from (stores v) (kind_stays v d e ev.line ev.function ev.kind x there.kind k) later) ∙ is v later ∙ (λ k. holds (sym (x.value_stays v i within.there) k) && later)
+note_stays d e ev notes.Alone stores x there within is = λ v later.
+    let same = kind_stays v d e ev.line ev.function ev.kind x there.kind in
+    (λ k. breaks_from (stores v) (same k) later) ∙ is v later ∙ sym (λ k. breaks_from [] (same k) later)
+
 -- ---- all events
 
-breaks_append : (xs ys : List Seen) (later : Bool) → breaks_from (xs ++ ys) later ≡ breaks_from xs (breaks_from ys later)
-breaks_append [] ys later = refl
-breaks_append (asked action line f a ∷ xs) ys later = breaks_append xs ys later
-breaks_append (stopped end ∷ xs) ys later = refl
+pub behind_append : (objects : Objects) (xs ys : List Seen) → behind objects (xs ++ ys) ≡ behind (behind objects xs) ys
+behind_append objects [] ys = refl
+behind_append objects (asked action line f a ∷ xs) ys = behind_append (stored_by objects action) xs ys
+behind_append objects (stopped end ∷ xs) ys = behind_append objects xs ys
 
-breaks_read : (told : List Seen) → breaks (read told (stops (Ended (word_64 0)))) ≡ breaks_from told false
-breaks_read [] = refl
-breaks_read (asked action line f a ∷ told) = breaks_read told
-breaks_read (stopped end ∷ told) = refl
+breaks_append : (objects : Objects) (xs ys : List Seen) (later : Bool) → breaks_from objects (xs ++ ys) later ≡ breaks_from objects xs (breaks_from (behind objects xs) ys later)
+breaks_append objects [] ys later = refl
+breaks_append objects (asked action line f a ∷ xs) ys later = ap (λ b. breaks_or (access_class objects action) (is_given objects action a && b)) (breaks_append (stored_by objects action) xs ys later)
+breaks_append objects (stopped end ∷ xs) ys later = refl
+
+both_given : (g a b later : Bool) → (a && b) ≡ later → ((g && a) && b) ≡ (g && later)
+both_given true a b later is = is
+both_given false a b later is = refl
+
+checked_by : (c : Option Class) (objects : Objects) (action : Action) (line f : ℕ) (a : Answer) (rest : Run) (later : Bool) → (agrees (stored_by objects action) rest && breaks rest) ≡ later
+    → (agrees objects (unless c line f (asks action line f a rest)) && breaks (unless c line f (asks action line f a rest))) ≡ breaks_or c (is_given objects action a && later)
+checked_by None objects action line f a rest later is = both_given (is_given objects action a) (agrees (stored_by objects action) rest) (breaks rest) later is
+checked_by (Some class) objects action line f a rest later is = refl
+
+breaks_read : (objects : Objects) (told : List Seen) → (let r = checked objects (read told (stops (Ended (word_64 0)))) in (agrees objects r && breaks r) ≡ breaks_from objects told false)
+breaks_read objects [] = refl
+breaks_read objects (asked action line f a ∷ told) =
+    checked_by (access_class objects action) objects action line f a (checked (stored_by objects action) (read told (stops (Ended (word_64 0))))) (breaks_from (stored_by objects action) told false) (breaks_read (stored_by objects action) told)
+breaks_read objects (stopped end ∷ told) = refl
+
+seen_append : (v : ℕ → ℕ) (d : List Node) (xs ys : List Event) → seen v d (xs ++ ys) ≡ seen v d xs ++ seen v d ys
+seen_append v d [] ys = refl
+seen_append v d (x ∷ xs) ys = ap (λ told. event_seen v d x ++ told) (seen_append v d xs ys) ∙ sym (append_assoc (event_seen v d x) (seen v d xs) (seen v d ys))
+
+-- the store that is there where so many events were told
+abbrev pub store_at : Objects → List Node → List Event → ℕ → (ℕ → ℕ) → Objects
+store_at objects d es at v = behind objects (seen v d (take at es))
+
+pub store_next : (objects : Objects) (v : ℕ → ℕ) (d : List Node) (es : List Event) (at : ℕ) (ev : Event) → at < length es → ev ≡ get_or es at ev → store_at objects d es (at + 1) v ≡ behind (store_at objects d es at v) (event_seen v d ev)
+store_next objects v d es at ev lt is =
+    let one : seen v d (ev ∷ []) ≡ event_seen v d ev = append-nil (event_seen v d ev) in
+    (λ k. behind objects (seen v d (take_more es at ev lt k)))
+    ∙ (λ k. behind objects (seen v d (take at es ++ sym is k ∷ [])))
+    ∙ (λ k. behind objects (seen_append v d (take at es) (ev ∷ []) k))
+    ∙ behind_append objects (seen v d (take at es)) (seen v d (ev ∷ []))
+    ∙ (λ k. behind (store_at objects d es at v) (one k))
+
+pub notes_long : (stores : (ℕ → ℕ) → Objects) (d : List Node) (es : List Event) (ns : List Note) → AreNotes stores d es ns → length ns ≡ length es
+notes_long stores d [] [] h = refl
+notes_long stores d [] (n ∷ ns) h = absurd h
+notes_long stores d (e ∷ es) [] h = absurd h
+notes_long stores d (e ∷ es) (n ∷ ns) h = ap suc (notes_long (λ v. behind (stores v) (event_seen v d e)) d es ns h.1)
+
+pub note_at : (stores : (ℕ → ℕ) → Objects) (d : List Node) (es : List Event) (ns : List Note) (at : ℕ) (ev : Event) (n : Note) → at < length es → AreNotes stores d es ns → IsNote (λ v. behind (stores v) (seen v d (take at es))) d (get_or es at ev) (get_or ns at n)
+note_at stores d [] ns at ev n lt h = absurd (omega (arith, lt))
+note_at stores d (e ∷ es) [] at ev n lt h = absurd h
+note_at stores d (e ∷ es) (m ∷ ns) zero ev n lt h = h.0
+note_at stores d (e ∷ es) (m ∷ ns) (suc at) ev n lt h =
+    let less : at < length es = omega (arith, lt) in
+    let same : (λ (v : ℕ → ℕ). behind (behind (stores v) (event_seen v d e)) (seen v d (take at es))) ≡ (λ v. behind (stores v) (event_seen v d e ++ seen v d (take at es))) =
+    λ k v. sym (behind_append (stores v) (event_seen v d e) (seen v d (take at es))) k in
+    subst (λ (s : (ℕ → ℕ) → Objects). IsNote s d (get_or es at ev) (get_or ns at n)) same (note_at (λ v. behind (stores v) (event_seen v d e)) d es ns at ev n less h.1)
 
 -- the events from this place on are looked at
-pub record Looking (d e : List Node) (es : List Event) (later : Id) (at : ℕ) : Type 0 where
+pub record Looking (d e : List Node) (objects : Objects) (es : List Event) (later : Id) (at : ℕ) : Type 0 where
   pub extends : Extends d e
   pub within : at ≤ length es
-  pub test : IsTest e later (λ v. breaks_from (seen v d (drop at es)) false)
+  pub test : IsTest e later (λ v. breaks_from (store_at objects d es at v) (seen v d (drop at es)) false)
 
 drop_end : (es : List Event) (at : ℕ) → at ≡ length es → drop at es ≡ []
 drop_end [] zero same = refl
@@ -90,69 +219,109 @@ drop_end [] (suc at) same = refl
 drop_end (e ∷ es) zero same = absurd (omega (arith, same))
 drop_end (e ∷ es) (suc at) same = drop_end es at (omega (arith, same))
 
-pub looking_none : (d e : List Node) (es : List Event) (later : Id) (at : ℕ) → at ≡ length es → Extends d e → Within e later → width e later ≡ 1 → ((v : ℕ → ℕ) → value v e later ≡ 0) → Looking d e es later at
-looking_none d e es later at same x there wide no_break =
+pub looking_none : (d e : List Node) (objects : Objects) (es : List Event) (ns : List Note) (later : Id) (at : ℕ) → at ≡ min (length es) (length ns) → AreNotes (λ v. objects) d es ns → Extends d e → Within e later → width e later ≡ 1
+    → ((v : ℕ → ℕ) → value v e later ≡ 0) → Looking d e objects es later at
+looking_none d e objects es ns later at is given x there wide no_break =
+    let same : at ≡ length es = omega (arith, is, notes_long (λ v. objects) d es ns given) in
     record {
       extends = x;
       within = omega (arith, same);
-      test = record { there = there; width_is = wide; value_is = λ v. no_break v ∙ sym (ap (λ (more : List Event). bit_value (breaks_from (seen v d more) false)) (drop_end es at same)) };
+      test = record { there = there; width_is = wide; value_is = λ v. no_break v ∙ sym (ap (λ (more : List Event). bit_value (breaks_from (store_at objects d es at v) (seen v d more) false)) (drop_end es at same)) };
     }
 
-pub looking_more : (d e f : List Node) (es : List Event) (ev : Event) (later next : Id) (at : ℕ) → FormIn d es → Looking d e es later (suc at) → ev ≡ get_or es at ev → Extends e f
-    → IsTest f next (λ v. breaks_from (event_seen v e ev) (holds (value v e later))) → Looking d f es next at
-looking_more d e f es ev later next at there l is x made =
-    let here : EventIn d ev = subst (EventIn d) (sym is) (there at ev (omega (arith, l.within))) in
+pub looking_more : (d e f : List Node) (objects : Objects) (es : List Event) (ns : List Note) (ev : Event) (n : Note) (later next : Id) (at : ℕ) → FormIn d es → All (NoteIn d) ns → AreNotes (λ v. objects) d es ns
+    → Looking d e objects es later (at + 1) → ev ≡ get_or es at ev → n ≡ get_or ns at n → Extends e f
+    → ((stores : (ℕ → ℕ) → Objects) → IsNote stores e ev n → IsTest f next (λ v. breaks_from (stores v) (event_seen v e ev) (holds (value v e later)))) → Looking d f objects es next at
+looking_more d e f objects es ns ev n later next at there notes_there given l is is_note x makes =
+    let lt : at < length es = omega (arith, l.within) in
+    let here : EventIn d ev = subst (EventIn d) (sym is) (there at ev lt) in
+    let note_here : NoteIn d n = subst (NoteIn d) (sym is_note) (notes_there at n (omega (arith, lt, notes_long (λ v. objects) d es ns given))) in
+    let stores = store_at objects d es at in
+    let note_is : IsNote stores d ev n = subst (λ (m : Note). IsNote stores d ev m) (sym is_note) (subst (λ (k : Event). IsNote stores d k (get_or ns at n)) (sym is) (note_at (λ v. objects) d es ns at ev n lt given)) in
+    let made = makes stores (note_stays d e ev n stores l.extends here note_here note_is) in
     record {
       extends = extends_more d e f l.extends x;
-      within = omega (arith, l.within);
+      within = omega (arith, lt);
       test = record {
         there = made.there;
         width_is = made.width_is;
         value_is = λ v.
-            let rest = drop (suc at) es in
-            let first : drop at es ≡ ev ∷ rest = drop-cons es at ev (omega (arith, l.within)) ∙ ap (λ (k : Event). k ∷ rest) (sym is) in
+            let rest = drop (at + 1) es in
+            let next_place : suc at ≡ at + 1 = omega arith in
+            let first : drop at es ≡ ev ∷ rest = drop-cons es at ev lt ∙ (λ k. sym is k ∷ drop (next_place k) es) in
             made.value_is v
-            ∙ (λ k. bit_value (breaks_from (event_stays v d e ev l.extends here k) (holds (l.test.value_is v k))))
-            ∙ ap (λ b. bit_value (breaks_from (event_seen v d ev) b)) (holds_bit (breaks_from (seen v d rest) false))
-            ∙ ap bit_value (sym (breaks_append (event_seen v d ev) (seen v d rest) false))
-            ∙ ap (λ (more : List Event). bit_value (breaks_from (seen v d more) false)) (sym first);
+            ∙ (λ k. bit_value (breaks_from (stores v) (event_stays v d e ev l.extends here k) (holds (l.test.value_is v k))))
+            ∙ ap (λ b. bit_value (breaks_from (stores v) (event_seen v d ev) b)) (holds_bit (breaks_from (store_at objects d es (at + 1) v) (seen v d rest) false))
+            ∙ ap (λ (os : Objects). bit_value (breaks_from (stores v) (event_seen v d ev) (breaks_from os (seen v d rest) false))) (store_next objects v d es at ev lt is)
+            ∙ ap bit_value (sym (breaks_append (stores v) (event_seen v d ev) (seen v d rest) false))
+            ∙ ap (λ (more : List Event). bit_value (breaks_from (stores v) (seen v d more) false)) (sym first);
       };
     }
 
-pub looking_step : (d e f : List Node) (es : List Event) (ev : Event) (later next : Id) (at : ℕ) → FormIn d es → Looking d e es later at → 0 < at → ev ≡ get_or es (at - 1) ev → Extends e f
-    → IsTest f next (λ v. breaks_from (event_seen v e ev) (holds (value v e later))) → Looking d f es next (at - 1)
-looking_step d e f es ev later next at there l some is x made =
-    let same : at ≡ suc (at - 1) = omega arith in
-    looking_more d e f es ev later next (at - 1) there (subst (λ (k : ℕ). Looking d e es later k) same l) is x made
+pub looking_step : (d e f : List Node) (objects : Objects) (es : List Event) (ns : List Note) (ev : Event) (n : Note) (later next : Id) (at : ℕ) → FormIn d es → All (NoteIn d) ns → AreNotes (λ v. objects) d es ns
+    → Looking d e objects es later at → 0 < at → ev ≡ get_or es (at - 1) ev → n ≡ get_or ns (at - 1) n → Extends e f
+    → ((stores : (ℕ → ℕ) → Objects) → IsNote stores e ev n → IsTest f next (λ v. breaks_from (stores v) (event_seen v e ev) (holds (value v e later)))) → Looking d f objects es next (at - 1)
+looking_step d e f objects es ns ev n later next at there notes_there given l some is is_note x makes =
+    let same : at ≡ at - 1 + 1 = omega (arith, some) in
+    looking_more d e f objects es ns ev n later next (at - 1) there notes_there given (subst (λ (k : ℕ). Looking d e objects es later k) same l) is is_note x makes
 
-pub looking_all : (d e : List Node) (es : List Event) (goal : Id) → Looking d e es goal 0 → IsTest e goal (λ v. breaks (run_read v d es))
-looking_all d e es goal l = record { there = l.test.there; width_is = l.test.width_is; value_is = λ v. l.test.value_is v ∙ ap bit_value (sym (breaks_read (seen v d es))) }
+-- each read of the run gets what the store holds, and the run breaks a check
+abbrev pub breaks_in : (ℕ → ℕ) → List Node → Form → Bool
+breaks_in v d f = agrees f.store (run_of v d f) && breaks (run_of v d f)
 
-pub looking_whole : (d e : List Node) (es : List Event) (goal : Id) (at : ℕ) → at ≤ 0 → Looking d e es goal at → IsTest e goal (λ v. breaks (run_read v d es))
-looking_whole d e es goal zero none l = looking_all d e es goal l
-looking_whole d e es goal (suc at) none l = absurd (omega arith)
+pub looking_whole : (d e : List Node) (objects : Objects) (es : List Event) (goal : Id) (at : ℕ) → at ≤ 0 → Looking d e objects es goal at → IsTest e goal (λ v. breaks_in v d (record { events = es; store = objects }))
+looking_whole d e objects es goal zero none l = same_test e goal _ _ (λ v. sym (breaks_read objects (seen v d es))) l.test
+looking_whole d e objects es goal (suc at) none l = absurd (omega (arith, none))
 
 -- ---- the formula
 
-one_breaks : (b : Bool) → bit_value b ≡ 1 → b ≡ true
-one_breaks true h = refl
-one_breaks false h = cc
+one_true : (b : Bool) → bit_value b ≡ 1 → b ≡ true
+one_true true h = refl
+one_true false h = cc
 
-pub is_formula : (d e : List Node) (f : Formula) (es : List Event) (t : Thread) (objects : Objects) → f.form ≡ es → Extends d e → FormIn d es → IsTest e f.goal (λ v. breaks (run_read v d es)) → IsForm t.behaves d es
-    → IsFormula (first_world t objects) e f
-is_formula d e f es t objects same x there goal form =
-    let is : (v : ℕ → ℕ) → value v e f.goal ≡ bit_value (breaks (run_read v e f.form)) =
-    λ v. goal.value_is v ∙ ap (λ r. bit_value (breaks r)) (sym (run_stays v d e es x there)) ∙ ap (λ (k : List Event). bit_value (breaks (run_read v e k))) (sym same) in
-    let run_is : (v : ℕ → ℕ) → run_read v d es ≡ run_read v e f.form = λ v. sym (run_stays v d e es x there) ∙ ap (λ (k : List Event). run_read v e k) (sym same) in
+pub is_formula : (d e : List Node) (f : Formula) (t : Thread) → is_ordered d ≡ true → Extends d e → FormIn d f.form.events → AreObjects f.form.store → IsTest e f.goal (λ v. breaks_in v d f.form) → IsForm t.behaves d f.form.events
+    → IsFormula (first_world t f.form.store) e f
+is_formula d e f t ordered x there all goal form =
+    let es = f.form.events in
+    let objects = f.form.store in
+    let stays : (v : ℕ → ℕ) → run_read v e es ≡ run_read v d es = λ v. run_stays v d e es x there in
+    let is : (v : ℕ → ℕ) → value v e f.goal ≡ bit_value (breaks_in v e f.form) =
+    λ v. goal.value_is v ∙ (λ k. bit_value (let r = checked objects (sym (stays v) k) in agrees objects r && breaks r)) in
     record {
       is = is;
       replays = λ v h.
-          run_replays t objects (run_read v e f.form) (read_draws v e f.form)
-          (whole (run_read v e f.form) t.behaves (λ xs next begins. form.gives v xs next (subst (λ (r : Run). Begins xs next r) (sym (run_is v)) begins)))
-          (one_breaks (breaks (run_read v e f.form)) (sym (is v) ∙ h));
+          let r = run_read v e es in
+          let whole_is = one_true (breaks_in v e f.form) (sym (is v) ∙ h) in
+          let only : OnlyQuiet r = subst OnlyQuiet (sym (stays v)) (read_quiet v d ordered es there) in
+          run_replays t objects r only (whole r t.behaves (λ xs next begins. form.gives v xs next (subst (λ (r : Run). Begins xs next r) (stays v) begins)))
+          (left_true (agrees objects (checked objects r)) (breaks (checked objects r)) whole_is) (right_true (agrees objects (checked objects r)) (breaks (checked objects r)) whole_is);
       given = λ inputs schedule check ends.
-          let F = found objects t.program inputs check schedule t.behaves (record no_counts { objects = length objects }) (form_draws t.behaves d es form) ends in
-          let h = form.has F.exchanges (Broken F.class F.line F.function) F.local in
-          let b = begins_break (run_read h.0 d es) F.exchanges F.class F.line F.function h.1 in
-          (h.0, is h.0 ∙ ap bit_value (ap breaks (sym (run_is h.0)) ∙ b.0), ap broken_check (sym (run_is h.0)) ∙ b.1 ∙ F.check_is);
+          let F = found t.program inputs check schedule objects t.behaves (record no_counts { objects = length objects }) all (form_quiet t.behaves d es ordered there form) ends in
+          let h = form.has F.exchanges F.next F.local in
+          let v = h.0 in
+          let b = begins_break (run_read v d es) objects F.exchanges F.next check (quiet_ends (run_read v d es) (read_quiet v d ordered es there)) h.1 F.ends in
+          let goes = λ (r : Run). bit_value (agrees objects (checked objects r) && breaks (checked objects r)) in
+          (v, is v ∙ ap goes (stays v) ∙ (λ k. bit_value (b.agreed k && b.broken k)), ap (λ (r : Run). broken_check (checked objects r)) (stays v) ∙ b.check_is);
     }
+
+test_before : (d m e : List Node) (goal : Id) (f : Form) → Extends d m → FormIn d f.events → IsTest e goal (λ v. breaks_in v m f) → IsTest e goal (λ v. breaks_in v d f)
+test_before d m e goal f x there test = same_test e goal _ _ (λ v. ap (λ (r : Run). agrees f.store (checked f.store r) && breaks (checked f.store r)) (run_stays v d m f.events x there)) test
+
+pub form_in_later : (d e : List Node) (es own : List Event) → own ≡ es → Extends d e → FormIn d es → FormIn e own
+form_in_later d e es own same x there = subst (FormIn e) (sym same) (form_in_stays d e es x there)
+
+pub formula_in : (d m e : List Node) (f : Formula) (given : Form) (test : (ℕ → ℕ) → Bool) → f.form ≡ given → Extends d m → Extends m e → FormIn d given.events → IsTest e f.goal test → FormulaIn e f
+formula_in d m e f given test same x y there goal =
+    record { there = goal.there; width_is = goal.width_is; form = form_in_later d e given.events f.form.events (ap (λ (g : Form). g.events) same) (extends_more d m e x y) there }
+
+pub test_of : (m e : List Node) (goal : Id) (given : Form) (store : Objects) (es : List Event) → store ≡ given.store → es ≡ given.events
+    → IsTest e goal (λ v. agrees store (checked store (run_read v m es)) && breaks (checked store (run_read v m es))) → IsTest e goal (λ v. breaks_in v m given)
+test_of m e goal given store es store_is es_are test =
+    same_test e goal _ _ (λ v. (λ i. agrees (store_is i) (checked (store_is i) (run_read v m (es_are i))) && breaks (checked (store_is i) (run_read v m (es_are i))))) test
+
+-- the goal is made in the graph that the notes leave
+pub formula_made : (d m e : List Node) (f : Formula) (given : Form) (t : Thread) → f.form ≡ given → is_ordered d ≡ true → Extends d m → Extends m e → FormIn d given.events → IsTest e f.goal (λ v. breaks_in v m given)
+    → AreObjects given.store → IsForm t.behaves d given.events → IsFormula (first_world t given.store) e f
+formula_made d m e f given t same ordered x y there test all form =
+    let P : Form → Type 0 = λ g. FormIn d g.events → IsTest e f.goal (λ v. breaks_in v d g) → AreObjects g.store → IsForm t.behaves d g.events → IsFormula (first_world t g.store) e f in
+    subst P same (λ there' test' all' form'. is_formula d e f t ordered (extends_more d m e x y) there' all' test' form') there (test_before d m e f.goal given x there test) all form

@@ -1,10 +1,18 @@
--- Whether what is told breaks a check.
-use Rattle.std.specs.Prelude.{Bool, List, [], ◌∷◌}
+-- Whether what is told breaks a check, where each read gives what the store holds.
+use Rattle.std.specs.Prelude.{Bool, true, ◌&&◌, List, [], ◌∷◌, Option, Some, None}
+use Rattle.words.specs.declared.check.Class.{Class}
+use Rattle.actions.specs.Objects.{Objects}
 use Rattle.guarded_ssa.specs.Ways.{Seen, asked, stopped}
+use Rattle.mem_seq.specs.Accesses.{access_class, is_given, stored_by}
 use Rattle.mem_seq.specs.Runs.{is_break}
 
--- before what is told later, which breaks a check or doesn't
-abbrev pub breaks_from : List Seen → Bool → Bool
-breaks_from [] later = later
-breaks_from (asked action line function a ∷ told) later = breaks_from told later
-breaks_from (stopped end ∷ told) later = is_break end
+abbrev pub breaks_or : Option Class → Bool → Bool
+breaks_or None later = later
+breaks_or (Some class) later = true
+
+-- from this store on, before what is told later, which breaks a check or doesn't
+abbrev pub breaks_from : Objects → List Seen → Bool → Bool
+breaks_from objects [] later = later
+breaks_from objects (asked action line function a ∷ told) later =
+    breaks_or (access_class objects action) (is_given objects action a && breaks_from (stored_by objects action) told later)
+breaks_from objects (stopped end ∷ told) later = is_break end

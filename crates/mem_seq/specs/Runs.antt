@@ -5,7 +5,7 @@ use Rattle.words.specs.declared.check.Check.{Check}
 use Rattle.actions.specs.declared.action.Answer.{Answer}
 use Rattle.actions.specs.declared.action.Answer.TheVariants as answers
 use Rattle.actions.specs.declared.action.Next.{Next}
-use Rattle.actions.specs.declared.action.Next.TheVariants.{Act, Ended, Blocked, Broken}
+use Rattle.actions.specs.declared.action.Next.TheVariants.{Broken}
 use Rattle.interleave.specs.Inputs.{InputLists}
 use Rattle.interleave.specs.Turn.{check_of}
 use Rattle.guarded_ssa.specs.Runs.{Run, stops, asks}

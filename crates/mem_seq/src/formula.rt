@@ -1,23 +1,27 @@
-ghost use Rattle.std.specs.Prelude.{◌≡◌, ◌&&◌, ◌||◌, not, IfOk};
+ghost use Rattle.std.specs.Prelude.{◌≡◌, ℕ, ◌&&◌, [], not, All, IfOk};
 ghost use Rattle.actions.specs.Behaviour.{Thread};
 ghost use Rattle.actions.specs.Objects.{Objects};
 ghost use Rattle.guarded_ssa.specs.Forms.{EventIn, event_seen, FormIn, IsForm};
 ghost use Rattle.interleave.specs.World.{first_world};
 ghost use Rattle.mem_seq.specs.Formulas.{IsFormula, FormulaIn};
 ghost use Rattle.guarded_ssa.specs.Forms.{run_read};
+ghost use Rattle.mem_seq.specs.Accesses.{AreObjects, checked, agrees};
+ghost use Rattle.mem_seq.specs.Notes.{NoteIn, IsNote, AreNotes};
 ghost use Rattle.mem_seq.specs.Runs.{breaks};
 ghost use Rattle.mem_seq.specs.Goals.{breaks_from};
 ghost use Rattle.value_nodes.specs.Values.{IsWord, IsTest};
 ghost use Rattle.word_dag.specs.Growth.{Extends};
 ghost use Rattle.word_dag.specs.Meaning.{value, holds};
 
+use crate::memory::{Note, notes};
+use actions::Store;
 use guarded_ssa::{Event, EventKind, ThreadForm};
 use std::alloc::{AllocError, Global};
 use value_nodes::{both, either, inverse};
 use word_dag::{Dag, Id, Node};
 
 /// What is asked of the values of a graph's variables: that the goal, a node of 1 bit, is true. The form
-/// tells the run that they give.
+/// tells the run that they give, and the store from which it runs.
 #[derive(Drop)]
 pub struct Formula {
     pub goal: Id,
@@ -53,66 +57,114 @@ fn unless(dag: &mut Dag, guard: Id, test: Id, later: Id) -> Result<Id, AllocErro
     Ok(id)
 }
 
-#[tactic(auto, using(crate::proofs::Building::draw_test))]
-// Whether the run breaks a check at an event or, where it goes on, later.
-fn breaks_at(dag: &mut Dag, event: Event, later: Id) -> Result<Id, AllocError>
-    requires event { EventIn dag.old event }
+// Whether, from a store without objects, in which each access breaks a check, the run breaks one at an event or,
+// where it goes on, later.
+fn breaks_alone(dag: &mut Dag, event: &Event, later: Id) -> Result<Id, AllocError>
+    requires event { EventIn dag.old event.now }
     requires later { IsWord dag.old later 1 }
     ensures extends { Extends dag.old dag.new }
-    ensures made { IfOk result (λ i. IsTest dag.new i (λ v. breaks_from (event_seen v dag.old event) (holds (value v dag.old later)))) }
+    ensures made { IfOk result (λ i. IsTest dag.new i (λ v. breaks_from [] (event_seen v dag.old event.now) (holds (value v dag.old later)))) }
 {
     let _ = dag.nodes();
-    match event.kind {
+    match &event.kind {
         EventKind::Draw { bits: _, answer: _ } => Ok(later),
+        EventKind::Read {
+            object: _,
+            offset: _,
+            count: _,
+            answer: _,
+        } => {
+            let id = either(dag, event.guard, later)?;
+            Ok(id)
+        }
+        EventKind::Write {
+            object: _,
+            offset: _,
+            bytes: _,
+        } => {
+            let id = either(dag, event.guard, later)?;
+            Ok(id)
+        }
         EventKind::Exit => {
             let goes_on = inverse(dag, event.guard)?;
             let id = both(dag, goes_on, later)?;
             Ok(id)
         }
         EventKind::Check { class: _, failing } => {
-            let broken = under(dag, event.guard, failing)?;
+            let broken = under(dag, event.guard, *failing)?;
             let id = either(dag, broken, later)?;
             Ok(id)
         }
         EventKind::Assume { failing } => {
-            let id = unless(dag, event.guard, failing, later)?;
+            let id = unless(dag, event.guard, *failing, later)?;
             Ok(id)
         }
     }
 }
 
-// Whether the run that the events tell breaks a check.
-fn goal(dag: &mut Dag, events: &[Event]) -> Result<Id, AllocError>
-    requires { FormIn dag.old events.now }
+// Whether, from the stores of which the note tells, the run breaks a check at an event or, where it goes on,
+// later.
+#[tactic(auto, using(crate::proofs::Building::passes_test, crate::proofs::Building::breaks_test, crate::proofs::Building::gives_test, crate::proofs::Building::alone_test))]
+fn breaks_at(dag: &mut Dag, event: &Event, note: Note, later: Id) -> Result<Id, AllocError>
+    requires event { EventIn dag.old event.now }
+    requires note { NoteIn dag.old note }
+    requires later { IsWord dag.old later 1 }
     ensures extends { Extends dag.old dag.new }
-    ensures made { IfOk result (λ i. IsTest dag.new i (λ v. breaks (run_read v dag.old events.now))) }
+    ensures made { IfOk result (λ i. (stores : (ℕ → ℕ) → Objects) → IsNote stores dag.old event.now note → IsTest dag.new i (λ v. breaks_from (stores v) (event_seen v dag.old event.now) (holds (value v dag.old later)))) }
 {
+    let _ = dag.nodes();
+    match note {
+        Note::Passes => Ok(later),
+        Note::Breaks => {
+            let id = either(dag, event.guard, later)?;
+            Ok(id)
+        }
+        Note::Gives(test) => {
+            let other = inverse(dag, event.guard)?;
+            let given = either(dag, other, test)?;
+            let id = both(dag, given, later)?;
+            Ok(id)
+        }
+        Note::Alone => breaks_alone(dag, event, later),
+    }
+}
+
+// Whether each read of the run that the events tell gives what the store holds, and the run breaks a check.
+fn goal(dag: &mut Dag, store: &Store, events: &[Event], notes: &[Note]) -> Result<Id, AllocError>
+    requires within { FormIn dag.old events.now }
+    requires notes_within { All (NoteIn dag.old) notes.now }
+    requires notes { AreNotes (λ v. store.now) dag.old events.now notes.now }
+    ensures extends { Extends dag.old dag.new }
+    ensures made { IfOk result (λ i. IsTest dag.new i (λ v. agrees store.now (checked store.now (run_read v dag.old events.now)) && breaks (checked store.now (run_read v dag.old events.now)))) }
+{
+    let _ = store;
     let mut later = dag.make(Node::Constant(0, 1))?;
-    let mut at = events.len();
+    let mut at = events.len().min(notes.len());
     'looking: while at > 0 {
         at -= 1;
-        later = breaks_at(dag, events[at], later)?;
+        later = breaks_at(dag, &events[at], notes[at], later)?;
     }
     Ok(later)
 }
 
-/// The formula of the runs of one thread that break a check, over the form of the thread. The only error
-/// is that there is no memory.
+/// The formula of the runs of one thread that break a check, over the form of the thread and from its store
+/// on. The only error is that there is no memory.
 pub fn sequential(
     alloc: Global,
     dag: &mut Dag,
     form: &ThreadForm,
     _sets: &Sets,
 ) -> Result<Formula, AllocError>
-    requires { FormIn dag.old form.now }
+    requires { FormIn dag.old form.now.events }
     ensures extends { Extends dag.old dag.new }
     ensures within { IfOk result (λ f. FormulaIn dag.new f) }
-    ensures formula { IfOk result (λ f. (t : Thread) (objects : Objects) → IsForm t.behaves dag.old form.now → IsFormula (first_world t objects) dag.new f) }
+    ensures formula { IfOk result (λ f. (t : Thread) → AreObjects form.now.store → IsForm t.behaves dag.old form.now.events → IsFormula (first_world t form.now.store) dag.new f) }
 {
-    let events = Vec::from_slice(alloc, form.events())?;
-    let goal = goal(dag, &events)?;
+    let _ = dag.nodes();
+    let notes = notes(alloc, dag, form.store(), form.events())?;
+    let goal = goal(dag, form.store(), form.events(), &notes)?;
     Ok(Formula {
         goal,
-        form: ThreadForm::new(events),
+        form: form.copied(alloc)?,
     })
 }

@@ -2,5 +2,8 @@
 #![tactic(auto)]
 
 mod formula;
+mod memory;
+#[cfg(test)]
+mod tests;
 
 pub use formula::{Formula, Sets, sequential};

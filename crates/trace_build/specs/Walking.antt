@@ -1,8 +1,13 @@
 -- A walk over the events of a form, in which words and turns are collected up to the break.
 use Rattle.std.specs.Prelude.{◌≡◌, ℕ, true, List, ◌++◌, Option, Some, None}
 use Rattle.words.specs.declared.check.Check.{Check}
+use Rattle.actions.specs.Objects.{Objects, state_at}
 use Rattle.guarded_ssa.specs.Runs.{Run}
 use Rattle.mem_seq.specs.Runs.{breaks, drawn_words, turns, broken_check}
+
+-- stores whose objects are in the same states; their bytes may differ
+abbrev pub SameStates : Objects → Objects → Type 0
+SameStates first second = (number : ℕ) → state_at first number ≡ state_at second number
 
 -- with these words and turns collected, the run `left` is what is left of the whole one, which breaks a check
 pub record IsWalk (whole left : Run) (words schedule : List ℕ) : Type 0 where

@@ -1,4 +1,4 @@
-ghost use Rattle.std.specs.Prelude.{◌≡◌, ℕ, true, List, [], ◌∷◌, ◌++◌, IfOk, OnOk, map, slice_index};
+ghost use Rattle.std.specs.Prelude.{◌≡◌, ℕ, true, List, [], ◌∷◌, ◌++◌, IfOk, OnOk, option_map, map, slice_index};
 ghost use Rattle.words.specs.BitVector.{BitVector};
 ghost use Rattle.word_dag.specs.Meaning.{value, values, valuation_of, holds};
 ghost use Rattle.word_dag.specs.Growth.{Within};
@@ -10,14 +10,18 @@ ghost use Rattle.interleave.specs.Turn.{check_of};
 ghost use Rattle.interleave.specs.Replay.{Replays};
 ghost use Rattle.guarded_ssa.specs.Runs.{Run, stops};
 ghost use Rattle.guarded_ssa.specs.Ways.{Seen, read};
-ghost use Rattle.guarded_ssa.specs.Forms.{event_seen, run_read, EventIn, FormIn};
+ghost use Rattle.guarded_ssa.specs.Forms.{event_seen, EventIn, FormIn};
+ghost use Rattle.actions.specs.Objects.{Objects};
+ghost use Rattle.mem_seq.specs.Accesses.{checked, behind};
 ghost use Rattle.mem_seq.specs.Runs.{breaks, drawn_words, inputs_for, turns, broken_check};
-ghost use Rattle.mem_seq.specs.Formulas.{IsFormula, FormulaIn, inputs_of, schedule_of, check_of as check_told};
-ghost use Rattle.trace_build.specs.Walking.{IsWalk, IsEnd, WalksOn};
+ghost use Rattle.mem_seq.specs.Formulas.{IsFormula, FormulaIn, run_of, inputs_of, schedule_of, check_of as check_told};
+ghost use Rattle.trace_build.specs.Walking.{SameStates, IsWalk, IsEnd, WalksOn};
 
+use actions::Store;
 use c_profile::Admitted;
+use c_values::pointer_to;
 use core_tree::Bounds;
-use guarded_ssa::{Event, EventKind};
+use guarded_ssa::{Event, EventKind, ThreadForm};
 use interleave::{Inputs, Schedule, Trace, Words};
 use mem_seq::Formula;
 use std::alloc::{AllocError, Global};
@@ -62,8 +66,8 @@ impl<'a> Values<'a> {
 }
 
 // The check that an event breaks in thread 0.
-fn check_of(class: Class, event: Event) -> Check
-    ensures { result ≡ check_of class event.line event.function 0 }
+fn check_of(class: Class, event: &Event) -> Check
+    ensures { result ≡ check_of class event.now.line event.now.function 0 }
 {
     Check {
         class,
@@ -92,45 +96,82 @@ impl Walk {
         self.turn()
     }
 
-    // An event of the run, and the check that it breaks.
-    fn step(&mut self, values: Values, event: Event) -> Result<Option<Check>, AllocError>
-        requires { EventIn values.dag.now event }
-        ensures { IfOk result (λ found. (whole : Run) (more : List Seen) → IsWalk whole (read (event_seen (valuation_of values.entry.valuation.now) values.entry.dag.now event ++ more) (stops (Ended (word_64 0)))) self.old.words.items self.old.turns.items
-            → WalksOn found whole (read more (stops (Ended (word_64 0)))) self.new.words.items self.new.turns.items) }
+    // A turn in which an event may break a check, and that check.
+    fn turn_at(&mut self, event: &Event, broken: Option<Class>) -> Result<Option<Check>, AllocError>
+        ensures words { OnOk result (self.new.words.items ≡ self.old.words.items) }
+        ensures turns { OnOk result (self.new.turns.items ≡ self.old.turns.items ++ 0 ∷ []) }
+        ensures check { IfOk result (λ c. c ≡ option_map (λ class. check_of class event.now.line event.now.function 0) broken) }
+    {
+        self.turn()?;
+        match broken {
+            Some(class) => Ok(Some(check_of(class, event))),
+            None => Ok(None),
+        }
+    }
+
+    // An event of the run, which is reached with a store whose objects are in the states of this one, and
+    // the check that it breaks.
+    fn step(
+        &mut self,
+        values: Values,
+        store: &Store,
+        event: &Event,
+    ) -> Result<Option<Check>, AllocError>
+        requires { EventIn values.dag.now event.now }
+        ensures { IfOk result (λ found. (whole : Run) (more : List Seen) (objects : Objects) → SameStates objects store.now
+            → IsWalk whole (checked objects (read (event_seen (valuation_of values.entry.valuation.now) values.entry.dag.now event.now ++ more) (stops (Ended (word_64 0))))) self.old.words.items self.old.turns.items
+            → WalksOn found whole (checked (behind objects (event_seen (valuation_of values.entry.valuation.now) values.entry.dag.now event.now)) (read more (stops (Ended (word_64 0))))) self.new.words.items self.new.turns.items) }
     {
         if values.bits(event.guard) == 0 {
             return Ok(None);
         }
-        match event.kind {
+        match &event.kind {
             EventKind::Draw { bits: _, answer } => {
-                self.draw(values.bits(answer))?;
+                self.draw(values.bits(*answer))?;
                 Ok(None)
+            }
+            EventKind::Read {
+                object,
+                offset,
+                count,
+                answer: _,
+            } => {
+                let pointer = pointer_to(*object, *offset);
+                self.turn_at(event, store.break_of(false, pointer, *count as usize))
+            }
+            EventKind::Write {
+                object,
+                offset,
+                bytes,
+            } => {
+                let pointer = pointer_to(*object, *offset);
+                let count = bytes.as_slice().len();
+                self.turn_at(event, store.break_of(true, pointer, count))
             }
             EventKind::Exit => Ok(None),
             EventKind::Check { class, failing } => {
-                if values.bits(failing) == 0 {
+                if values.bits(*failing) == 0 {
                     return Ok(None);
                 }
-                self.turn()?;
-                Ok(Some(check_of(class, event)))
+                self.turn_at(event, Some(*class))
             }
             EventKind::Assume { failing: _ } => Ok(None),
         }
     }
 }
 
-// The words and turns of the run that the events tell, which breaks a check, and that check.
-fn collect(alloc: Global, values: Values, events: &[Event]) -> Result<(Walk, Check), AllocError>
-    requires within { FormIn values.dag.now events.now }
-    requires breaks { breaks (run_read (valuation_of values.valuation.now) values.dag.now events.now) ≡ true }
-    ensures { IfOk result (λ r. IsEnd (run_read (valuation_of values.entry.valuation.now) values.entry.dag.now events.now) r.0.words.items r.0.turns.items r.1) }
+// The words and turns of the run that the form tells, which breaks a check, and that check.
+fn collect(alloc: Global, values: Values, form: &ThreadForm) -> Result<(Walk, Check), AllocError>
+    requires within { FormIn values.dag.now form.now.events }
+    requires breaks { breaks (run_of (valuation_of values.valuation.now) values.dag.now form.now) ≡ true }
+    ensures { IfOk result (λ r. IsEnd (run_of (valuation_of values.entry.valuation.now) values.entry.dag.now form.now) r.0.words.items r.0.turns.items r.1) }
 {
     let mut walk = Walk {
         words: Vec::new(alloc),
         turns: Vec::new(alloc),
     };
-    'walking: for event in events {
-        if let Some(check) = walk.step(values, *event)? {
+    'walking: for event in form.events() {
+        if let Some(check) = walk.step(values, form.store(), event)? {
             return Ok((walk, check));
         }
     }
@@ -171,7 +212,7 @@ pub fn build(
         valuation,
         words: &words,
     };
-    let (walk, check) = collect(alloc, values, formula.form.events())?;
+    let (walk, check) = collect(alloc, values, &formula.form)?;
     let Walk { words, turns } = walk;
     Ok(Trace {
         inputs: inputs(alloc, words)?,

@@ -1,5 +1,5 @@
 -- The bytes of words as nodes.
-use Rattle.std.proofs.Common.{◌≡◌, ◌<◌, ◌≤◌, ◌+◌, ◌-◌, ◌*◌, ◌/◌, ◌%◌, ◌^◌, ℕ, zero, suc, true, false, List, [], ◌∷◌, ◌++◌, length, take, drop, get_or, map, refl, sym, ◌∙◌, ap, subst, arith, add-one}
+use Rattle.std.proofs.Common.{◌≡◌, ◌<◌, ◌≤◌, ◌+◌, ◌-◌, ◌*◌, ◌/◌, ◌%◌, ◌^◌, ℕ, zero, suc, true, false, List, [], ◌∷◌, ◌++◌, length, take, drop, get_or, map, inl, inr, refl, sym, ◌∙◌, ap, subst, arith, add-one}
 use Rattle.std.specs.Prelude.{slice_index}
 use Rattle.std.specs.Int.{byte_at, byte_worth, bytes_low_first, sum_through, from_le_bytes}
 use Rattle.std.proofs.lemmas.List.{map_push, get_or-map, get_or-take, take-map, drop-map, length-take-le, length-drop}
@@ -15,13 +15,21 @@ use Rattle.words.specs.Operators.{low_bits, logical_shift}
 use Rattle.word_dag.specs.declared.nodes.Id.{Id}
 use Rattle.word_dag.specs.declared.nodes.Node.{Node}
 use Rattle.word_dag.specs.declared.nodes.Node.TheVariants.{Join, Cut}
-use Rattle.word_dag.specs.Meaning.{width, value, joined}
+use Rattle.words.proofs.Widths.{low_bits_same}
+use Rattle.std.proofs.Math.Nat.{div-div-eq-div-mul}
+use Rattle.std.proofs.lemmas.Nat.{mod-pow-add, pow-add}
+use Rattle.std.proofs.lemmas.Bool.{cases_lt}
+use Rattle.std.proofs.lemmas.Bool.Decides.{nat_tests}
+use Rattle.std.specs.Prelude.{◌==◌}
+use Rattle.word_dag.specs.Fitting.{is_ordered}
+use Rattle.word_dag.proofs.Order.{value_is_final}
+use Rattle.word_dag.specs.Meaning.{width, widths, value, values, node_value, joined}
 use Rattle.word_dag.specs.Growth.{Within, Extends, Makes}
 use Rattle.word_dag.proofs.Grown.{extends_itself, extends_more, map_stays}
 use Rattle.value_nodes.specs.Values.{IsWord, IsValue, AreBytes}
-use Rattle.value_nodes.specs.Bytes.{AreBytesOf, sum_of_bytes}
-use Rattle.value_nodes.proofs.Made.{word_stays}
-use Rattle.value_nodes.proofs.Conversions.{to_bool, to_other, bool_width}
+use Rattle.value_nodes.specs.Bytes.{AreBytesOf, AreCuts, sum_of_bytes}
+use Rattle.value_nodes.proofs.Made.{word_stays, word_below}
+use Rattle.value_nodes.proofs.Conversions.{to_bool, to_other, bool_width, unshifted}
 
 -- ---- numbers
 
@@ -219,3 +227,59 @@ module _ (d e : List Node) (t : IntegerType) (block section : List Id) (word : I
     width_is = truth.width_is ∙ bool_width t bool;
     value_is = λ v. truth.value_is v ∙ ap (λ x. truth_bits (is_true x)) (word_value v) ∙ to_bool (same_integer t types.Bool) _ _ bool;
   }
+
+-- ---- bytes that were cut out of one word
+
+same_numbers : (m n : ℕ) → (m == n) ≡ true → m ≡ n
+same_numbers m n h = grind (arith, nat_tests)
+
+pub cut_value : (v : ℕ → ℕ) (d : List Node) (i a word : Id) (n : Node) (bit w low : ℕ) → is_ordered d ≡ true → Within d i → n ≡ get_or d i.index n → n ≡ Cut a bit w → a.index ≡ word.index → bit ≡ low → (w == 8) ≡ true
+    → value v d i ≡ low_bits 8 (logical_shift (value v d word) low)
+cut_value v d i a word n bit w low ordered there at is one two three =
+    value_is_final v d i.index n ordered there
+    ∙ ap (node_value v (widths d) (values v d)) (sym at ∙ is)
+    ∙ (let wide = same_numbers w 8 three in λ k. low_bits (wide k) (logical_shift (get_or (values v d) (one k) 0) (two k)))
+
+-- the first k bytes are so many bits of the word
+cuts_number : (x low : ℕ) (xs : List ℕ) (k : ℕ) → ((i : ℕ) → i < k → slice_index xs i ≡ low_bits 8 (logical_shift x (low + 8 * i))) → sum_of_bytes xs k ≡ low_bits (8 * k) (logical_shift x low)
+unfolding low_bits logical_shift
+cuts_number x low xs zero each = let none : 0 ≡ x / 2 ^ low % 1 = omega arith in none
+cuts_number x low xs (suc k) each =
+    let y = x / 2 ^ low in
+    let rest = cuts_number x low xs k (λ i l. each i (omega (arith, l))) in
+    let shifted : x / 2 ^ (low + 8 * k) ≡ y / 2 ^ (8 * k) = ap (λ n. x / n) (pow-add 2 low (8 * k)) ∙ sym (div-div-eq-div-mul x (2 ^ low) (2 ^ (8 * k))) in
+    let here : slice_index xs k ≡ y / 2 ^ (8 * k) % 2 ^ 8 = each k (omega arith) ∙ ap (λ n. n % 2 ^ 8) shifted in
+    let turned : y % 2 ^ (8 * k) + byte_worth k (slice_index xs k) ≡ y / 2 ^ (8 * k) % 2 ^ 8 * 2 ^ (8 * k) + y % 2 ^ (8 * k) = omega (arith, sym (worth k (slice_index xs k)) ∙ ap (λ n. n * 2 ^ (8 * k)) here) in
+    let all : 8 + 8 * k ≡ 8 * suc k = omega arith in
+    ap (λ n. n + byte_worth k (slice_index xs k)) rest ∙ turned ∙ sym (mod-pow-add y 8 (8 * k)) ∙ ap (λ n. y % 2 ^ n) all
+
+pub cuts_made : (d e : List Node) (word i : Id) (low : ℕ) (ids : List Id) → AreCuts d word low ids (length ids) → IsValue e i (8 * length ids) (λ v. low_bits (8 * length ids) (logical_shift (value v d word) low))
+    → IsValue e i (8 * length ids) (λ v. sum_of_bytes (map (value v d) ids) (length ids))
+cuts_made d e word i low ids cuts made =
+    record { there = made.there; width_is = made.width_is; value_is = λ v. made.value_is v ∙ sym (cuts_number (value v d word) low (map (value v d) ids) (length ids) (cuts.each v)) }
+
+pub whole_word : (d : List Node) (word : Id) (low w n : ℕ) → is_ordered d ≡ true → Within d word → n ≡ width d word → w ≡ n → low + w ≤ width d word → IsValue d word w (λ v. low_bits w (logical_shift (value v d word) low))
+whole_word d word low w n ordered there n_is same within =
+    let wide : w ≡ width d word = same ∙ n_is in
+    let none : low ≡ 0 = omega (arith, wide, within) in
+    record {
+      there = there;
+      width_is = sym wide;
+      value_is = λ v. sym (ap (λ k. low_bits w (logical_shift (value v d word) k)) none ∙ ap (low_bits w) (unshifted (value v d word)) ∙ low_bits_same w (value v d word) (word_below v d word w ordered (record { there = there; width_is = sym wide })));
+    }
+
+pub cuts_none : (d : List Node) (word : Id) (low n : ℕ) (ids : List Id) → word.index < length d → low + 8 * n ≤ width d word → AreCuts d word low ids 0
+cuts_none d word low n ids there fits = record { there = there; fits = omega (arith, fits); each = λ v i l. absurd (omega (arith, l)) }
+
+pub cuts_more : (d : List Node) (word i : Id) (low k n : ℕ) (ids : List Id) → low + 8 * n ≤ width d word → n ≡ length ids → k < length ids → i ≡ get_or ids k i → ((v : ℕ → ℕ) → value v d i ≡ low_bits 8 (logical_shift (value v d word) (low + 8 * k)))
+    → AreCuts d word low ids k → AreCuts d word low ids (k + 1)
+cuts_more d word i low k n ids fits n_is lt is byte cuts = record {
+  there = cuts.there;
+  fits = omega (arith, fits, n_is, lt);
+  each = λ v j l.
+      elim (cases_lt j k) [
+        | inl before ↦ cuts.each v j before
+        | inr after ↦ (let here : j ≡ k = omega (arith, after, l) in
+            subst (λ m. slice_index (map (value v d) ids) m ≡ low_bits 8 (logical_shift (value v d word) (low + 8 * m))) (sym here) (sym (byte_value v d ids i k lt is) ∙ byte v))
+      ];
+}

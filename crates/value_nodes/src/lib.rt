@@ -9,8 +9,8 @@ mod operations;
 mod tests;
 mod truth;
 
-pub use bytes::{loaded, stored};
+pub use bytes::{bytes_of_word, loaded, stored, word_of_bytes};
 pub use checks::{count_fails, left_shift_fails, negation_fails, quotient_fails, range_fails};
 pub use numbers::{compared, constant, converted, is_zero, sign};
 pub use operations::arithmetic;
-pub use truth::{both, chosen, either, inverse, nonzero_test, zero_test};
+pub use truth::{both, chosen, either, equal, inverse, nonzero_test, zero_test};

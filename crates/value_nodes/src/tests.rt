@@ -57,35 +57,37 @@ fn operations_give_what_c_gives(rt: HostRuntime) -> Result<(), Fail> {
     Ok(())
 }
 
-// What a read of a type at an offset gives, in the bytes of 0x0102_0304.
-fn read_back(rt: &HostRuntime, type_: IntegerType, offset: u32) -> Result<u64, Fail> {
+// What a read of a type at an offset gives, in the bytes of a variable that is 0x0102_0304, and how many nodes
+// it makes.
+fn read_back(rt: &HostRuntime, type_: IntegerType, offset: u32) -> Result<(u64, usize), Fail> {
     let mut dag = Dag::new(rt.alloc());
-    let number = dag.make(Node::Constant(16_909_060, 32))?;
+    let number = dag.make(Node::Variable(0, 32))?;
     let bytes = stored(rt.alloc(), &mut dag, IntegerType::Int, number, 4)?;
     let offset = offset as usize;
     if offset + type_.size() as usize > bytes.len() {
-        return Ok(0);
+        return Ok((0, 0));
     }
+    let before = dag.len();
     let word = loaded(&mut dag, type_, offset, &bytes)?;
-    let value = value_of(rt, &dag, word)?;
-    Ok(value)
+    let valuation = Valuation::from_values(vec![in rt.alloc(); 16_909_060]?);
+    let value = dag.value(rt.alloc(), &valuation, word)?;
+    Ok((value.bits(), dag.len() - before))
 }
 
 #[test]
 fn bytes_give_the_number_back(rt: HostRuntime) -> Result<(), Fail> {
-    // The type, the offset, and the number.
+    // The type, the offset, the number, and the nodes.
     let rows = [
-        (IntegerType::Int, 0, 16_909_060),
-        (IntegerType::Short, 1, 515),
-        (IntegerType::UnsignedChar, 3, 1),
-        (IntegerType::Bool, 2, 1),
+        (IntegerType::Int, 0, 16_909_060, 0),
+        (IntegerType::Short, 1, 515, 1),
+        (IntegerType::UnsignedShort, 2, 258, 1),
+        (IntegerType::UnsignedChar, 3, 1, 0),
+        (IntegerType::Bool, 2, 1, 4),
     ];
-    for (type_, offset, wanted) in rows.iter() {
-        assert_eq!(rt;
-            read_back(&rt, *type_, *offset)?,
-            *wanted,
-            "offset {offset}"
-        );
+    for (type_, offset, number, nodes) in rows.iter() {
+        let (value, made) = read_back(&rt, *type_, *offset)?;
+        assert_eq!(rt; value, *number, "offset {offset}");
+        assert_eq!(rt; made, *nodes, "offset {offset}");
     }
     Ok(())
 }

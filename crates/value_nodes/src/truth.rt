@@ -18,8 +18,8 @@ pub fn zero_test(dag: &mut Dag, a: Id) -> Result<Id, AllocError>
     Ok(id)
 }
 
-// Whether they are equal.
-pub(crate) fn equal(dag: &mut Dag, a: Id, b: Id, width: u32) -> Result<Id, AllocError>
+/// Whether two words of one width are equal.
+pub fn equal(dag: &mut Dag, a: Id, b: Id, width: u32) -> Result<Id, AllocError>
     requires a { IsWord dag.old a width }
     requires b { IsWord dag.old b width }
     ensures extends { Extends dag.old dag.new }

@@ -1,8 +1,8 @@
-use Rattle.std.proofs.Common.{◌≡◌, ◌+◌, ℕ, List, [], Some, None, Result, drop, map, refl, sym, ap, ◌∙◌, arith}
+use Rattle.std.proofs.Common.{◌+◌, ℕ, List, Some, None, Result, drop, map, sym, ap, ◌∙◌, arith}
 use Rattle.std.proofs.lemmas.Result.{err_from_is_err_and}
 use Rattle.std.proofs.lemmas.List.{drop_all}
 use Rattle.c_tree.specs.declared.declaration.Enumerator.{Enumerator}
-use Rattle.c_tree.specs.Declarations.{Enumerated, view_enumerator}
+use Rattle.c_tree.specs.Declarations.{view_enumerator}
 use Rattle.c_elab_expr.specs.Scopes.{Scoped}
 use Rattle.c_elab_expr.specs.Nodes.{◌>>=◌}
 use Rattle.c_elab_expr.specs.Typing.{Fault}

@@ -1,16 +1,11 @@
-use Rattle.std.proofs.Common.{◌≡◌, ◌+◌, ◌≤◌, List, Option, Result, length, drop, map, option_map, sym, ap, subst, ◌∙◌, arith}
-use Rattle.std.proofs.lemmas.Result.{err_from_is_err_and}
-use Rattle.std.proofs.lemmas.List.{drop_all}
+use Rattle.std.proofs.Common.{◌≡◌, List, Result, option_map, sym, ap, subst, ◌∙◌}
 use Rattle.c_tree.specs.declared.declaration.Specifier.{Specifier}
 use Rattle.c_tree.specs.declared.declaration.MemberDeclaration.{MemberDeclaration}
-use Rattle.c_tree.specs.Tree.{view_name, view_declarator}
-use Rattle.c_tree.specs.Declarations.{view_part, parts_of, members_of}
+use Rattle.c_tree.specs.Tree.{view_name}
+use Rattle.c_tree.specs.Declarations.{view_part, members_of}
 use Rattle.c_tree.proofs.DeclarationViews.{view_record}
-use Rattle.c_elab_expr.specs.Nodes.{◌>>=◌}
 use Rattle.c_elab_expr.specs.Typing.{Fault, Gives}
-use Rattle.c_elab_decl.specs.Specifiers.{Parted, Fields, is_none, said_before, typed_line, typed_record, typed_part, typed_parts, typed_members, view_parted}
-use Rattle.c_elab_decl.proofs.Lists.{parts_at, members_at}
-use Rattle.c_elab_decl.proofs.Steps.{fails_on, gives_err}
+use Rattle.c_elab_decl.specs.Specifiers.{Parted, typed_record, typed_part, view_parted}
 use Rattle.c_elab_decl.proofs.specifying.+specifiers.Goals as goal
 
 pub typed_part-returns-in-Record-clause-gives : goal.typed_part-returns-in-Record-clause-gives

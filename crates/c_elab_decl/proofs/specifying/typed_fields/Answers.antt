@@ -1,4 +1,4 @@
-use Rattle.std.proofs.Common.{◌≡◌, ◌+◌, List, Result, drop, map, sym, ap, ◌∙◌, arith}
+use Rattle.std.proofs.Common.{◌+◌, List, Result, drop, map, sym, ap, ◌∙◌, arith}
 use Rattle.std.proofs.lemmas.Result.{err_from_is_err_and}
 use Rattle.std.proofs.lemmas.List.{drop_all}
 use Rattle.c_tree.specs.declared.expr.Declarator.{Declarator}

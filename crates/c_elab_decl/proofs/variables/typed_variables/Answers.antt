@@ -1,12 +1,11 @@
-use Rattle.std.proofs.Common.{◌≡◌, ◌+◌, List, [], length, drop, option_map, refl, sym, ap, subst, ◌∙◌, arith}
+use Rattle.std.proofs.Common.{◌≡◌, ◌+◌, List, [], drop, refl, sym, ap, subst, ◌∙◌, arith}
 use Rattle.std.proofs.lemmas.Result.{err_from_is_err_and}
 use Rattle.std.proofs.lemmas.List.{drop_all}
 use Rattle.c_tree.specs.declared.declaration.InitDeclarator.{InitDeclarator}
-use Rattle.c_tree.specs.Tree.{view_declarator}
-use Rattle.c_tree.specs.Declarations.{Declarators, view_initializer, declarators_of}
+use Rattle.c_tree.specs.Declarations.{Declarators, declarators_of}
 use Rattle.c_elab_expr.specs.Scopes.{view_named}
 use Rattle.c_elab_expr.specs.Typing.{Fails}
-use Rattle.c_elab_decl.specs.Declarators.{Typed, typed_variable, typed_variables}
+use Rattle.c_elab_decl.specs.Declarators.{Typed, typed_variables}
 use Rattle.c_elab_decl.specs.Steps.{items_first}
 use Rattle.c_elab_decl.proofs.Lists.{declarators_at}
 use Rattle.c_elab_decl.proofs.Fronts.{behind_fails, fault_step}

@@ -1,4 +1,4 @@
-use Rattle.std.proofs.Common.{◌≡◌, ◌∙◌, ℕ, List, sym, ap}
+use Rattle.std.proofs.Common.{◌∙◌, ℕ, List, sym, ap}
 use Rattle.c_elab_expr.specs.Members.{through, with_member, view_ways}
 use Rattle.c_elab_expr.proofs.Tables.{through_more}
 use Rattle.c_elab_expr.proofs.members.add_through.Goals as goal

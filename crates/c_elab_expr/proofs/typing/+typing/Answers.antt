@@ -215,10 +215,13 @@ typed_expr-returns-in_ok-core-in-Cast t c =
     let other = ap (λ (e : Expr). operand s (tree e)) c.deref-in-Cast-2.ensures in
     let u = type_view c.in_ok-type_-in-Cast.type_ in
     let x = view_operand c.in_ok-core-in-Cast.core in
-    let whole : on_line c.in-Cast.line (cast_operand u x) ≡ typed s (tree c.args.expr.now) =
+    let node = cast_operand s.records.done c.in-Cast.line u x in
+    let made : GivesNode view_operand c.cast_operand.result node =
+    subst (λ (r : Records). GivesNode view_operand c.cast_operand.result (cast_operand r.done c.in-Cast.line u x)) c.layouts.ensures c.cast_operand.ensures in
+    let whole : on_line c.in-Cast.line node ≡ typed s (tree c.args.expr.now) =
     sym (ap (typed s) shape ∙ cast_typed s c.in-Cast.line (map view_type_part name.specifiers.items) (view_declarator name.declarator) (tree c.in-Cast.operand.value) u x
     (sym same ∙ c.in_ok-type_-in-Cast.ensures) (sym other ∙ c.in_ok-core-in-Cast.ensures)) in
-    subst (λ (r : Result Operand Fault). Gives view_operand c.placed_at-in-Cast.result r) whole (c.placed_at-in-Cast.ensures (cast_operand u x) c.cast_operand.ensures)
+    subst (λ (r : Result Operand Fault). Gives view_operand c.placed_at-in-Cast.result r) whole (c.placed_at-in-Cast.ensures node made)
 
 pub typed_expr-returns-in_err-type_-in-SizeofType : goal.typed_expr-returns-in_err-type_-in-SizeofType
 typed_expr-returns-in_err-type_-in-SizeofType t c =
@@ -240,7 +243,7 @@ typed_expr-returns-in_err-size-in-SizeofType t c =
     let same = ap (named_type s) c.deref-in-SizeofType.ensures in
     let u = type_view c.in_ok-type_-in-SizeofType.type_ in
     let size = type_size s.records.done u in
-    let node : GivesNode (λ (n : ℕ). n) c.type_size.result size = subst (λ (r : Records). GivesNode (λ (n : ℕ). n) c.type_size.result (type_size r.done u)) c.layouts.ensures c.type_size.ensures in
+    let node : GivesNode (λ (n : ℕ). n) c.type_size.result size = subst (λ (r : Records). GivesNode (λ (n : ℕ). n) c.type_size.result (type_size r.done u)) c.layouts-in-SizeofType.ensures c.type_size.ensures in
     rw (p.1, p.2) (fails_on c.in_err-size-in-SizeofType.field-0.0 (on_line c.in-SizeofType.line size) (typed s (tree c.args.expr.now))
     (λ f bad. ap (typed s) shape ∙ size_fails s c.in-SizeofType.line (map view_type_part name.specifiers.items) (view_declarator name.declarator) u f (sym same ∙ c.in_ok-type_-in-SizeofType.ensures) bad)
     (c.in_err-size-in-SizeofType.ensures size node))
@@ -253,7 +256,7 @@ typed_expr-returns-in_ok-size-in-SizeofType t c =
     let same = ap (named_type s) c.deref-in-SizeofType.ensures in
     let u = type_view c.in_ok-type_-in-SizeofType.type_ in
     let size = type_size s.records.done u in
-    let node : GivesNode (λ (n : ℕ). n) c.type_size.result size = subst (λ (r : Records). GivesNode (λ (n : ℕ). n) c.type_size.result (type_size r.done u)) c.layouts.ensures c.type_size.ensures in
+    let node : GivesNode (λ (n : ℕ). n) c.type_size.result size = subst (λ (r : Records). GivesNode (λ (n : ℕ). n) c.type_size.result (type_size r.done u)) c.layouts-in-SizeofType.ensures c.type_size.ensures in
     ap (typed s) shape
     ∙ size_typed s c.in-SizeofType.line (map view_type_part name.specifiers.items) (view_declarator name.declarator) u c.in_ok-size-in-SizeofType.size
     (sym same ∙ c.in_ok-type_-in-SizeofType.ensures) (c.in_ok-size-in-SizeofType.ensures size node)

@@ -17,3 +17,11 @@ returns-in-Moved-clause-quiet c =
     let r : Turn = turned.Moved in
     let e : (r, next) ≡ turn w c.args.t c.args.inputs.now = search rules in
     next_quiet w next c.args.t c.args.inputs.now turned.Moved c.requires e
+
+pub returns-in-Broken-clause-quiet : goal.returns-in-Broken-clause-quiet
+returns-in-Broken-clause-quiet c =
+    let w = world_of thread_of c.args.system.now in
+    let next = world_of thread_of c.turn.new.self in
+    let r : Turn = turned.Broken c.in-Broken.check in
+    let e : (r, next) ≡ turn w c.args.t c.args.inputs.now = search rules in
+    next_quiet w next c.args.t c.args.inputs.now r c.requires e

@@ -36,9 +36,9 @@ returns-clause-stop c =
     let file = c.args.file.now in
     let tokens = c.in_ok-tokens.tokens.tokens.items in
     let tree = view_file c.in_ok-tree.tree in
-    let functions = view_core c.in_ok-core.core in
+    let core = view_core c.in_ok-core.core in
     let is_tree : IsFile (bytes_of file) tokens tree = subst (λ b. IsFile b tokens tree) c.in_ok-tokens.ensures.bytes c.in_ok-tree.ensures.found in
     err_map c.in_profile.result _ _ c.in_profile.ensures.stop (λ s x. λ limits budget.
-    stop_map s (IsOutside functions) (Decides limits budget file) (λ a y.
-    from_tokens limits budget file tokens None a c.if-file-gt-FILE_BYTES.false c.in_ok-tokens.ensures.cut c.in_ok-tokens.ensures.fine (inr (outside limits budget (bytes_of file) tokens tree functions a is_tree c.in_ok-core.ensures.found y)))
+    stop_map s (IsOutside core) (Decides limits budget file) (λ a y.
+    from_tokens limits budget file tokens None a c.if-file-gt-FILE_BYTES.false c.in_ok-tokens.ensures.cut c.in_ok-tokens.ensures.fine (inr (outside limits budget (bytes_of file) tokens tree core a is_tree c.in_ok-core.ensures.found y)))
     x)

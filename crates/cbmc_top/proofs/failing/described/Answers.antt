@@ -1,7 +1,6 @@
 use Rattle.std.proofs.Common.{◌≡◌, ℕ, List, Some, true, map, subst, sym, ◌∙◌, arith}
 use Rattle.std.specs.Prelude.{string_bytes}
-use Rattle.core_tree.specs.declared.functions.Function.{Function}
-use Rattle.core_tree.specs.Trees.{view_core}
+use Rattle.core_tree.specs.Trees.{CoreFile, view_core}
 use Rattle.cbmc_top.specs.Answers.{name_in}
 use Rattle.cbmc_top.specs.Identifiers.{is_identifier}
 use Rattle.cbmc_top.specs.Verdicts.{entry_of, row_of}
@@ -11,17 +10,17 @@ use Rattle.cbmc_top.proofs.failing.described.Goals as goal
 pub name_of-requires : goal.name_of-requires
 name_of-requires c =
     let number = c.args.trace.check.function in
-    subst (λ (core : List Function). (x : List ℕ) × (name_in (view_core core) number ≡ Some x) × (is_identifier x ≡ true)) (sym c.core.ensures.is)
+    subst (λ (core : CoreFile). (x : List ℕ) × (name_in (view_core core) number ≡ Some x) × (is_identifier x ≡ true)) (sym c.core.ensures.is)
     (named c.requires.accepted.0 (view_core c.args.file.now) c.args.bounds.now c.args.trace c.requires.accepted.1 c.requires.broken)
 
 pub returns-clause-failure : goal.returns-clause-failure
 returns-clause-failure c =
     let t = c.args.trace in
-    let functions = view_core c.args.file.now in
+    let core = view_core c.args.file.now in
     let limits = c.args.bounds.now in
     let name = string_bytes c.in_ok-function.function in
-    let found : name_in functions t.check.function ≡ Some name = subst (λ (core : List Function). name_in (view_core core) t.check.function ≡ Some name) c.core.ensures.is c.in_ok-function.ensures in
-    let word = same_identifier functions t.check.function name (named c.requires.accepted.0 functions limits t c.requires.accepted.1 c.requires.broken) found in
-    is_failure limits functions t name (map entry_of c.in_ok-inputs.inputs.items) (map row_of c.in_ok-rows.rows.items) c.requires.broken found word
+    let found : name_in core t.check.function ≡ Some name = subst (λ (core : CoreFile). name_in (view_core core) t.check.function ≡ Some name) c.core.ensures.is c.in_ok-function.ensures in
+    let word = same_identifier core t.check.function name (named c.requires.accepted.0 core limits t c.requires.accepted.1 c.requires.broken) found in
+    is_failure limits core t name (map entry_of c.in_ok-inputs.inputs.items) (map row_of c.in_ok-rows.rows.items) c.requires.broken found word
     c.in_ok-inputs.ensures.words c.in_ok-inputs.ensures.drawn c.in_ok-inputs.ensures.rising
     (c.in_ok-rows.ensures.turns ∙ c.as_slice.ensures) c.in_ok-rows.ensures.rows c.in_ok-rows.ensures.some c.in_ok-rows.ensures.maximal (omega arith) (omega arith)

@@ -7,9 +7,9 @@ use Rattle.cbmc_top.proofs.finding.checked.Goals as goal
 
 pub returns-in-Refuted-clause-found : goal.returns-in-Refuted-clause-found
 returns-in-Refuted-clause-found c =
-    let functions = view_core c.in_ok-program.program in
-    let found = subst (IsSearched c.args.bounds.now c.args.budget functions) c.in-Refuted.is c.in_ok-searched.ensures.found in
-    accepted_decides c.args.bounds.now c.args.budget c.args.file.now functions None (successful c.in-Refuted.used) c.in_ok-program.ensures.found c.in_ok-searched.ensures.counts
+    let core = view_core c.in_ok-program.program in
+    let found = subst (IsSearched c.args.bounds.now c.args.budget core) c.in-Refuted.is c.in_ok-searched.ensures.found in
+    accepted_decides c.args.bounds.now c.args.budget c.args.file.now core None (successful c.in-Refuted.used) c.in_ok-program.ensures.found c.in_ok-searched.ensures.counts
     (record { within = found.0; at_all = λ on. found.0 }, found.1)
 
 pub returns-in-Broken-clause-found : goal.returns-in-Broken-clause-found
@@ -19,6 +19,6 @@ returns-in-Broken-clause-found c =
 
 pub returns-clause-found : goal.returns-clause-found
 returns-clause-found c =
-    let functions = view_core c.in_ok-program.program in
-    let found = subst (IsSearched c.args.bounds.now c.args.budget functions) c.in-Budget.is c.in_ok-searched.ensures.found in
-    accepted_decides c.args.bounds.now c.args.budget c.args.file.now functions None (used_up c.in-Budget.used) c.in_ok-program.ensures.found c.in_ok-searched.ensures.counts found
+    let core = view_core c.in_ok-program.program in
+    let found = subst (IsSearched c.args.bounds.now c.args.budget core) c.in-Budget.is c.in_ok-searched.ensures.found in
+    accepted_decides c.args.bounds.now c.args.budget c.args.file.now core None (used_up c.in-Budget.used) c.in_ok-program.ensures.found c.in_ok-searched.ensures.counts found

@@ -8,7 +8,7 @@ pub lower_function-requires : goal.lower_function-requires
 lower_function-requires c =
     let fs = c.args.functions.now in
     let n = c.loop-number.number in
-    typed_at fs n c.index-functions-number.result c.requires.typed (slice_get_read fs (length fs) n c.index-functions-number.result refl (omega arith) c.index-functions-number.is)
+    typed_at fs c.args.objects.now n c.index-functions-number.result c.requires.typed (slice_get_read fs (length fs) n c.index-functions-number.result refl (omega arith) c.index-functions-number.is)
 
 pub loop-number-preserved : goal.loop-number-preserved
 loop-number-preserved c =

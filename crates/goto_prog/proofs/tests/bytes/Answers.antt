@@ -14,7 +14,7 @@ abbrev registers : List IntegerType
 registers = types.UnsignedLong ∷ types.UnsignedShort ∷ types.UnsignedShort ∷ types.Int ∷ []
 
 abbrev blocks : List ℕ
-blocks = 12 ∷ []
+blocks = 12 ∷ 3 ∷ []
 
 abbrev line : ℕ → Operation → Instruction
 line n o = record { line = n; function = 7; operation = o }
@@ -27,10 +27,14 @@ listed bits at expected =
     ∷ line 4 (operations.Constant 2 expected)
     ∷ line 4 (operations.Compare 3 comparisons.Equal types.UnsignedShort 1 2)
     ∷ line 5 (operations.Assert 3)
+    ∷ line 6 (operations.CopyBytes 1 1 0 3 2)
     ∷ line 6 (operations.Clear 0 12)
+    ∷ line 6 (operations.CopyBytes 0 10 1 1 2)
     ∷ line 7 (operations.Load 1 types.UnsignedShort 0 3)
     ∷ line 8 (operations.IsZero 3 1)
     ∷ line 8 (operations.Assert 3)
+    ∷ line 9 (operations.Load 1 types.UnsignedShort 0 10)
+    ∷ line 9 (operations.SkipIfZero 1 1)
     ∷ line 9 operations.Exit
     ∷ []
 
@@ -50,5 +54,5 @@ listed_fits bits at expected wide near small =
 pub new-requires : goal.new-requires
 new-requires c =
     let lines : c.in_ok-instructions.instructions.items ≡ listed c.args.bits c.args.at c.args.expected =
-    c.in_ok-instructions.ensures.items ∙ (λ k. c.at_line.ensures k ∷ c.at_line-2.ensures k ∷ c.at_line-3.ensures k ∷ c.at_line-4.ensures k ∷ c.at_line-5.ensures k ∷ c.at_line-6.ensures k ∷ c.at_line-7.ensures k ∷ c.at_line-8.ensures k ∷ c.at_line-9.ensures k ∷ c.at_line-10.ensures k ∷ c.at_line-11.ensures k ∷ []) in
+    c.in_ok-instructions.ensures.items ∙ (λ k. c.at_line.ensures k ∷ c.at_line-2.ensures k ∷ c.at_line-3.ensures k ∷ c.at_line-4.ensures k ∷ c.at_line-5.ensures k ∷ c.at_line-6.ensures k ∷ c.at_line-7.ensures k ∷ c.at_line-8.ensures k ∷ c.at_line-9.ensures k ∷ c.at_line-10.ensures k ∷ c.at_line-11.ensures k ∷ c.at_line-12.ensures k ∷ c.at_line-13.ensures k ∷ c.at_line-14.ensures k ∷ c.at_line-15.ensures k ∷ []) in
     (λ k. code_fits (c.in_ok-types.ensures.items k) (c.in_ok-blocks.ensures.items k) (lines k)) ∙ listed_fits c.args.bits c.args.at c.args.expected (omega arith) c.requires (omega arith)

@@ -1,8 +1,15 @@
 use Rattle.std.proofs.Common.{drop}
 use Rattle.word_dag.specs.Meaning.{valuation_of}
 use Rattle.guarded_ssa.specs.Forms.{run_read}
+use Rattle.mem_seq.specs.Accesses.{checked}
+use Rattle.mem_seq.specs.Formulas.{run_of}
+use Rattle.mem_seq.proofs.Building.{store_at}
 use Rattle.trace_build.specs.Walking.{IsWalk}
 use Rattle.trace_build.proofs.building.collect.Given as goal
 
+-- the run that is left begins with the store that is there where the events before were told
 abbrev pub invariant-walking : goal.invariant-walking
-invariant-walking l = IsWalk (run_read (valuation_of l.values.valuation.now) l.values.dag.now l.events) (run_read (valuation_of l.values.valuation.now) l.values.dag.now (drop l.event-index l.events)) l.walk.words.items l.walk.turns.items
+invariant-walking l =
+    IsWalk (run_of (valuation_of l.values.valuation.now) l.values.dag.now l.form)
+    (checked (store_at l.form.store l.values.dag.now l.form.events l.event-index (valuation_of l.values.valuation.now)) (run_read (valuation_of l.values.valuation.now) l.values.dag.now (drop l.event-index l.form.events)))
+    l.walk.words.items l.walk.turns.items

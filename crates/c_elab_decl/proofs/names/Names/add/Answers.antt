@@ -1,6 +1,6 @@
-use Rattle.std.proofs.Common.{◌≡◌, ℕ, Bool, List, map, ap, sym, ◌∙◌}
+use Rattle.std.proofs.Common.{◌≡◌, ℕ, Bool, List, map, ap, ◌∙◌}
 use Rattle.std.specs.Prelude.{◌++◌, ◌∷◌, [], if◌then◌else◌}
-use Rattle.c_elab_decl.specs.Names.{among, with_name}
+use Rattle.c_elab_decl.specs.Names.{with_name}
 use Rattle.c_elab_decl.proofs.Alone.{Owned, among_owned, added_owned}
 use Rattle.c_elab_decl.proofs.names.Names.add.Goals as goal
 

@@ -1,4 +1,4 @@
-use Rattle.std.proofs.Common.{ℕ, List, ap, sym, ◌∙◌}
+use Rattle.std.proofs.Common.{ℕ, List, ap, ◌∙◌}
 use Rattle.c_elab_decl.specs.Names.{among}
 use Rattle.c_elab_decl.proofs.Alone.{among_owned}
 use Rattle.c_elab_decl.proofs.names.Names.has.Goals as goal

@@ -1,5 +1,5 @@
 use Rattle.std.proofs.Common.{◌≡◌, ◌∷◌, length, map, sym, ap, ◌∙◌}
-use Rattle.c_elab_expr.specs.Scopes.{Environment, binding, is_tag, view_named, is_there, are_there}
+use Rattle.c_elab_expr.specs.Scopes.{Environment, binding, is_tag, view_named, view_lasting, is_there, are_there}
 use Rattle.c_elab_expr.specs.Places.{environment, place_in, hidden_in, hidden_of}
 use Rattle.c_elab_expr.proofs.Bindings.{environment_push, hidden_push, forgotten, has_place}
 use Rattle.c_elab_expr.proofs.Variables.{both}
@@ -12,6 +12,7 @@ invariant_of-self c =
     let bound = c.in-Some.bound in
     let b = binding bound.name.items bound.meaning in
     let variables = length (map view_named c.self.inside.variables.items) in
+    let objects = length (map view_lasting c.self.inside.objects.items) in
     let types = length (map view_named c.self.inside.types.items) in
     let records = length c.self.inside.layouts.declared in
     let split : environment bounds ≡ b ∷ environment rest = ap environment c.in-Some.ensures.items ∙ environment_push rest bound in
@@ -19,8 +20,8 @@ invariant_of-self c =
     sym (ap hidden_of c.in-Some.ensures.items ∙ hidden_push rest bound) ∙ c.self.invariant.2 ∙ ap hidden_in split in
     let first : bound.hidden ≡ place_in (is_tag b.meaning) (environment rest) bound.name.items = cc in
     let others : hidden_of rest ≡ hidden_in (environment rest) = cc in
-    let there = sym (ap (λ (env : Environment). are_there variables types records env) split) ∙ c.self.invariant.0 in (
-      (both (is_there variables types records bound.meaning) (are_there variables types records (environment rest)) there).1,
+    let there = sym (ap (λ (env : Environment). are_there variables objects types records env) split) ∙ c.self.invariant.0 in (
+      (both (is_there variables objects types records bound.meaning) (are_there variables objects types records (environment rest)) there).1,
       (λ tags name. forgotten tags (environment rest) b bound.hidden name _ _ first
           (c.self.invariant.1 tags name ∙ ap (λ (env : Environment). place_in tags env name) split) (rw (c.is_tag-tag.ensures) at (c.in-Ok.ensures.new tags name))),
       others,

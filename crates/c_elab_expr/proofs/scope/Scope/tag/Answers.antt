@@ -22,7 +22,7 @@ returns-in-None-clause-is c =
     sym (meaning_unbound true c.args.self.now.bindings c.args.name.now None (sym c.in-None.ensures.is))
 
 there : (s : Scoped) (name : List ℕ) (o : Option Meaning) → o ≡ tag_of s.bindings name → are_known s ≡ true → IfSome o (λ m. is_known s m ≡ true)
-there s name o e h = subst (λ (x : Option Meaning). IfSome x (λ m. is_known s m ≡ true)) (sym e) (meant_there (length s.variables) (length s.types) (length s.records.declared) true s.bindings name h)
+there s name o e h = subst (λ (x : Option Meaning). IfSome x (λ m. is_known s m ≡ true)) (sym e) (meant_there (length s.variables) (length s.objects) (length s.types) (length s.records.declared) true s.bindings name h)
 
 pub returns-in-Some-clause-there : goal.returns-in-Some-clause-there
 returns-in-Some-clause-there c =

@@ -9,6 +9,6 @@ pub take-requires-clause-next : goal.take-requires-clause-next
 take-requires-clause-next c =
     let s = c.settle.new.self in
     let a = c.args.answer.now in
-    let h : Halts s c.in_ok-halt.halt = search rules in
+    let h : Halts s c.in-Ok.halt = search rules in
     let k : accepts ((thread_of s).behaves []) a ≡ true = ap (λ (t : Thread). accepts (t.behaves []) a) c.settle.ensures.same ∙ c.requires in
-    ap (λ (n : Next). accepts n a) (halt_next (running_of s) (state_of s) c.in_ok-halt.halt h) ∙ k
+    ap (λ (n : Next). accepts n a) (halt_next (running_of s) (state_of s) c.in-Ok.halt h) ∙ k

@@ -1,6 +1,10 @@
-use Rattle.std.proofs.Common.{rules}
-use Rattle.core_tree.specs.Trees.{view}
-use Rattle.goto_lower.proofs.Drafting.{lowers_and, lowers_or, lowers_choice}
+use Rattle.std.proofs.Common.{rules, ap, sym, ◌∙◌}
+use Rattle.std.proofs.lemmas.Result.{IfOk-weaker}
+use Rattle.core_tree.specs.Trees.{view, Structure, view_structure, parts_of}
+use Rattle.core_tree.proofs.Views.{view_list}
+use Rattle.goto_lower.specs.Drafts.{after_structure, after_parts, after_text}
+use Rattle.goto_lower.proofs.Drafting.{ok_both, ok_maps, lowers_and, lowers_or, lowers_choice}
+use Rattle.goto_lower.proofs.DraftingStructures.{lowers_discarded, lowers_member, number_adds, structure_adds, follow_adds, list_adds, string_adds, choose_adds}
 use Rattle.goto_lower.proofs.draft.Draft.+expression.Goals as goal
 
 pub and-returns : goal.and-returns
@@ -23,4 +27,56 @@ or-returns t c = λ old a h.
 pub expression-returns-in_ok-y-in-Comma : goal.expression-returns-in_ok-y-in-Comma
 expression-returns-in_ok-y-in-Comma t c =
     let h = c.comma.ensures c.args.self.now c.expression-in-Comma.new.self c.expression-in-Comma-2.new.self (view c.deref-in-Comma.result.now) (view c.deref-in-Comma-2.result.now) c.in_ok-_x-in-Comma._x c.in_ok-_x-in-Comma.ensures c.in_ok-y-in-Comma.ensures in
+    search (rules, h)
+
+pub discard_structure-returns : goal.discard_structure-returns
+discard_structure-returns t c =
+    IfOk-weaker _ _ _ (λ y k. lowers_discarded c.args.self.now c.temporary.new.self c.constant.new.self (view_structure c.args.value.now) y c.line_of_structure.result c.in_ok-_block.ensures.code c.line_of_structure.ensures k) c.constant.ensures
+
+pub member-returns : goal.member-returns
+member-returns t c =
+    ok_both _ _ _ _ c.set.ensures.code c.set.ensures.value (λ x n v.
+    lowers_member c.args.self.now c.temporary.new.self c.set.new.self (view_structure c.args.value.now) x c.next.result c.in_ok-block.block c.args.line c.args.offset c.args.type_ c.in_ok-block.ensures.code c.next.ensures c.in_ok-block.ensures.block n v)
+
+pub list_part-returns-in_ok-x-in-Number : goal.list_part-returns-in_ok-x-in-Number
+list_part-returns-in_ok-x-in-Number t c =
+    rw c.in-Number.is (λ rest. ok_maps _ _ _ (λ same.
+    number_adds c.args.into c.args.at c.args.self.now c.expression.new.self c.push.new.self (view c.in-Number.value) c.in_ok-x-in-Number.x c.args.line c.in-Number.offset c.in_ok-offset-in-Number.offset c.size.result rest
+    c.in_ok-x-in-Number.ensures c.in_ok-offset-in-Number.ensures c.size.ensures.is same) c.push.ensures)
+
+pub list_part-returns-in_ok-offset-in-Structure : goal.list_part-returns-in_ok-offset-in-Structure
+list_part-returns-in_ok-offset-in-Structure t c =
+    rw c.in-Structure.is (λ rest. ok_maps _ _ _ (λ same.
+    structure_adds c.args.into c.args.at c.args.self.now c.structure.new.self (view_structure c.in-Structure.value) c.args.line c.in-Structure.offset c.in_ok-offset-in-Structure.offset rest c.in_ok-offset-in-Structure.ensures same) c.structure.ensures)
+
+pub structure-returns-in_ok-_left-in-Comma : goal.structure-returns-in_ok-_left-in-Comma
+structure-returns-in_ok-_left-in-Comma t c =
+    rw c.in-Comma.is (ok_maps _ _ _ (λ same.
+    follow_adds c.args.into c.args.at c.args.self.now c.expression-in-Comma.new.self c.structure-in-Comma.new.self (view c.in-Comma.left) c.in_ok-_left-in-Comma._left (view_structure c.in-Comma.right.value) c.in-Comma.line c.in_ok-_left-in-Comma.ensures
+    (same ∙ ap (λ a. after_structure c.expression-in-Comma.new.self (view_structure a) c.args.into c.args.at) c.deref-in-Comma.ensures))
+    c.structure-in-Comma.ensures)
+
+pub structure-returns-in_ok-clear-in-List : goal.structure-returns-in_ok-clear-in-List
+structure-returns-in_ok-clear-in-List t c =
+    let whole = ap view_structure c.in-List.is ∙ view_list c.in-List.line c.in-List.size c.in-List.parts in
+    ok_maps _ _ _ (λ same.
+    list_adds c.args.into c.args.at c.args.self.now c.clear.new.self c.parts.new.self (parts_of c.in-List.parts.items) c.in-List.line c.in-List.size c.in_ok-clear-in-List.ensures
+    (same ∙ ap (λ xs. after_parts c.clear.new.self c.in-List.line (parts_of xs) c.args.into c.args.at) c.deref-in-List.ensures.value)
+    ∙ ap (λ (a : Structure). after_structure c.args.self.now a c.args.into c.args.at) (sym whole))
+    c.parts.ensures
+
+pub structure-returns-in_ok-register-in-String : goal.structure-returns-in_ok-register-in-String
+structure-returns-in_ok-register-in-String t c =
+    rw c.in-String.is (ok_maps _ _ _ (λ same.
+    string_adds c.args.into c.args.at c.args.self.now c.clear-in-String.new.self c.register.new.self c.text.new.self c.in-String.bytes.items c.in-String.line c.in-String.size c.in_ok-register-in-String.register
+    c.in_ok-clear-in-String.ensures c.in_ok-register-in-String.ensures.code c.in_ok-register-in-String.ensures.number
+    (same ∙ ap (λ xs. after_text c.register.new.self c.in-String.line xs c.in_ok-register-in-String.register c.args.into c.args.at) c.deref-in-String.ensures.value))
+    c.text.ensures)
+
+pub structure-returns-in_ok-structure-in-Choice-2 : goal.structure-returns-in_ok-structure-in-Choice-2
+structure-returns-in_ok-structure-in-Choice-2 t c =
+    let h = choose_adds c.args.into c.args.at c.args.self.now c.expression.new.self c.reserve.new.self c.structure.new.self c.reserve-in-Choice.new.self c.land.new.self c.structure-in-Choice.new.self c.land-in-Choice.new.self
+    (view c.in-Choice.test) (view_structure c.deref.result.now) (view_structure c.deref-in-Choice.result.now) c.in_ok-test-in-Choice.test c.in_ok-skip-in-Choice.skip c.in_ok-over-in-Choice.over c.in-Choice.line _ _
+    c.in_ok-test-in-Choice.ensures c.in_ok-skip-in-Choice.ensures.code c.in_ok-skip-in-Choice.ensures.place c.in_ok-structure-in-Choice.ensures c.in_ok-over-in-Choice.ensures.code c.in_ok-over-in-Choice.ensures.place
+    c.land.ensures c.in_ok-structure-in-Choice-2.ensures c.land-in-Choice.ensures in
     search (rules, h)

@@ -1,15 +1,20 @@
 use Rattle.std.proofs.Common.{rules, ap, sym, ◌∙◌}
-use Rattle.core_tree.specs.Trees.{view, view_statement, items_of}
+use Rattle.core_tree.specs.Trees.{view, view_structure, view_statement, items_of}
 use Rattle.core_tree.proofs.Views.{view_block}
 use Rattle.goto_lower.specs.Drafts.{after_entry, after_items, after_statement}
 use Rattle.goto_lower.proofs.Drafting.{ok_maps}
-use Rattle.goto_lower.proofs.DraftingStatements.{initialize_adds, does_adds, block_adds, if_adds, if_else_adds}
+use Rattle.goto_lower.proofs.DraftingStatements.{initialize_adds, initialize_structure_adds, does_adds, block_adds, if_adds, if_else_adds}
 use Rattle.goto_lower.proofs.draft.Draft.+statement.Goals as goal
 
 pub item-returns-in_ok-value-in-Initialize : goal.item-returns-in_ok-value-in-Initialize
 item-returns-in_ok-value-in-Initialize t c =
     let i = c.in-Initialize in
     rw c.in-Initialize.is (λ rest. ok_maps _ _ _ (λ same. initialize_adds c.args.self.now c.expression.new.self c.initialize.new.self (view i.value) c.in_ok-value-in-Initialize.value i.line i.variable i.drawn rest c.in_ok-value-in-Initialize.ensures same) c.initialize.ensures)
+
+pub item-returns-in-InitializeStructure : goal.item-returns-in-InitializeStructure
+item-returns-in-InitializeStructure t c =
+    let i = c.in-InitializeStructure in
+    rw c.in-InitializeStructure.is (λ rest. ok_maps _ _ _ (λ same. initialize_structure_adds c.args.self.now c.initialize_structure.new.self i.line i.variable i.drawn (view_structure i.value) rest same) c.initialize_structure.ensures)
 
 pub item-returns-in-Statement : goal.item-returns-in-Statement
 item-returns-in-Statement t c =

@@ -1,0 +1,28 @@
+-- The names with linkage, which a map holds in the order in which they got it.
+use Rattle.std.proofs.Common.{◌≡◌, Bool, true, false, List, [], ◌∷◌, ◌++◌, ℕ, Option, Some, None, map, nat_eq, refl, ap}
+use Rattle.std.specs.Prelude.{if◌then◌else◌, Vec}
+use Rattle.std.specs.Map.{lookup}
+use Rattle.std.specs.Str.{bytes_eq}
+use Rattle.std.specs.Cmp.Lexicographic.{pointwise}
+use Rattle.std.specs.Global.{Global}
+use Rattle.indexmap.specs.IndexMap.{insert_entry}
+use Rattle.c_elab_expr.specs.Scopes.{Linked, view_linked, linked_to}
+
+-- what the map has for a name
+pub linked_by : (name : List ℕ) (es : List (Vec ℕ Global × ℕ)) → lookup (λ (x : Vec ℕ Global). pointwise nat_eq name x.items) es ≡ linked_to (map view_linked es) name
+linked_by name [] = refl
+linked_by name (e ∷ es) = ap (λ (o : Option ℕ). if bytes_eq name e.0.items then Some e.1 else o) (linked_by name es)
+
+-- a name that isn't there stands behind the others
+pub new_link : (es : List (Vec ℕ Global × ℕ)) (k : Vec ℕ Global) (v : ℕ) → linked_to (map view_linked es) k.items ≡ None
+    → map view_linked (insert_entry (λ (x y : Vec ℕ Global). pointwise nat_eq x.items y.items) es k v) ≡ map view_linked es ++ view_linked (k, v) ∷ []
+new_link [] k v e = refl
+new_link (x ∷ es) k v e = either (bytes_eq k.items x.0.items) e (new_link es k v) where
+  behind : List (Vec ℕ Global × ℕ)
+  behind = insert_entry (λ (x y : Vec ℕ Global). pointwise nat_eq x.items y.items) es k v
+
+  either : (b : Bool) → (if b then Some x.1 else linked_to (map view_linked es) k.items) ≡ None
+      → (linked_to (map view_linked es) k.items ≡ None → map view_linked behind ≡ map view_linked es ++ view_linked (k, v) ∷ [])
+      → map view_linked (if b then (x.0, v) ∷ es else x ∷ behind) ≡ view_linked x ∷ (map view_linked es ++ view_linked (k, v) ∷ [])
+  either true e h = let no : ⊥ = cc in absurd no
+  either false e h = ap (λ (ls : List Linked). view_linked x ∷ ls) (h e)

@@ -1,0 +1,8 @@
+use Rattle.std.proofs.Common.{◌≡◌, drop}
+use Rattle.core_tree.specs.Trees.{parts_of}
+use Rattle.core_tree.specs.Typed.{parts_name}
+use Rattle.core_tree.proofs.typing.+names.Given as goal
+
+-- the parts that are left decide
+abbrev pub invariant-parts_name-loop-part : goal.invariant-parts_name-loop-part
+invariant-parts_name-loop-part l = parts_name l.variable (parts_of (drop l.part-index l.parts)) ≡ parts_name l.variable (parts_of l.parts)

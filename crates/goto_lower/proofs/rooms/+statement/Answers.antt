@@ -1,0 +1,13 @@
+use Rattle.std.proofs.Common.{ap, sym, ◌∙◌}
+use Rattle.core_tree.specs.declared.statement.CoreStatement.{CoreStatement}
+use Rattle.core_tree.specs.Trees.{view_statement, items_of}
+use Rattle.core_tree.proofs.Views.{view_block}
+use Rattle.goto_lower.specs.Rooms.{statement_rooms, items_rooms}
+use Rattle.goto_lower.proofs.Greater.{same_rooms}
+use Rattle.goto_lower.proofs.rooms.+statement.Goals as goal
+
+pub statement_rooms-returns-in-Block : goal.statement_rooms-returns-in-Block
+statement_rooms-returns-in-Block t c =
+    same_rooms c.items_rooms.result _ _
+    (ap (λ xs. items_rooms (items_of xs)) c.deref.ensures.value ∙ sym (ap (λ (s : CoreStatement). statement_rooms (view_statement s)) c.in-Block.is ∙ ap statement_rooms (view_block c.in-Block.items)))
+    c.items_rooms.ensures

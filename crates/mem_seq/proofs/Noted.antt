@@ -1,0 +1,231 @@
+-- What is noted of an event, and of one event after the other.
+use Rattle.std.proofs.Common.{◌≡◌, ℕ, ◌+◌, ◌<◌, ◌≤◌, Bool, true, false, ◌&&◌, List, [], ◌∷◌, ◌++◌, length, map, take, get_or, Option, Some, None, is_some, refl, sym, ap, subst, ◌∙◌}
+use Rattle.std.specs.Prelude.{All, ◌==◌, if◌then◌else◌}
+use Rattle.std.proofs.lemmas.List.{length-map, take_more, take_all}
+use Rattle.std.proofs.lemmas.List.Elements.{All-head, All-tail, All-push, All-nil, All-weaker, All-take}
+use Rattle.words.specs.declared.check.Class.{Class}
+use Rattle.words.specs.declared.check.Class.TheVariants.{Null, InvalidPointer}
+use Rattle.actions.specs.Pointer.{object_of}
+use Rattle.actions.specs.Objects.{Objects, bytes_at, with_bytes, break_in, unless_changed}
+use Rattle.c_values.specs.Variables.{pointer_to}
+use Rattle.word_dag.specs.declared.nodes.Id.{Id}
+use Rattle.word_dag.specs.declared.nodes.Node.{Node}
+use Rattle.word_dag.specs.Meaning.{value, holds}
+use Rattle.word_dag.specs.Growth.{Within, Extends}
+use Rattle.word_dag.proofs.Grown.{extends_itself, extends_more, map_stays}
+use Rattle.guarded_ssa.specs.declared.forms.Event.{Event}
+use Rattle.guarded_ssa.specs.declared.forms.EventKind.{EventKind}
+use Rattle.guarded_ssa.specs.declared.forms.EventKind.TheVariants as kinds
+use Rattle.guarded_ssa.specs.Ways.{Seen, stopped}
+use Rattle.guarded_ssa.specs.Runs.{bytes_of_words}
+use Rattle.guarded_ssa.specs.Forms.{kind_seen, event_seen, seen, EventIn, FormIn}
+use Rattle.actions.specs.declared.action.Next.{Next}
+use Rattle.actions.specs.declared.action.Next.TheVariants.{Blocked, Broken}
+use Rattle.mem_seq.specs.declared.memory.Memory.{Memory}
+use Rattle.mem_seq.specs.declared.memory.Note.{Note}
+use Rattle.mem_seq.specs.declared.memory.Note.TheVariants as notes
+use Rattle.mem_seq.specs.Accesses.{same_bytes, behind}
+use Rattle.mem_seq.specs.Goals.{breaks_or, breaks_from}
+use Rattle.mem_seq.specs.Notes.{NoteIn, IsNote, AreNotes}
+use Rattle.mem_seq.specs.Memories.{StandsFor, MemoryIn, written_in}
+use Rattle.mem_seq.proofs.Written.{stands_stay, break_same}
+use Rattle.mem_seq.proofs.Breaking.{event_stays, seen_stays}
+use Rattle.mem_seq.proofs.Building.{store_at, store_next, note_in_stays, note_stays, behind_append, form_in_stays}
+
+-- ---- one event
+
+no_class : (c : Option Class) → is_some c ≡ false → c ≡ None
+no_class None h = refl
+no_class (Some class) h = absurd (let wrong : true ≡ false = h in cc)
+
+-- a check that isn't broken
+pub none_broken : (c d : Option Class) → c ≡ d → is_some c ≡ false → d ≡ None
+none_broken c d same h = sym same ∙ no_class c h
+
+some_broken : (c : Option Class) (later : Bool) → is_some c ≡ true → breaks_or c later ≡ true
+some_broken None later h = absurd (let wrong : false ≡ true = h in cc)
+some_broken (Some class) later h = refl
+
+unchanged : (c : Option Class) (objects new : Objects) → is_some c ≡ true → unless_changed c objects new ≡ objects
+unchanged None objects new h = absurd (let wrong : false ≡ true = h in cc)
+unchanged (Some class) objects new h = refl
+
+behind_by : (b : Bool) (objects : Objects) (told : List Seen) → behind objects told ≡ objects → behind objects (if b then told else []) ≡ objects
+behind_by true objects told h = h
+behind_by false objects told h = refl
+
+behind_if : (b : Bool) (objects after : Objects) (told : List Seen) → behind objects told ≡ after → (if b then after else objects) ≡ behind objects (if b then told else [])
+behind_if true objects after told h = sym h
+behind_if false objects after told h = refl
+
+ends_or : (b : Bool) (objects : Objects) (end : Next) → behind objects (if b then stopped end ∷ [] else []) ≡ objects
+ends_or true objects end = refl
+ends_or false objects end = refl
+
+alone_or : (b : Bool) (objects : Objects) (end : Next) (later : Bool) → breaks_from objects (if b then stopped end ∷ [] else []) later ≡ breaks_from [] (if b then stopped end ∷ [] else []) later
+alone_or true objects end later = refl
+alone_or false objects end later = refl
+
+-- the store that is there behind an event which changes none
+module _ (d e : List Node) (ev : Event) (m : Memory) (x : Extends d e) (within : MemoryIn d m) where
+  pub stands_behind : ((v : ℕ → ℕ) (objects : Objects) → StandsFor v d m objects → behind objects (kind_seen v d ev.line ev.function ev.kind) ≡ objects)
+      → (v : ℕ → ℕ) (objects : Objects) → StandsFor v d m objects → StandsFor v e m (behind objects (event_seen v d ev))
+  stands_behind same v objects stands =
+      subst (StandsFor v e m) (sym (behind_by (holds (value v d ev.guard)) objects (kind_seen v d ev.line ev.function ev.kind) (same v objects stands))) (stands_stay v d e (written_in m) m.store.now objects x within stands)
+
+-- the kinds that change none
+module _ (v : ℕ → ℕ) (d : List Node) (line f : ℕ) (objects : Objects) (k : EventKind) where
+  pub draw_leaves : (bits : ℕ) (answer : Id) → k ≡ kinds.Draw bits answer → behind objects (kind_seen v d line f k) ≡ objects
+  draw_leaves bits answer is = ap (λ (j : EventKind). behind objects (kind_seen v d line f j)) is
+
+  pub read_leaves : (object offset count : ℕ) (answer : List Id) → k ≡ kinds.Read object offset count answer → behind objects (kind_seen v d line f k) ≡ objects
+  read_leaves object offset count answer is = ap (λ (j : EventKind). behind objects (kind_seen v d line f j)) is
+
+  pub exit_leaves : k ≡ kinds.Exit → behind objects (kind_seen v d line f k) ≡ objects
+  exit_leaves is = ap (λ (j : EventKind). behind objects (kind_seen v d line f j)) is
+
+  pub check_leaves : (class : Class) (failing : Id) → k ≡ kinds.Check class failing → behind objects (kind_seen v d line f k) ≡ objects
+  check_leaves class failing is = ap (λ (j : EventKind). behind objects (kind_seen v d line f j)) is ∙ ends_or (holds (value v d failing)) objects (Broken class line f)
+
+  pub assume_leaves : (failing : Id) → k ≡ kinds.Assume failing → behind objects (kind_seen v d line f k) ≡ objects
+  assume_leaves failing is = ap (λ (j : EventKind). behind objects (kind_seen v d line f j)) is ∙ ends_or (holds (value v d failing)) objects Blocked
+
+  pub broken_write_leaves : (object offset p : ℕ) (bytes : List Id) → k ≡ kinds.Write object offset bytes → p ≡ pointer_to object offset → is_some (break_in objects true p (length bytes)) ≡ true → behind objects (kind_seen v d line f k) ≡ objects
+  broken_write_leaves object offset p bytes is p_is broken =
+      let same : break_in objects true p (length bytes) ≡ break_in objects true (pointer_to object offset) (length (map (value v d) bytes)) = (λ i. break_in objects true (p_is i) (sym (length-map bytes (value v d)) i)) in
+      ap (λ (j : EventKind). behind objects (kind_seen v d line f j)) is
+      ∙ unchanged (break_in objects true (pointer_to object offset) (length (map (value v d) bytes))) objects (with_bytes objects (pointer_to object offset) (map (value v d) bytes)) (sym (ap is_some same) ∙ broken)
+
+  pub write_leaves : (object offset p : ℕ) (bytes new : List Id) → k ≡ kinds.Write object offset bytes → p ≡ pointer_to object offset → new ≡ bytes → break_in objects true p (length new) ≡ None → behind objects (kind_seen v d line f k) ≡ with_bytes objects p (map (value v d) new)
+  write_leaves object offset p bytes new is p_is new_is fine =
+      let same : break_in objects true p (length new) ≡ break_in objects true (pointer_to object offset) (length (map (value v d) bytes)) = (λ i. break_in objects true (p_is i) (length (new_is i))) ∙ ap (break_in objects true (pointer_to object offset)) (sym (length-map bytes (value v d))) in
+      ap (λ (j : EventKind). behind objects (kind_seen v d line f j)) is
+      ∙ ap (λ (c : Option Class). unless_changed c objects (with_bytes objects (pointer_to object offset) (map (value v d) bytes))) (sym same ∙ fine)
+      ∙ (λ i. with_bytes objects (sym p_is i) (map (value v d) (sym new_is i)))
+
+-- ---- notes
+
+module _ (e : List Node) (ev : Event) (stores : (ℕ → ℕ) → Objects) where
+  told_as : (k : EventKind) → ev.kind ≡ k → (v : ℕ → ℕ) (later : Bool) → breaks_from (stores v) (kind_seen v e ev.line ev.function ev.kind) later ≡ breaks_from (stores v) (kind_seen v e ev.line ev.function k) later
+  told_as k is v later = ap (λ (j : EventKind). breaks_from (stores v) (kind_seen v e ev.line ev.function j) later) is
+
+  alone_as : (k : EventKind) → ev.kind ≡ k → ((v : ℕ → ℕ) (later : Bool) → breaks_from (stores v) (kind_seen v e ev.line ev.function k) later ≡ breaks_from [] (kind_seen v e ev.line ev.function k) later) → IsNote stores e ev notes.Alone
+  alone_as k is same v later = told_as k is v later ∙ same v later ∙ ap (λ (j : EventKind). breaks_from [] (kind_seen v e ev.line ev.function j) later) (sym is)
+
+  pub draw_note : (bits : ℕ) (answer : Id) → ev.kind ≡ kinds.Draw bits answer → IsNote stores e ev notes.Passes
+  draw_note bits answer is v later = told_as (kinds.Draw bits answer) is v later
+
+  pub exit_note : ev.kind ≡ kinds.Exit → IsNote stores e ev notes.Alone
+  exit_note is = alone_as kinds.Exit is (λ v later. refl)
+
+  pub check_note : (class : Class) (failing : Id) → ev.kind ≡ kinds.Check class failing → IsNote stores e ev notes.Alone
+  check_note class failing is = alone_as (kinds.Check class failing) is (λ v later. alone_or (holds (value v e failing)) (stores v) (Broken class ev.line ev.function) later)
+
+  pub assume_note : (failing : Id) → ev.kind ≡ kinds.Assume failing → IsNote stores e ev notes.Alone
+  assume_note failing is = alone_as (kinds.Assume failing) is (λ v later. alone_or (holds (value v e failing)) (stores v) Blocked later)
+
+  pub broken_read_note : (object offset count p : ℕ) (answer : List Id) → ev.kind ≡ kinds.Read object offset count answer → p ≡ pointer_to object offset → ((v : ℕ → ℕ) → is_some (break_in (stores v) false p count) ≡ true) → IsNote stores e ev notes.Breaks
+  broken_read_note object offset count p answer is p_is broken v later =
+      told_as (kinds.Read object offset count answer) is v later ∙ some_broken (break_in (stores v) false (pointer_to object offset) count) _ (ap (λ q. is_some (break_in (stores v) false q count)) (sym p_is) ∙ broken v)
+
+  pub broken_write_note : (object offset p : ℕ) (bytes : List Id) → ev.kind ≡ kinds.Write object offset bytes → p ≡ pointer_to object offset → ((v : ℕ → ℕ) → is_some (break_in (stores v) true p (length bytes)) ≡ true) → IsNote stores e ev notes.Breaks
+  broken_write_note object offset p bytes is p_is broken v later =
+      let same : break_in (stores v) true (pointer_to object offset) (length (map (value v e) bytes)) ≡ break_in (stores v) true p (length bytes) = (λ i. break_in (stores v) true (sym p_is i) (length-map bytes (value v e) i)) in
+      told_as (kinds.Write object offset bytes) is v later ∙ some_broken (break_in (stores v) true (pointer_to object offset) (length (map (value v e) bytes))) _ (ap is_some same ∙ broken v)
+
+  pub write_note : (object offset p : ℕ) (bytes new : List Id) → ev.kind ≡ kinds.Write object offset bytes → p ≡ pointer_to object offset → new ≡ bytes → ((v : ℕ → ℕ) → break_in (stores v) true p (length new) ≡ None) → IsNote stores e ev notes.Passes
+  write_note object offset p bytes new is p_is new_is fine v later =
+      let same : break_in (stores v) true (pointer_to object offset) (length (map (value v e) bytes)) ≡ break_in (stores v) true p (length new) = ap (break_in (stores v) true (pointer_to object offset)) (length-map bytes (value v e)) ∙ (λ i. break_in (stores v) true (sym p_is i) (length (sym new_is i))) in
+      told_as (kinds.Write object offset bytes) is v later ∙ ap (λ (c : Option Class). breaks_or c later) (same ∙ fine v)
+
+  pub read_note : (d : List Node) (object offset count p : ℕ) (answer words : List Id) (test : Id) → Extends d e → All (Within d) answer → ev.kind ≡ kinds.Read object offset count answer → p ≡ pointer_to object offset → words ≡ answer → ((v : ℕ → ℕ) → break_in (stores v) false p count ≡ None)
+      → ((v : ℕ → ℕ) → holds (value v e test) ≡ same_bytes (bytes_of_words count (map (value v d) words)) (bytes_at (stores v) p count)) → IsNote stores e ev (notes.Gives test)
+  read_note d object offset count p answer words test x there is p_is words_are fine given v later =
+      let q = pointer_to object offset in
+      let bytes = bytes_of_words count (map (value v e) answer) in
+      let test_is : same_bytes bytes (bytes_at (stores v) q count) ≡ holds (value v e test) =
+      (λ i. same_bytes (bytes_of_words count (map_stays v d e answer x there i)) (bytes_at (stores v) q count)) ∙ (λ i. same_bytes (bytes_of_words count (map (value v d) (sym words_are i))) (bytes_at (stores v) (sym p_is i) count)) ∙ sym (given v) in
+      told_as (kinds.Read object offset count answer) is v later
+      ∙ ap (λ (c : Option Class). breaks_or c (same_bytes bytes (bytes_at (stores v) q count) && later)) (ap (λ r. break_in (stores v) false r count) (sym p_is) ∙ fine v)
+      ∙ ap (λ b. b && later) test_is
+
+-- without objects each access breaks one
+pub no_object : (writes : Bool) (p n : ℕ) → is_some (break_in [] writes p n) ≡ true
+no_object writes p n = by (object_of p == 0)
+  where
+    by : (b : Bool) → is_some (if b then Some Null else Some InvalidPointer) ≡ true
+    by true = refl
+    by false = refl
+
+-- the checks of accesses are those of the store at the start
+pub some_break : (v : ℕ → ℕ) (d : List Node) (m : Memory) (objects : Objects) (writes : Bool) (p n : ℕ) (c : Option Class) → StandsFor v d m objects → c ≡ break_in m.store.now writes p n → is_some c ≡ true → is_some (break_in objects writes p n) ≡ true
+some_break v d m objects writes p n c stands is broken = ap is_some (break_same v d (written_in m) m.store.now objects stands writes p n ∙ sym is) ∙ broken
+
+pub no_break : (v : ℕ → ℕ) (d : List Node) (m : Memory) (objects : Objects) (writes : Bool) (p n : ℕ) (c : Option Class) → StandsFor v d m objects → c ≡ break_in m.store.now writes p n → is_some c ≡ false → break_in objects writes p n ≡ None
+no_break v d m objects writes p n c stands is fine = break_same v d (written_in m) m.store.now objects stands writes p n ∙ none_broken c (break_in m.store.now writes p n) is fine
+
+-- behind a write
+pub stands_written : (v : ℕ → ℕ) (d e : List Node) (ev : Event) (m n : Memory) (objects after : Objects) → behind objects (kind_seen v d ev.line ev.function ev.kind) ≡ after → StandsFor v e n (if holds (value v d ev.guard) then after else objects)
+    → StandsFor v e n (behind objects (event_seen v d ev))
+stands_written v d e ev m n objects after is stands = subst (StandsFor v e n) (behind_if (holds (value v d ev.guard)) objects after (kind_seen v d ev.line ev.function ev.kind) is) stands
+
+-- ---- one event after the other
+
+notes_push : (stores : (ℕ → ℕ) → Objects) (d : List Node) (es : List Event) (ns : List Note) (ev : Event) (n : Note) → AreNotes stores d es ns → IsNote (λ v. behind (stores v) (seen v d es)) d ev n → AreNotes stores d (es ++ ev ∷ []) (ns ++ n ∷ [])
+notes_push stores d [] [] ev n h is = (is, tt)
+notes_push stores d [] (m ∷ ns) ev n h is = absurd h
+notes_push stores d (e ∷ es) [] ev n h is = absurd h
+notes_push stores d (e ∷ es) (m ∷ ns) ev n h is =
+    let same : (λ (v : ℕ → ℕ). behind (stores v) (event_seen v d e ++ seen v d es)) ≡ (λ v. behind (behind (stores v) (event_seen v d e)) (seen v d es)) = λ k v. behind_append (stores v) (event_seen v d e) (seen v d es) k in
+    (h.0, notes_push (λ v. behind (stores v) (event_seen v d e)) d es ns ev n h.1 (subst (λ (s : (ℕ → ℕ) → Objects). IsNote s d ev n) same is))
+
+notes_stay : (stores : (ℕ → ℕ) → Objects) (d e : List Node) (es : List Event) (ns : List Note) → Extends d e → FormIn d es → All (NoteIn d) ns → AreNotes stores d es ns → AreNotes stores e es ns
+notes_stay stores d e [] [] x form within h = tt
+notes_stay stores d e [] (n ∷ ns) x form within h = absurd h
+notes_stay stores d e (ev ∷ es) [] x form within h = absurd h
+notes_stay stores d e (ev ∷ es) (n ∷ ns) x form within h =
+    let here = All-head (EventIn d) ev es form in
+    let same : (λ (v : ℕ → ℕ). behind (stores v) (event_seen v d ev)) ≡ (λ v. behind (stores v) (event_seen v e ev)) = λ k v. behind (stores v) (sym (event_stays v d e ev x here) k) in (
+      note_stays d e ev n stores x here (All-head (NoteIn d) n ns within) h.0,
+      subst (λ (s : (ℕ → ℕ) → Objects). AreNotes s e es ns) same (notes_stay (λ v. behind (stores v) (event_seen v d ev)) d e es ns x (All-tail (EventIn d) ev es form) (All-tail (NoteIn d) n ns within) h.1),
+    )
+
+-- the first k events are noted, and the memory is that behind them
+pub record Noting (d e : List Node) (store : Objects) (es : List Event) (m : Memory) (ns : List Note) (k : ℕ) : Type 0 where
+  pub extends : Extends d e
+  pub within : MemoryIn e m
+  pub notes_in : All (NoteIn e) ns
+  pub stands : (v : ℕ → ℕ) → StandsFor v e m (store_at store d es k v)
+  pub notes : AreNotes (λ v. store) e (take k es) ns
+
+pub noting_none : (d : List Node) (store : Objects) (es : List Event) (m : Memory) (ns : List Note) → MemoryIn d m → ((v : ℕ → ℕ) → StandsFor v d m store) → ns ≡ [] → Noting d d store es m ns 0
+noting_none d store es m ns within stands none = record {
+  extends = extends_itself d;
+  within = within;
+  notes_in = subst (All (NoteIn d)) (sym none) (All-nil (NoteIn d));
+  stands = stands;
+  notes = subst (AreNotes (λ v. store) d []) (sym none) tt;
+}
+
+pub noting_more : (d e f : List Node) (store : Objects) (es : List Event) (m n : Memory) (ns more : List Note) (ev : Event) (note : Note) (k : ℕ) → FormIn d es → Noting d e store es m ns k → k < length es → ev ≡ get_or es k ev → Extends e f → MemoryIn f n → NoteIn f note
+    → ((stores : (ℕ → ℕ) → Objects) → ((v : ℕ → ℕ) → StandsFor v e m (stores v)) → IsNote stores f ev note) → ((v : ℕ → ℕ) (objects : Objects) → StandsFor v e m objects → StandsFor v f n (behind objects (event_seen v e ev))) → more ≡ ns ++ note ∷ []
+    → Noting d f store es n more (k + 1)
+noting_more d e f store es m n ns more ev note k form c lt is x within note_within is_note behind_is more_is =
+    let y = extends_more d e f c.extends x in
+    let here : EventIn d ev = subst (EventIn d) (sym is) (form k ev lt) in
+    let first : take (k + 1) es ≡ take k es ++ ev ∷ [] = take_more es k ev lt ∙ ap (λ (i : Event). take k es ++ i ∷ []) (sym is) in
+    let front : FormIn d (take k es) = All-take (EventIn d) k es form in
+    record {
+      extends = y;
+      within = within;
+      notes_in = subst (All (NoteIn f)) (sym more_is) (All-push (NoteIn f) ns note (All-weaker (NoteIn e) (NoteIn f) (λ i h. note_in_stays e f i x h) ns c.notes_in) note_within);
+      stands = λ v. subst (StandsFor v f n) (ap (behind (store_at store d es k v)) (event_stays v d e ev c.extends here) ∙ sym (store_next store v d es k ev lt is)) (behind_is v (store_at store d es k v) (c.stands v));
+      notes =
+          let all = notes_stay (λ v. store) e f (take k es) ns x (form_in_stays d e (take k es) c.extends front) c.notes_in c.notes in
+          let same : (λ (v : ℕ → ℕ). store_at store d es k v) ≡ (λ v. behind store (seen v f (take k es))) = λ i v. behind store (sym (seen_stays v d f (take k es) y front) i) in
+          let one : IsNote (λ v. behind store (seen v f (take k es))) f ev note = subst (λ (s : (ℕ → ℕ) → Objects). IsNote s f ev note) same (is_note (store_at store d es k) c.stands) in
+          subst (AreNotes (λ v. store) f (take (k + 1) es)) (sym more_is) (subst (λ (xs : List Event). AreNotes (λ v. store) f xs (ns ++ note ∷ [])) (sym first) (notes_push (λ v. store) f (take k es) ns ev note all one));
+    }
+
+pub noting_all : (d e : List Node) (store : Objects) (es : List Event) (m : Memory) (ns : List Note) (k : ℕ) → Noting d e store es m ns k → length es ≤ k → AreNotes (λ v. store) e es ns
+noting_all d e store es m ns k c done = subst (λ (xs : List Event). AreNotes (λ v. store) e xs ns) (take_all k es done) c.notes

@@ -1,0 +1,266 @@
+ghost use Rattle.std.specs.Prelude.{IsTrue};
+ghost use Rattle.value_nodes.specs.Values.{AreBytes};
+ghost use Rattle.guarded_ssa.specs.Forms.{IsBit, AreWords, EventIn, FormIn};
+
+use crate::formula::{Sets, sequential};
+use actions::{Bytes, Cells, Object, Store};
+use guarded_ssa::{Event, EventKind, Nodes, ThreadForm};
+use std::alloc::{AllocError, Global};
+use std::test::*;
+use word_dag::{Comparison, Dag, Id, Node, Valuation};
+use words::Class;
+
+// One object, of 10 bytes.
+fn store(alloc: Global, readonly: bool) -> Result<Store, AllocError> {
+    let bytes = Vec::from_slice(alloc, &[5, 0, 0, 0, 1, 2, 3, 4, 6, 7])?;
+    let object = Object {
+        size: 10,
+        cells: Cells::new(Vec::new(alloc)),
+        live: true,
+        readonly,
+        heap: false,
+        bytes: Bytes::new(bytes),
+    };
+    let mut store = Store::new(alloc);
+    store.add(1, object)?;
+    Ok(store)
+}
+
+fn at(guard: Id, kind: EventKind) -> Event {
+    Event {
+        guard,
+        line: 1,
+        function: 0,
+        kind,
+    }
+}
+
+fn nodes(alloc: Global, ids: &[Id]) -> Result<Nodes, AllocError> {
+    Ok(Nodes::new(Vec::from_slice(alloc, ids)?))
+}
+
+fn read(object: u32, offset: u32, count: u32, answer: Nodes) -> EventKind {
+    EventKind::Read {
+        object,
+        offset,
+        count,
+        answer,
+    }
+}
+
+fn write(object: u32, offset: u32, bytes: Nodes) -> EventKind {
+    EventKind::Write {
+        object,
+        offset,
+        bytes,
+    }
+}
+
+// The nodes of a form: always, and where variable 0 is 1; two words that reads give, variables 1 and 2, of
+// 32 bits; a word of 64 bits and one of 16, variables 3 and 4; and the bytes of variable 5.
+#[derive(Drop)]
+struct Parts {
+    always: Id,
+    test: Id,
+    first: Id,
+    second: Id,
+    long: Id,
+    short: Id,
+    bytes: Vec<Id>,
+}
+
+// A node, where it fits the graph.
+fn made(dag: &mut Dag, node: Node) -> Result<Id, AllocError> {
+    if dag.fits(node) {
+        dag.make(node)
+    } else {
+        Err(AllocError)
+    }
+}
+
+fn make_parts(alloc: Global, dag: &mut Dag) -> Result<Parts, AllocError> {
+    let word = made(dag, Node::Variable(5, 32))?;
+    let mut bytes = Vec::new(alloc);
+    for i in 0..4 {
+        bytes.push(made(dag, Node::Cut(word, 8 * i, 8))?)?;
+    }
+    Ok(Parts {
+        always: made(dag, Node::Constant(1, 1))?,
+        test: made(dag, Node::Variable(0, 1))?,
+        first: made(dag, Node::Variable(1, 32))?,
+        second: made(dag, Node::Variable(2, 32))?,
+        long: made(dag, Node::Variable(3, 64))?,
+        short: made(dag, Node::Variable(4, 16))?,
+        bytes,
+    })
+}
+
+// A check that breaks where a word of 32 bits is this number.
+fn is_number(dag: &mut Dag, guard: Id, word: Id, bits: u64) -> Result<Event, AllocError> {
+    let number = made(dag, Node::Constant(bits, 32))?;
+    let failing = made(dag, Node::Compare(Comparison::Equal, word, number))?;
+    Ok(at(
+        guard,
+        EventKind::Check {
+            class: Class::Assertion,
+            failing,
+        },
+    ))
+}
+
+// The events that are tried.
+fn events(alloc: Global, dag: &mut Dag, number: u32) -> Result<Vec<Event>, AllocError> {
+    let p = make_parts(alloc, dag)?;
+    let mut events = Vec::new(alloc);
+    let first = read(1, 0, 4, nodes(alloc, &[p.first])?);
+    let second = read(1, 0, 4, nodes(alloc, &[p.second])?);
+    let bytes = nodes(alloc, &p.bytes)?;
+    match number {
+        // a read of the first bytes
+        0 => {
+            events.push(at(p.always, first))?;
+            events.push(is_number(dag, p.always, p.first, 5)?)?;
+        }
+        // a read after a write
+        1 => {
+            events.push(at(p.always, write(1, 0, bytes)))?;
+            events.push(at(p.always, first))?;
+            events.push(is_number(dag, p.always, p.first, 7)?)?;
+        }
+        // a read before a write under a guard, and one after it
+        2 => {
+            events.push(at(p.always, first))?;
+            events.push(at(p.test, write(1, 0, bytes)))?;
+            events.push(at(p.always, second))?;
+            events.push(is_number(dag, p.always, p.second, 7)?)?;
+        }
+        // a read under a guard alone, and a check that asks nothing of it
+        3 => {
+            events.push(at(p.test, first))?;
+            events.push(is_number(dag, p.always, p.second, 7)?)?;
+        }
+        // a read behind the end of the run
+        4 => {
+            events.push(is_number(dag, p.always, p.second, 7)?)?;
+            events.push(at(p.always, EventKind::Exit))?;
+            events.push(at(p.always, first))?;
+        }
+        // all 10 bytes
+        5 => {
+            events.push(at(p.always, read(1, 0, 10, nodes(alloc, &[p.long, p.short])?)))?;
+            events.push(is_number(dag, p.always, p.second, 7)?)?;
+        }
+        // a write under a guard, of an object that is read-only
+        6 => events.push(at(p.test, write(1, 0, bytes)))?,
+        // an access past the end of an object, and one of none
+        7 => events.push(at(p.test, read(1, 8, 4, nodes(alloc, &[p.first])?)))?,
+        _ => events.push(at(p.always, write(3, 0, bytes)))?,
+    }
+    Ok(events)
+}
+
+fn is_bit(dag: &Dag, id: Id) -> bool
+    ensures { IsTrue result → IsBit dag.now id }
+{
+    id.index < dag.len() && dag.width(id) == 1
+}
+
+// Words of 4 or of 10 bytes.
+fn are_words(dag: &Dag, ids: &[Id], count: u32) -> bool
+    ensures { IsTrue result → AreWords dag.now count ids.now }
+{
+    if !ids.iter().all(|id| id.index < dag.len()) {
+        return false;
+    }
+    match ids {
+        [word] => count == 4 && dag.width(*word) == 32,
+        [first, second] => count == 10 && dag.width(*first) == 64 && dag.width(*second) == 16,
+        _ => false,
+    }
+}
+
+fn are_bytes(dag: &Dag, ids: &[Id]) -> bool
+    ensures { IsTrue result → AreBytes dag.now ids.now }
+{
+    ids.iter()
+        .all(|id| id.index < dag.len() && dag.width(*id) == 8)
+}
+
+fn is_in(dag: &Dag, event: &Event) -> bool
+    ensures { IsTrue result → EventIn dag.now event.now }
+{
+    if !is_bit(dag, event.guard) {
+        return false;
+    }
+    match &event.kind {
+        EventKind::Draw { bits: _, answer: _ } => false,
+        EventKind::Read {
+            object: _,
+            offset: _,
+            count,
+            answer,
+        } => are_words(dag, answer.as_slice(), *count),
+        EventKind::Write {
+            object: _,
+            offset: _,
+            bytes,
+        } => are_bytes(dag, bytes.as_slice()),
+        EventKind::Exit => true,
+        EventKind::Check { class: _, failing } => is_bit(dag, *failing),
+        EventKind::Assume { failing } => is_bit(dag, *failing),
+    }
+}
+
+// Whether each node that the events name is one of the graph, of the right width.
+fn are_in(dag: &Dag, events: &[Event]) -> bool
+    ensures { IsTrue result → FormIn dag.now events.now }
+{
+    events.iter().all(|event| is_in(dag, event))
+}
+
+// The goal under these values of the variables.
+fn goal(alloc: Global, number: u32, values: [u64; 6]) -> Result<u64, AllocError> {
+    let mut dag = Dag::new(alloc);
+    let events = events(alloc, &mut dag, number)?;
+    if !are_in(&dag, &events) {
+        return Err(AllocError);
+    }
+    let form = ThreadForm::new(events, store(alloc, number == 6)?);
+    let formula = sequential(alloc, &mut dag, &form, &Sets {})?;
+    let valuation = Valuation::from_values(Vec::from_slice(alloc, &values)?);
+    Ok(dag.value(alloc, &valuation, formula.goal)?.bits())
+}
+
+#[test]
+fn reads_give_what_the_store_holds(rt: HostRuntime) -> Result<(), Fail> {
+    let alloc = rt.alloc();
+    let long = 0x0403020100000005;
+    let rows = [
+        (0, [0, 5, 0, 0, 0, 0], 1),
+        (0, [0, 6, 0, 0, 0, 0], 0),
+        (1, [0, 7, 0, 0, 0, 7], 1),
+        (1, [0, 7, 0, 0, 0, 8], 0),
+        (1, [0, 5, 0, 0, 0, 5], 0),
+        (2, [1, 5, 7, 0, 0, 7], 1),
+        (2, [1, 7, 7, 0, 0, 7], 0),
+        (2, [0, 5, 7, 0, 0, 7], 0),
+        (2, [0, 5, 5, 0, 0, 7], 0),
+        (3, [0, 9, 7, 0, 0, 0], 1),
+        (3, [1, 9, 7, 0, 0, 0], 0),
+        (3, [1, 5, 7, 0, 0, 0], 1),
+        (4, [0, 9, 7, 0, 0, 0], 1),
+        (4, [0, 5, 8, 0, 0, 0], 0),
+        (5, [0, 0, 7, long, 0x0706, 0], 1),
+        (5, [0, 0, 7, long, 0x0806, 0], 0),
+        (5, [0, 0, 7, long + 1, 0x0706, 0], 0),
+        (6, [1, 0, 0, 0, 0, 0], 1),
+        (6, [0, 0, 0, 0, 0, 0], 0),
+        (7, [1, 0, 0, 0, 0, 0], 1),
+        (7, [0, 0, 0, 0, 0, 0], 0),
+        (8, [0, 0, 0, 0, 0, 0], 1),
+    ];
+    for (number, values, expected) in rows {
+        assert_eq!(rt; goal(alloc, number, values)?, expected, "events {number}");
+    }
+    Ok(())
+}

@@ -1,5 +1,0 @@
-use Rattle.value_nodes.proofs.Blocks.{Joining}
-use Rattle.value_nodes.proofs.bytes.joined.Given as goal
-
-abbrev pub invariant-loop-place : goal.invariant-loop-place
-invariant-loop-place l = Joining l.fn.dag l.dag l.bytes l.word l.place
