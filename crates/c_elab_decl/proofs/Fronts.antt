@@ -1,38 +1,40 @@
 -- One variable, item or definition more: what is made goes before what is behind.
-use Rattle.std.proofs.Common.{◌≡◌, ◌<◌, ◌+◌, ◌-◌, ℕ, Bool, false, List, [], ◌∷◌, ◌++◌, length, get_or, drop, Option, Result, Ok, Err, codes, refl, ap, sym, subst, ◌∙◌, arith}
+use Rattle.std.proofs.Common.{◌≡◌, ◌≤◌, ◌<◌, ◌+◌, ◌-◌, ℕ, Bool, false, List, [], ◌∷◌, ◌++◌, length, get_or, drop, Option, Some, None, Result, Ok, Err, refl, ap, ap₂, sym, subst, ◌∙◌, arith}
 use Rattle.std.specs.Prelude.{Vec}
 use Rattle.std.specs.Global.{Global}
-use Rattle.std.proofs.lemmas.List.{append_assoc, drop_more, drop_at, length-append, map-append}
-use Rattle.c_tree.specs.declared.statement.Item.{Item}
+use Rattle.std.proofs.lemmas.List.{append_assoc, append-nil, drop_more, map-append}
+use Rattle.c_tree.specs.declared.statement.Item.{Item, Declares, Does}
 use Rattle.c_tree.specs.declared.statement.External.{External}
-use Rattle.c_tree.specs.Tree.{Declared}
-use Rattle.c_tree.specs.Declarations.{Initial, Parts, Declarators, name_of}
-use Rattle.c_tree.specs.Statements.{Statement, block, view_item, Externals, declared, defines, view_external, externals_of}
+use Rattle.c_tree.specs.Declarations.{Initial, Full, Parts, Declarators, name_of}
+use Rattle.c_tree.specs.Tree.{Tree}
+use Rattle.c_tree.specs.Statements.{Statement, block, switch_on, view_item, Externals, declared, defines, view_external, externals_of}
 use Rattle.c_tree.specs.Statements.{Items, does, items_of as trees}
 use Rattle.c_types.specs.Types.{CType}
 use Rattle.core_tree.specs.declared.statement.CoreItem.{CoreItem}
 use Rattle.core_tree.specs.declared.statement.CoreItem as codes
 use Rattle.core_tree.specs.declared.statement.CoreStatement.{CoreStatement, Block}
-use Rattle.core_tree.specs.declared.functions.Function.{Function}
-use Rattle.core_tree.specs.Trees.{Expression, Procedure, with_item, items_of, view_statement, view_function, view_functions}
+use Rattle.core_tree.specs.Trees.{with_item, items_of, view_statement}
 use Rattle.core_tree.specs.Trees as cores
 use Rattle.core_tree.proofs.Views.{view_block}
 use Rattle.c_elab_expr.specs.declared.fault.TypingError.{TypingError}
 use Rattle.c_elab_expr.specs.declared.fault.TypingError.TheVariants as errors
-use Rattle.c_elab_expr.specs.Scopes.{Environment, Named, Scoped, sizes}
+use Rattle.c_elab_expr.specs.Scopes.{Environment, Named, Scoped}
 use Rattle.c_elab_expr.specs.Nodes.{◌>>=◌}
-use Rattle.c_elab_expr.specs.Types.{declared_line}
-use Rattle.c_elab_expr.specs.Typing.{Fault, on_line, Fails}
+use Rattle.c_elab_expr.specs.Typing.{Fault, Fails, operand}
 use Rattle.c_elab_decl.specs.declared.regions.Region.{Region}
-use Rattle.c_elab_decl.specs.Regions.{earlier}
+use Rattle.c_elab_decl.specs.declared.defining.Definition.{Definition as CodeDefinition}
+use Rattle.c_elab_decl.specs.Derivations.{full_line}
 use Rattle.c_elab_decl.specs.Initializers.{Value, initializer_of}
-use Rattle.c_elab_decl.specs.Declarators.{Typed, variable_type, of_type, within_initializer, with_variable, declared_item, in_front, typed_variable}
-use Rattle.c_elab_decl.specs.Statements.{typed_statement, typed_items}
-use Rattle.c_elab_decl.specs.Files.{in_file, typed_outside, function_node, with_function, main, outside, typed_externals}
-use Rattle.c_elab_decl.specs.Steps.{prepend, items_first, TypedFunctions, functions_first, Step, FunctionStep}
-use Rattle.c_elab_decl.proofs.Steps.{fails_on}
-use Rattle.c_elab_decl.proofs.Growing.{Inner, There}
-use Rattle.c_elab_decl.proofs.WellTyped.{items_done}
+use Rattle.c_elab_decl.specs.Declarators.{Typed, variable_type, is_open, of_type, within_initializer, with_variable, declared_item, in_front, typed_variable}
+use Rattle.c_elab_decl.specs.Jumps.{jumps_in}
+use Rattle.c_elab_expr.specs.Operands.{Operand}
+use Rattle.c_elab_decl.specs.Listed.{typed_declaration}
+use Rattle.c_elab_decl.specs.Statements.{Around, in_loop, in_switch, with_loop, with_switch, switch_type, switch_of, TypedStatement, TypedFront, as_block, as_items, typed_rest, typed_body, typed_statement, typed_items}
+use Rattle.c_elab_decl.specs.Files.{in_file, typed_outside, Definition, typed_definition, typed_externals}
+use Rattle.c_elab_decl.specs.Steps.{prepend, items_first, TypedDefinitions, definitions_first, view_definition, view_definitions, Step, DefinitionStep, Fronts}
+use Rattle.c_elab_decl.proofs.Steps.{fails_on, fails_bind, fails_along}
+use Rattle.c_elab_decl.proofs.Growing.{Inner, kept}
+use Rattle.c_elab_decl.proofs.WellTyped.{declaration_done, for_done, items_done}
 
 -- ---- items
 
@@ -44,7 +46,7 @@ pub prepend_all : (is : List CoreItem) → prepend is cores.done ≡ items_of is
 prepend_all [] = refl
 prepend_all (i ∷ is) = ap (with_item i) (prepend_all is)
 
-prepend_push : (is : List CoreItem) (i : CoreItem) (rest : cores.Items) → prepend is (with_item i rest) ≡ prepend (is ++ i ∷ []) rest
+pub prepend_push : (is : List CoreItem) (i : CoreItem) (rest : cores.Items) → prepend is (with_item i rest) ≡ prepend (is ++ i ∷ []) rest
 prepend_push [] i rest = refl
 prepend_push (x ∷ is) i rest = ap (with_item x) (prepend_push is i rest)
 
@@ -66,94 +68,112 @@ behind_fails before now whole behind e same bad =
 -- ---- variables
 
 -- what stands behind the type of a variable, and behind its value
-abbrev behind_value : Scoped → Scoped → ℕ → (Scoped → Typed) → Result (Option Value) Fault → Typed
-behind_value s u line behind r = r >>= λ x. in_front (declared_item line (length s.variables) x) (behind u)
+abbrev behind_value : Scoped → Scoped → ℕ → Bool → (Scoped → Typed) → Result (Option Value) Fault → Typed
+behind_value s u line passed behind r = r >>= λ x. in_front (declared_item line (length s.variables) passed x) (behind u)
 
-abbrev behind_type : Scoped → Named → Declared → Option Initial → (Scoped → Typed) → Result (CType × Bool) Fault → Typed
-behind_type s base d i behind r = r >>= λ t.
-    behind_value s (with_variable s (name_of d) (of_type base t.0)) (declared_line d) behind (initializer_of false (declared_line d) (within_initializer t.1 s (name_of d) (of_type base t.0)) t.0 i)
+abbrev behind_type : Scoped → Named → Full → Option Initial → Bool → Bool → (Scoped → Typed) → Result CType Fault → Typed
+behind_type s base d i open_ passed behind r = r >>= λ t.
+    behind_value s (with_variable s (name_of d) (of_type base t)) (full_line d) passed behind (initializer_of false (full_line d) (within_initializer open_ s (name_of d) (of_type base t)) t i)
 
-pub type_fails : (r : Region) (s : Scoped) (base : Named) (d : Declared) (i : Option Initial) (behind : Scoped → Typed) (f : Fault)
-    → variable_type r s base.type d i ≡ Err f → typed_variable r s base d i behind ≡ Err f
-type_fails r s base d i behind f bad = ap (behind_type s base d i behind) bad
+pub type_fails : (r : Region) (s : Scoped) (base : Named) (d : Full) (i : Option Initial) (ls : List (Option ℕ)) (passed : Bool) (behind : Scoped → Typed) (f : Fault)
+    → variable_type r s base.type d i ls ≡ Err f → typed_variable r s base d i ls passed behind ≡ Err f
+type_fails r s base d i ls passed behind f bad = ap (behind_type s base d i (is_open ls) passed behind) bad
 
-pub value_fails : (r : Region) (s : Scoped) (base : Named) (d : Declared) (i : Option Initial) (behind : Scoped → Typed) (t : CType × Bool) (f : Fault)
-    → variable_type r s base.type d i ≡ Ok t → initializer_of false (declared_line d) (within_initializer t.1 s (name_of d) (of_type base t.0)) t.0 i ≡ Err f → typed_variable r s base d i behind ≡ Err f
-value_fails r s base d i behind t f good bad =
-    ap (behind_type s base d i behind) good ∙ ap (behind_value s (with_variable s (name_of d) (of_type base t.0)) (declared_line d) behind) bad
+pub value_fails : (r : Region) (s : Scoped) (base : Named) (d : Full) (i : Option Initial) (ls : List (Option ℕ)) (passed : Bool) (behind : Scoped → Typed) (t : CType) (counted : Bool) (f : Fault)
+    → variable_type r s base.type d i ls ≡ Ok t → counted ≡ is_open ls → initializer_of false (full_line d) (within_initializer counted s (name_of d) (of_type base t)) t i ≡ Err f
+    → typed_variable r s base d i ls passed behind ≡ Err f
+value_fails r s base d i ls passed behind t counted f good is bad =
+    ap (behind_type s base d i (is_open ls) passed behind) good
+    ∙ ap (λ (b : Bool). behind_value s (with_variable s (name_of d) (of_type base t)) (full_line d) passed behind (initializer_of false (full_line d) (within_initializer b s (name_of d) (of_type base t)) t i)) (sym is)
+    ∙ ap (behind_value s (with_variable s (name_of d) (of_type base t)) (full_line d) passed behind) bad
 
-pub variable_typed : (r : Region) (s u : Scoped) (base : Named) (d : Declared) (i : Option Initial) (behind : Scoped → Typed) (t : CType × Bool) (line : ℕ)
+pub variable_typed : (r : Region) (s u : Scoped) (base : Named) (d : Full) (i : Option Initial) (ls : List (Option ℕ)) (passed : Bool) (behind : Scoped → Typed) (t : CType) (counted : Bool) (line : ℕ)
     (x : Option Value) (variable : ℕ) (before now : List CoreItem) (item : CoreItem)
-    → variable_type r s base.type d i ≡ Ok t → u ≡ with_variable s (name_of d) (of_type base t.0) → line ≡ declared_line d
-    → initializer_of false (declared_line d) (within_initializer t.1 s (name_of d) (of_type base t.0)) t.0 i ≡ Ok x
-    → variable ≡ length s.variables → ((rest : cores.Items) → with_item item rest ≡ declared_item line variable x rest) → now ≡ before ++ item ∷ []
-    → items_first before (typed_variable r s base d i behind) ≡ items_first now (behind u)
-variable_typed r s u base d i behind t line x variable before now item good scope at value number is items =
-    let w = with_variable s (name_of d) (of_type base t.0) in
-    ap (items_first before) (ap (behind_type s base d i behind) good ∙ ap (behind_value s w (declared_line d) behind) value)
-    ∙ one_first before item (declared_item (declared_line d) (length s.variables) x) (behind w)
-    (λ rest. is rest ∙ ap (λ (v : ℕ). declared_item line v x rest) number ∙ ap (λ (l : ℕ). declared_item l (length s.variables) x rest) at)
+    → variable_type r s base.type d i ls ≡ Ok t → counted ≡ is_open ls → u ≡ with_variable s (name_of d) (of_type base t) → line ≡ full_line d
+    → initializer_of false (full_line d) (within_initializer counted s (name_of d) (of_type base t)) t i ≡ Ok x
+    → variable ≡ length s.variables → ((rest : cores.Items) → with_item item rest ≡ declared_item line variable passed x rest) → now ≡ before ++ item ∷ []
+    → items_first before (typed_variable r s base d i ls passed behind) ≡ items_first now (behind u)
+variable_typed r s u base d i ls passed behind t counted line x variable before now item good open_ scope at value number is items =
+    let w = with_variable s (name_of d) (of_type base t) in
+    ap (items_first before) (ap (behind_type s base d i (is_open ls) passed behind) good
+    ∙ ap (λ (b : Bool). behind_value s w (full_line d) passed behind (initializer_of false (full_line d) (within_initializer b s (name_of d) (of_type base t)) t i)) (sym open_)
+    ∙ ap (behind_value s w (full_line d) passed behind) value)
+    ∙ one_first before item (declared_item (full_line d) (length s.variables) passed x) (behind w)
+    (λ rest. is rest ∙ ap (λ (v : ℕ). declared_item line v passed x rest) number ∙ ap (λ (l : ℕ). declared_item l (length s.variables) passed x rest) at)
     ∙ ap (λ (xs : List CoreItem). items_first xs (behind w)) (sym items)
     ∙ ap (λ (y : Scoped). items_first now (behind y)) (sym scope)
 
 -- ---- statements and items
 
-pub statement_fails : (outer : ℕ) (s : Scoped) (x : Statement) (rest : Items) (f : Fault) → typed_statement s x ≡ Err f → typed_items outer s (does x rest) ≡ Err f
-statement_fails outer s x rest f e =
-    ap (λ (r : Result (cores.Statement × Scoped) Fault). r >>= λ y. in_front (cores.does y.0) (typed_items outer y.1 rest)) e
+-- what stands in a list instead of a statement, in front of what is behind it
+abbrev pub fronted : (Scoped → Typed) → TypedFront → Typed
+fronted behind front = front >>= λ y. in_front y.0 (behind y.1)
 
-pub statement_more : (outer : ℕ) (s t : Scoped) (x : Statement) (c : CoreStatement) (rest : Items) (before now : List CoreItem)
-    → typed_statement s x ≡ Ok (view_statement c, t) → now ≡ before ++ codes.Statement c ∷ []
-    → items_first before (typed_items outer s (does x rest)) ≡ items_first now (typed_items outer t rest)
-statement_more outer s t x c rest before now e items =
-    ap (λ (r : Result (cores.Statement × Scoped) Fault). items_first before (r >>= λ y. in_front (cores.does y.0) (typed_items outer y.1 rest))) e
-    ∙ one_first before (codes.Statement c) (cores.does (view_statement c)) (typed_items outer t rest) (λ is. refl)
-    ∙ ap (λ (is : List CoreItem). items_first is (typed_items outer t rest)) (sym items)
+pub front_more : (before now : List CoreItem) (front : TypedFront) (item : cores.Items → cores.Items) (t : Scoped) (behind : Scoped → Typed) → front ≡ Ok (item, t)
+    → ((rest : cores.Items) → prepend before (item rest) ≡ prepend now rest) → items_first before (fronted behind front) ≡ items_first now (behind t)
+front_more before now front item t behind e same = ap (λ (r : TypedFront). items_first before (fronted behind r)) e ∙ by (behind t) where
+  by : (r : Typed) → items_first before (in_front item r) ≡ items_first now r
+  by (Ok y) = ap (λ (is : cores.Items). Ok (is, y.1)) (same y.0)
+  by (Err f) = refl
 
-pub items_at : (outer : ℕ) (s : Scoped) (is : List Item) (i : ℕ) (x : Item) → i < length is → x ≡ get_or is i x
-    → typed_items outer s (trees (drop i is)) ≡ typed_items outer s (view_item x (trees (drop (i + 1) is)))
-items_at outer s is i x h e =
-    ap (λ (xs : List Item). typed_items outer s (trees xs)) (drop_more is i x h)
-    ∙ ap (λ (y : Item). typed_items outer s (view_item y (trees (drop (i + 1) is)))) (sym e)
+pub items_at : (a : Around) (switched : Bool) (outer : ℕ) (jumped : List (List ℕ)) (s : Scoped) (is : List Item) (i : ℕ) (x : Item) → i < length is → x ≡ get_or is i x
+    → typed_items a switched outer jumped s (trees (drop i is)) ≡ typed_items a switched outer jumped s (view_item x (trees (drop (i + 1) is)))
+items_at a switched outer jumped s is i x h e =
+    ap (λ (xs : List Item). typed_items a switched outer jumped s (trees xs)) (drop_more is i x h)
+    ∙ ap (λ (y : Item). typed_items a switched outer jumped s (view_item y (trees (drop (i + 1) is)))) (sym e)
 
--- a block whose names are left
-kept : (outer inner : Environment) → Inner outer inner → drop (length inner - length outer) inner ≡ outer
-kept outer inner g =
-    let long = length-append g.0 outer in
-    let count : length (g.0 ++ outer) - length outer ≡ length g.0 = omega arith in
-    ap (λ (env : Environment). drop (length env - length outer) env) g.1 ∙ ap (λ (k : ℕ). drop k (g.0 ++ outer)) count ∙ drop_at g.0 outer (length g.0) refl
+-- items that are a block's, whose names are left
+pub block_by : (s u : Scoped) (r : Typed) (v : Vec CoreItem Global) → r ≡ Ok (items_of v.items, u) → Inner s.bindings u.bindings
+    → as_block s r ≡ Ok (view_statement (Block v), record u { bindings = drop (length u.bindings - length s.bindings) u.bindings })
+block_by s u r v e names =
+    ap (as_block s) e
+    ∙ ap (λ (x : cores.Statement). Ok (x, record u { bindings = s.bindings })) (sym (view_block v))
+    ∙ ap (λ (env : Environment). Ok (view_statement (Block v), record u { bindings = env })) (sym (kept s.bindings u.bindings names))
 
-pub block_left : (s t : Scoped) (items : Items) (v : Vec CoreItem Global) → There s
-    → typed_items (length s.bindings) s items ≡ Ok (items_of v.items, t) → drop (length t.bindings - length s.bindings) t.bindings ≡ s.bindings
-block_left s t items v there e = kept s.bindings t.bindings (items_done (length s.bindings) s items there (items_of v.items, t) e).follows.names
+pub items_names : (a : Around) (switched : Bool) (outer : ℕ) (jumped : List (List ℕ)) (s u : Scoped) (x : Items) (is : cores.Items) → typed_items a switched outer jumped s x ≡ Ok (is, u) → Inner s.bindings u.bindings
+items_names a switched outer jumped s u x is e = (items_done a switched outer jumped s x (is, u) e).follows.names
 
-pub block_typed : (s t : Scoped) (line : ℕ) (items : Items) (v : Vec CoreItem Global) → There s
-    → typed_items (length s.bindings) s items ≡ Ok (items_of v.items, t)
-    → typed_statement s (block line items) ≡ Ok (view_statement (Block v), record t { bindings = drop (length t.bindings - length s.bindings) t.bindings })
-block_typed s t line items v there e =
-    ap (λ (r : Typed). r >>= λ x. Ok (cores.block x.0, record x.1 { bindings = s.bindings })) e
-    ∙ ap (λ (x : cores.Statement). Ok (x, record t { bindings = s.bindings })) (sym (view_block v))
-    ∙ ap (λ (env : Environment). Ok (view_statement (Block v), record t { bindings = env })) (sym (block_left s t items v there e))
+pub names_left : (s u : Scoped) → Inner s.bindings u.bindings → drop (length u.bindings - length s.bindings) u.bindings ≡ s.bindings
+names_left s u names = kept s.bindings u.bindings names
 
-pub block_fails : (s : Scoped) (line : ℕ) (items : Items) (f : Fault) → typed_items (length s.bindings) s items ≡ Err f → typed_statement s (block line items) ≡ Err f
-block_fails s line items f e = ap (λ (r : Typed). r >>= λ x. Ok (cores.block x.0, record x.1 { bindings = s.bindings })) e
+-- ---- loops with a declaration
+
+-- what stands behind the declaration
+abbrev pub for_behind : Around → ℕ → Option Tree → Option Tree → Statement → Scoped → Typed
+for_behind a line test last body t = as_items (typed_rest line t.flow.loops None (with_loop t) test last (typed_statement (in_loop a) (with_loop t) body))
+
+pub declaration_names : (a : Around) (r : Region) (s u : Scoped) (parts : Parts) (ds : Declarators) (line : ℕ) (test last : Option Tree) (body : Statement) (is : cores.Items)
+    → typed_declaration r s false parts ds (for_behind a line test last body) ≡ Ok (is, u) → Inner s.bindings u.bindings
+declaration_names a r s u parts ds line test last body is e =
+    (declaration_done r s false parts ds (for_behind a line test last body) (λ t. for_done a line test last body t) (is, u) e).follows.names
+
+pub for_typed : (a : Around) (r : Region) (s t w u : Scoped) (parts : Parts) (ds : Declarators) (line n : ℕ) (test last : Option Tree) (body : Statement) (made : List CoreItem) (c : CoreStatement) (now : List CoreItem)
+    → items_first [] (typed_declaration r s false parts ds (for_behind a line test last body)) ≡ items_first made (for_behind a line test last body t)
+    → n ≡ t.flow.loops → w ≡ with_loop t → typed_rest line n None w test last (typed_statement (in_loop a) w body) ≡ Ok (view_statement c, u) → now ≡ made ++ codes.Statement c ∷ []
+    → typed_declaration r s false parts ds (for_behind a line test last body) ≡ Ok (items_of now, u)
+for_typed a r s t w u parts ds line n test last body made c now step number scope rest items =
+    sym (none_first (typed_declaration r s false parts ds (for_behind a line test last body))) ∙ step
+    ∙ ap (λ (x : TypedStatement). items_first made (as_items x)) (sym (ap₂ (λ (m : ℕ) (x : Scoped). typed_rest line m None x test last (typed_statement (in_loop a) x body)) number scope) ∙ rest)
+    ∙ ap (λ (is : cores.Items). Ok (is, u)) (prepend_push made (codes.Statement c) cores.done ∙ ap (λ (xs : List CoreItem). prepend xs cores.done) (sym items) ∙ prepend_all now)
+
+pub for_fails : (a : Around) (r : Region) (s t w : Scoped) (parts : Parts) (ds : Declarators) (line n : ℕ) (test last : Option Tree) (body : Statement) (made : List CoreItem) (e : TypingError)
+    → items_first [] (typed_declaration r s false parts ds (for_behind a line test last body)) ≡ items_first made (for_behind a line test last body t)
+    → n ≡ t.flow.loops → w ≡ with_loop t → Fails e (typed_rest line n None w test last (typed_statement (in_loop a) w body)) → Fails e (typed_declaration r s false parts ds (for_behind a line test last body))
+for_fails a r s t w parts ds line n test last body made e step number scope bad =
+    behind_fails [] made (typed_declaration r s false parts ds (for_behind a line test last body)) (for_behind a line test last body t) e (sym step)
+    (fails_bind e (typed_rest line t.flow.loops None (with_loop t) test last (typed_statement (in_loop a) (with_loop t) body)) _
+    (fails_along e _ _ (ap₂ (λ (m : ℕ) (x : Scoped). typed_rest line m None x test last (typed_statement (in_loop a) x body)) number scope) bad))
+
+-- ---- switches
+
+abbrev pub switch_behind : Around → Scoped → ℕ → Statement → Operand → TypedStatement
+switch_behind a s line body x = switch_of s line x (typed_body (in_switch a) (with_switch s (switch_type x)) body)
+
+pub switch_by_body : (a : Around) (s : Scoped) (line : ℕ) (e : Tree) (body : Statement) → typed_statement a s (switch_on line e body) ≡ (operand s e >>= λ x. switch_behind a s line body x)
+switch_by_body a s line e (block at is) = refl
+switch_by_body a s line e _ = refl
 
 -- ---- what stands in a file
-
-abbrev definition_body : Scoped → ℕ → Externals → Result (cores.Statement × Scoped) Fault → TypedFunctions
-definition_body s name_line rest r = r >>= λ x. typed_externals (outside x.1) rest >>= λ y. Ok (main name_line (sizes x.1) x.0 ∷ y.0, y.1)
-
-abbrev named_main : Scoped → ℕ → ℕ → Statement → Externals → Result (Unit {0}) Fault → TypedFunctions
-named_main s line name_line body rest r = r >>= λ new. definition_body s name_line rest (typed_statement (with_function s (codes "main")) body)
-
-pub main_fails : (s : Scoped) (line name_line : ℕ) (body : Statement) (rest : Externals) (f : Fault) → on_line name_line (function_node (earlier in_file s (codes "main"))) ≡ Err f
-    → typed_externals s (defines line name_line body rest) ≡ Err f
-main_fails s line name_line body rest f e = ap (named_main s line name_line body rest) e
-
-pub body_fails : (s t : Scoped) (line name_line : ℕ) (body : Statement) (rest : Externals) (f : Fault) (u : Unit {0}) → on_line name_line (function_node (earlier in_file s (codes "main"))) ≡ Ok u
-    → t ≡ with_function s (codes "main") → typed_statement t body ≡ Err f → typed_externals s (defines line name_line body rest) ≡ Err f
-body_fails s t line name_line body rest f u e now bad =
-    ap (named_main s line name_line body rest) e ∙ ap (definition_body s name_line rest) (ap (λ (x : Scoped). typed_statement x body) (sym now) ∙ bad)
 
 pub outside_fails : (s : Scoped) (parts : Parts) (ds : Declarators) (rest : Externals) (f : Fault) → typed_outside s parts ds ≡ Err f
     → typed_externals s (declared parts ds rest) ≡ Err f
@@ -163,29 +183,31 @@ pub outside_more : (s t : Scoped) (parts : Parts) (ds : Declarators) (rest : Ext
     → typed_externals s (declared parts ds rest) ≡ typed_externals t rest
 outside_more s t parts ds rest e = ap (λ (r : Result Scoped Fault). r >>= λ x. typed_externals x rest) e
 
-front_function : (before : List Procedure) (p : Procedure) (r : TypedFunctions) → functions_first before (r >>= λ x. Ok (p ∷ x.0, x.1)) ≡ functions_first (before ++ p ∷ []) r
-front_function before p (Ok x) = ap (λ (fs : List Procedure). Ok (fs, x.1)) (sym (append_assoc before (p ∷ []) x.0))
-front_function before p (Err f) = refl
+abbrev behind_definition : Externals → Result (Definition × Scoped) Fault → TypedDefinitions
+behind_definition rest r = r >>= λ x. typed_externals x.1 rest >>= λ y. Ok (x.0 ∷ y.0, y.1)
 
-pub definition_typed : (s t x v : Scoped) (line name_line : ℕ) (body : Statement) (rest : Externals) (u : Unit {0}) (c : cores.Statement) (before now : List Function) (f : Function)
-    → on_line name_line (function_node (earlier in_file s (codes "main"))) ≡ Ok u → t ≡ with_function s (codes "main") → typed_statement t body ≡ Ok (c, x) → v ≡ outside x
-    → view_function f ≡ main name_line (sizes x) c → now ≡ before ++ f ∷ []
-    → functions_first (view_functions before) (typed_externals s (defines line name_line body rest)) ≡ functions_first (view_functions now) (typed_externals v rest)
-definition_typed s t x v line name_line body rest u c before now f e scope good behind function items =
-    ap (functions_first (view_functions before)) (ap (named_main s line name_line body rest) e
-    ∙ ap (definition_body s name_line rest) (ap (λ (w : Scoped). typed_statement w body) (sym scope) ∙ good))
-    ∙ front_function (view_functions before) (main name_line (sizes x) c) (typed_externals (outside x) rest)
-    ∙ ap (λ (p : Procedure). functions_first (view_functions before ++ p ∷ []) (typed_externals (outside x) rest)) (sym function)
-    ∙ ap (λ (fs : List Procedure). functions_first fs (typed_externals (outside x) rest)) (sym (ap view_functions items ∙ map-append view_function before (f ∷ [])))
-    ∙ ap (λ (w : Scoped). functions_first (view_functions now) (typed_externals w rest)) (sym behind)
+pub definition_fails : (s : Scoped) (parts : Parts) (d : Full) (body : Statement) (rest : Externals) (f : Fault) → typed_definition s parts d body ≡ Err f → typed_externals s (defines parts d body rest) ≡ Err f
+definition_fails s parts d body rest f e = ap (behind_definition rest) e
 
-pub functions_fail : (before : List Procedure) (whole : TypedFunctions) (f : Fault) → functions_first before whole ≡ Err f → whole ≡ Err f
-functions_fail before (Ok fs) f e = let none : ⊥ = cc in absurd none
-functions_fail before (Err g) f e = let same : g ≡ f = cc in ap Err same
+front_definition : (before : List Definition) (x : Definition) (r : TypedDefinitions) → definitions_first before (r >>= λ y. Ok (x ∷ y.0, y.1)) ≡ definitions_first (before ++ x ∷ []) r
+front_definition before x (Ok y) = ap (λ (xs : List Definition). Ok (xs, y.1)) (sym (append_assoc before (x ∷ []) y.0))
+front_definition before x (Err f) = refl
 
-pub no_functions_first : (whole : TypedFunctions) → functions_first [] whole ≡ whole
-no_functions_first (Ok fs) = refl
-no_functions_first (Err f) = refl
+pub definition_typed : (s t : Scoped) (parts : Parts) (d : Full) (body : Statement) (rest : Externals) (before now : List CodeDefinition) (x : CodeDefinition)
+    → typed_definition s parts d body ≡ Ok (view_definition x, t) → now ≡ before ++ x ∷ []
+    → definitions_first (view_definitions before) (typed_externals s (defines parts d body rest)) ≡ definitions_first (view_definitions now) (typed_externals t rest)
+definition_typed s t parts d body rest before now x e items =
+    ap (λ (r : Result (Definition × Scoped) Fault). definitions_first (view_definitions before) (behind_definition rest r)) e
+    ∙ front_definition (view_definitions before) (view_definition x) (typed_externals t rest)
+    ∙ ap (λ (xs : List Definition). definitions_first xs (typed_externals t rest)) (sym (ap view_definitions items ∙ map-append view_definition before (x ∷ [])))
+
+pub no_definitions_first : (whole : TypedDefinitions) → definitions_first [] whole ≡ whole
+no_definitions_first (Ok xs) = refl
+no_definitions_first (Err f) = refl
+
+pub definitions_fail : (before : List Definition) (whole : TypedDefinitions) (f : Fault) → definitions_first before whole ≡ Err f → whole ≡ Err f
+definitions_fail before (Ok xs) f e = let none : ⊥ = cc in absurd none
+definitions_fail before (Err g) f e = let same : g ≡ f = cc in ap Err same
 
 pub externals_at : (s : Scoped) (ds : List External) (i : ℕ) (d : External) → i < length ds → d ≡ get_or ds i d
     → typed_externals s (externals_of (drop i ds)) ≡ typed_externals s (view_external d (externals_of (drop (i + 1) ds)))
@@ -202,6 +224,10 @@ fault_step r e f before now whole behind p q h = subst (λ (x : Result (Unit {0}
 pub memory_step : (r : Result (Unit {0}) TypingError) (e : TypingError) (before now : List CoreItem) (whole behind : Typed) → r ≡ Err e → e ≡ errors.Memory → Step r before now whole behind
 memory_step r e before now whole behind p q = fault_step r e errors.Memory before now whole behind p q tt
 
-pub fault_function : (r : Result (Unit {0}) TypingError) (e f : TypingError) (before now : List Function) (whole behind : TypedFunctions)
-    → r ≡ Err e → e ≡ f → Fails f whole → FunctionStep r before now whole behind
-fault_function r e f before now whole behind p q h = subst (λ (x : Result (Unit {0}) TypingError). FunctionStep x before now whole behind) (sym (p ∙ ap Err q)) h
+pub fault_definition : (r : Result (Unit {0}) TypingError) (e f : TypingError) (before now : List CodeDefinition) (whole behind : TypedDefinitions)
+    → r ≡ Err e → e ≡ f → Fails f whole → DefinitionStep r before now whole behind
+fault_definition r e f before now whole behind p q h = subst (λ (x : Result (Unit {0}) TypingError). DefinitionStep x before now whole behind) (sym (p ∙ ap Err q)) h
+
+-- and of a front
+pub fault_front : (r : Result (Unit {0}) TypingError) (e f : TypingError) (s : Scoped) (before now : List CoreItem) (front : TypedFront) → r ≡ Err e → e ≡ f → Fails f front → Fronts r s before now front
+fault_front r e f s before now front p q h = subst (λ (x : Result (Unit {0}) TypingError). Fronts x s before now front) (sym (p ∙ ap Err q)) h

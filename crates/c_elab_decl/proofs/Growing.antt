@@ -1,9 +1,10 @@
 -- A scope that declarations go on from: more names, variables, typedefs, structs and unions, and what names mean is there.
-use Rattle.std.proofs.Common.{◌≡◌, ◌≤◌, ◌<◌, ◌+◌, ◌-◌, ◌==◌, ℕ, zero, suc, Bool, true, false, List, [], ◌∷◌, ◌++◌, length, map, Option, Some, None, refl, ap, sym, subst, ◌∙◌, arith}
+use Rattle.std.proofs.Common.{◌≡◌, ◌≤◌, ◌<◌, ◌+◌, ◌-◌, ◌^◌, ◌==◌, ℕ, zero, suc, Bool, true, false, List, [], ◌∷◌, ◌++◌, length, map, take, drop, Option, Some, None, refl, ap, sym, subst, ◌∙◌, arith}
 use Rattle.std.specs.Prelude.{◌&&◌, nat_lt, nat_le, slice_get, slice_index, slice_set, ◌||◌, not, if◌then◌else◌}
-use Rattle.std.proofs.lemmas.List.{append_assoc, append-nil, get_or_append_left, get_or_push, length-append, length-map, length-set, map-append}
+use Rattle.std.proofs.lemmas.List.{append_assoc, append-nil, drop_at, get_or_append_left, get_or_push, length-append, length-map, length-set, map-append}
 use Rattle.std.proofs.lemmas.Option.{same_Some, slice_get_within}
 use borrow.Author.Tests.{lt-ltb, ltb-true, le-leb, leb-true}
+use Rattle.c_tree.specs.Declarations.{Full, name_of}
 use Rattle.c_types.specs.declared.types.RecordKind.{RecordKind}
 use Rattle.c_types.specs.Integers.{bytes}
 use Rattle.c_types.specs.Types.{CType, Completed}
@@ -12,14 +13,19 @@ use Rattle.c_types.specs.Layouts as layouts
 use Rattle.core_tree.specs.declared.expression.Place.{Place}
 use Rattle.core_tree.specs.declared.expression.Place.TheVariants as places
 use Rattle.c_types.proofs.Records.{same_type}
-use Rattle.core_tree.specs.Trees.{Expression, constant, read, convert, sign, is_zero, arithmetic, compare, logical, choice, assign, update, step, comma, assertion, assumption, draw, part, discard, discard_structure, Structure, copy, load, choose, put, store, follow, section, list, string, Parts, no_part, number_part, structure_part}
-use Rattle.core_tree.specs.Typed.{size_of as bytes_of, Sizes, is_within, is_in_object, is_place, is_typed, is_structure, are_parts}
+use Rattle.core_tree.specs.Trees.{Expression, constant, read, convert, sign, is_zero, arithmetic, compare, logical, choice, assign, update, step, comma, assertion, assumption, draw, part, discard, discard_structure, call, function_name, Structure, copy, load, choose, put, store, follow, section, list, string, give, Parts, no_part, number_part, structure_part, Arguments, no_argument, number_argument, structure_argument}
+use Rattle.core_tree.specs.declared.functions.PassedType.{PassedType}
+use Rattle.core_tree.specs.declared.functions.PassedType.TheVariants as passed
+use Rattle.core_tree.specs.Typed.{size_of as bytes_of, Sizes, Signature, is_within, is_in_object, is_place, is_typed, is_structure, are_parts, are_arguments, same_passed, same_given, given_as, gives_this, parameters_of, is_integer}
 use Rattle.c_elab_expr.specs.declared.meaning.Meaning.{Meaning}
 use Rattle.c_elab_expr.specs.declared.meaning.Meaning.TheVariants.{Object, Typedef}
 use Rattle.c_elab_expr.specs.Members.{Members}
-use Rattle.c_elab_expr.specs.Scopes.{Environment, binding, Named, Lasting, Linked, Scoped, are_there, is_known, are_known, are_complete, sizes, object_at, lasting_size, all_sizes}
+use Rattle.c_elab_expr.specs.Scopes.{Environment, binding, Named, Lasting, Linked, FunctionType, Callable, Scoped, with_callable, are_there, is_known, are_known, are_complete, sizes, sizes_of, object_at, lasting_size}
 use Rattle.c_elab_expr.proofs.Variables.{both, and, are_there_wider, complete_more, sizes_more, complete_later, variables_later}
-use Rattle.c_elab_decl.specs.Declarators.{with_typedef, with_variable, changed_by, changed_object}
+use Rattle.c_elab_decl.specs.Declarators.{with_function_type, with_typedef, with_variable, changed_by, changed_object}
+use Rattle.c_elab_decl.proofs.Signatures.{Signed, signed_refl, signed_trans, signed_get, signed_length, is_small, small_as, Kept, own_sizes, Goes, goes_refl, goes_trans, Called, goes_later, Later, later_completed, called_later, given_by_kept, signed_later, signed_added, signed_changed, goes_added, goes_changed, goes_typed, called_added, called_changed, called_typed, variables_kept}
+use Rattle.c_elab_decl.specs.Functions.{first_callable, callable_again, changed_callable, declared_callable}
+use Rattle.c_elab_decl.specs.Specifiers.{ended}
 use Rattle.c_elab_decl.specs.Tags.{with_record}
 
 -- ---- lists
@@ -64,18 +70,22 @@ under_at (x ∷ xs) [] v u h = absurd u
 under_at (x ∷ xs) (y ∷ ys) zero u h = u.0
 under_at (x ∷ xs) (y ∷ ys) (suc v) u h = under_at xs ys v u.1 (omega (arith, h))
 
--- the sizes of the same variables and more, and of the same objects, larger ones and more
+-- the sizes of the same variables and more, and of the same objects, larger ones and more, and the types of the same functions
 pub record Wider (a b : Sizes) : Type 0 where
   pub variables : Grows a.variables b.variables
   pub objects : Under a.objects b.objects
+  pub functions : Signed a.functions b.functions
+  pub gives : b.gives ≡ a.gives
 
 pub wider_refl : (a : Sizes) → Wider a a
-wider_refl a = record { variables = grows_refl a.variables; objects = under_refl a.objects }
+wider_refl a = record { variables = grows_refl a.variables; objects = under_refl a.objects; functions = signed_refl a.functions; gives = refl }
 
 pub wider_trans : (a b c : Sizes) → Wider a b → Wider b c → Wider a c
 wider_trans a b c g h = record {
   variables = grows_trans a.variables b.variables c.variables g.variables h.variables;
   objects = under_trans a.objects b.objects c.objects g.objects h.objects;
+  functions = signed_trans a.functions b.functions c.functions g.functions h.functions;
+  gives = h.gives ∙ g.gives;
 }
 
 abbrev pub Inner : Environment → Environment → Type 0
@@ -86,6 +96,21 @@ inner_refl a = ([], refl)
 
 pub inner_trans : (a b c : Environment) → Inner a b → Inner b c → Inner a c
 inner_trans a b c g h = (h.0 ++ g.0, h.1 ∙ ap (λ (l : Environment). h.0 ++ l) g.1 ∙ sym (append_assoc h.0 g.0 a))
+
+-- what stands before others, and behind them
+pub take_front : {A : Type 0} (xs ys : List A) → take (length xs) (xs ++ ys) ≡ xs
+take_front [] ys = refl
+take_front (x ∷ xs) ys = ap (λ zs. x ∷ zs) (take_front xs ys)
+
+-- names that are left
+pub kept : (outer inner : Environment) → Inner outer inner → drop (length inner - length outer) inner ≡ outer
+kept outer inner g =
+    let long = length-append g.0 outer in
+    let count : length (g.0 ++ outer) - length outer ≡ length g.0 = omega (arith, long) in
+    ap (λ (env : Environment). drop (length env - length outer) env) g.1 ∙ ap (λ (k : ℕ). drop k (g.0 ++ outer)) count ∙ drop_at g.0 outer (length g.0) refl
+
+pub inner_length : (outer inner : Environment) → Inner outer inner → length outer ≤ length inner
+inner_length outer inner g = let long = ap (λ (env : Environment). length env) g.1 ∙ length-append g.0 outer in omega (arith, long)
 
 -- ---- trees among more variables and objects
 
@@ -120,6 +145,16 @@ module _ (few many : Sizes) (wide : Wider few many) where
   object_more : (k offset count : ℕ) → is_in_object few.objects k offset count ≡ true → is_in_object many.objects k offset count ≡ true
   object_more k offset count h = two _ _ _ (within_larger few.objects many.objects (k - 1) offset count wide.objects) h
 
+  call_more : (f : ℕ) (p : Option PassedType) (args : Arguments) (o : Option Signature) → is_small p ≡ true → ((ps : List PassedType) → are_arguments few ps args ≡ true → are_arguments many ps args ≡ true)
+      → slice_get few.functions f ≡ o → gives_this p o ≡ true → are_arguments few (parameters_of o) args ≡ true
+      → (gives_this p (slice_get many.functions f) ≡ true) × (are_arguments many (parameters_of (slice_get many.functions f)) args ≡ true)
+  call_more f p args None small more e gives fit = let none : ⊥ = cc in absurd none
+  call_more f p args (Some g) small more e gives fit =
+      let there = signed_get few.functions many.functions wide.functions f g e in (
+        ap (gives_this p) there.1 ∙ there.2.gives p small gives,
+        ap (λ (o : Option Signature). are_arguments many (parameters_of o) args) there.1 ∙ ap (λ (ps : List PassedType). are_arguments many ps args) (sym there.2.parameters) ∙ more g.parameters fit,
+      )
+
   place_more : (p : Place) → is_place few p ≡ true → is_place many p ≡ true
   place_more (places.Variable line t v offset) h = variable_more v offset (bytes t) h
   place_more (places.Object line t k offset) h = object_more k offset (bytes t) h
@@ -145,6 +180,15 @@ module _ (few many : Sizes) (wide : Wider few many) where
     typed_more (part line t offset a) h = two _ _ _ (structure_more a) h
     typed_more (discard line e) h = two _ _ _ (typed_more e) h
     typed_more (discard_structure a) h = structure_more a h
+    typed_more (call line f used t args) h =
+        let parts = both ((not used || is_integer t) && gives_this (given_as t) (slice_get few.functions f)) (are_arguments few (parameters_of (slice_get few.functions f)) args) h in
+        let first = both (not used || is_integer t) (gives_this (given_as t) (slice_get few.functions f)) parts.0 in
+        let more = call_more f (given_as t) args (slice_get few.functions f) (small_as t) (λ ps g. arguments_more args ps g) refl first.1 parts.1 in
+        and _ _ (and _ _ first.0 more.0) more.1
+    typed_more (function_name line f) h =
+        let long = signed_length few.functions many.functions wide.functions in
+        let below = ltb-true f (length few.functions) h in
+        lt-ltb f (length many.functions) (omega (arith, long, below))
 
     pub structure_more : (a : Structure) → is_structure few a ≡ true → is_structure many a ≡ true
     structure_more (copy line v offset size) h = variable_more v offset size h
@@ -156,11 +200,24 @@ module _ (few many : Sizes) (wide : Wider few many) where
     structure_more (section line offset size a) h = two _ _ _ (structure_more a) h
     structure_more (list line size ps) h = two _ _ _ (parts_more size ps) h
     structure_more (string line size text) h = h
+    structure_more (give line f used size args) h =
+        let parts = both (nat_lt size (2 ^ 31) && gives_this (Some (passed.Structure size)) (slice_get few.functions f)) (are_arguments few (parameters_of (slice_get few.functions f)) args) h in
+        let first = both (nat_lt size (2 ^ 31)) (gives_this (Some (passed.Structure size)) (slice_get few.functions f)) parts.0 in
+        let more = call_more f (Some (passed.Structure size)) args (slice_get few.functions f) first.0 (λ ps g. arguments_more args ps g) refl first.1 parts.1 in
+        and _ _ (and _ _ first.0 more.0) more.1
 
     parts_more : (size : ℕ) (ps : Parts) → are_parts few size ps ≡ true → are_parts many size ps ≡ true
     parts_more size no_part h = h
     parts_more size (number_part offset e rest) h = both_more _ _ _ _ (two _ _ _ (typed_more e)) (parts_more size rest) h
     parts_more size (structure_part offset a rest) h = both_more _ _ _ _ (two _ _ _ (structure_more a)) (parts_more size rest) h
+
+    arguments_more : (args : Arguments) (ps : List PassedType) → are_arguments few ps args ≡ true → are_arguments many ps args ≡ true
+    arguments_more no_argument [] h = h
+    arguments_more no_argument (p ∷ ps) h = h
+    arguments_more (number_argument e rest) [] h = h
+    arguments_more (number_argument e rest) (p ∷ ps) h = both_more _ _ _ _ (two _ _ _ (typed_more e)) (arguments_more rest ps) h
+    arguments_more (structure_argument a rest) [] h = h
+    arguments_more (structure_argument a rest) (p ∷ ps) h = both_more _ _ _ _ (two _ _ _ (structure_more a)) (arguments_more rest ps) h
 
 pub typed_grows : (few many : Sizes) (x : Expression) → Wider few many → is_typed few x ≡ true → is_typed many x ≡ true
 typed_grows few many x g h = typed_more few many g x h
@@ -170,48 +227,93 @@ structure_grows few many a g h = structure_more few many g a h
 
 -- ---- scopes
 
--- what names mean is there, and the types of the built-in names are; the variables have complete types, and each struct and
--- union was completed once
+-- What names mean is there, and the types of the built-in names are; the variables have complete types, each struct and union was
+-- completed once, and the parameters of functions have complete types.
 pub record There (s : Scoped) : Type 0 where
   pub known : are_known s ≡ true
   pub few : 9 ≤ length s.types
   pub complete : are_complete s.records.done s.variables ≡ true
   pub built : IsBuilt s.records.done
+  pub calls : Called s.records.done s.functions s.flow
 
--- a scope goes on from another
-pub record Follows (s t : Scoped) : Type 0 where
+-- a scope goes on from another, where this holds
+pub record FollowsIf (H : Type 0) (s t : Scoped) : Type 0 where
   pub names : Inner s.bindings t.bindings
   pub variables : length s.variables ≤ length t.variables
   pub objects : length s.objects ≤ length t.objects
-  pub sizes : There s → Wider (all_sizes s) (all_sizes t)
+  pub sizes : H → Wider (own_sizes s) (own_sizes t)
   pub types : length s.types ≤ length t.types
   pub records : length s.records.declared ≤ length t.records.declared
-  pub there : There s → There t
+  pub calls : Goes s.functions t.functions s.flow t.flow s.records.done t.records.done
+  pub there : H → There t
+
+abbrev pub Follows : Scoped → Scoped → Type 0
+Follows s t = FollowsIf (There s) s t
 
 pub follows_refl : (s : Scoped) → Follows s s
-follows_refl s = record { names = inner_refl s.bindings; variables = omega arith; objects = omega arith; sizes = λ h. wider_refl (all_sizes s); types = omega arith; records = omega arith; there = λ h. h }
+follows_refl s = record {
+  names = inner_refl s.bindings;
+  variables = omega arith;
+  objects = omega arith;
+  sizes = λ h. wider_refl (own_sizes s);
+  types = omega arith;
+  records = omega arith;
+  calls = goes_refl s.functions s.flow s.records.done;
+  there = λ h. h;
+}
 
-pub follows_trans : (s t u : Scoped) → Follows s t → Follows t u → Follows s u
-follows_trans s t u f g = record {
+pub follows_both : (H : Type 0) (s t u : Scoped) → FollowsIf H s t → FollowsIf H t u → FollowsIf H s u
+follows_both H s t u f g = record {
   names = inner_trans s.bindings t.bindings u.bindings f.names g.names;
   variables = omega (arith, f.variables, g.variables);
   objects = omega (arith, f.objects, g.objects);
-  sizes = λ h. wider_trans (all_sizes s) (all_sizes t) (all_sizes u) (f.sizes h) (g.sizes (f.there h));
+  sizes = λ h. wider_trans (own_sizes s) (own_sizes t) (own_sizes u) (f.sizes h) (g.sizes h);
   types = omega (arith, f.types, g.types);
   records = omega (arith, f.records, g.records);
-  there = λ h. g.there (f.there h);
+  calls = goes_trans f.calls g.calls;
+  there = λ h. g.there h;
 }
 
+pub follows_where : (H G : Type 0) (s t : Scoped) → (H → G) → FollowsIf G s t → FollowsIf H s t
+follows_where H G s t h f = record {
+  names = f.names;
+  variables = f.variables;
+  objects = f.objects;
+  sizes = λ x. f.sizes (h x);
+  types = f.types;
+  records = f.records;
+  calls = f.calls;
+  there = λ x. f.there (h x);
+}
+
+pub follows_on : (H : Type 0) (s t u : Scoped) → FollowsIf H s t → Follows t u → FollowsIf H s u
+follows_on H s t u f g = follows_both H s t u f (follows_where H (There t) t u f.there g)
+
+pub follows_trans : (s t u : Scoped) → Follows s t → Follows t u → Follows s u
+follows_trans s t u f g = follows_on (There s) s t u f g
+
 -- and it has no more variables
-pub record Settles (s t : Scoped) : Type 0 where
-  pub follows : Follows s t
+pub record SettlesIf (H : Type 0) (s t : Scoped) : Type 0 where
+  pub follows : FollowsIf H s t
   pub same : t.variables ≡ s.variables
+
+abbrev pub Settles : Scoped → Scoped → Type 0
+Settles s t = SettlesIf (There s) s t
 
 pub settles_refl : (s : Scoped) → Settles s s
 settles_refl s = record { follows = follows_refl s; same = refl }
 
+pub settles_both : (H : Type 0) (s t u : Scoped) → SettlesIf H s t → SettlesIf H t u → SettlesIf H s u
+settles_both H s t u f g = record { follows = follows_both H s t u f.follows g.follows; same = g.same ∙ f.same }
+
+pub settles_where : (H G : Type 0) (s t : Scoped) → (H → G) → SettlesIf G s t → SettlesIf H s t
+settles_where H G s t h f = record { follows = follows_where H G s t h f.follows; same = f.same }
+
+pub settles_on : (H : Type 0) (s t u : Scoped) → SettlesIf H s t → Settles t u → SettlesIf H s u
+settles_on H s t u f g = settles_both H s t u f (settles_where H (There t) t u f.follows.there g)
+
 pub settles_trans : (s t u : Scoped) → Settles s t → Settles t u → Settles s u
-settles_trans s t u f g = record { follows = follows_trans s t u f.follows g.follows; same = g.same ∙ f.same }
+settles_trans s t u f g = settles_on (There s) s t u f g
 
 -- a scope with the same names behind others, with more of everything else
 pub there_behind : (s t : Scoped) → Follows s t → There s → There (record t { bindings = s.bindings })
@@ -223,6 +325,7 @@ there_behind s t f h =
       few = now.few;
       complete = now.complete;
       built = now.built;
+      calls = now.calls;
     }
 
 -- ---- what a declaration adds
@@ -233,10 +336,11 @@ binding_settles s name m h = record {
     names = (binding name m ∷ [], refl);
     variables = omega arith;
     objects = omega arith;
-    sizes = λ g. wider_refl (all_sizes s);
+    sizes = λ g. wider_refl (own_sizes s);
     types = omega arith;
     records = omega arith;
-    there = λ g. record { known = and (is_known s m) (are_known s) h g.known; few = g.few; complete = g.complete; built = g.built };
+    calls = goes_refl s.functions s.flow s.records.done;
+    there = λ g. record { known = and (is_known s m) (are_known s) h g.known; few = g.few; complete = g.complete; built = g.built; calls = g.calls };
   };
   same = refl;
 }
@@ -249,15 +353,17 @@ record_settles s kind =
         names = inner_refl s.bindings;
         variables = omega arith;
         objects = omega arith;
-        sizes = λ g. wider_refl (all_sizes s);
+        sizes = λ g. wider_refl (own_sizes s);
         types = omega arith;
         records = omega (arith, long);
+        calls = goes_refl s.functions s.flow s.records.done;
         there = λ g. record {
           known = are_there_wider (length s.variables) (length s.variables) (length s.objects) (length s.objects) (length s.types) (length s.types)
               (length s.records.declared) (length (s.records.declared ++ kind ∷ [])) s.bindings (omega arith) (omega arith) (omega arith) (omega (arith, long)) g.known;
           few = g.few;
           complete = g.complete;
           built = g.built;
+          calls = g.calls;
         };
       };
       same = refl;
@@ -285,7 +391,7 @@ objects_later done c (o ∷ objects) before = (lasting_later done c o before, ob
 -- one that wasn't complete is completed
 pub completed_settles : (s : Scoped) (p : ℕ) (kind : RecordKind) (ts : List CType) (ms : List Members) → is_completed s.records.done p ≡ false → layouts.are_complete s.records.done ts ≡ true
     → fits s.records.done kind ts ≡ true → Settles s (record s { records = with_completed s.records p kind ts; members = ms })
-completed_settles s p kind ts ms before complete fit = record {
+completed_settles s p kind ts ms before complete fit = let later = later_completed s.records.done (record { place = p; kind = kind; members = ts }) before in record {
   follows = record {
     names = inner_refl s.bindings;
     variables = omega arith;
@@ -293,14 +399,18 @@ completed_settles s p kind ts ms before complete fit = record {
     sizes = λ g. record {
       variables = ([], (variables_later s.records.done (record { place = p; kind = kind; members = ts }) s.variables before g.complete).1 ∙ sym (append-nil (sizes s)));
       objects = objects_later s.records.done (record { place = p; kind = kind; members = ts }) s.objects before;
+      functions = signed_later later s.functions.all g.calls.callables;
+      gives = given_by_kept later s.flow.gives g.calls.gives;
     };
     types = omega arith;
     records = omega arith;
+    calls = goes_later s.functions s.flow later;
     there = λ g. record {
       known = g.known;
       few = g.few;
       complete = (variables_later s.records.done (record { place = p; kind = kind; members = ts }) s.variables before g.complete).0;
       built = (before, complete, fit, g.built);
+      calls = called_later later g.calls;
     };
   };
   same = refl;
@@ -317,9 +427,10 @@ typedef_settles s name n =
         names = (binding name (Typedef (length s.types)) ∷ [], refl);
         variables = omega arith;
         objects = omega arith;
-        sizes = λ g. wider_refl (all_sizes s);
+        sizes = λ g. wider_refl (own_sizes s);
         types = omega (arith, long);
         records = omega arith;
+        calls = goes_refl s.functions s.flow s.records.done;
         there = λ g. record {
           known = and (nat_lt (length s.types) (length (s.types ++ n ∷ []))) (are_there (length s.variables) (length s.objects) (length (s.types ++ n ∷ [])) (length s.records.declared) s.bindings)
               (last (length s.types) (length (s.types ++ n ∷ [])) (omega (arith, long)))
@@ -328,6 +439,7 @@ typedef_settles s name n =
           few = omega (arith, long, g.few);
           complete = g.complete;
           built = g.built;
+          calls = g.calls;
         };
       };
       same = refl;
@@ -355,9 +467,10 @@ variable_follows s name n complete =
       names = (_ ∷ [], refl);
       variables = omega (arith, long);
       objects = omega arith;
-      sizes = λ g. record { variables = (size_of s.records.done n.type ∷ [], sizes_more s.records.done s.variables n); objects = under_refl (all_sizes s).objects };
+      sizes = λ g. record { variables = (size_of s.records.done n.type ∷ [], sizes_more s.records.done s.variables n); objects = under_refl (own_sizes s).objects; functions = signed_refl (own_sizes s).functions; gives = refl };
       types = omega arith;
       records = omega arith;
+      calls = goes_refl s.functions s.flow s.records.done;
       there = λ g. record {
         known = and (nat_lt (length s.variables) (length (s.variables ++ n ∷ []))) (are_there (length (s.variables ++ n ∷ [])) (length s.objects) (length s.types) (length s.records.declared) s.bindings)
             (last (length s.variables) (length (s.variables ++ n ∷ [])) (omega (arith, long)))
@@ -366,6 +479,7 @@ variable_follows s name n complete =
         few = g.few;
         complete = complete_more s.records.done s.variables n g.complete complete;
         built = g.built;
+        calls = g.calls;
       };
     }
 
@@ -384,15 +498,19 @@ object_settles s o linked =
         sizes = λ g. record {
           variables = grows_refl (sizes s);
           objects = subst (Under (map size s.objects)) (sym (map-append size s.objects (o ∷ []))) (under_append (map size s.objects) (size o ∷ []));
+          functions = signed_refl (own_sizes s).functions;
+          gives = refl;
         };
         types = omega arith;
         records = omega arith;
+        calls = goes_refl s.functions s.flow s.records.done;
         there = λ g. record {
           known = are_there_wider (length s.variables) (length s.variables) (length s.objects) (length (s.objects ++ o ∷ [])) (length s.types) (length s.types)
               (length s.records.declared) (length s.records.declared) s.bindings (omega arith) (omega (arith, long)) (omega arith) (omega arith) g.known;
           few = g.few;
           complete = g.complete;
           built = g.built;
+          calls = g.calls;
         };
       };
       same = refl;
@@ -412,15 +530,17 @@ object_set s i o p h le =
         names = inner_refl s.bindings;
         variables = omega arith;
         objects = omega (arith, long);
-        sizes = λ g. record { variables = grows_refl (sizes s); objects = set_under (lasting_size s.records.done) s.objects i o p h le };
+        sizes = λ g. record { variables = grows_refl (sizes s); objects = set_under (lasting_size s.records.done) s.objects i o p h le; functions = signed_refl (own_sizes s).functions; gives = refl };
         types = omega arith;
         records = omega arith;
+        calls = goes_refl s.functions s.flow s.records.done;
         there = λ g. record {
           known = are_there_wider (length s.variables) (length s.variables) (length s.objects) (length (slice_set s.objects i p)) (length s.types) (length s.types)
               (length s.records.declared) (length s.records.declared) s.bindings (omega arith) (omega (arith, long)) (omega arith) (omega arith) g.known;
           few = g.few;
           complete = g.complete;
           built = g.built;
+          calls = g.calls;
         };
       };
       same = refl;
@@ -465,3 +585,108 @@ pub next_known : (s : Scoped) (o : Lasting) → (nat_le 1 (length s.objects + 1)
 next_known s o =
     let long = length-append s.objects (o ∷ []) in
     and _ _ (le-leb 1 (length s.objects + 1) (omega arith)) (le-leb (length s.objects + 1) (length (s.objects ++ o ∷ [])) (omega (arith, long)))
+
+-- ---- functions
+
+-- one more
+pub function_settles : (H : Type 0) (s : Scoped) (name : List ℕ) (c : Callable) → (H → There s) → (H → layouts.are_complete s.records.done c.type.parameters ≡ true)
+    → SettlesIf H s (record s { functions = with_callable s.functions name c })
+function_settles H s name c there h = record {
+  follows = record {
+    names = inner_refl s.bindings;
+    variables = omega arith;
+    objects = omega arith;
+    sizes = λ g. record {
+      variables = grows_refl (sizes s);
+      objects = under_refl (own_sizes s).objects;
+      functions = signed_added s.records.done s.functions.all c;
+      gives = refl;
+    };
+    types = omega arith;
+    records = omega arith;
+    calls = goes_added s.functions name c s.flow s.records.done;
+    there = λ x. let g = there x in record { known = g.known; few = g.few; complete = g.complete; built = g.built; calls = called_added s.records.done s.functions name c s.flow g.calls (h x) };
+  };
+  same = refl;
+}
+
+-- one whose type stays
+pub function_changed : (s : Scoped) (k : ℕ) (f : Callable → Callable) → ((c : Callable) → (f c).type ≡ c.type)
+    → Settles s (record s { functions = record s.functions { all = changed_callable s.functions.all k f (slice_get s.functions.all k) } })
+function_changed s k f same = by (slice_get s.functions.all k) refl where
+  by : (o : Option Callable) → slice_get s.functions.all k ≡ o → Settles s (record s { functions = record s.functions { all = changed_callable s.functions.all k f o } })
+  by None e = settles_refl s
+  by (Some c) e = record {
+    follows = record {
+      names = inner_refl s.bindings;
+      variables = omega arith;
+      objects = omega arith;
+      sizes = λ g. record {
+        variables = grows_refl (sizes s);
+        objects = under_refl (own_sizes s).objects;
+        functions = signed_changed s.records.done s.functions.all k c (f c) e (same c);
+        gives = refl;
+      };
+      types = omega arith;
+      records = omega arith;
+      calls = goes_changed s.functions k c (f c) s.flow s.records.done e (same c);
+      there = λ g. record { known = g.known; few = g.few; complete = g.complete; built = g.built; calls = called_changed s.records.done s.functions k c (f c) s.flow e (same c) g.calls };
+    };
+    same = refl;
+  }
+
+pub declared_callable_settles : (H : Type 0) (s : Scoped) (d : Full) (f : FunctionType) (defines : Bool) (o : Option ℕ) → (H → There s) → (H → layouts.are_complete s.records.done f.parameters ≡ true)
+    → SettlesIf H s (record s { functions = (declared_callable s.functions d f defines o).1 })
+declared_callable_settles H s d f defines None there h = function_settles H s (name_of d) (first_callable s.functions d f defines) there h
+declared_callable_settles H s d f defines (Some k) there h = settles_where H (There s) s _ there (function_changed s k (callable_again d defines) (λ c. by c defines)) where
+  by : (c : Callable) (b : Bool) → (callable_again d b c).type ≡ c.type
+  by c true = refl
+  by c false = refl
+
+-- one function type more
+pub function_type_settles : (H : Type 0) (s : Scoped) (f : FunctionType) → (H → There s) → (H → layouts.are_complete s.records.done f.parameters ≡ true) → SettlesIf H s (with_function_type s f)
+function_type_settles H s f there h = record {
+  follows = record {
+    names = inner_refl s.bindings;
+    variables = omega arith;
+    objects = omega arith;
+    sizes = λ g. wider_refl (own_sizes s);
+    types = omega arith;
+    records = omega arith;
+    calls = goes_typed s.functions f s.flow s.records.done;
+    there = λ x. let g = there x in record { known = g.known; few = g.few; complete = g.complete; built = g.built; calls = called_typed s.records.done s.functions f s.flow g.calls (h x) };
+  };
+  same = refl;
+}
+
+-- ---- scopes that end
+
+-- names and variables of parameters end with them
+pub ended_settles : (s t : Scoped) → Follows s t → Settles s (ended s t)
+ended_settles s t f = record {
+  follows = record {
+    names = inner_refl s.bindings;
+    variables = omega arith;
+    objects = f.objects;
+    sizes = λ g. record {
+      variables = ([], (variables_kept f.calls.later s.variables g.complete).1 ∙ sym (append-nil (sizes s)));
+      objects = (f.sizes g).objects;
+      functions = (f.sizes g).functions;
+      gives = (f.sizes g).gives;
+    };
+    types = f.types;
+    records = f.records;
+    calls = f.calls;
+    there = λ g.
+        let now = f.there g in
+        record {
+          known = are_there_wider (length s.variables) (length s.variables) (length s.objects) (length t.objects) (length s.types) (length t.types)
+              (length s.records.declared) (length t.records.declared) s.bindings (omega arith) f.objects f.types f.records g.known;
+          few = now.few;
+          complete = (variables_kept f.calls.later s.variables g.complete).0;
+          built = now.built;
+          calls = now.calls;
+        };
+  };
+  same = refl;
+}

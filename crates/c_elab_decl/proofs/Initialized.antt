@@ -21,31 +21,33 @@ use Rattle.core_tree.specs.Typed.{type_of, Sizes, is_typed, is_structure, are_pa
 use Rattle.core_tree.specs.Typed as typings
 use Rattle.c_elab_expr.specs.declared.operands.Home.{Home}
 use Rattle.c_elab_expr.specs.declared.operands.Home.TheVariants as homes
-use Rattle.c_elab_expr.specs.Scopes.{Scoped, all_sizes}
+use Rattle.c_elab_expr.specs.Scopes.{Scoped}
 use Rattle.c_elab_expr.specs.Nodes.{required, integer, as_type}
 use Rattle.c_elab_expr.specs.Operands.{Operand, value, object, structure, held_value, is_home, number, same_record, record_value, is_typed_operand}
 use Rattle.c_elab_expr.specs.Texts.{text_bytes, bytes_of}
-use Rattle.c_elab_expr.specs.Typing.{on_line, operand}
+use Rattle.c_elab_expr.specs.Typing.{on_line, operand, operand_by}
 use Rattle.c_elab_expr.proofs.Variables.{both, and}
 use Rattle.c_elab_expr.proofs.Types.{type_as, typed_as}
 use Rattle.c_elab_expr.proofs.WellTyped.{Holds, bind, given, refused, on_same_line, integer_is, well_used}
 use Rattle.c_elab_decl.specs.Initializers.{Made, nothing, single, text, listed, only, slot, slot_type, Value, number_value, structure_value, is_character, scalar_value, record_node, array_node, value_node, part_with, joined, item_node, parts_from, list_made, braced, literal_of, constant_node, single_as, typed_initial, typed_initials, initializer_of}
+use Rattle.c_elab_decl.proofs.Signatures.{closed_scope, own_sizes}
+use Rattle.c_elab_decl.proofs.Closed.{operand_keeps}
 use Rattle.c_elab_decl.proofs.Growing.{There}
 use Rattle.c_elab_decl.proofs.Objects.{IsObject, Lies, slot_lies}
 
 -- ---- operands
 
 abbrev pub FineOperand : Scoped → Operand → Type 0
-FineOperand s x = is_typed_operand s x ≡ true
+FineOperand s x = is_typed_operand (closed_scope s) x ≡ true
 
-pub fine : (s : Scoped) (e : Tree) → There s → Holds (FineOperand s) (operand s e)
-fine s e there = well_used s there.built e
+pub fine : (s : Scoped) (w : Bool) (e : Tree) → There s → Holds (FineOperand s) (operand_by s w e)
+fine s w e there = λ x same. well_used (closed_scope s) there.built w e x (operand_keeps s w e x same)
 
 -- a value of an integer type
 pub record FineNumber (s : Scoped) (e : Expression) : Type 0 where
   pub type : IntegerType
   pub is : type_of e ≡ Integer type
-  pub good : is_typed (all_sizes s) e ≡ true
+  pub good : is_typed (own_sizes s) e ≡ true
 
 pub number_fine : (s : Scoped) (rule : ℕ) (x : Operand) → FineOperand s x → Holds (FineNumber s) (number rule x)
 number_fine s rule (value e k) h = bind (λ t. type_of e ≡ Integer t) (FineNumber s) (integer rule e) _ (integer_is rule e) (λ t is. given (FineNumber s) e (record { type = t; is = is; good = h }))
@@ -55,14 +57,14 @@ number_fine s rule (structure t a) h = refused (FineNumber s) rule
 -- a structure value of so many bytes
 pub record FineStructure (s : Scoped) (n : ℕ) (a : Structure) : Type 0 where
   pub size : typings.size_of a ≡ n
-  pub good : is_structure (all_sizes s) a ≡ true
+  pub good : is_structure (own_sizes s) a ≡ true
 
 -- a value for a scalar of this type
 pub record FineAs (s : Scoped) (t : CType) (e : Expression) : Type 0 where
   pub scalar : IntegerType
   pub is : t ≡ ctypes.integer scalar
   pub type : type_of e ≡ Integer scalar
-  pub good : is_typed (all_sizes s) e ≡ true
+  pub good : is_typed (own_sizes s) e ≡ true
 
 -- a value of an object of this type
 abbrev pub FineValue : Scoped → CType → Value → Type 0
@@ -94,7 +96,7 @@ scalar_fine : (s : Scoped) (t : IntegerType) (x : Made) → FineMade s (ctypes.i
 scalar_fine s t nothing h = refused (FineValue s (ctypes.integer t)) 12
 scalar_fine s t (single x) h =
     bind (FineNumber s) (FineValue s (ctypes.integer t)) (number 8 x) _ (number_fine s 8 x h) (λ e n.
-    given (FineValue s (ctypes.integer t)) (number_value (as_type t e)) (record { scalar = t; is = refl; type = type_as t e; good = typed_as (all_sizes s) t n.type e n.is n.good }))
+    given (FineValue s (ctypes.integer t)) (number_value (as_type t e)) (record { scalar = t; is = refl; type = type_as t e; good = typed_as (own_sizes s) t n.type e n.is n.good }))
 scalar_fine s t (text line bs) h = refused (FineValue s (ctypes.integer t)) 8
 scalar_fine s t (listed a) h = refused (FineValue s (ctypes.integer t)) 12
 
@@ -112,26 +114,26 @@ held_fine : (zs : Sizes) (v : Home) (line offset size : ℕ) → is_home zs v of
 held_fine zs (homes.Variable v) line offset size h = h
 held_fine zs (homes.Object k) line offset size h = h
 
-record_fine : (s : Scoped) (p : ℕ) (x : Operand) → FineOperand s x → Holds (FineStructure s (size_of s.records.done (ctypes.aggregate p))) (required 12 (record_value s.records.done (ctypes.aggregate p) x))
-record_fine s p (value e k) h = refused _ 12
-record_fine s p (object line v offset u k) h = by (same_record (ctypes.aggregate p) u) refl where
+pub record_fine : (s : Scoped) (rule p : ℕ) (x : Operand) → FineOperand s x → Holds (FineStructure s (size_of s.records.done (ctypes.aggregate p))) (required rule (record_value s.records.done (ctypes.aggregate p) x))
+record_fine s rule p (value e k) h = refused _ rule
+record_fine s rule p (object line v offset u k) h = by (same_record (ctypes.aggregate p) u) refl where
   by : (b : Bool) → same_record (ctypes.aggregate p) u ≡ b
-      → Holds (FineStructure s (size_of s.records.done (ctypes.aggregate p))) (required 12 (if b then Some (held_value v line offset (size_of s.records.done u)) else None))
+      → Holds (FineStructure s (size_of s.records.done (ctypes.aggregate p))) (required rule (if b then Some (held_value v line offset (size_of s.records.done u)) else None))
   by true e = given (FineStructure s (size_of s.records.done (ctypes.aggregate p))) (held_value v line offset (size_of s.records.done u))
-      (record { size = held_size v line offset (size_of s.records.done u) ∙ ap (size_of s.records.done) (one_record p u e); good = held_fine (all_sizes s) v line offset (size_of s.records.done u) h })
-  by false e = refused _ 12
-record_fine s p (structure u a) h = by (same_record (ctypes.aggregate p) u) refl where
-  by : (b : Bool) → same_record (ctypes.aggregate p) u ≡ b → Holds (FineStructure s (size_of s.records.done (ctypes.aggregate p))) (required 12 (if b then Some a else None))
+      (record { size = held_size v line offset (size_of s.records.done u) ∙ ap (size_of s.records.done) (one_record p u e); good = held_fine (own_sizes s) v line offset (size_of s.records.done u) h })
+  by false e = refused _ rule
+record_fine s rule p (structure u a) h = by (same_record (ctypes.aggregate p) u) refl where
+  by : (b : Bool) → same_record (ctypes.aggregate p) u ≡ b → Holds (FineStructure s (size_of s.records.done (ctypes.aggregate p))) (required rule (if b then Some a else None))
   by true e =
-      let parts = both (is_structure (all_sizes s) a) (typings.size_of a == size_of s.records.done u) h in
+      let parts = both (is_structure (own_sizes s) a) (typings.size_of a == size_of s.records.done u) h in
       given (FineStructure s (size_of s.records.done (ctypes.aggregate p))) a
       (record { size = eqb-true (typings.size_of a) (size_of s.records.done u) parts.1 ∙ ap (size_of s.records.done) (one_record p u e); good = parts.0 })
-  by false e = refused _ 12
+  by false e = refused _ rule
 
 record_node_fine : (s : Scoped) (p : ℕ) (x : Made) → FineMade s (ctypes.aggregate p) x → Holds (FineValue s (ctypes.aggregate p)) (record_node s.records.done (ctypes.aggregate p) x)
 record_node_fine s p nothing h = refused (FineValue s (ctypes.aggregate p)) 12
 record_node_fine s p (single x) h =
-    bind (FineStructure s (size_of s.records.done (ctypes.aggregate p))) (FineValue s (ctypes.aggregate p)) (required 12 (record_value s.records.done (ctypes.aggregate p) x)) _ (record_fine s p x h) (λ a fit.
+    bind (FineStructure s (size_of s.records.done (ctypes.aggregate p))) (FineValue s (ctypes.aggregate p)) (required 12 (record_value s.records.done (ctypes.aggregate p) x)) _ (record_fine s 12 p x h) (λ a fit.
     given (FineValue s (ctypes.aggregate p)) (structure_value a) fit)
 record_node_fine s p (text line bs) h = refused (FineValue s (ctypes.aggregate p)) 12
 record_node_fine s p (listed a) h = given (FineValue s (ctypes.aggregate p)) (structure_value a) h
@@ -189,7 +191,7 @@ value_fine s (ctypes.array element n) x there o h = array_node_fine s element n 
 -- ---- parts
 
 abbrev FineParts : Scoped → CType → Parts → Type 0
-FineParts s t ps = are_parts (all_sizes s) (size_of s.records.done t) ps ≡ true
+FineParts s t ps = are_parts (own_sizes s) (size_of s.records.done t) ps ≡ true
 
 part_fine : (s : Scoped) (t : CType) (x : CType × ℕ) (v : Value) (rest : Parts) → Lies s.records.done t x → FineValue s x.0 v → FineParts s t rest → FineParts s t (part_with x.1 v rest)
 part_fine s t x (number_value e) rest lies h good =
@@ -299,7 +301,7 @@ texts (part ∷ parts) = all_in_both (text_bytes (string_bytes part)) (bytes_of 
 
 single_fine : (lasting : Bool) (s : Scoped) (t : CType) (e : Tree) (o : Option (ℕ × List (List ℕ))) → There s → Holds (FineMade s t) (single_as lasting s e o)
 single_fine lasting s t e None there =
-    bind (FineOperand s) (FineMade s t) (operand s e) _ (fine s e there) (λ x good.
+    bind (FineOperand s) (FineMade s t) (operand s e) _ (fine s true e there) (λ x good.
     bind (λ (u : Unit {0}). Unit {0}) (FineMade s t) (on_line (first_line e) (constant_node lasting x)) _ (λ u is. tt) (λ u _.
     given (FineMade s t) (single x) good))
 single_fine lasting s t e (Some literal) there = given (FineMade s t) (text literal.0 (bytes_of literal.1)) (texts literal.1)

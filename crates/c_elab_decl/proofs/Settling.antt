@@ -1,33 +1,41 @@
 -- Specifiers, typedefs and objects leave a scope that goes on from the one before, without more variables.
-use Rattle.std.proofs.Common.{◌≡◌, ◌≤◌, ◌+◌, ℕ, Bool, true, false, List, [], ◌∷◌, ◌++◌, length, Option, Some, None, Result, Ok, Err, refl, sym, subst, ◌∙◌, arith}
-use Rattle.std.specs.Prelude.{◌&&◌, ◌||◌, not, is_some, if◌then◌else◌}
-use Rattle.std.proofs.lemmas.List.{length-append}
+use Rattle.std.proofs.Common.{◌≡◌, ◌≤◌, ◌+◌, ℕ, Bool, true, false, List, [], ◌∷◌, ◌++◌, length, map, Option, Some, None, Result, Ok, Err, refl, ap, sym, subst, ◌∙◌, arith}
+use Rattle.std.specs.Prelude.{◌&&◌, ◌||◌, not, is_some, slice_get, if◌then◌else◌}
+use Rattle.std.specs.List.{list_all, list_any}
+use Rattle.std.proofs.lemmas.List.{append_assoc, append-nil, length-append, map-append}
 use Rattle.c_tree.specs.declared.specifier.TagKind.{TagKind}
 use Rattle.c_tree.specs.declared.specifier.TagKind.TheVariants as tag_kinds
-use Rattle.c_tree.specs.Tree.{TypePart, qualified, word, tagged, typedef_name, Declared}
-use Rattle.c_tree.specs.Declarations.{Enumerated, Initial, Part, type_part, storage, function, structure, enumeration, Parts, no_part, part, Members, no_member, members, Declarators, none_declared, declarator, name_of}
+use Rattle.c_tree.specs.Tree.{TypePart, qualified, word, tagged, typedef_name}
+use Rattle.c_tree.specs.Declarations.{Enumerated, Initial, Part, type_part, storage, function, structure, enumeration, Parts, no_part, part, Members, no_member, members, Full, full_unnamed, full_named, full_inside, Fulls, no_full, full, FullSuffixes, full_end, full_bounded, full_open, full_empty, full_void, full_parameters, Parameters, no_parameter, parameter, Declarators, none_declared, declarator, name_of, full_has_name, parts_line}
 use Rattle.c_types.specs.declared.types.RecordKind.{RecordKind}
 use Rattle.c_types.specs.declared.types.RecordKind.TheVariants.{Struct, Union}
 use Rattle.c_types.specs.Types.{CType, Completed, Records}
-use Rattle.c_types.specs.Layouts.{is_completed, are_complete, fits, kind_at}
+use Rattle.c_types.specs.Types as ctypes
+use Rattle.c_types.specs.Layouts.{is_completed, is_complete, are_complete, fits, kind_at}
 use Rattle.c_elab_expr.specs.declared.meaning.Meaning.{Meaning}
-use Rattle.c_elab_expr.specs.declared.meaning.Meaning.TheVariants.{Object, Enumerator, Record, Enumeration}
+use Rattle.c_elab_expr.specs.declared.meaning.Meaning.TheVariants.{Variable, Incomplete, Object, Assert, Assume, Draw, Function, Typedef, Enumerator, Record, Enumeration}
 use Rattle.c_elab_expr.specs.Members.{Field, field_types}
-use Rattle.c_elab_expr.specs.Scopes.{Named, Lasting, Scoped, tag_of, object_at, is_known, lasting_size}
-use Rattle.c_elab_expr.specs.Types.{nothing_said, specified_type, declared_line}
-use Rattle.c_elab_expr.specs.Typing.{Fault, on_line, lengths}
+use Rattle.c_elab_expr.specs.Scopes.{Named, FunctionType, Callable, FunctionTable, Lasting, Scoped, tag_of, object_at, linked_to, built_in, is_known, lasting_size, function_number, function_numbered}
+use Rattle.c_elab_expr.specs.Nodes.{◌>>=◌}
+use Rattle.c_elab_expr.specs.Types.{nothing_said, specified_type, one_array, array_of, type_size}
+use Rattle.c_elab_expr.specs.Typing.{Fault, on_line}
+use Rattle.c_elab_expr.proofs.Variables.{both, and, complete_sized}
 use Rattle.c_elab_expr.proofs.WellTyped.{Holds, bind, given, refused, on_same_line}
 use Rattle.c_elab_decl.specs.declared.regions.Region.{Region}
 use Rattle.c_elab_decl.specs.declared.regions.Role.{Role}
 use Rattle.c_elab_decl.specs.declared.regions.Role.TheVariants as roles
 use Rattle.c_elab_decl.specs.Regions.{earlier, earlier_tag}
+use Rattle.c_elab_decl.specs.Derivations.{Parameter, Derived, counted, called, Shape, object, function as function_shaped, shape_by, shape_of, type_numbered, array_shape, is_void, is_array, has_void, parameter_types, function_of, function_shape, derived, Derivation, lengths, callable, function_in, function_made, callable_by, plain_lengths, derivation_by, derivation, full_line, parameter_line}
 use Rattle.c_elab_decl.specs.Initializers.{Value, bytes_said, initializer_of, no_initializer}
 use Rattle.c_elab_decl.specs.Enumerations.{enumerator_value, enumerator_node, typed_enumerator, typed_enumerators}
-use Rattle.c_elab_decl.specs.Declarators.{typedef_type, with_typedef, typed_typedef, typed_typedefs, is_open, lasting_type, is_again, is_linked_to, linked_object, may_again, lasting_again, lasting_node, declared_again, first_declared, with_object, changed_object, added_object, declared_object, initialized_object, may_define, counted_by, element_of, typed_object, typed_objects}
+use Rattle.c_elab_decl.specs.Declarators.{with_variable, sized_type, complete_type, typedef_node, with_typedef, typed_typedef, is_typedef_of_function, function_typedef_node, with_function_type, with_function_typedef, typed_function_typedef, is_open, lasting_type, is_again, is_linked_to, linked_object, earlier_linked, may_again, lasting_again, lasting_node, declared_again, first_declared, with_object, changed_object, added_object, declared_object, initialized_object, may_define, counted_by, element_of, with_initializer, typed_object}
+use Rattle.c_elab_decl.specs.Functions.{is_built_in_function, built_in_only, built_in_function, is_own_function, is_function_again, function_again, is_own_built_in, is_built_in_type, built_in_again, function_node, declared_callable, with_meaning, declared_function, declared_or_built_in, typed_function, is_named_so, have_names}
+use Rattle.c_elab_decl.specs.Functions as functions
 use Rattle.c_elab_decl.specs.Tags.{kind_of, is_kind, with_record, with_tagged, new_tag, found_tag, forward_tag, Opened, new_record, open_tag, opened, reopened, fitting, members_fit, already, completed, closed, closed_scope, enumeration_tag, enumeration_closed}
-use Rattle.c_elab_decl.specs.Specifiers.{Fields, member_type, typed_member, typed_fields, is_none, has_untagged, with_anonymous, is_anonymous, Parted, with_type_part, fields_within, fields_out, with_members, typed_enumeration, said_before, fields_behind, typed_line, typed_part, typed_parts, typed_members, lone_tag, with_lone, Specification, typed_specifiers, parts_line}
-use Rattle.c_elab_decl.specs.Statements.{typed_others}
-use Rattle.c_elab_decl.proofs.Growing.{Settles, settles_refl, settles_trans, binding_settles, record_settles, completed_settles, typedef_settles, object_settles, changed_settles, changed_known, next_known, last}
+use Rattle.c_elab_decl.specs.Specifiers.{Fields, member_type, with_member, is_none, has_untagged, with_anonymous, is_anonymous, Parted, with_type_part, fields_within, fields_out, with_members, typed_enumeration, said_before, fields_behind, Derivations, Passed, plain_parameter, array_parameter, parameter_made, parameter_node, declared_parameter, with_parameter, judged_parameter, are_several, ended, inner_region, parted, named_parts, counted_in_front, called_in_front, said_bound, typed_part, typed_parts, typed_members, typed_fields, typed_full, typed_suffixes, typed_parameters, lone_tag, with_lone, Specification, typed_specifiers}
+use Rattle.c_elab_decl.specs.Listed.{typedef_by, typed_typedefs, object_by, typed_objects, typed_others}
+use Rattle.c_elab_decl.proofs.Signatures.{Later, is_given, given_kept, are_complete_types, type_parameters_at}
+use Rattle.c_elab_decl.proofs.Growing.{There, FollowsIf, Follows, follows_refl, follows_trans, follows_on, SettlesIf, Settles, settles_refl, settles_both, settles_where, settles_on, settles_trans, binding_settles, record_settles, completed_settles, typedef_settles, variable_follows, object_settles, changed_settles, changed_known, next_known, last, declared_callable_settles, function_type_settles, ended_settles}
 
 pub trivially : {A E : Type 0} (r : Result A E) → Holds (λ (x : A). Unit {0}) r
 trivially r x e = tt
@@ -127,17 +135,271 @@ pub enumeration_settles : (r : Region) (s : Scoped) (tag : Option (List ℕ)) �
 enumeration_settles r s None = settles_refl s
 enumeration_settles r s (Some name) = enumeration_tag_settles s name (earlier_tag r s name)
 
+-- ---- what suffixes make of types
+
+abbrev pub given_parameters : List Completed → List Parameter → Bool
+given_parameters done ps = list_all (λ (p : Parameter). is_given done p.type.type) ps
+
+-- parameters have types that are void or complete
+abbrev pub are_fine : List Completed → List Derived → Bool
+are_fine done [] = true
+are_fine done (counted n ∷ ds) = are_fine done ds
+are_fine done (called ps ellipsis ∷ ds) = given_parameters done ps && are_fine done ds
+
+parameters_kept : {older newer : List Completed} → Later older newer → (ps : List Parameter) → given_parameters older ps ≡ true → given_parameters newer ps ≡ true
+parameters_kept later [] h = refl
+parameters_kept {older} {newer} later (p ∷ ps) h =
+    let parts = both (is_given older p.type.type) (given_parameters older ps) h in
+    and (is_given newer p.type.type) (given_parameters newer ps) (given_kept later p.type.type parts.0) (parameters_kept later ps parts.1)
+
+fine_kept : {older newer : List Completed} → Later older newer → (ds : List Derived) → are_fine older ds ≡ true → are_fine newer ds ≡ true
+fine_kept later [] h = refl
+fine_kept later (counted n ∷ ds) h = fine_kept later ds h
+fine_kept {older} {newer} later (called ps ellipsis ∷ ds) h =
+    let parts = both (given_parameters older ps) (are_fine older ds) h in and (given_parameters newer ps) (are_fine newer ds) (parameters_kept later ps parts.0) (fine_kept later ds parts.1)
+
+fine_behind : (done : List Completed) (ds es : List Derived) → are_fine done ds ≡ true → are_fine done es ≡ true → are_fine done (ds ++ es) ≡ true
+fine_behind done [] es h g = g
+fine_behind done (counted n ∷ ds) es h g = fine_behind done ds es h g
+fine_behind done (called ps ellipsis ∷ ds) es h g =
+    let parts = both (given_parameters done ps) (are_fine done ds) h in and (given_parameters done ps) (are_fine done (ds ++ es)) parts.0 (fine_behind done ds es parts.1 g)
+
+given_complete : (done : List Completed) (t : CType) → is_given done t ≡ true → is_void t ≡ false → is_complete done t ≡ true
+given_complete done ctypes.void h v = let none : ⊥ = cc in absurd none
+given_complete done (ctypes.integer t) h v = refl
+given_complete done (ctypes.aggregate p) h v = h
+given_complete done (ctypes.array e n) h v = h
+
+neither : (a b : Bool) → (a || b) ≡ false → (a ≡ false) × (b ≡ false)
+neither true b h = let none : ⊥ = cc in absurd none
+neither false b h = (refl, h)
+
+pub parameters_complete : (done : List Completed) (ps : List Parameter) → given_parameters done ps ≡ true → has_void ps ≡ false → are_complete done (parameter_types ps) ≡ true
+parameters_complete done [] h v = refl
+parameters_complete done (p ∷ ps) h v =
+    let parts = both (is_given done p.type.type) (given_parameters done ps) h in
+    let voids = neither (is_void p.type.type) (has_void ps) v in
+    and (is_complete done p.type.type) (are_complete done (parameter_types ps)) (given_complete done p.type.type parts.0 voids.0) (parameters_complete done ps parts.1 voids.1)
+
+-- a function takes objects
+abbrev pub Takes : List Completed → FunctionType → Type 0
+Takes done f = are_complete done f.parameters ≡ true
+
+abbrev ShapeFine : List Completed → Shape → Type 0
+ShapeFine done (object t) = Unit {0}
+ShapeFine done (function_shaped f) = Takes done f
+
+array_fine : (done : List Completed) (n : Option ℕ) (x : Shape) → Holds (ShapeFine done) (array_shape done n x)
+array_fine done n (object t) = bind (λ (u : CType). Unit {0}) (ShapeFine done) (one_array done t n) _ (trivially _) (λ u _. given (ShapeFine done) (object u) tt)
+array_fine done n (function_shaped f) = refused (ShapeFine done) 3
+
+function_fine : (done : List Completed) (constant : Bool) (ps : List Parameter) (ellipsis : Bool) (x : Shape) → given_parameters done ps ≡ true → Holds (ShapeFine done) (function_shape constant ps ellipsis x)
+function_fine done constant ps ellipsis (function_shaped f) h = refused (ShapeFine done) 6
+function_fine done constant ps ellipsis (object t) h = by (is_array t) (has_void ps) refl where
+  by : (a b : Bool) → has_void ps ≡ b → Holds {E = ℕ} (ShapeFine done) (if a || b then Err 6 else Ok (function_shaped (function_of constant ps ellipsis t)))
+  by true b e = refused (ShapeFine done) 6
+  by false true e = refused (ShapeFine done) 6
+  by false false e = given (ShapeFine done) (function_shaped (function_of constant ps ellipsis t)) (parameters_complete done ps h e)
+
+derived_fine : (done : List Completed) (constant : Bool) (base : Shape) (ds : List Derived) → ShapeFine done base → are_fine done ds ≡ true → Holds (ShapeFine done) (derived done constant base ds)
+derived_fine done constant base [] h g = given (ShapeFine done) base h
+derived_fine done constant base (counted n ∷ ds) h g =
+    bind (ShapeFine done) (ShapeFine done) (derived done constant base ds) _ (derived_fine done constant base ds h g) (λ x _. array_fine done n x)
+derived_fine done constant base (called ps ellipsis ∷ ds) h g =
+    let parts = both (given_parameters done ps) (are_fine done ds) g in
+    bind (ShapeFine done) (ShapeFine done) (derived done constant base ds) _ (derived_fine done constant base ds h parts.1) (λ x _. function_fine done constant ps ellipsis x parts.0)
+
+base_fine : (table : FunctionTable) (done : List Completed) (t : CType) → are_complete_types done table.types ≡ true → ShapeFine done (shape_of table t)
+base_fine table done t h = by (type_numbered table (function_number t)) refl where
+  numbered : (o : Option ℕ) (f : FunctionType) → type_numbered table o ≡ Some f → Takes done f
+  numbered None f e = let none : ⊥ = cc in absurd none
+  numbered (Some n) f e = type_parameters_at done table.types n f h e
+
+  by : (o : Option FunctionType) → type_numbered table (function_number t) ≡ o → ShapeFine done (shape_by t o)
+  by None e = tt
+  by (Some f) e = numbered (function_number t) f e
+
+-- what a declarator says of a function
+abbrev pub DerivationFine : List Completed → Derivation → Type 0
+DerivationFine done (lengths ls) = Unit {0}
+DerivationFine done (callable made) = Holds (Takes done) made
+
+in_fine : (done : List Completed) (x : Shape) → ShapeFine done x → Holds (Takes done) (function_in x)
+in_fine done (object t) h = refused (Takes done) 3
+in_fine done (function_shaped f) h = given (Takes done) f h
+
+made_fine : (done : List Completed) (made : Result Shape ℕ) → Holds (ShapeFine done) made → Holds (Takes done) (function_made made)
+made_fine done made h = bind (ShapeFine done) (Takes done) made function_in h (λ x fine. in_fine done x fine)
+
+pub derivation_fine : (table : FunctionTable) (done : List Completed) (base : Named) (ds : List Derived) → are_complete_types done table.types ≡ true → are_fine done ds ≡ true
+    → DerivationFine done (derivation table done base ds)
+derivation_fine table done base ds h g = by (shape_of table base.type) (plain_lengths ds) (base_fine table done base.type h) where
+  by : (x : Shape) (o : Option (List (Option ℕ))) → ShapeFine done x → DerivationFine done (derivation_by done base.constant x ds o)
+  by (object t) (Some ns) fine = tt
+  by (object t) None fine = made_fine done _ (derived_fine done base.constant (object t) ds fine g)
+  by (function_shaped f) o fine = made_fine done _ (derived_fine done base.constant (function_shaped f) ds fine g)
+
+-- ---- parameters
+
+-- variables behind those before, one of each parameter, as long as each has a name and none is void
+abbrev pub Stands : List Named → Passed → Type 0
+Stands before p = have_names p.parameters ≡ true → has_void p.parameters ≡ false → p.scope.variables ≡ before ++ map (λ (x : Parameter). x.type) p.parameters
+
+pub record PassedDone (p q : Passed) : Type 0 where
+  pub follows : Follows p.scope q.scope
+  pub given : There p.scope → given_parameters p.scope.records.done p.parameters ≡ true → given_parameters q.scope.records.done q.parameters ≡ true
+  pub variables : (before : List Named) → Stands before p → Stands before q
+  pub more : (ns : List Named) × (q.scope.variables ≡ p.scope.variables ++ ns)
+
+passed_refl : (p : Passed) → PassedDone p p
+passed_refl p = record { follows = follows_refl p.scope; given = λ there h. h; variables = λ before h. h; more = ([], sym (append-nil p.scope.variables)) }
+
+passed_trans : (p q r : Passed) → PassedDone p q → PassedDone q r → PassedDone p r
+passed_trans p q r f g = record {
+  follows = follows_trans p.scope q.scope r.scope f.follows g.follows;
+  given = λ there h. g.given (f.follows.there there) (f.given there h);
+  variables = λ before h. g.variables before (f.variables before h);
+  more = (f.more.0 ++ g.more.0, g.more.1 ∙ ap (λ (vs : List Named). vs ++ g.more.0) f.more.1 ∙ append_assoc p.scope.variables f.more.0 g.more.0);
+}
+
+-- suffixes leave a scope with the same variables
+pub record SuffixesDone (s : Scoped) (x : List Derived × Scoped) : Type 0 where
+  pub settles : Settles s x.1
+  pub fine : There s → are_fine x.1.records.done x.0 ≡ true
+
+sized_complete : (done : List Completed) (t : CType) → Holds (λ u. is_given done u ≡ true) (sized_type done t)
+sized_complete done t =
+    bind (λ n. type_size done t ≡ Ok n) (λ u. is_given done u ≡ true) (type_size done t) _ (λ n e. e) (λ n e.
+    given (λ u. is_given done u ≡ true) t (complete_given done t (complete_sized done t n e).0)) where
+      complete_given : (older : List Completed) (u : CType) → is_complete older u ≡ true → is_given older u ≡ true
+      complete_given older ctypes.void h = refl
+      complete_given older (ctypes.integer u) h = refl
+      complete_given older (ctypes.aggregate p) h = h
+      complete_given older (ctypes.array e n) h = h
+
+plain_given : (done : List Completed) (several : Bool) (t : CType) → Holds (λ u. is_given done u ≡ true) (plain_parameter done several t)
+plain_given done several ctypes.void = by several where
+  by : (b : Bool) → Holds {E = ℕ} (λ u. is_given done u ≡ true) (if b then Ok ctypes.void else sized_type done ctypes.void)
+  by true = given (λ u. is_given done u ≡ true) ctypes.void refl
+  by false = sized_complete done ctypes.void
+plain_given done several (ctypes.integer t) = sized_complete done (ctypes.integer t)
+plain_given done several (ctypes.aggregate p) = sized_complete done (ctypes.aggregate p)
+plain_given done several (ctypes.array e n) = sized_complete done (ctypes.array e n)
+
+array_given : (done : List Completed) (base : CType) (ls : List (Option ℕ)) → Holds (λ u. is_given done u ≡ true) (array_parameter done base ls)
+array_given done base [] = refused _ 7
+array_given done base (None ∷ ns) =
+    bind (λ (t : CType). Unit {0}) (λ u. is_given done u ≡ true) (array_of done base ns) _ (trivially _) (λ t _. bind (λ (u : CType). Unit {0}) (λ u. is_given done u ≡ true) (complete_type done t) _ (trivially _) (λ u _. refused _ 7))
+array_given done base (Some n ∷ ns) = bind (λ (t : CType). Unit {0}) (λ u. is_given done u ≡ true) (array_of done base (Some n ∷ ns)) _ (trivially _) (λ t _. refused _ 7)
+
+made_given : (done : List Completed) (several : Bool) (base : CType) (x : Derivation) → Holds (λ u. is_given done u ≡ true) (parameter_made done several base x)
+made_given done several base (lengths []) = plain_given done several base
+made_given done several base (lengths (n ∷ ns)) = array_given done base (n ∷ ns)
+made_given done several base (callable (Ok f)) = refused _ 7
+made_given done several base (callable (Err rule)) = refused _ rule
+
+node_given : (done : List Completed) (b : Bool) (made : Result CType ℕ) → Holds (λ u. is_given done u ≡ true) made → Holds (λ u. is_given done u ≡ true) (parameter_node b made)
+node_given done true made h = refused _ 2
+node_given done false made h = h
+
+declared_follows : (named : Bool) (s : Scoped) (name : List ℕ) (n : Named) → is_given s.records.done n.type ≡ true → Follows s (declared_parameter named s name n)
+declared_follows false s name n h = follows_refl s
+declared_follows true s name n h = by (is_void n.type) refl where
+  by : (b : Bool) → is_void n.type ≡ b → Follows s (if not b then with_variable s name n else s)
+  by true e = follows_refl s
+  by false e = variable_follows s name n (given_complete s.records.done n.type h e)
+
+-- a declarator whose name isn't empty has one
+named_so : (d : Full) → is_named_so (name_of d) ≡ true → full_has_name d ≡ true
+named_so (full_unnamed suffixes) h = let none : ⊥ = cc in absurd none
+named_so (full_named line n suffixes) h = refl
+named_so (full_inside line d suffixes) h = named_so d h
+
+names_last : (ps : List Parameter) (p : Parameter) → have_names (ps ++ p ∷ []) ≡ true → (have_names ps ≡ true) × (is_named_so p.name ≡ true)
+names_last [] p h = (refl, (both (is_named_so p.name) true h).0)
+names_last (x ∷ ps) p h =
+    let parts = both (is_named_so x.name) (have_names (ps ++ p ∷ [])) h in
+    let rest = names_last ps p parts.1 in
+    (and (is_named_so x.name) (have_names ps) parts.0 rest.0, rest.1)
+
+voids_last : (ps : List Parameter) (p : Parameter) → has_void (ps ++ p ∷ []) ≡ false → (has_void ps ≡ false) × (is_void p.type.type ≡ false)
+voids_last [] p h = (refl, (neither (is_void p.type.type) false h).0)
+voids_last (x ∷ ps) p h =
+    let parts = neither (is_void x.type.type) (has_void (ps ++ p ∷ [])) h in
+    let rest = voids_last ps p parts.1 in
+    (rw (parts.0, rest.0) refl, rest.1)
+
+given_last : (done : List Completed) (ps : List Parameter) (p : Parameter) → given_parameters done ps ≡ true → is_given done p.type.type ≡ true → given_parameters done (ps ++ p ∷ []) ≡ true
+given_last done [] p h e = and (is_given done p.type.type) true e refl
+given_last done (x ∷ ps) p h e =
+    let parts = both (is_given done x.type.type) (given_parameters done ps) h in and (is_given done x.type.type) (given_parameters done (ps ++ p ∷ [])) parts.0 (given_last done ps p parts.1 e)
+
+declared_same : (named : Bool) (s : Scoped) (name : List ℕ) (n : Named) → (declared_parameter named s name n).records ≡ s.records
+declared_same named s name n = by (named && not (is_void n.type)) where
+  by : (b : Bool) → (if b then with_variable s name n else s).records ≡ s.records
+  by true = refl
+  by false = refl
+
+declared_last : (named : Bool) (s : Scoped) (name : List ℕ) (n : Named) → named ≡ true → is_void n.type ≡ false → (declared_parameter named s name n).variables ≡ s.variables ++ n ∷ []
+declared_last named s name n h v = rw (h, v) refl
+
+declared_more : (named : Bool) (s : Scoped) (name : List ℕ) (n : Named) → (ns : List Named) × ((declared_parameter named s name n).variables ≡ s.variables ++ ns)
+declared_more named s name n = by (named && not (is_void n.type)) where
+  by : (b : Bool) → (ns : List Named) × ((if b then with_variable s name n else s).variables ≡ s.variables ++ ns)
+  by true = (n ∷ [], refl)
+  by false = ([], sym (append-nil s.variables))
+
+parameter_done : (several : Bool) (p : Passed) (d : Full) (n : Named) (t : Scoped) → Settles p.scope t → (is_given t.records.done n.type ≡ true)
+    → PassedDone p (with_parameter p (name_of d) n (declared_parameter (full_has_name d) t (name_of d) n))
+parameter_done several p d n t f h =
+    let u = declared_parameter (full_has_name d) t (name_of d) n in
+    let new : Parameter = record { name = name_of d; type = n } in
+    record {
+      follows = follows_trans p.scope t u f.follows (declared_follows (full_has_name d) t (name_of d) n h);
+      given = λ there g. subst (λ (rs : Records). given_parameters rs.done (p.parameters ++ new ∷ []) ≡ true) (sym (declared_same (full_has_name d) t (name_of d) n))
+          (given_last t.records.done p.parameters new (parameters_kept f.follows.calls.later p.parameters g) h);
+      variables = λ before stands names voids.
+          let a = names_last p.parameters new names in
+          let b = voids_last p.parameters new voids in
+          declared_last (full_has_name d) t (name_of d) n (named_so d a.1) b.1
+          ∙ ap (λ (vs : List Named). vs ++ n ∷ []) (f.same ∙ stands a.0 b.0)
+          ∙ append_assoc before (map (λ (x : Parameter). x.type) p.parameters) (n ∷ [])
+          ∙ ap (λ (vs : List Named). before ++ vs) (sym (map-append (λ (x : Parameter). x.type) p.parameters (new ∷ [])));
+      more =
+          let one = declared_more (full_has_name d) t (name_of d) n in
+          (one.0, one.1 ∙ ap (λ (vs : List Named). vs ++ one.0) f.same);
+    }
+
+judged_done : (r : Region) (several : Bool) (p : Passed) (parts : Parts) (base : Named) (d : Full) (suffixes : Derivations) (t : Scoped) → Settles p.scope t → Holds (SuffixesDone t) suffixes
+    → Holds (PassedDone p) (judged_parameter r several p parts base d suffixes)
+judged_done r several p parts base d suffixes t f h =
+    bind (SuffixesDone t) (PassedDone p) suffixes _ h (λ x g.
+    let node = parameter_node (full_has_name d && is_some (earlier r x.1 (name_of d))) (parameter_made x.1.records.done several base.type (derivation x.1.functions x.1.records.done base x.0)) in
+    bind (λ u. is_given x.1.records.done u ≡ true) (PassedDone p) (on_line (parameter_line parts d) node) _
+    (on_same_line (λ u. is_given x.1.records.done u ≡ true) (parameter_line parts d) node
+    (node_given x.1.records.done (full_has_name d && is_some (earlier r x.1 (name_of d))) (parameter_made x.1.records.done several base.type (derivation x.1.functions x.1.records.done base x.0))
+    (made_given x.1.records.done several base.type (derivation x.1.functions x.1.records.done base x.0)))) (λ u k.
+    given (PassedDone p) _ (parameter_done several p d (record { type = u; constant = base.constant }) x.1 (settles_trans p.scope t x.1 f g.settles) k)))
+
+-- ---- suffixes
+
+counted_done : (s : Scoped) (n : Option ℕ) (rest : Derivations) → Holds (SuffixesDone s) rest → Holds (SuffixesDone s) (counted_in_front n rest)
+counted_done s n rest h = bind (SuffixesDone s) (SuffixesDone s) rest _ h (λ x f. given (SuffixesDone s) (counted n ∷ x.0, x.1) (record { settles = f.settles; fine = f.fine }))
+
+called_done : (s t : Scoped) (ps : List Parameter) (ellipsis : Bool) (rest : Derivations) → Settles s t → (There s → given_parameters t.records.done ps ≡ true) → Holds (SuffixesDone t) rest
+    → Holds (SuffixesDone s) (called_in_front ps ellipsis rest)
+called_done s t ps ellipsis rest f g h =
+    bind (SuffixesDone t) (SuffixesDone s) rest _ h (λ x k.
+    given (SuffixesDone s) (called ps ellipsis ∷ x.0, x.1) (record {
+      settles = settles_trans s t x.1 f k.settles;
+      fine = λ there. and _ _ (parameters_kept k.settles.follows.calls.later ps (g there)) (k.fine (f.follows.there there));
+    }))
+
 -- ---- members and specifiers
 
-pub member_keeps : (base : Named) (f : Fields) (d : Declared) → Holds (λ g. g.scope ≡ f.scope) (typed_member base f d)
-member_keeps base f d =
-    bind (λ (t : CType). Unit {0}) (λ g. g.scope ≡ f.scope) (member_type base.type f.names f.scope d) _ (trivially _) (λ t _. given (λ g. g.scope ≡ f.scope) _ refl)
-
-pub fields_keep : (base : Named) (f : Fields) (ds : List Declared) → Holds (λ g. g.scope ≡ f.scope) (typed_fields base f ds)
-fields_keep base f [] = given (λ g. g.scope ≡ f.scope) f refl
-fields_keep base f (d ∷ ds) =
-    bind (λ g. g.scope ≡ f.scope) (λ g. g.scope ≡ f.scope) (typed_member base f d) _ (member_keeps base f d) (λ g e.
-    weaken (λ h. h.scope ≡ g.scope) (λ h. h.scope ≡ f.scope) (typed_fields base g ds) (fields_keep base g ds) (λ h same. same ∙ e))
+pub member_keeps : (base : Named) (f : Fields) (d : Full) (ds : List Derived) → Holds (λ g. g.scope ≡ f.scope) (with_member base f d ds)
+member_keeps base f d ds =
+    bind (λ (t : CType). Unit {0}) (λ g. g.scope ≡ f.scope) (member_type base f.names f.scope d ds) _ (trivially _) (λ t _. given (λ g. g.scope ≡ f.scope) _ refl)
 
 anonymous_keeps : (b : Bool) (n : Named) (f : Fields) → (with_anonymous b n f).scope ≡ f.scope
 anonymous_keeps true n f = refl
@@ -166,14 +428,17 @@ members_settle_by p o kind fields f h =
 out_settles : (anonymous : Bool) (names : List (List ℕ)) (s : Scoped) (fields : Result Fields Fault) → Holds (λ g. Settles s g.scope) fields → Holds (λ g. Settles s g.scope) (fields_out anonymous names fields)
 out_settles anonymous names s fields h = bind (λ g. Settles s g.scope) (λ g. Settles s g.scope) fields _ h (λ g f. given (λ x. Settles s x.scope) _ f)
 
-line_settles : (f : Fields) (parts : Parts) (ds : List Declared) (specifiers : Result Parted Fault) → Holds (λ p. Settles f.scope p.scope) specifiers
-    → Holds (λ g. Settles f.scope g.scope) (typed_line f parts ds specifiers)
-line_settles f parts ds specifiers h =
-    bind (λ p. Settles f.scope p.scope) (λ g. Settles f.scope g.scope) specifiers _ h (λ p more.
-    bind (λ (t : Named). Unit {0}) (λ g. Settles f.scope g.scope) (on_line (parts_line parts) (specified_type p.said)) _ (trivially _) (λ t _.
-    let before = fields_behind f parts ds p t in
-    weaken (λ g. g.scope ≡ before.scope) (λ g. Settles f.scope g.scope) (typed_fields t before ds) (fields_keep t before ds) (λ g same.
-    subst (Settles f.scope) (sym (same ∙ anonymous_keeps (is_none ds && has_untagged parts) t (record { fields = f.fields; names = p.names; scope = p.scope }))) more)))
+field_settles : (base : Named) (f : Fields) (d : Full) (suffixes : Derivations) → Holds (SuffixesDone f.scope) suffixes
+    → Holds (λ g. Settles f.scope g.scope) (suffixes >>= λ x. with_member base (record f { scope = x.1 }) d x.0)
+field_settles base f d suffixes h =
+    bind (SuffixesDone f.scope) (λ g. Settles f.scope g.scope) suffixes _ h (λ x k.
+    weaken (λ g. g.scope ≡ x.1) (λ g. Settles f.scope g.scope) (with_member base (record f { scope = x.1 }) d x.0) (member_keeps base (record f { scope = x.1 }) d x.0) (λ g same.
+    subst (Settles f.scope) (sym same) k.settles))
+
+pub named_settles : (s : Scoped) (parts : Parts) (specifiers : Result Parted Fault) → Holds (λ p. Settles s p.scope) specifiers → Holds (λ x. Settles s x.1) (named_parts parts specifiers)
+named_settles s parts specifiers h =
+    bind (λ p. Settles s p.scope) (λ x. Settles s x.1) specifiers _ h (λ p f.
+    bind (λ (n : Named). Unit {0}) (λ x. Settles s x.1) (on_line (parts_line parts) (specified_type p.said)) _ (trivially _) (λ n _. given (λ x. Settles s x.1) (n, p.scope) f))
 
 mutual
   pub part_settles : (r : Region) (alone : Bool) (p : Parted) (x : Part) → Holds (λ q. Settles p.scope q.scope) (typed_part r alone p x)
@@ -196,9 +461,52 @@ mutual
   pub members_settle : (r : Region) (f : Fields) (ms : Members) → Holds (λ g. Settles f.scope g.scope) (typed_members r f ms)
   members_settle r f no_member = given (λ g. Settles f.scope g.scope) f (settles_refl f.scope)
   members_settle r f (members parts ds rest) =
-      bind (λ g. Settles f.scope g.scope) (λ g. Settles f.scope g.scope) (typed_line f parts ds (typed_parts r (is_none ds) (said_before f) parts)) _
-      (line_settles f parts ds (typed_parts r (is_none ds) (said_before f) parts) (parts_settle r (is_none ds) (said_before f) parts)) (λ g h.
-      weaken (λ x. Settles g.scope x.scope) (λ x. Settles f.scope x.scope) (typed_members r g rest) (members_settle r g rest) (λ x more. settles_trans f.scope g.scope x.scope h more))
+      bind (λ p. Settles f.scope p.scope) (λ g. Settles f.scope g.scope) (typed_parts r (is_none ds) (said_before f) parts) _ (parts_settle r (is_none ds) (said_before f) parts) (λ p more.
+      bind (λ (n : Named). Unit {0}) (λ g. Settles f.scope g.scope) (on_line (parts_line parts) (specified_type p.said)) _ (trivially _) (λ n _.
+      let before = fields_behind f parts ds p n in
+      let now : Settles f.scope before.scope = subst (Settles f.scope) (sym (anonymous_keeps (is_none ds && has_untagged parts) n (record { fields = f.fields; names = p.names; scope = p.scope }))) more in
+      bind (λ g. Settles before.scope g.scope) (λ g. Settles f.scope g.scope) (typed_fields r n before ds) _ (fields_settle r n before ds) (λ g h.
+      weaken (λ x. Settles g.scope x.scope) (λ x. Settles f.scope x.scope) (typed_members r g rest) (members_settle r g rest) (λ x k.
+      settles_trans f.scope before.scope x.scope now (settles_trans before.scope g.scope x.scope h k)))))
+
+  pub fields_settle : (r : Region) (base : Named) (f : Fields) (ds : Fulls) → Holds (λ g. Settles f.scope g.scope) (typed_fields r base f ds)
+  fields_settle r base f no_full = given (λ g. Settles f.scope g.scope) f (settles_refl f.scope)
+  fields_settle r base f (full d ds) =
+      bind (SuffixesDone f.scope) (λ g. Settles f.scope g.scope) (typed_full f.scope d) _ (full_settles f.scope d) (λ x k.
+      bind (λ g. g.scope ≡ x.1) (λ g. Settles f.scope g.scope) (with_member base (record f { scope = x.1 }) d x.0) _ (member_keeps base (record f { scope = x.1 }) d x.0) (λ g same.
+      weaken (λ h. Settles g.scope h.scope) (λ h. Settles f.scope h.scope) (typed_fields r base g ds) (fields_settle r base g ds) (λ h more.
+      settles_trans f.scope g.scope h.scope (subst (Settles f.scope) (sym same) k.settles) more)))
+
+  pub full_settles : (s : Scoped) (d : Full) → Holds (SuffixesDone s) (typed_full s d)
+  full_settles s (full_unnamed suffixes) = suffixes_settle s suffixes
+  full_settles s (full_named line n suffixes) = suffixes_settle s suffixes
+  full_settles s (full_inside line d suffixes) =
+      bind (SuffixesDone s) (SuffixesDone s) (typed_full s d) _ (full_settles s d) (λ inner f.
+      bind (SuffixesDone inner.1) (SuffixesDone s) (typed_suffixes inner.1 suffixes) _ (suffixes_settle inner.1 suffixes) (λ outer g.
+      given (SuffixesDone s) (inner.0 ++ outer.0, outer.1) (record {
+        settles = settles_trans s inner.1 outer.1 f.settles g.settles;
+        fine = λ there. fine_behind outer.1.records.done inner.0 outer.0 (fine_kept g.settles.follows.calls.later inner.0 (f.fine there)) (g.fine (f.settles.follows.there there));
+      })))
+
+  pub suffixes_settle : (s : Scoped) (x : FullSuffixes) → Holds (SuffixesDone s) (typed_suffixes s x)
+  suffixes_settle s full_end = given (SuffixesDone s) ([], s) (record { settles = settles_refl s; fine = λ there. refl })
+  suffixes_settle s (full_bounded line e rest) =
+      bind (λ (n : ℕ). Unit {0}) (SuffixesDone s) (said_bound s e) _ (trivially _) (λ n _. counted_done s (Some n) (typed_suffixes s rest) (suffixes_settle s rest))
+  suffixes_settle s (full_open line rest) = counted_done s None (typed_suffixes s rest) (suffixes_settle s rest)
+  suffixes_settle s (full_empty line rest) = called_done s s [] false (typed_suffixes s rest) (settles_refl s) (λ there. refl) (suffixes_settle s rest)
+  suffixes_settle s (full_void line rest) = called_done s s [] false (typed_suffixes s rest) (settles_refl s) (λ there. refl) (suffixes_settle s rest)
+  suffixes_settle s (full_parameters line ps variadic rest) =
+      let first : Passed = record { parameters = []; scope = s } in
+      bind (PassedDone first) (SuffixesDone s) (typed_parameters (inner_region s) (are_several ps) first ps) _ (parameters_done (inner_region s) (are_several ps) first ps) (λ p f.
+      called_done s (ended s p.scope) p.parameters variadic (typed_suffixes (ended s p.scope) rest) (ended_settles s p.scope f.follows) (λ there. f.given there refl) (suffixes_settle (ended s p.scope) rest))
+
+  pub parameters_done : (r : Region) (several : Bool) (p : Passed) (ps : Parameters) → Holds (PassedDone p) (typed_parameters r several p ps)
+  parameters_done r several p no_parameter = given (PassedDone p) p (passed_refl p)
+  parameters_done r several p (parameter parts d rest) =
+      bind (λ x. Settles p.scope x.1) (PassedDone p) (named_parts parts (typed_parts r false (parted [] p.scope) parts)) _
+      (named_settles p.scope parts (typed_parts r false (parted [] p.scope) parts) (parts_settle r false (parted [] p.scope) parts)) (λ x f.
+      bind (PassedDone p) (PassedDone p) (judged_parameter r several p parts x.0 d (typed_full x.1 d)) _ (judged_done r several p parts x.0 d (typed_full x.1 d) x.1 f (full_settles x.1 d)) (λ q g.
+      weaken (PassedDone q) (PassedDone p) (typed_parameters r several q rest) (parameters_done r several q rest) (λ x h. passed_trans p q x g h)))
 
 pub specifiers_settle : (r : Region) (s : Scoped) (parts : Parts) (ds : Declarators) → Holds (λ x. Settles s x.scope) (typed_specifiers r s parts ds)
 specifiers_settle r s parts ds =
@@ -208,19 +516,119 @@ specifiers_settle r s parts ds =
     bind (λ (n : Named). Unit {0}) (λ x. Settles s x.scope) (on_line (parts_line parts) (specified_type q.said)) _ (trivially _) (λ n _.
     given (λ x. Settles s x.scope) _ (settles_trans s t q.scope (lone_settles r s (lone_tag parts ds)) f)))
 
--- ---- typedefs and objects
+-- ---- typedefs
 
-typed_typedef_settles : (r : Region) (s : Scoped) (base : Named) (d : Declared) (i : Option Initial) → Holds (Settles s) (typed_typedef r s base d i)
-typed_typedef_settles r s base d i =
-    bind (λ (n : Named). Unit {0}) (Settles s) (typedef_type r s base d) _ (trivially _) (λ n _.
-    bind (λ (u : Unit {0}). Unit {0}) (Settles s) (no_initializer (declared_line d) (with_typedef s (name_of d) n) i) _ (trivially _) (λ u _.
+typed_typedef_settles : (r : Region) (s : Scoped) (base : Named) (d : Full) (i : Option Initial) (ls : List (Option ℕ)) → Holds (Settles s) (typed_typedef r s base d i ls)
+typed_typedef_settles r s base d i ls =
+    bind (λ (n : Named). Unit {0}) (Settles s) _ _ (trivially _) (λ n _.
+    bind (λ (u : Unit {0}). Unit {0}) (Settles s) (no_initializer (full_line d) (with_typedef s (name_of d) n) i) _ (trivially _) (λ u _.
     given (Settles s) (with_typedef s (name_of d) n) (typedef_settles s (name_of d) n)))
+
+-- what is judged is what was made
+typedef_gives : (P : FunctionType → Type 0) (s : Scoped) (m : Option Meaning) (made : Result FunctionType ℕ) → Holds P made → Holds P (function_typedef_node s m made)
+typedef_gives P s None made h = h
+typedef_gives P s (Some m) (Err rule) h = refused P 2
+typedef_gives P s (Some m) (Ok f) h = by (is_typedef_of_function s f m) where
+  by : (b : Bool) → Holds {E = ℕ} P (if b then Ok f else Err 2)
+  by true = given P f (h f refl)
+  by false = refused P 2
+
+module _ (H : Type 0) (r : Region) (s : Scoped) (there : H → There s) where
+  abbrev Has : FunctionType → Type 0
+  Has f = H → Takes s.records.done f
+
+  has_made : (made : Result FunctionType ℕ) → (H → Holds (Takes s.records.done) made) → Holds Has made
+  has_made made h = λ f e x. h x f e
+
+  function_typedef_settles : (d : Full) (i : Option Initial) (made : Result FunctionType ℕ) → (H → Holds (Takes s.records.done) made) → Holds (SettlesIf H s) (typed_function_typedef r s d i made)
+  function_typedef_settles d i made h =
+      let node = function_typedef_node s (earlier r s (name_of d)) made in
+      bind Has (SettlesIf H s) (on_line (full_line d) node) _ (on_same_line Has (full_line d) node (typedef_gives Has s (earlier r s (name_of d)) made (has_made made h))) (λ f takes.
+      bind (λ (u : Unit {0}). Unit {0}) (SettlesIf H s) (no_initializer (full_line d) (with_function_typedef s (name_of d) f) i) _ (trivially _) (λ u _.
+      let t = with_function_type s f in
+      let n : Named = record { type = function_numbered (length s.functions.types); constant = false } in
+      given (SettlesIf H s) (with_typedef t (name_of d) n) (settles_on H s t (with_typedef t (name_of d) n) (function_type_settles H s f there takes) (typedef_settles t (name_of d) n))))
+
+  typedef_by_settles : (base : Named) (d : Full) (i : Option Initial) (x : Derivation) → (H → DerivationFine s.records.done x) → Holds (SettlesIf H s) (typedef_by r s base d i x)
+  typedef_by_settles base d i (lengths ls) h = weaken (Settles s) (SettlesIf H s) (typed_typedef r s base d i ls) (typed_typedef_settles r s base d i ls) (λ t f. settles_where H (There s) s t there f)
+  typedef_by_settles base d i (callable made) h = function_typedef_settles d i made h
+
+  -- ---- functions
+
+  again_gives : (defines : Bool) (k : Option ℕ) (f : FunctionType) → Has f → Holds Has (function_again s defines k f)
+  again_gives defines None f h = given Has f h
+  again_gives defines (Some k) f h = by (is_function_again f defines (slice_get s.functions.all k)) where
+    by : (b : Bool) → Holds {E = ℕ} Has (if b then Ok f else Err 2)
+    by true = given Has f h
+    by false = refused Has 2
+
+  function_gives_by : (defines : Bool) (own : Option Meaning) (k : Option ℕ) (before : Option Meaning) (f : FunctionType) → Has f → Holds Has (functions.function_made s defines own k before f)
+  function_gives_by defines None k before f h = again_gives defines k f h
+  function_gives_by defines (Some m) k before f h = by (is_own_built_in before && is_built_in_type m f && not defines) where
+    by : (b : Bool) → Holds {E = ℕ} Has (if b then Ok f else Err 2)
+    by true = given Has f h
+    by false = refused Has 2
+
+  pub function_gives : (defines : Bool) (name : List ℕ) (before : Option Meaning) (made : Result FunctionType ℕ) → Holds Has made → Holds Has (function_node s defines name before made)
+  function_gives defines name before (Err rule) h = by (is_some before || is_some (linked_to s.linked name) || is_some (linked_to s.functions.named name) || is_some (built_in_function name)) where
+    by : (b : Bool) → Holds {E = ℕ} Has (if b then Err 2 else Err rule)
+    by true = refused Has 2
+    by false = refused Has rule
+  function_gives defines name before (Ok f) h = by (is_some (linked_to s.linked name)) (is_some (built_in_function name) || is_own_function (linked_to s.functions.named name) before) where
+    by : (a b : Bool) → Holds {E = ℕ} Has (if a then Err 2 else (if b then functions.function_made s defines (built_in_function name) (linked_to s.functions.named name) before f else Err 2))
+    by true b = refused Has 2
+    by false true = function_gives_by defines (built_in_function name) (linked_to s.functions.named name) before f (h f refl)
+    by false false = refused Has 2
+
+  built_in_known : (t : Scoped) (m : Meaning) → is_built_in_function m ≡ true → is_known t m ≡ true
+  built_in_known t (Variable v) h = let none : ⊥ = cc in absurd none
+  built_in_known t (Object k) h = let none : ⊥ = cc in absurd none
+  built_in_known t Incomplete h = refl
+  built_in_known t Assert h = refl
+  built_in_known t Assume h = refl
+  built_in_known t (Draw u) h = refl
+  built_in_known t (Function f) h = refl
+  built_in_known t (Typedef n) h = let none : ⊥ = cc in absurd none
+  built_in_known t (Enumerator bits) h = refl
+  built_in_known t (Record p) h = let none : ⊥ = cc in absurd none
+  built_in_known t Enumeration h = refl
+
+  only_built_in : (o : Option Meaning) (m : Meaning) → built_in_only o ≡ Some m → is_built_in_function m ≡ true
+  only_built_in None m e = let none : ⊥ = cc in absurd none
+  only_built_in (Some n) m e = by (is_built_in_function n) refl e where
+    by : (b : Bool) → is_built_in_function n ≡ b → (if b then Some n else None) ≡ Some m → is_built_in_function m ≡ true
+    by true is h = let same : n ≡ m = cc in ap is_built_in_function (sym same) ∙ is
+    by false is h = let none : ⊥ = cc in absurd none
+
+  meaning_settles : (d : Full) (f : FunctionType) (o : Option Meaning) → built_in_only (built_in (name_of d)) ≡ o → Has f → SettlesIf H s (declared_or_built_in s d f o)
+  meaning_settles d f None e h =
+      let x = declared_callable s.functions d f false (linked_to s.functions.named (name_of d)) in
+      let t = record s { functions = x.1 } in
+      settles_on H s t (with_meaning t (name_of d) (Function x.0)) (declared_callable_settles H s d f false (linked_to s.functions.named (name_of d)) there h) (binding_settles t (name_of d) (Function x.0) refl)
+  meaning_settles d f (Some m) e h =
+      settles_where H (There s) s (with_meaning s (name_of d) m) there (binding_settles s (name_of d) m (built_in_known s m (only_built_in (built_in (name_of d)) m e)))
+
+  pub function_settled : (d : Full) (i : Option Initial) (made : Result FunctionType ℕ) → (H → Holds (Takes s.records.done) made) → Holds (SettlesIf H s) (typed_function r s d i made)
+  function_settled d i made h =
+      let node = function_node s false (name_of d) (earlier r s (name_of d)) made in
+      bind Has (SettlesIf H s) (on_line (full_line d) node) _ (on_same_line Has (full_line d) node (function_gives false (name_of d) (earlier r s (name_of d)) made (has_made made h))) (λ f takes.
+      let t = declared_or_built_in s d f (built_in_function (name_of d)) in
+      bind (λ (u : Unit {0}). Unit {0}) (SettlesIf H s) (no_initializer (full_line d) t i) _ (trivially _) (λ u _.
+      given (SettlesIf H s) t (meaning_settles d f (built_in_function (name_of d)) refl takes)))
+
+-- what the suffixes of a declarator say behind them
+pub suffixes_fine : (s : Scoped) (base : Named) (x : List Derived × Scoped) → SuffixesDone s x → There s → DerivationFine x.1.records.done (derivation x.1.functions x.1.records.done base x.0)
+suffixes_fine s base x f there = derivation_fine x.1.functions x.1.records.done base x.0 (f.settles.follows.there there).calls.types (f.fine there)
 
 pub typedefs_settle : (r : Region) (s : Scoped) (base : Named) (ds : Declarators) → Holds (Settles s) (typed_typedefs r s base ds)
 typedefs_settle r s base none_declared = given (Settles s) s (settles_refl s)
 typedefs_settle r s base (declarator d i rest) =
-    bind (Settles s) (Settles s) (typed_typedef r s base d i) _ (typed_typedef_settles r s base d i) (λ t f.
-    weaken (Settles t) (Settles s) (typed_typedefs r t base rest) (typedefs_settle r t base rest) (λ u g. settles_trans s t u f g))
+    bind (SuffixesDone s) (Settles s) (typed_full s d) _ (full_settles s d) (λ x f.
+    let made = derivation x.1.functions x.1.records.done base x.0 in
+    bind (SettlesIf (There s) x.1) (Settles s) (typedef_by r x.1 base d i made) _ (typedef_by_settles (There s) r x.1 f.settles.follows.there base d i made (suffixes_fine s base x f)) (λ t g.
+    weaken (Settles t) (Settles s) (typed_typedefs r t base rest) (typedefs_settle r t base rest) (λ u h. settles_trans s t u (settles_both (There s) s x.1 t f.settles g) h)))
+
+-- ---- objects
 
 -- an object is no smaller behind one more declarator of it
 again_larger : (done : List Completed) (o : Lasting) (x : CType × Bool) (defines : Bool) → lasting_size done o ≤ lasting_size done (declared_again o x defines)
@@ -271,15 +679,15 @@ declared_object_settles s has_linkage constant name None x defines line h =
     let t = added_object s has_linkage name o in
     settles_trans s t (with_object t name (length s.objects + 1)) (object_settles s o t.linked) (binding_settles t name (Object (length s.objects + 1)) (next_known s o))
 
-typed_object_settles : (r : Region) (is_extern : Bool) (s : Scoped) (base : Named) (d : Declared) (i : Option Initial) → Holds (Settles s) (typed_object r is_extern s base d i)
-typed_object_settles r is_extern s base d i =
+typed_object_settles : (r : Region) (is_extern : Bool) (s : Scoped) (base : Named) (d : Full) (i : Option Initial) (ls : List (Option ℕ)) → Holds (Settles s) (typed_object r is_extern s base d i ls)
+typed_object_settles r is_extern s base d i ls =
     let name = name_of d in
-    let line = declared_line d in
+    let line = full_line d in
     let linked = linked_object r is_extern s name in
     let defines = not is_extern || is_some i in
-    bind (λ (ls : List (Option ℕ)). Unit {0}) (Settles s) (lengths s d) _ (trivially _) (λ ls _.
-    let node = lasting_node s base.constant (earlier r s name) linked (lasting_type s.records.done base.type is_extern i ls) i in
-    bind (λ x. IsLinked s linked) (Settles s) (on_line line node) _ (on_same_line (λ x. IsLinked s linked) line node (node_linked s base.constant (earlier r s name) linked (lasting_type s.records.done base.type is_extern i ls) i)) (λ x there.
+    let node = lasting_node s base.constant (earlier_linked r is_extern s name) linked (lasting_type s.records.done base.type is_extern i ls) i in
+    bind (λ x. IsLinked s linked) (Settles s) (on_line line node) _
+    (on_same_line (λ x. IsLinked s linked) line node (node_linked s base.constant (earlier_linked r is_extern s name) linked (lasting_type s.records.done base.type is_extern i ls) i)) (λ x there.
     bind (λ (u : Unit {0}). Unit {0}) (Settles s) (may_define line r is_extern i) _ (trivially _) (λ u _.
     let y = declared_object s (r.is_file || is_extern) base.constant name linked (counted_by (is_some i && is_open ls) x (element_of x.0)) defines line in
     let z = changed_object y.1 y.0 (λ o. declared_again o x defines) in
@@ -287,13 +695,21 @@ typed_object_settles r is_extern s base d i =
     given (Settles s) (initialized_object z y.0 v)
     (settles_trans s y.1 (initialized_object z y.0 v)
     (declared_object_settles s (r.is_file || is_extern) base.constant name linked (counted_by (is_some i && is_open ls) x (element_of x.0)) defines line there)
-    (settles_trans y.1 z (initialized_object z y.0 v) (again_settles y.1 y.0 x defines) (initialized_settles z y.0 v)))))))
+    (settles_trans y.1 z (initialized_object z y.0 v) (again_settles y.1 y.0 x defines) (initialized_settles z y.0 v))))))
+
+object_by_settles : (H : Type 0) (r : Region) (is_extern : Bool) (s : Scoped) (there : H → There s) (base : Named) (d : Full) (i : Option Initial) (x : Derivation) → (H → DerivationFine s.records.done x)
+    → Holds (SettlesIf H s) (object_by r is_extern s base d i x)
+object_by_settles H r is_extern s there base d i (lengths ls) h =
+    weaken (Settles s) (SettlesIf H s) (typed_object r is_extern s base d i ls) (typed_object_settles r is_extern s base d i ls) (λ t f. settles_where H (There s) s t there f)
+object_by_settles H r is_extern s there base d i (callable made) h = function_settled H r s there d i made h
 
 objects_settle : (r : Region) (is_extern : Bool) (s : Scoped) (base : Named) (ds : Declarators) → Holds (Settles s) (typed_objects r is_extern s base ds)
 objects_settle r is_extern s base none_declared = given (Settles s) s (settles_refl s)
 objects_settle r is_extern s base (declarator d i rest) =
-    bind (Settles s) (Settles s) (typed_object r is_extern s base d i) _ (typed_object_settles r is_extern s base d i) (λ t f.
-    weaken (Settles t) (Settles s) (typed_objects r is_extern t base rest) (objects_settle r is_extern t base rest) (λ u g. settles_trans s t u f g))
+    bind (SuffixesDone s) (Settles s) (typed_full s d) _ (full_settles s d) (λ x f.
+    let made = derivation x.1.functions x.1.records.done base x.0 in
+    bind (SettlesIf (There s) x.1) (Settles s) (object_by r is_extern x.1 base d i made) _ (object_by_settles (There s) r is_extern x.1 f.settles.follows.there base d i made (suffixes_fine s base x f)) (λ t g.
+    weaken (Settles t) (Settles s) (typed_objects r is_extern t base rest) (objects_settle r is_extern t base rest) (λ u h. settles_trans s t u (settles_both (There s) s x.1 t f.settles g) h)))
 
 pub others_settle : (r : Region) (x : Specification) (role : Role) (ds : Declarators) → Holds (Settles x.scope) (typed_others r x role ds)
 others_settle r x roles.Typedef ds = typedefs_settle r x.scope x.type ds

@@ -1,5 +1,5 @@
 -- What a fault and a loop say of typings that are made step by step.
-use Rattle.std.proofs.Common.{◌≡◌, ◌<◌, ◌+◌, ℕ, List, ◌∷◌, length, get_or, drop, Result, Err, map, ap, sym, subst, ◌∙◌}
+use Rattle.std.proofs.Common.{◌≡◌, ◌<◌, ◌+◌, ℕ, List, ◌∷◌, length, get_or, drop, Result, Ok, Err, map, ap, sym, subst, ◌∙◌}
 use Rattle.std.specs.Prelude.{OnOk}
 use Rattle.std.proofs.lemmas.List.{drop_more}
 use Rattle.c_elab_expr.specs.declared.fault.TypingError.{TypingError}
@@ -28,3 +28,7 @@ no_promise {A} r e P p = subst (λ (x : Result A TypingError). OnOk x P) (sym p)
 -- a list from a place on
 pub list_at : {A B : Type 0} (f : A → B) (ds : List A) (i : ℕ) (d : A) → i < length ds → d ≡ get_or ds i d → map f (drop i ds) ≡ f d ∷ map f (drop (i + 1) ds)
 list_at f ds i d h e = ap (map f) (drop_more ds i d h) ∙ ap (λ x. f x ∷ map f (drop (i + 1) ds)) (sym e)
+
+pub on_ok_more : {A E : Type 0} (r : Result A E) (P Q : Type 0) → (P → Q) → OnOk r P → OnOk r Q
+on_ok_more (Ok x) P Q f h = f h
+on_ok_more (Err e) P Q f h = tt

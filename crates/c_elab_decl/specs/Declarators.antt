@@ -1,20 +1,21 @@
--- What declarators declare (C11 6.7.6, 6.7.8, 6.7.9), apart from members.
+-- What declarators of typedefs and objects declare (C11 6.7.6, 6.7.8, 6.7.9), apart from members: each in the scope behind its
+-- own suffixes, by what these say.
 use Rattle.std.specs.Prelude.{◌≡◌, ℕ, ◌+◌, ◌-◌, ◌==◌, ◌&&◌, ◌||◌, ◌++◌, Bool, true, false, not, List, [], ◌∷◌, length, slice_get, slice_set, Option, Some, None, is_some, Result, Ok, Err, if◌then◌else◌}
-use Rattle.c_tree.specs.Tree.{Declared}
-use Rattle.c_tree.specs.Declarations.{Initial, Declarators, none_declared, declarator, name_of}
+use Rattle.c_tree.specs.Declarations.{Initial, Full, name_of}
 use Rattle.c_types.specs.Integers.{same_integer}
 use Rattle.c_types.specs.Types.{CType, void, integer, aggregate, array, Completed}
 use Rattle.c_types.specs.Layouts.{is_complete}
 use Rattle.core_tree.specs.Trees as cores
 use Rattle.core_tree.specs.Typed.{names_variable, structure_names}
 use Rattle.c_elab_expr.specs.declared.meaning.Meaning.{Meaning}
-use Rattle.c_elab_expr.specs.declared.meaning.Meaning.TheVariants.{Variable, Object, Function, Typedef}
-use Rattle.c_elab_expr.specs.Scopes.{binding, Named, Lasting, Scoped, object_at, linked_to}
+use Rattle.c_elab_expr.specs.declared.meaning.Meaning.TheVariants.{Variable, Object, Incomplete, Function, Typedef}
+use Rattle.c_elab_expr.specs.Scopes.{binding, Named, FunctionType, Lasting, Scoped, object_at, linked_to, function_number, function_numbered}
 use Rattle.c_elab_expr.specs.Nodes.{◌>>=◌}
-use Rattle.c_elab_expr.specs.Types.{array_of, declared_line, type_size}
-use Rattle.c_elab_expr.specs.Typing.{Fault, fault, on_line, lengths}
+use Rattle.c_elab_expr.specs.Types.{array_of, type_size}
+use Rattle.c_elab_expr.specs.Typing.{Fault, fault, on_line}
 use Rattle.c_elab_decl.specs.declared.regions.Region.{Region}
 use Rattle.c_elab_decl.specs.Regions.{earlier}
+use Rattle.c_elab_decl.specs.Derivations.{full_line, type_numbered}
 use Rattle.c_elab_decl.specs.Initializers.{Value, number_value, structure_value, bytes_said, initializer_of, no_initializer, elements_said}
 
 -- ---- typedefs (C11 6.7.8)
@@ -50,23 +51,59 @@ typedef_node types k (Some m) (Err rule) = Err 2
 abbrev pub with_typedef : Scoped → List ℕ → Named → Scoped
 with_typedef s name n = record s { bindings = binding name (Typedef (length s.types)) ∷ s.bindings; types = s.types ++ n ∷ [] }
 
-abbrev pub typedef_type : Region → Scoped → Named → Declared → Result Named Fault
-typedef_type r s base d = do
-  ls ← lengths s d
-  on_line (declared_line d) (typedef_node s.types base.constant (earlier r s (name_of d)) (array_of s.records.done base.type ls))
-
--- the name's scope begins with its declarator (C11 6.2.1p7)
-abbrev pub typed_typedef : Region → Scoped → Named → Declared → Option Initial → Result Scoped Fault
-typed_typedef r s base d i = do
-  n ← typedef_type r s base d
-  none ← no_initializer (declared_line d) (with_typedef s (name_of d) n) i
+-- its name's scope begins with its declarator (C11 6.2.1p7)
+abbrev pub typed_typedef : Region → Scoped → Named → Full → Option Initial → List (Option ℕ) → Result Scoped Fault
+typed_typedef r s base d i ls = do
+  n ← on_line (full_line d) (typedef_node s.types base.constant (earlier r s (name_of d)) (array_of s.records.done base.type ls))
+  none ← no_initializer (full_line d) (with_typedef s (name_of d) n) i
   Ok (with_typedef s (name_of d) n)
 
-abbrev pub typed_typedefs : Region → Scoped → Named → Declarators → Result Scoped Fault
-typed_typedefs r s base none_declared = Ok s
-typed_typedefs r s base (declarator d i rest) = do
-  t ← typed_typedef r s base d i
-  typed_typedefs r t base rest
+-- ---- typedefs of function types
+
+-- the same parameters, up to qualifiers
+abbrev pub same_types : List CType → List CType → Bool
+same_types [] [] = true
+same_types [] (u ∷ us) = false
+same_types (t ∷ ts) [] = false
+same_types (t ∷ ts) (u ∷ us) = same_ctype t u && same_types ts us
+
+-- one function type (C11 6.7.6.3p15)
+abbrev pub same_function : FunctionType → FunctionType → Bool
+same_function f g =
+    same_flag f.gives.constant g.gives.constant && same_ctype f.gives.type g.gives.type && same_flag f.ellipsis g.ellipsis && same_types f.parameters g.parameters
+
+abbrev pub is_function_type : FunctionType → Option FunctionType → Bool
+is_function_type f None = false
+is_function_type f (Some g) = same_function f g
+
+-- the type that a number of a typedef has, if it is a function's
+abbrev pub function_named : Scoped → Option Named → Option FunctionType
+function_named s None = None
+function_named s (Some n) = type_numbered s.functions (function_number n.type)
+
+-- a typedef of this function type
+abbrev pub is_typedef_of_function : Scoped → FunctionType → Meaning → Bool
+is_typedef_of_function s f (Typedef k) = is_function_type f (function_named s (slice_get s.types k))
+is_typedef_of_function s f _ = false
+
+-- rule 2: a scope may name a function type again, but the same
+abbrev pub function_typedef_node : Scoped → Option Meaning → Result FunctionType ℕ → Result FunctionType ℕ
+function_typedef_node s None made = made
+function_typedef_node s (Some m) (Ok f) = if is_typedef_of_function s f m then Ok f else Err 2
+function_typedef_node s (Some m) (Err rule) = Err 2
+
+-- one more function type, and a name of it
+abbrev pub with_function_type : Scoped → FunctionType → Scoped
+with_function_type s f = record s { functions = record s.functions { types = s.functions.types ++ f ∷ [] } }
+
+abbrev pub with_function_typedef : Scoped → List ℕ → FunctionType → Scoped
+with_function_typedef s name f = with_typedef (with_function_type s f) name (record { type = function_numbered (length s.functions.types); constant = false })
+
+abbrev pub typed_function_typedef : Region → Scoped → Full → Option Initial → Result FunctionType ℕ → Result Scoped Fault
+typed_function_typedef r s d i made = do
+  f ← on_line (full_line d) (function_typedef_node s (earlier r s (name_of d)) made)
+  none ← no_initializer (full_line d) (with_function_typedef s (name_of d) f) i
+  Ok (with_function_typedef s (name_of d) f)
 
 -- ---- lengths and sizes
 
@@ -207,25 +244,26 @@ abbrev pub element_of : CType → CType
 element_of (array e n) = e
 element_of t = t
 
+-- rule 2: a name with linkage means an object or a function in the whole file
+abbrev pub function_or : Option ℕ → Option Meaning → Option Meaning
+function_or None m = m
+function_or (Some f) m = Some (Function f)
+
+abbrev pub earlier_linked : Region → Bool → Scoped → List ℕ → Option Meaning
+earlier_linked r is_extern s name = if r.is_file || is_extern then function_or (linked_to s.functions.named name) (earlier r s name) else earlier r s name
+
 -- its initializer, typed where its name is declared, and what is known of it behind that
 abbrev pub with_initializer : ℕ → CType × Bool → Bool → Option Initial → ℕ × Scoped → Result Scoped Fault
 with_initializer line x defines i within = do
   v ← initializer_of true line within.1 x.0 i
   Ok (initialized_object (changed_object within.1 within.0 (λ o. declared_again o x defines)) within.0 v)
 
-abbrev pub typed_object : Region → Bool → Scoped → Named → Declared → Option Initial → Result Scoped Fault
-typed_object r is_extern s base d i = do
-  ls ← lengths s d
-  x ← on_line (declared_line d) (lasting_node s base.constant (earlier r s (name_of d)) (linked_object r is_extern s (name_of d)) (lasting_type s.records.done base.type is_extern i ls) i)
-  may ← may_define (declared_line d) r is_extern i
-  with_initializer (declared_line d) x (not is_extern || is_some i) i
-      (declared_object s (r.is_file || is_extern) base.constant (name_of d) (linked_object r is_extern s (name_of d)) (counted_by (is_some i && is_open ls) x (element_of x.0)) (not is_extern || is_some i) (declared_line d))
-
-abbrev pub typed_objects : Region → Bool → Scoped → Named → Declarators → Result Scoped Fault
-typed_objects r is_extern s base none_declared = Ok s
-typed_objects r is_extern s base (declarator d i rest) = do
-  t ← typed_object r is_extern s base d i
-  typed_objects r is_extern t base rest
+abbrev pub typed_object : Region → Bool → Scoped → Named → Full → Option Initial → List (Option ℕ) → Result Scoped Fault
+typed_object r is_extern s base d i ls = do
+  x ← on_line (full_line d) (lasting_node s base.constant (earlier_linked r is_extern s (name_of d)) (linked_object r is_extern s (name_of d)) (lasting_type s.records.done base.type is_extern i ls) i)
+  may ← may_define (full_line d) r is_extern i
+  with_initializer (full_line d) x (not is_extern || is_some i) i
+      (declared_object s (r.is_file || is_extern) base.constant (name_of d) (linked_object r is_extern s (name_of d)) (counted_by (is_some i && is_open ls) x (element_of x.0)) (not is_extern || is_some i) (full_line d))
 
 -- ---- variables of a function
 
@@ -234,28 +272,29 @@ abbrev pub variable_node : List Completed → Option Meaning → Result CType �
 variable_node done (Some m) made = Err 2
 variable_node done None made = made >>= sized_type done
 
--- the type of a variable, and whether its initializer says how many elements it has
-abbrev pub variable_type : Region → Scoped → CType → Declared → Option Initial → Result (CType × Bool) Fault
-variable_type r s base d i = do
-  ls ← lengths s d
-  t ← on_line (declared_line d) (variable_node s.records.done (earlier r s (name_of d)) (array_of s.records.done base (given_lengths i ls)))
-  Ok (t, is_open ls)
+-- the type of a variable
+abbrev pub variable_type : Region → Scoped → CType → Full → Option Initial → List (Option ℕ) → Result CType Fault
+variable_type r s base d i ls =
+    on_line (full_line d) (variable_node s.records.done (earlier r s (name_of d)) (array_of s.records.done base (given_lengths i ls)))
 
 -- a name that means a variable, the next of the function
 abbrev pub with_variable : Scoped → List ℕ → Named → Scoped
 with_variable s name n = record s { bindings = binding name (Variable (length s.variables)) ∷ s.bindings; variables = s.variables ++ n ∷ [] }
 
 -- A name's scope begins with its declarator, so that its initializer may name it (C11 6.2.1p7). An array whose length the
--- initializer says is incomplete within it, and its name means no object there.
+-- initializer says is incomplete within it.
+abbrev pub with_incomplete : Scoped → List ℕ → Scoped
+with_incomplete s name = record s { bindings = binding name Incomplete ∷ s.bindings }
+
 abbrev pub within_initializer : Bool → Scoped → List ℕ → Named → Scoped
 within_initializer false s name n = with_variable s name n
-within_initializer true s name n = record s { bindings = binding name Function ∷ s.bindings }
+within_initializer true s name n = with_incomplete s name
 
--- a declared variable in front of what stands behind it
-abbrev pub declared_item : ℕ → ℕ → Option Value → cores.Items → cores.Items
-declared_item line variable None rest = cores.declares line variable rest
-declared_item line variable (Some (number_value x)) rest = cores.initializes line variable (names_variable variable x) x rest
-declared_item line variable (Some (structure_value a)) rest = cores.initializes_structure line variable (structure_names variable a) a rest
+-- A declared variable in front of what stands behind it. Its first bytes are drawn also where a jump passes over its initializer.
+abbrev pub declared_item : ℕ → ℕ → Bool → Option Value → cores.Items → cores.Items
+declared_item line variable passed None rest = cores.declares line variable rest
+declared_item line variable passed (Some (number_value x)) rest = cores.initializes line variable (passed || names_variable variable x) x rest
+declared_item line variable passed (Some (structure_value a)) rest = cores.initializes_structure line variable (passed || structure_names variable a) a rest
 
 -- typed items, and the scope behind them
 abbrev pub Typed : Type 0
@@ -268,14 +307,9 @@ in_front item behind = behind >>= λ y. Ok (item y.0, y.1)
 abbrev pub of_type : Named → CType → Named
 of_type base t = record { type = t; constant = base.constant }
 
--- a variable, and then what stands behind it
-abbrev pub typed_variable : Region → Scoped → Named → Declared → Option Initial → (Scoped → Typed) → Typed
-typed_variable r s base d i behind = do
-  t ← variable_type r s base.type d i
-  x ← initializer_of false (declared_line d) (within_initializer t.1 s (name_of d) (of_type base t.0)) t.0 i
-  in_front (declared_item (declared_line d) (length s.variables) x) (behind (with_variable s (name_of d) (of_type base t.0)))
-
--- declarators from left to right, and then what stands behind them
-abbrev pub typed_variables : Region → Scoped → Named → Declarators → (Scoped → Typed) → Typed
-typed_variables r s base none_declared behind = behind s
-typed_variables r s base (declarator d i rest) behind = typed_variable r s base d i (λ t. typed_variables r t base rest behind)
+-- a variable, whose initializer a jump passes over or not, and then what stands behind it
+abbrev pub typed_variable : Region → Scoped → Named → Full → Option Initial → List (Option ℕ) → Bool → (Scoped → Typed) → Typed
+typed_variable r s base d i ls passed behind = do
+  t ← variable_type r s base.type d i ls
+  x ← initializer_of false (full_line d) (within_initializer (is_open ls) s (name_of d) (of_type base t)) t i
+  in_front (declared_item (full_line d) (length s.variables) passed x) (behind (with_variable s (name_of d) (of_type base t)))

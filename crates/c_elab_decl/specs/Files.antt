@@ -1,19 +1,24 @@
 -- The functions of a file, or the first broken rule (C11 6.9).
-use Rattle.std.specs.Prelude.{ℕ, true, List, [], ◌∷◌, map, codes, Option, Some, None, Result, Ok, Err, if◌then◌else◌}
-use Rattle.c_tree.specs.Declarations.{Parts, Declarators}
-use Rattle.c_tree.specs.Statements.{Externals, no_more, declared, defines}
-use Rattle.c_types.specs.Types.{Completed}
+use Rattle.std.specs.Prelude.{ℕ, ◌+◌, ◌-◌, ◌++◌, ◌&&◌, Bool, true, false, List, [], ◌∷◌, length, take, map, slice_get, slice_set, Option, Some, None, Result, Ok, Err, if◌then◌else◌}
+use Rattle.c_tree.specs.Declarations.{Parts, Full, full_unnamed, full_named, full_inside, FullSuffixes, full_end, full_bounded, full_open, full_empty, full_void, full_parameters, Parameters, no_parameter, Declarators, name_of, parts_line}
+use Rattle.c_tree.specs.Statements.{Statement, block, Externals, no_more, declared, defines}
+use Rattle.c_types.specs.Types.{CType, Completed}
 use Rattle.core_tree.specs.Trees.{Procedure, Static, TypedFile}
 use Rattle.core_tree.specs.Trees as cores
 use Rattle.c_elab_expr.specs.declared.meaning.Meaning.{Meaning}
 use Rattle.c_elab_expr.specs.declared.meaning.Meaning.TheVariants.{Function}
-use Rattle.c_elab_expr.specs.Scopes.{binding, Lasting, Scoped, first_scope, sizes, lasting_size}
+use Rattle.c_elab_expr.specs.Scopes.{Environment, binding, Named, FunctionType, Lasting, Callable, Scoped, first_scope, no_flow, with_defined, sizes, lasting_size, passed_as, given_by, linked_to}
 use Rattle.c_elab_expr.specs.Nodes.{◌>>=◌}
+use Rattle.c_elab_expr.specs.Types.{nothing_said, specified_type}
 use Rattle.c_elab_expr.specs.Typing.{Fault, on_line}
 use Rattle.c_elab_decl.specs.declared.regions.Region.{Region}
 use Rattle.c_elab_decl.specs.Regions.{earlier}
-use Rattle.c_elab_decl.specs.Specifiers.{typed_specifiers}
-use Rattle.c_elab_decl.specs.Statements.{typed_others, typed_statement}
+use Rattle.c_elab_decl.specs.Derivations.{Parameter, Derived, called, Derivation, lengths, callable, derivation, full_line}
+use Rattle.c_elab_decl.specs.Functions.{function_node, definition_node, declared_callable}
+use Rattle.c_elab_decl.specs.Specifiers.{parted, named_parts, inner_region, are_several, Passed, typed_parts, typed_full, typed_parameters, typed_specifiers}
+use Rattle.c_elab_decl.specs.Listed.{typed_others}
+use Rattle.c_elab_decl.specs.Jumps.{labels_in}
+use Rattle.c_elab_decl.specs.Statements.{Around, TypedStatement, typed_items}
 
 -- outside of functions
 abbrev pub in_file : Region
@@ -25,34 +30,139 @@ typed_outside s parts ds = do
   x ← typed_specifiers in_file s parts ds
   typed_others in_file x x.role ds
 
--- rule 2: no other declaration of the name stands outside of functions
-abbrev pub function_node : Option Meaning → Result (Unit {0}) ℕ
-function_node (Some m) = Err 2
-function_node None = Ok tt
+-- ---- definitions of functions (C11 6.9.1)
 
--- a name that means a function that the file defines
-abbrev pub with_function : Scoped → List ℕ → Scoped
-with_function s name = record s { bindings = binding name Function ∷ s.bindings }
+-- the parameters of a declarator, where its one suffix is a function's
+abbrev pub one_function : FullSuffixes → Option (Parameters × Bool)
+one_function full_end = None
+one_function (full_bounded line e rest) = None
+one_function (full_open line rest) = None
+one_function (full_empty line full_end) = Some (no_parameter, false)
+one_function (full_void line full_end) = Some (no_parameter, false)
+one_function (full_parameters line ps variadic full_end) = Some (ps, variadic)
+one_function _ = None
 
--- a function with variables of these sizes, of the name `main`
-abbrev pub main : ℕ → List ℕ → cores.Statement → Procedure
-main l vs b = record { name = codes "main"; line = l; variables = vs; body = b }
+abbrev pub no_suffixes : FullSuffixes → Bool
+no_suffixes full_end = true
+no_suffixes (full_bounded line e rest) = false
+no_suffixes (full_open line rest) = false
+no_suffixes (full_empty line rest) = false
+no_suffixes (full_void line rest) = false
+no_suffixes (full_parameters line ps variadic rest) = false
 
--- the variables of a function end with it
-abbrev pub outside : Scoped → Scoped
-outside s = record s { variables = [] }
+abbrev pub is_name_alone : Full → Bool
+is_name_alone (full_unnamed suffixes) = false
+is_name_alone (full_named line n suffixes) = no_suffixes suffixes
+is_name_alone (full_inside line d suffixes) = is_name_alone d && no_suffixes suffixes
 
--- what stands in a file, in a scope outside of functions: its functions, and the scope behind it
-abbrev pub typed_externals : Scoped → Externals → Result (List Procedure × Scoped) Fault
+abbrev pub own_parameters : Full → Option (Parameters × Bool)
+own_parameters (full_unnamed suffixes) = None
+own_parameters (full_named line n suffixes) = one_function suffixes
+own_parameters (full_inside line d suffixes) = if no_suffixes suffixes then own_parameters d else (if is_name_alone d then one_function suffixes else None)
+
+-- the function type, or the rule that its declarator breaks
+abbrev pub made_by : Derivation → Result FunctionType ℕ
+made_by (lengths ls) = Err 6
+made_by (callable made) = made
+
+-- its parameters, whose names are in scope
+abbrev pub own_suffixes : Scoped → Full → Option (Parameters × Bool) → Result (List Derived × Passed) Fault
+own_suffixes s d None = do
+  x ← typed_full s d
+  Ok (x.0, record { parameters = []; scope = x.1 })
+own_suffixes s d (Some own) = do
+  p ← typed_parameters (inner_region s) (are_several own.0) (record { parameters = []; scope = s }) own.0
+  Ok (called p.parameters own.1 ∷ [], p)
+
+-- rule 2: the scope outside of the parameters has no other thing of that name
+abbrev pub definition_type : Scoped → Named → Full → List Derived → Passed → Result FunctionType ℕ
+definition_type outer base d ds p = do
+  f ← function_node (record p.scope { bindings = outer.bindings }) true (name_of d) (earlier in_file outer (name_of d)) (made_by (derivation p.scope.functions p.scope.records.done base ds))
+  definition_node p.scope.records.done p.parameters f
+
+-- The names of parameters, in front of the function's name, which is declared behind its declarator (C11 6.2.1p7). What the
+-- function gives is known, and no loop, label and switch so far.
+abbrev pub names_within : Scoped → Scoped → Environment
+names_within outer s = take (length s.bindings - length outer.bindings) s.bindings
+
+abbrev pub within_body : Scoped → Scoped → Full → FunctionType → Scoped
+within_body outer s d f =
+    let x = declared_callable s.functions d f true (linked_to s.functions.named (name_of d)) in
+    record s {
+      bindings = names_within outer s ++ binding (name_of d) (Function x.0) ∷ outer.bindings;
+      functions = x.1;
+      flow = record { gives = f.gives.type; loops = 0; labels = 0; switch = None };
+    }
+
+-- the function of the name that is declared last
+abbrev pub own_number : Option ℕ → ℕ
+own_number None = 0
+own_number (Some k) = k
+
+-- A body: its block's items stand in the scope of the parameters (C11 6.2.1p4).
+abbrev pub typed_body_of : (outer : ℕ) → Scoped → Statement → TypedStatement
+typed_body_of outer s (block line is) = do
+  x ← typed_items (record { labels = labels_in (block line is); breaks = false; continues = false }) false outer [] s is
+  Ok (cores.block x.0, x.1)
+typed_body_of outer s _ = Ok (cores.block cores.done, s)
+
+-- a defined function: its number, the sizes of its variables, and its body
+pub record Definition : Type 0 where
+  pub number : ℕ
+  pub variables : List ℕ
+  pub body : cores.Statement
+
+-- names and variables of a function end with it, but for its own
+abbrev pub outside : Scoped → Scoped → List ℕ → Scoped
+outside outer s name = record s { bindings = binding name (Function (own_number (linked_to s.functions.named name))) ∷ outer.bindings; variables = []; flow = no_flow }
+
+abbrev pub typed_definition : Scoped → Parts → Full → Statement → Result (Definition × Scoped) Fault
+typed_definition s parts d body = do
+  x ← named_parts parts (typed_parts in_file false (parted [] s) parts)
+  p ← own_suffixes x.1 d (own_parameters d)
+  f ← on_line (full_line d) (definition_type x.1 x.0 d p.0 p.1)
+  y ← typed_body_of (length x.1.bindings + 1) (within_body x.1 p.1.scope d f) body
+  Ok (record { number = own_number (linked_to y.1.functions.named (name_of d)); variables = sizes y.1; body = y.0 }, outside x.1 y.1 (name_of d))
+
+-- ---- files
+
+-- what stands in a file, in a scope outside of functions: its definitions, and the scope behind it
+abbrev pub typed_externals : Scoped → Externals → Result (List Definition × Scoped) Fault
 typed_externals s no_more = Ok ([], s)
 typed_externals s (declared parts ds rest) = do
   t ← typed_outside s parts ds
   typed_externals t rest
-typed_externals s (defines line name_line body rest) = do
-  new ← on_line name_line (function_node (earlier in_file s (codes "main")))
-  x ← typed_statement (with_function s (codes "main")) body
-  y ← typed_externals (outside x.1) rest
-  Ok (main name_line (sizes x.1) x.0 ∷ y.0, y.1)
+typed_externals s (defines parts d body rest) = do
+  x ← typed_definition s parts d body
+  y ← typed_externals x.1 rest
+  Ok (x.0 ∷ y.0, y.1)
+
+-- the names of the functions that the file defines
+abbrev pub with_definitions : Scoped → Externals → Scoped
+with_definitions s no_more = s
+with_definitions s (declared parts ds rest) = with_definitions s rest
+with_definitions s (defines parts d body rest) = with_definitions (record s { functions = with_defined s.functions (name_of d) }) rest
+
+-- a function as it is called
+abbrev pub procedure_of : List Completed → Callable → Procedure
+procedure_of done f = record {
+  name = f.name;
+  line = f.line;
+  gives = given_by done f.type.gives.type;
+  parameters = map (passed_as done) f.type.parameters;
+  ellipsis = f.ellipsis;
+  variables = [];
+  body = None;
+}
+
+-- and with its body
+abbrev pub with_body : List Procedure → Definition → Option Procedure → List Procedure
+with_body fs x None = fs
+with_body fs x (Some f) = slice_set fs x.number (record f { variables = x.variables; body = Some x.body })
+
+abbrev pub with_bodies : List Procedure → List Definition → List Procedure
+with_bodies fs [] = fs
+with_bodies fs (x ∷ xs) = with_bodies (with_body fs x (slice_get fs x.number)) xs
 
 abbrev pub first_said : Option (List ℕ) → List ℕ
 first_said None = []
@@ -70,5 +180,8 @@ static_of done o = record {
 -- the functions and the objects of a file
 abbrev pub elaborated : Externals → Result TypedFile Fault
 elaborated file = do
-  x ← typed_externals first_scope file
-  Ok (record { functions = x.0; objects = map (static_of x.1.records.done) x.1.objects })
+  x ← typed_externals (with_definitions first_scope file) file
+  Ok (record {
+    functions = with_bodies (map (procedure_of x.1.records.done) x.1.functions.all) x.0;
+    objects = map (static_of x.1.records.done) x.1.objects;
+  })

@@ -12,7 +12,7 @@ use Rattle.core_tree.specs.declared.expression.CorePart.{CorePart}
 use Rattle.c_types.specs.Integers.{bytes}
 use Rattle.c_values.specs.Numbers.{TypedNumber}
 use Rattle.c_values.specs.Variables.{low_bytes, put_at, zeros}
-use Rattle.core_tree.specs.Trees.{Expression, view, Structure, view_structure, copy, load, choose, put, store, follow, section, list, string, Parts, no_part, number_part, structure_part, parts_of}
+use Rattle.core_tree.specs.Trees.{Expression, view, Structure, view_structure, copy, load, choose, put, store, follow, section, list, string, give, Parts, no_part, number_part, structure_part, parts_of}
 use Rattle.c_elab_expr.specs.Members.{member_in}
 use Rattle.c_elab_expr.specs.Scopes.{Scoped}
 use Rattle.c_elab_expr.specs.Nodes.{◌>>=◌, required, as_type}
@@ -244,6 +244,7 @@ abbrev mutual
   structure_bytes (section line offset size a) = []
   structure_bytes (list line size ps) = parts_bytes ps []
   structure_bytes (string line size said) = said
+  structure_bytes (give line f used size args) = []
 
   -- of parts, over the bytes so far
   pub parts_bytes : Parts → List ℕ → List ℕ

@@ -1,10 +1,15 @@
 pub mod Names
 pub mod Regions
+pub mod Derivations
 pub mod Initializers
 pub mod Enumerations
 pub mod Declarators
+pub mod Functions
 pub mod Tags
 pub mod Specifiers
+pub mod Listed
+pub mod Jumps
+pub mod Lookahead
 pub mod Statements
 pub mod Files
 pub mod Steps

@@ -1,11 +1,11 @@
--- Specifiers, and the members and enumerators in them (C11 6.7, 6.7.2.1).
-use Rattle.std.specs.Prelude.{ℕ, ◌++◌, ◌||◌, ◌&&◌, Bool, true, false, List, [], ◌∷◌, Option, Some, None, Result, Ok, Err, if◌then◌else◌}
+-- Specifiers, the members and enumerators in them, and declarators with the parameters in them (C11 6.7, 6.7.2.1, 6.7.6).
+use Rattle.std.specs.Prelude.{ℕ, ◌++◌, ◌||◌, ◌&&◌, Bool, true, false, List, [], ◌∷◌, length, not, is_some, Option, Some, None, Result, Ok, Err, if◌then◌else◌}
 use Rattle.c_tree.specs.declared.declaration.StorageClass.{StorageClass}
 use Rattle.c_tree.specs.declared.declaration.StorageClass.TheVariants as storage_classes
 use Rattle.c_tree.specs.declared.specifier.TagKind.{TagKind}
 use Rattle.c_tree.specs.declared.declaration.RecordKind.{RecordKind as TreeKind}
-use Rattle.c_tree.specs.Tree.{TypePart, qualified, word, tagged, typedef_name, Declared}
-use Rattle.c_tree.specs.Declarations.{Enumerated, Part, type_part, storage, function, structure, enumeration, Parts, no_part, part, Members, no_member, members, Declarators, none_declared, declarator, name_of}
+use Rattle.c_tree.specs.Tree.{Tree, first_line, TypePart, qualified, word, tagged, typedef_name}
+use Rattle.c_tree.specs.Declarations.{Enumerated, Part, type_part, storage, function, structure, enumeration, Parts, no_part, part, Members, no_member, members, Full, full_unnamed, full_named, full_inside, Fulls, no_full, full, FullSuffixes, full_end, full_bounded, full_open, full_empty, full_void, full_parameters, Parameters, no_parameter, parameter, Declarators, none_declared, declarator, name_of, full_has_name, parts_line}
 use Rattle.c_types.specs.declared.types.RecordKind.{RecordKind}
 use Rattle.c_types.specs.Types.{CType, Completed}
 use Rattle.c_elab_expr.specs.declared.members.Field.{Field as CodeField}
@@ -13,30 +13,18 @@ use Rattle.c_elab_expr.specs.Members.{Field, view_fields}
 use Rattle.c_elab_expr.specs.Scopes.{Named, Scoped, view_named}
 use Rattle.c_elab_expr.specs.Nodes.{◌>>=◌}
 use Rattle.c_elab_expr.specs.declared.specifying.Specified.{Specified}
-use Rattle.c_elab_expr.specs.Types.{Said, view_said, nothing_said, with_storage, with_type, with_part, specified_type, array_of, declared_line}
-use Rattle.c_elab_expr.specs.Types as names
-use Rattle.c_elab_expr.specs.Typing.{Fault, on_line, lengths}
+use Rattle.c_elab_expr.specs.Types.{Said, view_said, nothing_said, with_storage, with_type, with_part, specified_type, array_of}
+use Rattle.c_elab_expr.specs.Typing.{Fault, on_line, bare_line, bound, operand}
 use Rattle.c_elab_decl.specs.declared.regions.Region.{Region}
 use Rattle.c_elab_decl.specs.declared.regions.Role.{Role}
 use Rattle.c_elab_decl.specs.declared.specifying.Base.{Base}
 use Rattle.c_elab_decl.specs.declared.regions.Role.TheVariants as roles
-use Rattle.c_elab_decl.specs.Regions.{earlier_tag}
+use Rattle.c_elab_decl.specs.Regions.{earlier, earlier_tag}
 use Rattle.c_elab_decl.specs.Names.{among, with_name}
-use Rattle.c_elab_decl.specs.Declarators.{complete_type}
+use Rattle.c_elab_decl.specs.Derivations.{Parameter, Derived, counted, called, Derivation, lengths, callable, derivation, full_line, parameter_line, is_void}
+use Rattle.c_elab_decl.specs.Declarators.{complete_type, sized_type, with_variable}
 use Rattle.c_elab_decl.specs.Enumerations.{typed_enumerators}
 use Rattle.c_elab_decl.specs.Tags.{kind_of, tag_named, forward_tag, Opened, opened, reopened, closed, enumeration_closed}
-
--- the line of the first token
-abbrev pub part_line : Part → ℕ
-part_line (type_part p) = names.part_line p
-part_line (storage line class) = line
-part_line (function line w) = line
-part_line (structure line kind tag ms) = line
-part_line (enumeration line tag es) = line
-
-abbrev pub parts_line : Parts → ℕ
-parts_line no_part = 0
-parts_line (part first rest) = part_line first
 
 -- ---- members
 
@@ -54,21 +42,21 @@ abbrev pub member_node : List Completed → Bool → Result CType ℕ → Result
 member_node done true made = Err 2
 member_node done false made = made >>= complete_type done
 
-abbrev pub member_type : CType → List (List ℕ) → Scoped → Declared → Result CType Fault
-member_type base names s d = do
-  ls ← lengths s d
-  on_line (declared_line d) (member_node s.records.done (among names (name_of d)) (array_of s.records.done base ls))
+-- rule 3: a member is no function
+abbrev pub member_made : List Completed → CType → Derivation → Result CType ℕ
+member_made done base (lengths ls) = array_of done base ls
+member_made done base (callable (Ok f)) = Err 3
+member_made done base (callable (Err rule)) = Err rule
 
-abbrev pub typed_member : Named → Fields → Declared → Result Fields Fault
-typed_member base f d = do
-  t ← member_type base.type f.names f.scope d
+abbrev pub member_type : Named → List (List ℕ) → Scoped → Full → List Derived → Result CType Fault
+member_type base names s d ds =
+    on_line (full_line d) (member_node s.records.done (among names (name_of d)) (member_made s.records.done base.type (derivation s.functions s.records.done base ds)))
+
+-- a member, in the scope behind its declarator, whose suffixes say this
+abbrev pub with_member : Named → Fields → Full → List Derived → Result Fields Fault
+with_member base f d ds = do
+  t ← member_type base f.names f.scope d ds
   Ok (with_field (record f { names = with_name f.names (name_of d) }) (Some (name_of d)) (record { type = t; constant = base.constant }))
-
-abbrev pub typed_fields : Named → Fields → List Declared → Result Fields Fault
-typed_fields base f [] = Ok f
-typed_fields base f (d ∷ ds) = do
-  g ← typed_member base f d
-  typed_fields base g ds
 
 -- a struct or union without a tag
 abbrev pub is_untagged : Part → Bool
@@ -83,9 +71,9 @@ abbrev pub has_untagged : Parts → Bool
 has_untagged no_part = false
 has_untagged (part first rest) = is_untagged first || has_untagged rest
 
-abbrev pub is_none : List Declared → Bool
-is_none [] = true
-is_none (d ∷ ds) = false
+abbrev pub is_none : Fulls → Bool
+is_none no_full = true
+is_none (full d ds) = false
 
 -- Without a declarator a struct or union that has no tag is an anonymous member (C11 6.7.2.1p13), and nothing else declares one.
 abbrev pub with_anonymous : Bool → Named → Fields → Fields
@@ -145,16 +133,96 @@ abbrev pub said_before : Fields → Parted
 said_before f = record { said = nothing_said; names = f.names; scope = f.scope }
 
 -- behind them, with the type that they say
-abbrev pub fields_behind : Fields → Parts → List Declared → Parted → Named → Fields
+abbrev pub fields_behind : Fields → Parts → Fulls → Parted → Named → Fields
 fields_behind f parts ds p n = with_anonymous (is_none ds && has_untagged parts) n (record { fields = f.fields; names = p.names; scope = p.scope })
 
-abbrev pub typed_line : Fields → Parts → List Declared → Result Parted Fault → Result Fields Fault
-typed_line f parts ds specifiers = do
+-- ---- parameters
+
+-- what a declarator's suffixes say, and the scope behind them
+abbrev pub Derivations : Type 0
+Derivations = Result (List Derived × Scoped) Fault
+
+-- parameters so far, and the scope
+pub record Passed : Type 0 where
+  pub parameters : List Parameter
+  pub scope : Scoped
+
+-- A parameter has a complete type (rule 3), and is no array and no function so far (rule 7). Void alone is none, and that among
+-- several is one of their function's faults.
+abbrev pub plain_parameter : List Completed → Bool → CType → Result CType ℕ
+plain_parameter done several t = if is_void t && several then Ok t else sized_type done t
+
+abbrev pub array_parameter : List Completed → CType → List (Option ℕ) → Result CType ℕ
+array_parameter done base [] = Err 7
+array_parameter done base (None ∷ ns) = do
+  t ← array_of done base ns
+  u ← complete_type done t
+  Err 7
+array_parameter done base (Some n ∷ ns) = do
+  t ← array_of done base (Some n ∷ ns)
+  Err 7
+
+abbrev pub parameter_made : List Completed → Bool → CType → Derivation → Result CType ℕ
+parameter_made done several base (lengths []) = plain_parameter done several base
+parameter_made done several base (lengths (n ∷ ns)) = array_parameter done base (n ∷ ns)
+parameter_made done several base (callable (Ok f)) = Err 7
+parameter_made done several base (callable (Err rule)) = Err rule
+
+-- rule 2: parameters have different names
+abbrev pub parameter_node : Bool → Result CType ℕ → Result CType ℕ
+parameter_node true made = Err 2
+parameter_node false made = made
+
+-- its name is declared behind it (C11 6.2.1p7); void is no variable
+abbrev pub declared_parameter : Bool → Scoped → List ℕ → Named → Scoped
+declared_parameter named s name n = if named && not (is_void n.type) then with_variable s name n else s
+
+abbrev pub with_parameter : Passed → List ℕ → Named → Scoped → Passed
+with_parameter p name n s = record { parameters = p.parameters ++ record { name = name; type = n } ∷ []; scope = s }
+
+-- a parameter whose specifiers say this type and whose suffixes say that, among several or alone
+abbrev pub judged_parameter : Region → Bool → Passed → Parts → Named → Full → Derivations → Result Passed Fault
+judged_parameter r several p parts base d suffixes = do
+  x ← suffixes
+  t ← on_line (parameter_line parts d) (parameter_node (full_has_name d && is_some (earlier r x.1 (name_of d))) (parameter_made x.1.records.done several base.type (derivation x.1.functions x.1.records.done base x.0)))
+  Ok (with_parameter p (name_of d) (record { type = t; constant = base.constant }) (declared_parameter (full_has_name d) x.1 (name_of d) (record { type = t; constant = base.constant })))
+
+-- several parameters
+abbrev pub are_several : Parameters → Bool
+are_several no_parameter = false
+are_several (parameter parts d no_parameter) = false
+are_several (parameter parts d (parameter others e rest)) = true
+
+-- names and variables of parameters end with them (C11 6.2.1p4)
+abbrev pub ended : Scoped → Scoped → Scoped
+ended outer s = record s { bindings = outer.bindings; variables = outer.variables }
+
+-- a scope that begins here
+abbrev pub inner_region : Scoped → Region
+inner_region s = record { outer = length s.bindings; is_file = false }
+
+abbrev pub parted : List (List ℕ) → Scoped → Parted
+parted names s = record { said = nothing_said; names = names; scope = s }
+
+-- the type that specifiers say, and the scope behind them
+abbrev pub named_parts : Parts → Result Parted Fault → Result (Named × Scoped) Fault
+named_parts parts specifiers = do
   p ← specifiers
   n ← on_line (parts_line parts) (specified_type p.said)
-  typed_fields n (fields_behind f parts ds p n) ds
+  Ok (n, p.scope)
 
--- Specifiers from left to right; alone, without declarators behind them. The type that they say is judged behind them.
+-- an array's suffix in front of others
+abbrev pub counted_in_front : Option ℕ → Derivations → Derivations
+counted_in_front n rest = rest >>= λ x. Ok (counted n ∷ x.0, x.1)
+
+abbrev pub called_in_front : List Parameter → Bool → Derivations → Derivations
+called_in_front ps ellipsis rest = rest >>= λ x. Ok (called ps ellipsis ∷ x.0, x.1)
+
+abbrev pub said_bound : Scoped → Tree → Result ℕ Fault
+said_bound s e = bound (first_line e) (operand s e)
+
+-- Specifiers from left to right; alone, without declarators behind them. The type that they say is judged behind them. Suffixes
+-- of a declarator from its name on, the innermost parentheses first; those of parameters from left to right.
 abbrev mutual
   pub typed_part : Region → Bool → Parted → Part → Result Parted Fault
   typed_part r alone p (type_part t) = Ok (with_type_part p t)
@@ -174,8 +242,46 @@ abbrev mutual
   pub typed_members : Region → Fields → Members → Result Fields Fault
   typed_members r f no_member = Ok f
   typed_members r f (members parts ds rest) = do
-    g ← typed_line f parts ds (typed_parts r (is_none ds) (said_before f) parts)
+    p ← typed_parts r (is_none ds) (said_before f) parts
+    n ← on_line (parts_line parts) (specified_type p.said)
+    g ← typed_fields r n (fields_behind f parts ds p n) ds
     typed_members r g rest
+
+  -- members of one declaration
+  pub typed_fields : Region → Named → Fields → Fulls → Result Fields Fault
+  typed_fields r base f no_full = Ok f
+  typed_fields r base f (full d ds) = do
+    x ← typed_full f.scope d
+    g ← with_member base (record f { scope = x.1 }) d x.0
+    typed_fields r base g ds
+
+  pub typed_full : Scoped → Full → Derivations
+  typed_full s (full_unnamed suffixes) = typed_suffixes s suffixes
+  typed_full s (full_named line n suffixes) = typed_suffixes s suffixes
+  typed_full s (full_inside line d suffixes) = do
+    inner ← typed_full s d
+    outer ← typed_suffixes inner.1 suffixes
+    Ok (inner.0 ++ outer.0, outer.1)
+
+  pub typed_suffixes : Scoped → FullSuffixes → Derivations
+  typed_suffixes s full_end = Ok ([], s)
+  typed_suffixes s (full_bounded line e rest) = do
+    n ← said_bound s e
+    counted_in_front (Some n) (typed_suffixes s rest)
+  typed_suffixes s (full_open line rest) = counted_in_front None (typed_suffixes s rest)
+  typed_suffixes s (full_empty line rest) = called_in_front [] false (typed_suffixes s rest)
+  typed_suffixes s (full_void line rest) = called_in_front [] false (typed_suffixes s rest)
+  typed_suffixes s (full_parameters line ps variadic rest) = do
+    p ← typed_parameters (inner_region s) (are_several ps) (record { parameters = []; scope = s }) ps
+    called_in_front p.parameters variadic (typed_suffixes (ended s p.scope) rest)
+
+  -- parameters, whose names are declared behind them
+  pub typed_parameters : Region → Bool → Passed → Parameters → Result Passed Fault
+  typed_parameters r several p no_parameter = Ok p
+  typed_parameters r several p (parameter parts d rest) = do
+    x ← named_parts parts (typed_parts r false (parted [] p.scope) parts)
+    q ← judged_parameter r several p parts x.0 d (typed_full x.1 d)
+    typed_parameters r several q rest
 
 -- a struct or union in braces, and its members
 abbrev pub typed_within : Region → Bool → List (List ℕ) → Scoped → Members → Result Fields Fault

@@ -1,26 +1,23 @@
 //! Objects that live as long as the program.
 
 ghost use Rattle.std.specs.Prelude.{◌≡◌, ◌≤◌, ◌+◌, ◌&&◌, ◌||◌, ℕ, Bool, true, not, is_some, Result, None, length, option_map, IfOk, OnOk, IfSome};
-ghost use Rattle.c_tree.specs.Tree.{view_declarator};
-ghost use Rattle.c_tree.specs.Declarations.{view_initializer, declarators_of, name_of};
+ghost use Rattle.c_tree.specs.Declarations.{view_full, view_initializer, name_of};
 ghost use Rattle.c_types.specs.Types.{CType, view as type_view};
 ghost use Rattle.c_elab_expr.specs.Scopes.{view_named, view_lasting, linked_to, is_known};
-ghost use Rattle.c_elab_expr.specs.Types.{declared_line};
+ghost use Rattle.c_elab_decl.specs.Derivations.{full_line};
 ghost use Rattle.c_elab_expr.specs.Typing.{Gives, on_line};
-ghost use Rattle.c_elab_decl.specs.Regions.{earlier};
-ghost use Rattle.c_elab_decl.specs.Declarators.{is_open, lasting_type, is_array_of, compatible, is_again, is_linked_to, linked_object, lasting_node, declared_again, counted_by, element_of, IsObjectThere, with_object, added_object, changed_object, declared_object, initialized_object, may_define, typed_object, typed_objects};
+ghost use Rattle.c_elab_decl.specs.Declarators.{is_open, lasting_type, is_array_of, compatible, is_again, is_linked_to, linked_object, lasting_node, declared_again, counted_by, element_of, IsObjectThere, with_object, added_object, changed_object, declared_object, initialized_object, may_define, function_or, earlier_linked, typed_object};
 ghost use Rattle.c_elab_decl.specs.Initializers.{view_value};
 
+use crate::derivations::full_line;
 use crate::initializing::initializer_of;
 use crate::items::Value;
 use crate::naming::{name_of, same_ctype, same_flag};
 use crate::regions::{Region, earlier};
 use crate::said::bytes_said;
 use crate::variables::{complete_type, give_lengths, is_open, sized_type};
-use c_elab_expr::{
-    Lasting, Meaning, QualifiedType, Scope, TypingError, array_type, declared_line, lengths,
-};
-use c_tree::{Declarator, InitDeclarator, Initializer};
+use c_elab_expr::{Lasting, Meaning, QualifiedType, Scope, TypingError, array_type};
+use c_tree::{FullDeclarator, InitDeclarator, Initializer};
 use c_types::Ty;
 use std::alloc::{AllocError, Global};
 
@@ -365,6 +362,20 @@ fn linked_object(region: Region, is_extern: bool, name: &[u8], scope: &Scope) ->
     }
 }
 
+// What a name is declared as in this scope already: one with linkage may be a function's in the whole file.
+fn earlier_linked(name: &[u8], region: Region, is_extern: bool, scope: &Scope) -> Option<Meaning>
+    requires { region.outer ≤ length scope.now.bindings }
+    ensures { result ≡ earlier_linked region is_extern scope.now name.now }
+{
+    if has_linkage(region, is_extern) {
+        match scope.functions().named(name) {
+            Some(function) => return Some(Meaning::Function { function }),
+            None => {}
+        }
+    }
+    earlier(name, region, scope)
+}
+
 // The type of the object of a declarator.
 fn object_type(
     alloc: Global,
@@ -377,16 +388,16 @@ fn object_type(
 ) -> Result<Said, TypingError>
     requires { region.outer ≤ length scope.now.bindings }
     ensures gives { Gives (λ t. (type_view t.type_, t.unknown_length)) result
-        (on_line (declared_line (view_declarator declared.now.declarator)) (lasting_node scope.now base.now.constant (earlier region scope.now (name_of (view_declarator declared.now.declarator)))
-        (linked_object region is_extern scope.now (name_of (view_declarator declared.now.declarator))) (lasting_type scope.now.records.done (type_view base.now.type_) is_extern (option_map view_initializer declared.now.initializer) lengths.items)
+        (on_line (full_line (view_full declared.now.declarator)) (lasting_node scope.now base.now.constant (earlier_linked region is_extern scope.now (name_of (view_full declared.now.declarator)))
+        (linked_object region is_extern scope.now (name_of (view_full declared.now.declarator))) (lasting_type scope.now.records.done (type_view base.now.type_) is_extern (option_map view_initializer declared.now.initializer) lengths.items)
         (option_map view_initializer declared.now.initializer))) }
-    ensures there { OnOk result (IfSome (linked_object region is_extern scope.now (name_of (view_declarator declared.now.declarator))) (λ k. IsObjectThere scope.now k)) }
+    ensures there { OnOk result (IfSome (linked_object region is_extern scope.now (name_of (view_full declared.now.declarator))) (λ k. IsObjectThere scope.now k)) }
 {
     let declarator = &declared.declarator;
-    let line = declared_line(declarator);
+    let line = full_line(declarator);
     let name = name_of(declarator);
     let initializer = &declared.initializer;
-    let earlier = earlier(name, region, scope);
+    let earlier = earlier_linked(name, region, is_extern, scope);
     let linked = linked_object(region, is_extern, name, scope);
     let made = lasting_type(
         alloc,
@@ -450,23 +461,24 @@ fn may_define(
     }
 }
 
-fn typed_object(
+/// An object that lives as long as the program, with these lengths.
+pub fn typed_object(
     alloc: Global,
     base: &QualifiedType,
     declared: &InitDeclarator,
+    lengths: Vec<Option<u64>>,
     region: Region,
     is_extern: bool,
     scope: &mut Scope,
 ) -> Result<(), TypingError>
     requires { region.outer ≤ length scope.old.bindings }
-    ensures gives { Gives (λ u. scope.new) result (typed_object region is_extern scope.old (view_named base.now) (view_declarator declared.now.declarator) (option_map view_initializer declared.now.initializer)) }
+    ensures gives { Gives (λ u. scope.new) result (typed_object region is_extern scope.old (view_named base.now) (view_full declared.now.declarator) (option_map view_initializer declared.now.initializer) lengths.items) }
     ensures within { OnOk result (region.outer ≤ length scope.new.bindings) }
 {
-    let declarator: &Declarator = &declared.declarator;
+    let declarator: &FullDeclarator = &declared.declarator;
     let initializer = &declared.initializer;
-    let line = declared_line(declarator);
+    let line = full_line(declarator);
     let name = name_of(declarator);
-    let lengths = lengths(alloc, declarator, scope)?;
     let counted = is_counted(initializer, &lengths);
     let said = object_type(alloc, base, declared, lengths, region, is_extern, scope)?;
     may_define(line, region, is_extern, initializer)?;
@@ -499,24 +511,5 @@ fn typed_object(
         scope,
     )?;
     initialize_object(alloc, number, value, scope)?;
-    Ok(())
-}
-
-/// Objects that live as long as the program, from left to right.
-pub fn typed_objects(
-    alloc: Global,
-    base: &QualifiedType,
-    declarators: &[InitDeclarator],
-    region: Region,
-    is_extern: bool,
-    scope: &mut Scope,
-) -> Result<(), TypingError>
-    requires { region.outer ≤ length scope.old.bindings }
-    ensures gives { Gives (λ u. scope.new) result (typed_objects region is_extern scope.old (view_named base.now) (declarators_of declarators.now)) }
-    ensures within { OnOk result (region.outer ≤ length scope.new.bindings) }
-{
-    for declarator in declarators {
-        typed_object(alloc, base, declarator, region, is_extern, scope)?;
-    }
     Ok(())
 }

@@ -1,17 +1,18 @@
 //! Typedefs.
 
 ghost use Rattle.std.specs.Prelude.{◌≡◌, ◌≤◌, length, option_map, slice_get, IfOk, OnOk, Result, ℕ};
-ghost use Rattle.c_tree.specs.Tree.{view_declarator};
-ghost use Rattle.c_tree.specs.Declarations.{view_initializer, view_init_declarator, declarators_of, name_of};
-ghost use Rattle.c_types.specs.Types.{CType, view};
-ghost use Rattle.c_elab_expr.specs.Scopes.{view_named};
+ghost use Rattle.c_tree.specs.Declarations.{view_full, view_initializer, name_of};
+ghost use Rattle.c_types.specs.Types.{CType, view, views};
+ghost use Rattle.c_elab_expr.specs.Scopes.{view_named, view_function_type};
+ghost use Rattle.c_elab_decl.specs.Derivations.{view_made};
 ghost use Rattle.c_elab_expr.specs.Typing.{Gives, on_line};
-ghost use Rattle.c_elab_decl.specs.Declarators.{same_ctype, same_flag, is_named, is_typedef_of, typedef_node, typedef_type, typed_typedef, typed_typedefs};
+ghost use Rattle.c_elab_decl.specs.Declarators.{same_ctype, same_flag, is_named, is_typedef_of, typedef_node, typed_typedef, same_types, same_function, is_typedef_of_function, function_typedef_node, typed_function_typedef};
 
+use crate::derivations::{full_line, function_named};
 use crate::initializing::no_initializer;
 use crate::regions::{Region, earlier};
-use c_elab_expr::{Meaning, QualifiedType, Scope, TypingError, array_type, declared_line, lengths};
-use c_tree::{Declarator, DeclaratorCore, InitDeclarator};
+use c_elab_expr::{FunctionType, Meaning, QualifiedType, Scope, TypingError, array_type};
+use c_tree::{FullDeclarator, InitDeclarator};
 use c_types::{Ty, same};
 use std::alloc::{AllocError, Global};
 
@@ -19,13 +20,21 @@ use std::alloc::{AllocError, Global};
 const TYPES: usize = 0x7fff_ffff;
 
 /// The name that a declarator declares, empty where it has none.
-pub fn name_of(declarator: &Declarator) -> &[u8]
-    ensures { result.now ≡ name_of (view_declarator declarator.now) }
+pub fn name_of(declarator: &FullDeclarator) -> &[u8]
+    ensures { result.now ≡ name_of (view_full declarator.now) }
 {
-    match &declarator.core {
-        DeclaratorCore::Absent => &[],
-        DeclaratorCore::Named { line: _, name } => &name.bytes,
-        DeclaratorCore::Inside { line: _, inner } => name_of(inner),
+    match declarator {
+        FullDeclarator::Unnamed { suffixes: _ } => &[],
+        FullDeclarator::Named {
+            line: _,
+            name,
+            suffixes: _,
+        } => &name.bytes,
+        FullDeclarator::Inside {
+            line: _,
+            inner,
+            suffixes: _,
+        } => name_of(inner),
     }
 }
 
@@ -94,64 +103,135 @@ fn typedef_node(
     }
 }
 
-// The type that a typedef's declarator names.
-fn typedef_type(
-    alloc: Global,
-    base: &QualifiedType,
-    declarator: &Declarator,
-    region: Region,
-    scope: &Scope,
-) -> Result<QualifiedType, TypingError>
-    requires { region.outer ≤ length scope.now.bindings }
-    ensures { Gives view_named result (typedef_type region scope.now (view_named base.now) (view_declarator declarator.now)) }
-{
-    let lengths = lengths(alloc, declarator, scope)?;
-    let line = declared_line(declarator);
-    let earlier = earlier(name_of(declarator), region, scope);
-    let element = base.type_.copied(alloc)?;
-    let made = array_type(alloc, element, &lengths, scope.layouts(), line);
-    typedef_node(made, base.constant, earlier, line, scope)
-}
-
-fn typed_typedef(
+/// A typedef of an object type with these lengths.
+pub fn typed_typedef(
     alloc: Global,
     base: &QualifiedType,
     declared: &InitDeclarator,
+    lengths: &[Option<u64>],
     region: Region,
     scope: &mut Scope,
 ) -> Result<(), TypingError>
     requires { region.outer ≤ length scope.old.bindings }
-    ensures gives { Gives (λ u. scope.new) result (typed_typedef region scope.old (view_named base.now) (view_declarator declared.now.declarator) (option_map view_initializer declared.now.initializer)) }
+    ensures gives { Gives (λ u. scope.new) result (typed_typedef region scope.old (view_named base.now) (view_full declared.now.declarator) (option_map view_initializer declared.now.initializer) lengths.now) }
     ensures within { OnOk result (region.outer ≤ length scope.new.bindings) }
 {
     let declarator = &declared.declarator;
-    let named = typedef_type(alloc, base, declarator, region, scope)?;
+    let line = full_line(declarator);
+    let name = name_of(declarator);
+    let element = base.type_.copied(alloc)?;
+    let made = array_type(alloc, element, lengths, scope.layouts(), line);
+    let named = typedef_node(
+        made,
+        base.constant,
+        earlier(name, region, scope),
+        line,
+        scope,
+    )?;
     if scope.type_count() > TYPES {
         return Err(TypingError::Memory);
     }
-    scope.declare_type(alloc, name_of(declarator), named)?;
-    no_initializer(
-        alloc,
-        declared_line(declarator),
-        &declared.initializer,
-        scope,
-    )
+    scope.declare_type(alloc, name, named)?;
+    no_initializer(alloc, line, &declared.initializer, scope)
 }
 
-/// Typedefs from left to right.
-pub fn typed_typedefs(
+// The same parameters, up to qualifiers.
+fn same_types(a: &[Ty], b: &[Ty]) -> bool
+    ensures { result ≡ same_types (views a.now) (views b.now) }
+{
+    if a.len() != b.len() {
+        return false;
+    }
+    let mut at = 0;
+    while at < a.len() {
+        if !same_ctype(&a[at], &b[at]) {
+            return false;
+        }
+        at += 1;
+    }
+    true
+}
+
+/// Whether two function types are one (C11 6.7.6.3p15).
+pub fn same_function(a: &FunctionType, b: &FunctionType) -> bool
+    ensures { result ≡ same_function (view_function_type a.now) (view_function_type b.now) }
+{
+    same_flag(a.constant, b.constant)
+        && same_ctype(&a.gives, &b.gives)
+        && same_flag(a.ellipsis, b.ellipsis)
+        && same_types(&a.parameters, &b.parameters)
+}
+
+// Whether it is a typedef of this function type.
+fn is_typedef_of_function(type_: &FunctionType, meaning: Meaning, scope: &Scope) -> bool
+    ensures { result ≡ is_typedef_of_function scope.now (view_function_type type_.now) meaning }
+{
+    match meaning {
+        Meaning::Typedef { number } => match scope.named(number) {
+            Some(named) => match function_named(&named.type_, scope) {
+                Some(other) => same_function(type_, other),
+                None => false,
+            },
+            None => false,
+        },
+        _ => false,
+    }
+}
+
+// The function type that a typedef names, by what its name is declared as already.
+fn function_typedef_node(
+    made: Result<FunctionType, u32>,
+    earlier: Option<Meaning>,
+    line: u32,
+    scope: &Scope,
+) -> Result<FunctionType, TypingError>
+    ensures { Gives view_function_type result (on_line line (function_typedef_node scope.now earlier (view_made made))) }
+{
+    match earlier {
+        None => match made {
+            Ok(type_) => Ok(type_),
+            Err(rule) => Err(TypingError::Typing { line, rule }),
+        },
+        Some(meaning) => match made {
+            Ok(type_) => {
+                if is_typedef_of_function(&type_, meaning, scope) {
+                    Ok(type_)
+                } else {
+                    Err(TypingError::Typing { line, rule: 2 })
+                }
+            }
+            Err(_) => Err(TypingError::Typing { line, rule: 2 }),
+        },
+    }
+}
+
+/// A typedef of a function type, or of one that breaks a rule.
+pub fn typed_function_typedef(
     alloc: Global,
-    base: &QualifiedType,
-    declarators: &[InitDeclarator],
+    declared: &InitDeclarator,
+    made: Result<FunctionType, u32>,
     region: Region,
     scope: &mut Scope,
 ) -> Result<(), TypingError>
     requires { region.outer ≤ length scope.old.bindings }
-    ensures gives { Gives (λ u. scope.new) result (typed_typedefs region scope.old (view_named base.now) (declarators_of declarators.now)) }
+    ensures gives { Gives (λ u. scope.new) result (typed_function_typedef region scope.old (view_full declared.now.declarator) (option_map view_initializer declared.now.initializer) (view_made made)) }
     ensures within { OnOk result (region.outer ≤ length scope.new.bindings) }
 {
-    for declarator in declarators {
-        typed_typedef(alloc, base, declarator, region, scope)?;
+    let declarator = &declared.declarator;
+    let line = full_line(declarator);
+    let name = name_of(declarator);
+    let type_ = function_typedef_node(made, earlier(name, region, scope), line, scope)?;
+    if scope.type_count() > TYPES || scope.functions().type_count() > TYPES {
+        return Err(TypingError::Memory);
     }
-    Ok(())
+    let number = scope.add_function_type(type_)?;
+    let named = QualifiedType {
+        type_: Ty::Array {
+            element: Box::new(alloc, Ty::Void)?,
+            length: number,
+        },
+        constant: false,
+    };
+    scope.declare_type(alloc, name, named)?;
+    no_initializer(alloc, line, &declared.initializer, scope)
 }

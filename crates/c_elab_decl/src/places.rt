@@ -1,18 +1,38 @@
 //! Rules that an operand breaks at a line.
 
 ghost use Rattle.std.specs.Prelude.{◌≡◌};
-ghost use Rattle.core_tree.specs.Trees.{view};
-ghost use Rattle.c_elab_expr.specs.Operands.{view_operand, number};
+ghost use Rattle.c_types.specs.Types.{view as type_view};
+ghost use Rattle.core_tree.specs.Trees.{view, view_structure};
+ghost use Rattle.c_elab_expr.specs.Nodes.{required};
+ghost use Rattle.c_elab_expr.specs.Operands.{view_operand, number, record_value};
 ghost use Rattle.c_elab_expr.specs.Typing.{Gives, on_line};
 
-use c_elab_expr::{Broken, CoreOperand, TypingError, number};
-use core_tree::CoreExpr;
+use c_elab_expr::{Broken, CoreOperand, TypingError, number, record_value};
+use c_types::{Layouts, Ty};
+use core_tree::{CoreExpr, CoreStructure};
 
 /// The expression of an operand that is a value of an integer type; the rule is broken on the line where it isn't one.
 pub fn number_on(operand: CoreOperand, line: u32, rule: u32) -> Result<CoreExpr, TypingError>
     ensures { Gives view result (on_line line (number rule (view_operand operand))) }
 {
     match number(operand, rule) {
+        Ok(value) => Ok(value),
+        Err(Broken::Rule { rule }) => Err(TypingError::Typing { line, rule }),
+        Err(Broken::Memory) => Err(TypingError::Memory),
+    }
+}
+
+/// The value of an operand of this struct or union type; the rule is broken on the line where it isn't one.
+pub fn record_on(
+    type_: &Ty,
+    operand: CoreOperand,
+    layouts: &Layouts,
+    line: u32,
+    rule: u32,
+) -> Result<CoreStructure, TypingError>
+    ensures { Gives view_structure result (on_line line (required rule (record_value layouts.now.done (type_view type_.now) (view_operand operand)))) }
+{
+    match record_value(type_, operand, layouts, rule) {
         Ok(value) => Ok(value),
         Err(Broken::Rule { rule }) => Err(TypingError::Typing { line, rule }),
         Err(Broken::Memory) => Err(TypingError::Memory),

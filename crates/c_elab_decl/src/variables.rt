@@ -1,30 +1,26 @@
 //! Variables of a function.
 
 ghost use Rattle.std.specs.Prelude.{◌≡◌, ◌≤◌, ℕ, false, length, option_map, OnOk, IfOk, IfErr, Ok, Result};
-ghost use Rattle.c_tree.specs.Tree.{view_declarator};
-ghost use Rattle.c_tree.specs.Declarations.{Declarators, view_initializer, view_init_declarator, declarators_of};
+ghost use Rattle.c_tree.specs.Declarations.{view_full, view_initializer};
 ghost use Rattle.c_types.specs.Types.{CType, view as type_view};
 ghost use Rattle.core_tree.specs.Trees.{Items, with_item};
 ghost use Rattle.c_elab_expr.specs.Scopes.{Scoped, view_named};
 ghost use Rattle.c_elab_expr.specs.Types.{type_size};
 ghost use Rattle.c_elab_expr.specs.Typing.{Gives, on_line};
 ghost use Rattle.c_tree.specs.Declarations.{name_of};
-ghost use Rattle.c_elab_expr.specs.Types.{declared_line};
+ghost use Rattle.c_elab_decl.specs.Derivations.{full_line};
 ghost use Rattle.c_elab_expr.specs.declared.fault.TypingError.{TypingError as SpecError};
-ghost use Rattle.c_elab_decl.specs.Files.{with_function};
-ghost use Rattle.c_elab_decl.specs.Declarators.{Typed, with_variable, within_initializer, is_open, said_lengths, given_lengths, complete_type, sized_type, variable_type, of_type, declared_item, typed_variable, typed_variables};
+ghost use Rattle.c_elab_decl.specs.Declarators.{Typed, with_variable, with_incomplete, within_initializer, is_open, said_lengths, given_lengths, complete_type, sized_type, variable_type, of_type, declared_item, typed_variable};
 ghost use Rattle.c_elab_decl.specs.Initializers.{view_value, initializer_of};
 ghost use Rattle.c_elab_decl.specs.Steps.{Step};
 
+use crate::derivations::full_line;
 use crate::initializing::{elements_said, initializer_of};
 use crate::items::Value;
 use crate::naming::name_of;
 use crate::regions::{Region, earlier};
-use c_elab_expr::{
-    Broken, Meaning, QualifiedType, Scope, TypingError, array_type, declared_line, lengths,
-    type_size,
-};
-use c_tree::{Declarator, InitDeclarator, Initializer};
+use c_elab_expr::{Broken, Meaning, QualifiedType, Scope, TypingError, array_type, type_size};
+use c_tree::{InitDeclarator, Initializer};
 use c_types::{Layouts, MOST_BYTES, Ty, is_complete};
 use core_tree::{CoreItem, names_variable, structure_names_variable};
 use std::alloc::{AllocError, Global};
@@ -107,15 +103,16 @@ fn variable_type(
     alloc: Global,
     base: &Ty,
     declared: &InitDeclarator,
+    mut lengths: Vec<Option<u64>>,
     region: Region,
     scope: &Scope,
 ) -> Result<Object, TypingError>
     requires { region.outer ≤ length scope.now.bindings }
-    ensures gives { Gives (λ o. (type_view o.type_, o.counted)) result (variable_type region scope.now (type_view base.now) (view_declarator declared.now.declarator) (option_map view_initializer declared.now.initializer)) }
+    ensures gives { Gives (λ o. type_view o.type_) result (variable_type region scope.now (type_view base.now) (view_full declared.now.declarator) (option_map view_initializer declared.now.initializer) lengths.items) }
+    ensures counted { IfOk result (λ o. o.counted ≡ is_open lengths.items) }
     ensures sized { IfOk result (λ o. type_size scope.now.records.done (type_view o.type_) ≡ Ok o.size) }
 {
-    let mut lengths = lengths(alloc, &declared.declarator, scope)?;
-    let line = declared_line(&declared.declarator);
+    let line = full_line(&declared.declarator);
     if earlier(name_of(&declared.declarator), region, scope).is_some() {
         return Err(TypingError::Typing { line, rule: 2 });
     }
@@ -131,21 +128,21 @@ fn variable_type(
     })
 }
 
-fn declared_item(line: u32, variable: u32, value: Option<Value>) -> CoreItem
-    ensures { (rest : Items) → with_item result rest ≡ declared_item line variable (option_map view_value value) rest }
+fn declared_item(line: u32, variable: u32, passed: bool, value: Option<Value>) -> CoreItem
+    ensures { (rest : Items) → with_item result rest ≡ declared_item line variable passed (option_map view_value value) rest }
 {
     match value {
         None => CoreItem::Declare { line, variable },
         Some(Value::Number { value }) => CoreItem::Initialize {
             line,
             variable,
-            drawn: names_variable(variable, &value),
+            drawn: passed || names_variable(variable, &value),
             value,
         },
         Some(Value::Structure { value }) => CoreItem::InitializeStructure {
             line,
             variable,
-            drawn: structure_names_variable(variable, &value),
+            drawn: passed || structure_names_variable(variable, &value),
             value,
         },
     }
@@ -183,11 +180,11 @@ fn open_value(
     initializer: &Option<Initializer>,
     scope: &mut Scope,
 ) -> Result<Option<Value>, TypingError>
-    ensures gives { Gives (option_map view_value) result (initializer_of false line (with_function scope.old name.now) (type_view type_.now) (option_map view_initializer initializer.now)) }
+    ensures gives { Gives (option_map view_value) result (initializer_of false line (with_incomplete scope.old name.now) (type_view type_.now) (option_map view_initializer initializer.now)) }
     ensures same { OnOk result (scope.new ≡ scope.old) }
 {
     let outer = scope.len();
-    scope.declare(alloc, name, Meaning::Function)?;
+    scope.declare(alloc, name, Meaning::Incomplete)?;
     let value = initializer_of(alloc, false, line, type_, initializer, scope)?;
     scope.leave(outer);
     Ok(value)
@@ -203,13 +200,13 @@ fn initialized(
 ) -> Result<(u32, Option<Value>), TypingError>
     requires { type_size scope.old.records.done (type_view object.now.type_) ≡ Ok object.now.size }
     ensures gives { let n = of_type (view_named base.now) (type_view object.now.type_) in Gives (λ p. option_map view_value p.1) result
-        (initializer_of false (declared_line (view_declarator declared.now.declarator)) (within_initializer object.now.counted scope.old (name_of (view_declarator declared.now.declarator)) n) (type_view object.now.type_)
+        (initializer_of false (full_line (view_full declared.now.declarator)) (within_initializer object.now.counted scope.old (name_of (view_full declared.now.declarator)) n) (type_view object.now.type_)
         (option_map view_initializer declared.now.initializer)) }
     ensures number { IfOk result (λ p. p.0 ≡ length scope.old.variables) }
-    ensures declared { OnOk result (scope.new ≡ with_variable scope.old (name_of (view_declarator declared.now.declarator)) (of_type (view_named base.now) (type_view object.now.type_))) }
+    ensures declared { OnOk result (scope.new ≡ with_variable scope.old (name_of (view_full declared.now.declarator)) (of_type (view_named base.now) (type_view object.now.type_))) }
 {
     let name = name_of(&declared.declarator);
-    let line = declared_line(&declared.declarator);
+    let line = full_line(&declared.declarator);
     if object.counted {
         let value = open_value(
             alloc,
@@ -235,11 +232,13 @@ fn initialized(
     }
 }
 
-// A variable, in front of what stands behind it.
-fn typed_variable(
+/// A variable with these lengths, over whose declaration a jump passes or not, in front of what stands behind it.
+pub fn typed_variable(
     alloc: Global,
     base: &QualifiedType,
     declared: &InitDeclarator,
+    lengths: Vec<Option<u64>>,
+    passed: bool,
     region: Region,
     scope: &mut Scope,
     items: &mut Vec<CoreItem>,
@@ -247,35 +246,41 @@ fn typed_variable(
     requires { region.outer ≤ length scope.old.bindings }
     ensures step { (behind : Scoped → Typed) →
         Step result items.old.items items.new.items
-        (typed_variable region scope.old (view_named base.now) (view_declarator declared.now.declarator) (option_map view_initializer declared.now.initializer) behind)
+        (typed_variable region scope.old (view_named base.now) (view_full declared.now.declarator) (option_map view_initializer declared.now.initializer) lengths.items passed behind)
         (behind scope.new) }
     ensures within { OnOk result (region.outer ≤ length scope.new.bindings) }
 {
-    let object = variable_type(alloc, &base.type_, declared, region, scope)?;
+    let object = variable_type(alloc, &base.type_, declared, lengths, region, scope)?;
     let (variable, value) = initialized(alloc, base, declared, &object, scope)?;
-    let line = declared_line(&declared.declarator);
-    items.push(declared_item(line, variable, value))?;
+    let line = full_line(&declared.declarator);
+    items.push(declared_item(line, variable, passed, value))?;
     Ok(())
 }
 
-/// Variables from left to right.
-pub fn typed_variables(
+/// Declares a variable of this type, which a parameter has.
+pub fn declare_parameter(
     alloc: Global,
-    base: &QualifiedType,
-    declarators: &[InitDeclarator],
-    region: Region,
+    name: &[u8],
+    type_: &Ty,
+    constant: bool,
     scope: &mut Scope,
-    items: &mut Vec<CoreItem>,
 ) -> Result<(), TypingError>
-    requires { region.outer ≤ length scope.old.bindings }
-    ensures step { (behind : Scoped → Typed) →
-        Step result items.old.items items.new.items
-        (typed_variables region scope.old (view_named base.now) (declarators_of declarators.now) behind)
-        (behind scope.new) }
-    ensures within { OnOk result (region.outer ≤ length scope.new.bindings) }
+    requires { sized_type scope.old.records.done (type_view type_.now) ≡ Ok (type_view type_.now) }
+    ensures declared { OnOk result (scope.new ≡ with_variable scope.old name.now (record { type = type_view type_.now; constant = constant })) }
+    ensures memory { IfErr result (λ e. e ≡ TypingError.Memory) }
 {
-    for declarator in declarators {
-        typed_variable(alloc, base, declarator, region, scope, items)?;
+    if scope.variable_count() > VARIABLES {
+        return Err(TypingError::Memory);
     }
-    Ok(())
+    let named = QualifiedType {
+        type_: type_.copied(alloc)?,
+        constant,
+    };
+    match sized_type(type_, scope.layouts(), 0) {
+        Ok(size) => {
+            let _variable = scope.declare_variable(alloc, name, named, size)?;
+            Ok(())
+        }
+        Err(_) => Err(TypingError::Memory),
+    }
 }

@@ -1,5 +1,5 @@
 -- The arguments of a call, typed one after the other.
-use Rattle.std.proofs.Common.{◌≡◌, ◌<◌, ◌+◌, ℕ, List, [], ◌∷◌, ◌++◌, length, get_or, drop, Option, Result, Ok, Err, refl, ap, sym, ◌∙◌}
+use Rattle.std.proofs.Common.{Bool, ◌≡◌, ◌<◌, ◌+◌, ℕ, List, [], ◌∷◌, ◌++◌, length, get_or, drop, Option, Result, Ok, Err, refl, ap, sym, ◌∙◌}
 use Rattle.std.proofs.lemmas.List.{append_assoc, drop_more}
 use Rattle.c_tree.specs.declared.expr.Expr.{Expr}
 use Rattle.c_tree.specs.Tree.{Tree, Trees, call}
@@ -47,12 +47,12 @@ argument_typed scope es i e xs all x h is so_far good =
     ∙ next_argument scope es i e xs all h is so_far
 
 -- a call whose callee is typed
-pub call_fails : (scope : Scoped) (f : Tree) (args : Trees) (m : Option (ℕ × Meaning)) (bad : Fault) → callee scope f (operand scope f) ≡ Ok m → typed_arguments scope args ≡ Err bad → typed scope (call f args) ≡ Err bad
-call_fails scope f args m bad e g =
-    ap (λ (r : Result (Option (ℕ × Meaning)) Fault). r >>= λ n. typed_arguments scope args >>= λ xs. on_line (first_line f) (called n xs)) e
-    ∙ ap (λ (r : Result (List Operand) Fault). r >>= λ xs. on_line (first_line f) (called m xs)) g
+pub call_fails : (scope : Scoped) (f : Tree) (args : Trees) (w : Bool) (m : Option (ℕ × Meaning)) (bad : Fault) → callee scope f (operand scope f) ≡ Ok m → typed_arguments scope args ≡ Err bad → typed scope w (call f args) ≡ Err bad
+call_fails scope f args w m bad e g =
+    ap (λ (r : Result (Option (ℕ × Meaning)) Fault). r >>= λ n. typed_arguments scope args >>= λ xs. on_line (first_line f) (called scope w n xs)) e
+    ∙ ap (λ (r : Result (List Operand) Fault). r >>= λ xs. on_line (first_line f) (called scope w m xs)) g
 
-pub call_typed : (scope : Scoped) (f : Tree) (args : Trees) (m : Option (ℕ × Meaning)) (xs : List Operand) → callee scope f (operand scope f) ≡ Ok m → typed_arguments scope args ≡ Ok xs → typed scope (call f args) ≡ on_line (first_line f) (called m xs)
-call_typed scope f args m xs e g =
-    ap (λ (r : Result (Option (ℕ × Meaning)) Fault). r >>= λ n. typed_arguments scope args >>= λ xs. on_line (first_line f) (called n xs)) e
-    ∙ ap (λ (r : Result (List Operand) Fault). r >>= λ xs. on_line (first_line f) (called m xs)) g
+pub call_typed : (scope : Scoped) (f : Tree) (args : Trees) (w : Bool) (m : Option (ℕ × Meaning)) (xs : List Operand) → callee scope f (operand scope f) ≡ Ok m → typed_arguments scope args ≡ Ok xs → typed scope w (call f args) ≡ on_line (first_line f) (called scope w m xs)
+call_typed scope f args w m xs e g =
+    ap (λ (r : Result (Option (ℕ × Meaning)) Fault). r >>= λ n. typed_arguments scope args >>= λ xs. on_line (first_line f) (called scope w n xs)) e
+    ∙ ap (λ (r : Result (List Operand) Fault). r >>= λ xs. on_line (first_line f) (called scope w m xs)) g

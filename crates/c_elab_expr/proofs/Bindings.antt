@@ -1,8 +1,8 @@
 -- The bindings of a scope, which stand in memory in the order of their declarations, and the places of names among them.
-use Rattle.std.proofs.Common.{◌≡◌, ◌<◌, ◌≤◌, ◌+◌, ◌-◌, ℕ, zero, suc, Bool, true, false, List, [], ◌∷◌, ◌++◌, length, get_or, take, map, reverse, Option, Some, None, refl, sym, ap, ◌∙◌, arith}
+use Rattle.std.proofs.Common.{◌≡◌, ◌<◌, ◌≤◌, ◌+◌, ◌-◌, ℕ, zero, suc, Bool, true, false, List, [], ◌∷◌, ◌++◌, length, get_or, take, drop, map, reverse, Option, Some, None, refl, sym, ap, ◌∙◌, arith}
 use Rattle.std.specs.Prelude.{if◌then◌else◌, nat_le, ◌||◌, ◌&&◌}
 use Rattle.std.specs.Str.{bytes_eq}
-use Rattle.std.proofs.lemmas.List.{reverse-append, length-map, length-reverse, get_or-reverse}
+use Rattle.std.proofs.lemmas.List.{reverse-append, length-map, length-reverse, get_or-reverse, drop_more, drop_all, drop-take, take-take, take-append-drop}
 use Rattle.std.proofs.lemmas.Slice.Eq.{bytes_eq-Decides}
 use borrow.Author.Tests.{lt-leb, le-leb}
 use Rattle.c_elab_expr.specs.declared.meaning.Meaning.{Meaning}
@@ -129,3 +129,20 @@ has_place env b e =
 pub declared : (tags : Bool) (env : Environment) (b : Binding) (name : List ℕ) (old now : Option ℕ) →
     old ≡ place_in tags env name → now ≡ (if is_called tags name b then Some (length env) else old) → now ≡ place_in tags (b ∷ env) name
 declared tags env b name old now e f = f ∙ ap (λ (o : Option ℕ). if is_called tags name b then Some (length env) else o) e
+
+-- the innermost binding is that of the last declaration
+pub innermost_is : (bs : List Bound) (b : Bound) → 0 < length bs → b ≡ get_or bs (length bs - 1) b → take 1 (environment bs) ≡ binding b.name.items b.meaning ∷ []
+innermost_is bs b some is =
+    let i = length bs - 1 in
+    let last : drop i bs ≡ get_or bs i b ∷ drop (i + 1) bs = drop_more bs i b (omega (arith, some)) in
+    let none : drop (i + 1) bs ≡ [] = drop_all (i + 1) bs (omega (arith, some)) in
+    let split : bs ≡ take i bs ++ b ∷ [] =
+    sym (take-append-drop i bs) ∙ ap (λ (xs : List Bound). take i bs ++ xs) (last ∙ ap (λ (x : Bound). x ∷ drop (i + 1) bs) (sym is) ∙ ap (λ (xs : List Bound). b ∷ xs) none) in
+    ap (λ (xs : List Bound). take 1 (environment xs)) split ∙ ap (λ (env : Environment). take 1 env) (environment_push (take i bs) b)
+
+-- one binding more is taken from the front
+pub take_further : (env : Environment) (k : ℕ) → take (k + 1) env ≡ take k env ++ take 1 (drop k env)
+take_further env k =
+    sym (take-append-drop k (take (k + 1) env))
+    ∙ ap (λ (rest : Environment). rest ++ drop k (take (k + 1) env)) (take-take k (k + 1) env (omega arith))
+    ∙ ap (λ (rest : Environment). take k env ++ rest) (drop-take k 1 env)

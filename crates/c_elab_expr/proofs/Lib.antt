@@ -9,6 +9,7 @@ pub mod Sizes
 pub mod Bindings
 pub mod Variables
 pub mod Arguments
+pub mod Passing
 pub mod Types
 pub mod Parted
 pub mod WellTyped

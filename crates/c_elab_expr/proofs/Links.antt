@@ -1,6 +1,8 @@
--- The names with linkage, which a map holds in the order in which they got it.
+-- The names with linkage, which a map holds in the order in which they got it, and sets of names.
 use Rattle.std.proofs.Common.{◌≡◌, Bool, true, false, List, [], ◌∷◌, ◌++◌, ℕ, Option, Some, None, map, nat_eq, refl, ap}
-use Rattle.std.specs.Prelude.{if◌then◌else◌, Vec}
+use Rattle.std.specs.Prelude.{◌||◌, if◌then◌else◌, Vec}
+use Rattle.std.specs.List.{list_any}
+use Rattle.std.proofs.lemmas.List.{map-append}
 use Rattle.std.specs.Map.{lookup}
 use Rattle.std.specs.Str.{bytes_eq}
 use Rattle.std.specs.Cmp.Lexicographic.{pointwise}
@@ -26,3 +28,17 @@ new_link (x ∷ es) k v e = either (bytes_eq k.items x.0.items) e (new_link es k
       → map view_linked (if b then (x.0, v) ∷ es else x ∷ behind) ≡ view_linked x ∷ (map view_linked es ++ view_linked (k, v) ∷ [])
   either true e h = let no : ⊥ = cc in absurd no
   either false e h = ap (λ (ls : List Linked). view_linked x ∷ ls) (h e)
+
+-- ---- a set of names
+
+abbrev pub Keys : Type 0
+Keys = List (Vec ℕ Global)
+
+pub among_keys : (keys : Keys) (name : List ℕ) → list_any (λ (k : Vec ℕ Global). bytes_eq name k.items) keys ≡ list_any (λ n. bytes_eq name n) (map (λ k. k.items) keys)
+among_keys [] name = refl
+among_keys (n ∷ keys) name = ap (λ (b : Bool). bytes_eq name n.items || b) (among_keys keys name)
+
+pub added_key : (keys : Keys) (own : Vec ℕ Global) (b : Bool)
+    → map (λ k. k.items) (if b then keys else keys ++ own ∷ []) ≡ (if b then map (λ k. k.items) keys else map (λ k. k.items) keys ++ own.items ∷ [])
+added_key keys own true = refl
+added_key keys own false = map-append (λ (k : Vec ℕ Global). k.items) keys (own ∷ [])

@@ -1,5 +1,5 @@
 -- What names mean stays there, and variables keep their sizes, where more is declared and completed.
-use Rattle.std.proofs.Common.{◌≡◌, ◌≤◌, ◌==◌, ℕ, Bool, true, false, List, [], ◌∷◌, ◌++◌, length, Option, Some, None, Result, Ok, Err, refl, sym, ap, ap₂, ◌∙◌, arith}
+use Rattle.std.proofs.Common.{◌≡◌, ◌≤◌, ◌==◌, ℕ, zero, suc, take, Bool, true, false, List, [], ◌∷◌, ◌++◌, length, Option, Some, None, Result, Ok, Err, refl, sym, ap, ap₂, ◌∙◌, arith}
 use Rattle.std.specs.Prelude.{◌&&◌, nat_lt, nat_le, IfSome, if◌then◌else◌}
 use Rattle.std.proofs.lemmas.List.{length-append, map-append}
 use borrow.Author.Tests.{ltb-true, lt-ltb, leb-true, le-leb}
@@ -8,7 +8,7 @@ use Rattle.c_types.specs.Types.{CType, void, integer, aggregate, array, Complete
 use Rattle.c_types.specs.Layouts.{is_completed, is_complete, is_sized, size_of}
 use Rattle.c_types.proofs.Records.{same_type}
 use Rattle.c_elab_expr.specs.declared.meaning.Meaning.{Meaning}
-use Rattle.c_elab_expr.specs.declared.meaning.Meaning.TheVariants.{Variable, Object, Assert, Assume, Draw, Function, Typedef, Enumerator, Record, Enumeration}
+use Rattle.c_elab_expr.specs.declared.meaning.Meaning.TheVariants.{Variable, Object, Incomplete, Assert, Assume, Draw, Function, Typedef, Enumerator, Record, Enumeration}
 use Rattle.c_elab_expr.specs.Scopes.{Named, Lasting, Environment, is_called, meaning_in, is_there, are_there, are_complete, sizes_of}
 use Rattle.c_elab_expr.specs.Types.{type_size}
 
@@ -35,10 +35,11 @@ there_wider : (variables more objects further types others records greater : ℕ
     → is_there variables objects types records m ≡ true → is_there more further others greater m ≡ true
 there_wider variables more objects further types others records greater (Variable v) k l h g e = below v variables more k e
 there_wider variables more objects further types others records greater (Object n) k l h g e = numbered n objects further l e
+there_wider variables more objects further types others records greater Incomplete k l h g e = refl
 there_wider variables more objects further types others records greater Assert k l h g e = refl
 there_wider variables more objects further types others records greater Assume k l h g e = refl
 there_wider variables more objects further types others records greater (Draw t) k l h g e = refl
-there_wider variables more objects further types others records greater Function k l h g e = refl
+there_wider variables more objects further types others records greater (Function f) k l h g e = refl
 there_wider variables more objects further types others records greater (Typedef n) k l h g e = below n types others h e
 there_wider variables more objects further types others records greater (Enumerator bits) k l h g e = refl
 there_wider variables more objects further types others records greater (Record p) k l h g e = below p records greater g e
@@ -125,3 +126,16 @@ variables_later done c (n ∷ ns) before h =
     let later = variables_later done c ns before parts.1 in
     let same = same_type done c n.type before parts.0 in
     (and (is_complete (c ∷ done) n.type) (are_complete (c ∷ done) ns) (complete_later done c n.type parts.0) later.0, ap₂ (λ (x : ℕ) (xs : List ℕ). x ∷ xs) same.size later.1)
+
+-- the first variables
+pub take_complete : (done : List Completed) (variables : List Named) (n : ℕ) → are_complete done variables ≡ true → are_complete done (take n variables) ≡ true
+take_complete done variables zero h = refl
+take_complete done [] (suc n) h = refl
+take_complete done (v ∷ vs) (suc n) h =
+    let parts = both (is_complete done v.type) (are_complete done vs) h in
+    and (is_complete done v.type) (are_complete done (take n vs)) parts.0 (take_complete done vs n parts.1)
+
+pub take_sizes : (done : List Completed) (variables : List Named) (n : ℕ) → sizes_of done (take n variables) ≡ take n (sizes_of done variables)
+take_sizes done variables zero = refl
+take_sizes done [] (suc n) = refl
+take_sizes done (v ∷ vs) (suc n) = ap (λ (xs : List ℕ). size_of done v.type ∷ xs) (take_sizes done vs n)

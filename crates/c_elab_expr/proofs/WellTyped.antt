@@ -1,6 +1,6 @@
 -- What typing gives is well typed.
 use Rattle.std.proofs.Common.{◌≡◌, ◌≤◌, ◌+◌, ◌-◌, ◌^◌, ◌%◌, ℕ, zero, suc, Bool, true, false, List, [], ◌∷◌, length, map, Option, Some, None, Result, Ok, Err, refl, ap, sym, subst, ◌∙◌, arith, eq-eqb, eqb-true}
-use Rattle.std.specs.Prelude.{◌||◌, ◌==◌, if◌then◌else◌, nat_lt, nat_le, slice_get, slice_index}
+use Rattle.std.specs.Prelude.{not, ◌||◌, ◌==◌, if◌then◌else◌, nat_lt, nat_le, slice_get, slice_index}
 use Rattle.std.specs.List.{list_all}
 use borrow.Author.Tests.{lt-ltb, le-leb, ltb-true, leb-true}
 use Rattle.c_lexer.specs.declared.token.Constant.{Constant}
@@ -25,24 +25,27 @@ use Rattle.core_tree.specs.declared.operators.StepOperator.{StepOperator}
 use Rattle.core_tree.specs.declared.expression.Place.{Place}
 use Rattle.c_types.specs.Types.{CType, Completed}
 use Rattle.c_types.specs.Types as ctypes
-use Rattle.c_types.specs.Layouts.{IsBuilt, size_of}
-use Rattle.core_tree.specs.Trees.{Expression, Structure}
+use Rattle.c_types.specs.Layouts.{IsBuilt, is_complete, is_sized, size_of}
+use Rattle.c_types.proofs.CellLists.{small_sized}
+use Rattle.core_tree.specs.declared.functions.PassedType.{PassedType}
+use Rattle.core_tree.specs.declared.functions.PassedType.TheVariants as passed
+use Rattle.core_tree.specs.Trees.{Expression, Structure, Arguments}
 use Rattle.core_tree.specs.Trees as cores
-use Rattle.core_tree.specs.Typed.{Sizes, type_of, place_type, is_integer, is_promoted, are_operands, is_within, is_typed, is_structure}
+use Rattle.core_tree.specs.Typed.{Sizes, Signature, type_of, place_type, is_integer, is_promoted, are_operands, is_within, is_typed, is_structure, are_arguments, same_given, given_as, gives_this}
 use Rattle.core_tree.specs.Typed as typed_trees
 use Rattle.c_elab_expr.specs.declared.meaning.Meaning.{Meaning}
-use Rattle.c_elab_expr.specs.declared.meaning.Meaning.TheVariants.{Variable, Object, Assert, Assume, Draw, Function, Typedef, Enumerator, Record, Enumeration}
+use Rattle.c_elab_expr.specs.declared.meaning.Meaning.TheVariants.{Variable, Object, Incomplete, Assert, Assume, Draw, Function, Typedef, Enumerator, Record, Enumeration}
 use Rattle.c_elab_expr.specs.declared.operands.Home.{Home}
 use Rattle.c_elab_expr.specs.declared.operands.Home.TheVariants as homes
 use Rattle.c_elab_expr.specs.Members.{found, members_in, part_at}
-use Rattle.c_elab_expr.specs.Scopes.{Named, Lasting, Scoped, meaning_of, sizes_of, object_at, is_incomplete, lasting_size, all_sizes}
+use Rattle.c_elab_expr.specs.Scopes.{Named, Lasting, Callable, Scoped, meaning_of, sizes_of, object_at, is_incomplete, lasting_size, passed_as, given_by, signature_of, all_sizes}
 use Rattle.c_elab_expr.specs.Nodes.{Node, ◌>>=◌, required, integer_of, integer, as_type, place_of, target_of, constant_type, constant_node, character_node, size_node, discarded, cast_node, sign_node, not_node, step_node, unary_node, postfix_node, left_type, right_type, arithmetic_node, compare_node, logical_node, binary_node, chosen, choice_node, assign_node, operator_of, update_node, assignment_node}
-use Rattle.c_elab_expr.specs.Operands.{Operand, value, object, structure, number_place, held_value, put_value, is_home, computed, valued, number, same_record, record_value, dropped, is_array, used, place_operand, variable_node, lasting_node, name_node, part_operand, member_node, operand_bytes, cast_record, cast_operand, unary_operand, postfix_operand, binary_operand, choice_record, choice_value, choice_operand, assign_record, assign_value, assign_operand, comma_operand, one_integer, no_arguments, call_node, is_typed_operand}
+use Rattle.c_elab_expr.specs.Operands.{Operand, value, object, structure, number_place, held_value, put_value, is_home, computed, valued, number, same_record, record_value, dropped, is_array, used, place_operand, variable_node, lasting_node, function_node, name_node, part_operand, member_node, operand_bytes, cast_record, cast_operand, unary_operand, postfix_operand, binary_operand, choice_record, choice_value, choice_operand, assign_record, assign_value, assign_operand, comma_operand, one_integer, no_arguments, argument_in, arguments_in, extra_arguments, given_size, given_operand, behind_extra, function_call, drawn_or_called, callable_call, assertion_call, assumption_call, call_node, is_typed_operand}
 use Rattle.c_elab_expr.specs.Types.{type_size}
 use Rattle.c_elab_expr.specs.Strings.{strings_of, strings_length}
-use Rattle.c_elab_expr.specs.Typing.{Fault, on_line, bare_line, sized, used_on, callee, called, type_name, operand_size, typed, typed_arguments, operand, lengths}
+use Rattle.c_elab_expr.specs.Typing.{Fault, on_line, bare_line, sized, used_on, callee, called, is_wanted, type_name, operand_size, typed, typed_arguments, operand_by, lengths}
 use Rattle.c_elab_expr.proofs.Variables.{both, and}
-use Rattle.c_elab_expr.proofs.Types.{same_type_refl, promoted_is, common_promoted, operands_fit, type_as, typed_as}
+use Rattle.c_elab_expr.proofs.Types.{same_integer_refl, same_type_refl, promoted_is, common_promoted, operands_fit, type_as, typed_as}
 use Rattle.c_elab_expr.proofs.Parted.{part_within}
 
 -- what is given, if it is given, has a property
@@ -95,6 +98,8 @@ place_is (cores.draw line t) = refused (Is _) 9
 place_is (cores.part line t offset a) = refused (Is _) 9
 place_is (cores.discard line e) = refused (Is _) 9
 place_is (cores.discard_structure a) = refused (Is _) 9
+place_is (cores.call line f used t args) = refused (Is _) 9
+place_is (cores.function_name line f) = refused (Is _) 9
 
 -- a place that may be changed is a place
 target_is : (is_const : Bool) (e : Expression) → Holds (Is e) (required 9 (target_of is_const e))
@@ -123,6 +128,17 @@ home_part sizes (homes.Variable v) offset at n m inner h = part_in sizes.variabl
 home_part sizes (homes.Object k) offset at n m inner h =
     let parts = both (nat_le 1 k) (is_within sizes.objects (k - 1) offset n) h in
     and _ _ parts.0 (part_in sizes.objects (k - 1) offset at n m inner parts.1)
+
+-- a type with so many bytes is sized
+sized_by : (done : List Completed) (t : CType) (n : ℕ) → type_size done t ≡ Ok n → is_sized done t ≡ true
+sized_by done t n e = by (is_complete done t) (is_sized done t) refl e where
+  size : Result ℕ ℕ
+  size = Ok (size_of done t)
+
+  by : (b c : Bool) → is_sized done t ≡ c → (if b then (if c then size else Err 4) else Err 3) ≡ Ok n → is_sized done t ≡ true
+  by true true is h = is
+  by true false is h = let none : ⊥ = cc in absurd none
+  by false c is h = let none : ⊥ = cc in absurd none
 
 module _ (scope : Scoped) where
   abbrev Good : Expression → Type 0
@@ -408,14 +424,27 @@ module _ (scope : Scoped) where
   lasting_fits line k None e = refused Fits 1
   lasting_fits line k (Some o) e = lasting_by line k o (is_incomplete scope.records.done o) e refl
 
+  -- a function that is there
+  function_there : (fs : List Callable) (f : ℕ) (c : Callable) → slice_get fs f ≡ Some c → nat_lt f (length (map (signature_of scope.records.done) fs)) ≡ true
+  function_there [] f c e = let no : ⊥ = cc in absurd no
+  function_there (g ∷ gs) zero c e = lt-ltb 0 (suc (length (map (signature_of scope.records.done) gs))) (omega arith)
+  function_there (g ∷ gs) (suc f) c e =
+      let below = ltb-true f (length (map (signature_of scope.records.done) gs)) (function_there gs f c e) in
+      lt-ltb (suc f) (suc (length (map (signature_of scope.records.done) gs))) (omega (arith, below))
+
+  function_fits : (line f : ℕ) (o : Option Callable) → slice_get scope.functions.all f ≡ o → Holds Fits (function_node line f o)
+  function_fits line f None e = refused Fits 1
+  function_fits line f (Some c) e = given Fits _ (function_there scope.functions.all f c e)
+
   name_fits : (line : ℕ) (o : Option Meaning) → Holds Fits (name_node scope line o)
   name_fits line None = refused Fits 1
   name_fits line (Some (Variable v)) = variable_fits line v (slice_get scope.variables v) refl
   name_fits line (Some (Object k)) = lasting_fits line k (object_at scope k) refl
+  name_fits line (Some Incomplete) = refused Fits 3
   name_fits line (Some Assert) = refused Fits 7
   name_fits line (Some Assume) = refused Fits 7
   name_fits line (Some (Draw t)) = refused Fits 7
-  name_fits line (Some Function) = refused Fits 7
+  name_fits line (Some (Function f)) = function_fits line f (slice_get scope.functions.all f) refl
   name_fits line (Some (Typedef n)) = refused Fits 7
   name_fits line (Some (Enumerator bits)) = given Fits _ (character_good line bits)
   name_fits line (Some (Record p)) = refused Fits 7
@@ -521,21 +550,77 @@ module _ (scope : Scoped) where
   draw_good [] e h = given Good e h
   draw_good (x ∷ rest) e h = refused Good 10
 
-  call_good : (line : ℕ) (m : Meaning) (xs : List Operand) → AllFit xs → Holds Good (call_node line m xs)
-  call_good line (Variable v) xs h = refused Good 10
-  call_good line (Object k) xs h = refused Good 10
-  call_good line Assert xs h = bind GoodNumber Good (one_integer xs) _ (argument_good xs h) (λ a n. given Good _ (and _ _ n.integral n.good))
-  call_good line Assume xs h = bind GoodNumber Good (one_integer xs) _ (argument_good xs h) (λ a n. given Good _ (and _ _ n.integral n.good))
-  call_good line (Draw t) xs h = draw_good xs _ refl
-  call_good line Function xs h = refused Good 10
-  call_good line (Typedef n) xs h = refused Good 10
-  call_good line (Enumerator bits) xs h = refused Good 10
-  call_good line (Record p) xs h = refused Good 10
-  call_good line Enumeration xs h = refused Good 10
+  -- arguments of these parameters, and what is left of all
+  record Taken (ts : List CType) (args : Arguments × List Operand) : Type 0 where
+    good : are_arguments (all_sizes scope) (map (passed_as scope.records.done) ts) args.0 ≡ true
+    others : AllFit args.1
 
-  called_fits : (m : Option (ℕ × Meaning)) (xs : List Operand) → AllFit xs → Holds Fits (called m xs)
-  called_fits None xs h = refused Fits 10
-  called_fits (Some m) xs h = computed_fits (call_node m.0 m.1 xs) (call_good m.0 m.1 xs h)
+  -- an argument in front of others, of this parameter
+  record Takes (t : CType) (a : Arguments → Arguments) : Type 0 where
+    before : (ts : List CType) (rest : Arguments) → are_arguments (all_sizes scope) (map (passed_as scope.records.done) ts) rest ≡ true
+        → are_arguments (all_sizes scope) (map (passed_as scope.records.done) (t ∷ ts)) (a rest) ≡ true
+
+  number_taken : (t u : IntegerType) (e : Expression) → type_of e ≡ Integer u → Good e → Takes (ctypes.integer t) (cores.number_argument (as_type t e))
+  number_taken t u e is h = record {
+    before = λ ts rest g. and _ _ (and _ _
+        (ap (λ (x : ValueType). same_given (Some (passed.Integer t)) (given_as x)) (type_as t e) ∙ same_integer_refl t)
+        (typed_as (all_sizes scope) t u e is h)) g;
+  }
+
+  taken_by : (t : IntegerType) (v : ValueType) (e : Expression) → type_of e ≡ v → is_integer v ≡ true → Good e → Takes (ctypes.integer t) (cores.number_argument (as_type t e))
+  taken_by t Void e is i h = let none : ⊥ = cc in absurd none
+  taken_by t (Integer u) e is i h = number_taken t u e is h
+
+  structure_taken : (p : ℕ) (a : Structure) → GoodStructure (ctypes.aggregate p) a → Takes (ctypes.aggregate p) (cores.structure_argument a)
+  structure_taken p a h = record {
+    before = λ ts rest g. and _ _ (and _ _ (eq-eqb (size_of scope.records.done (ctypes.aggregate p)) (typed_trees.size_of a) (sym h.size)) h.good) g;
+  }
+
+  argument_takes : (t : CType) (x : Operand) → Fits x → Holds (Takes t) (argument_in scope.records.done t x)
+  argument_takes ctypes.void x h = refused (Takes ctypes.void) 8
+  argument_takes (ctypes.integer t) x h =
+      bind GoodNumber (Takes (ctypes.integer t)) (number 8 x) _ (number_good 8 x h) (λ e n.
+      given (Takes (ctypes.integer t)) _ (taken_by t (type_of e) e refl n.integral n.good))
+  argument_takes (ctypes.aggregate p) x h =
+      bind (GoodStructure (ctypes.aggregate p)) (Takes (ctypes.aggregate p)) (required 8 (record_value scope.records.done (ctypes.aggregate p) x)) _ (record_good 8 (ctypes.aggregate p) x h) (λ a g.
+      given (Takes (ctypes.aggregate p)) _ (structure_taken p a g))
+  argument_takes (ctypes.array element n) x h = refused (Takes (ctypes.array element n)) 8
+
+  arguments_taken : (ts : List CType) (xs : List Operand) → AllFit xs → Holds (Taken ts) (arguments_in scope.records.done ts xs)
+  arguments_taken [] xs h = given (Taken []) _ (record { good = refl; others = h })
+  arguments_taken (t ∷ ts) [] h = refused (Taken (t ∷ ts)) 10
+  arguments_taken (t ∷ ts) (x ∷ xs) h =
+      let parts = both (is_typed_operand scope x) (list_all (is_typed_operand scope) xs) h in
+      bind (Takes t) (Taken (t ∷ ts)) (argument_in scope.records.done t x) _ (argument_takes t x parts.0) (λ a one.
+      bind (Taken ts) (Taken (t ∷ ts)) (arguments_in scope.records.done ts xs) _ (arguments_taken ts xs parts.1) (λ rest more.
+      given (Taken (t ∷ ts)) _ (record { good = one.before ts rest.0 more.good; others = more.others })))
+
+  abbrev AllGood : List Expression → Type 0
+  AllGood es = list_all (is_typed (all_sizes scope)) es ≡ true
+
+  extra_good : (ellipsis : Bool) (xs : List Operand) → AllFit xs → Holds AllGood (extra_arguments ellipsis xs)
+  extra_good ellipsis [] h = given AllGood [] refl
+  extra_good false (x ∷ xs) h = refused AllGood 10
+  extra_good true (x ∷ xs) h =
+      let parts = both (is_typed_operand scope x) (list_all (is_typed_operand scope) xs) h in
+      bind GoodNumber AllGood (number 8 x) _ (number_good 8 x parts.0) (λ e n.
+      bind AllGood AllGood (extra_arguments true xs) _ (extra_good true xs parts.1) (λ es fine. given AllGood _ (and _ _ n.good fine)))
+
+  behind_fits : (line : ℕ) (es : List Expression) (x : Operand) → AllGood es → Fits x → Fits (behind_extra scope.records.done line es x)
+  behind_fits line [] x h g = g
+  behind_fits line (e ∷ es) x h g =
+      let parts = both (is_typed (all_sizes scope) e) (list_all (is_typed (all_sizes scope)) es) h in
+      comma_fits line (value e false) (behind_extra scope.records.done line es x) parts.0 (behind_fits line es x parts.1 g)
+
+  -- the signature of a function that is there
+  signed : (fs : List Callable) (f : ℕ) (c : Callable) → slice_get fs f ≡ Some c → slice_get (map (signature_of scope.records.done) fs) f ≡ Some (signature_of scope.records.done c)
+  signed [] f c e = let no : ⊥ = cc in absurd no
+  signed (g ∷ gs) zero c e = let same : g ≡ c = cc in ap (λ (x : Callable). Some (signature_of scope.records.done x)) same
+  signed (g ∷ gs) (suc f) c e = signed gs f c e
+
+  any_used : (b : Bool) → (not b || true) ≡ true
+  any_used true = refl
+  any_used false = refl
 
   -- ---- trees
 
@@ -596,52 +681,120 @@ module _ (scope : Scoped) where
         bind (λ (w : List ℕ × Bool). Unit {0}) Fits (required 11 (found (members_in scope.members t).named n)) _ (λ w same. tt) (λ w _.
         value_part_fits line t a w.0 (part_at scope.records.done 0 t w.0) (good_structure t a h) refl)
 
+    -- a call of a function that is there, which gives this type
+    module _ (line f : ℕ) (c : Callable) (there : slice_get scope.functions.all f ≡ Some c) (args : Arguments)
+        (taken : are_arguments (all_sizes scope) (map (passed_as scope.records.done) c.type.parameters) args ≡ true) where
+      sign : slice_get (all_sizes scope).functions f ≡ Some (signature_of scope.records.done c)
+      sign = signed scope.functions.all f c there
+
+      fit : are_arguments (all_sizes scope) (typed_trees.parameters_of (slice_get (all_sizes scope).functions f)) args ≡ true
+      fit = ap (λ (o : Option Signature). are_arguments (all_sizes scope) (typed_trees.parameters_of o) args) sign ∙ taken
+
+      gives : (p : Option PassedType) (t : CType) → c.type.gives.type ≡ t → same_given (given_by scope.records.done t) p ≡ true → gives_this p (slice_get (all_sizes scope).functions f) ≡ true
+      gives p t is same = ap (gives_this p) sign ∙ ap (λ (u : CType). same_given (given_by scope.records.done u) p) is ∙ same
+
+      given_structure : (wanted : Bool) (t : CType) → given_by scope.records.done t ≡ Some (passed.Structure (size_of scope.records.done t)) → c.type.gives.type ≡ t
+          → Holds (λ (n : ℕ). Fits (structure t (cores.give line f wanted (size_of scope.records.done t) args))) (type_size scope.records.done t)
+      given_structure wanted t passes is n e =
+          let size = size_of scope.records.done t in
+          let small = small_sized scope.records.done t built (sized_by scope.records.done t n e) in
+          let same = ap (λ (o : Option PassedType). same_given o (Some (passed.Structure size))) passes ∙ eq-eqb size size refl in
+          structure_fits t (cores.give line f wanted size args) (record {
+            good = and _ _ (and _ _ (lt-ltb size (2 ^ 31) (omega (arith, small))) (gives (Some (passed.Structure size)) t is same)) fit;
+            size = refl;
+          })
+
+      given_fits : (wanted : Bool) (t : CType) → c.type.gives.type ≡ t → Holds (λ (n : ℕ). Fits (given_operand scope.records.done line f wanted t args)) (given_size scope.records.done t)
+      given_fits wanted ctypes.void is n e = and _ _ (and _ _ refl (gives None ctypes.void is refl)) fit
+      given_fits wanted (ctypes.integer u) is n e =
+          and _ _ (and _ _ (any_used wanted) (gives (Some (passed.Integer u)) (ctypes.integer u) is (same_integer_refl u))) fit
+      given_fits wanted (ctypes.aggregate p) is n e = given_structure wanted (ctypes.aggregate p) refl is n e
+      given_fits wanted (ctypes.array element k) is n e = given_structure wanted (ctypes.array element k) refl is n e
+
+    function_call_fits : (line f : ℕ) (wanted : Bool) (c : Callable) (xs : List Operand) → slice_get scope.functions.all f ≡ Some c → AllFit xs
+        → Holds Fits (function_call scope.records.done line f wanted c.type xs)
+    function_call_fits line f wanted c xs there h =
+        bind (λ (n : ℕ). (args : Arguments) → are_arguments (all_sizes scope) (map (passed_as scope.records.done) c.type.parameters) args ≡ true → Fits (given_operand scope.records.done line f wanted c.type.gives.type args))
+        Fits (given_size scope.records.done c.type.gives.type) _ (λ n e args taken. given_fits line f c there args taken wanted c.type.gives.type refl n e) (λ n gives.
+        bind (Taken c.type.parameters) Fits (arguments_in scope.records.done c.type.parameters xs) _ (arguments_taken c.type.parameters xs h) (λ args taken.
+        bind AllGood Fits (extra_arguments c.type.ellipsis args.1) _ (extra_good c.type.ellipsis args.1 taken.others) (λ es fine.
+        given Fits _ (behind_fits line es _ fine (gives args.0 taken.good)))))
+
+    drawn_or_called_fits : (line f : ℕ) (wanted : Bool) (c : Callable) (o : Option IntegerType) (xs : List Operand) → slice_get scope.functions.all f ≡ Some c → AllFit xs
+        → Holds Fits (drawn_or_called scope.records.done line f wanted o c.type xs)
+    drawn_or_called_fits line f wanted c None xs there h = function_call_fits line f wanted c xs there h
+    drawn_or_called_fits line f wanted c (Some u) xs there h = computed_fits (no_arguments xs (cores.draw line u)) (draw_good xs _ refl)
+
+    callable_fits : (line f : ℕ) (wanted : Bool) (o : Option Callable) (xs : List Operand) → slice_get scope.functions.all f ≡ o → AllFit xs
+        → Holds Fits (callable_call scope.records.done line f wanted o xs)
+    callable_fits line f wanted None xs there h = refused Fits 10
+    callable_fits line f wanted (Some c) xs there h = drawn_or_called_fits line f wanted c c.draws xs there h
+
+    call_fits : (line : ℕ) (wanted : Bool) (m : Meaning) (xs : List Operand) → AllFit xs → Holds Fits (call_node scope line wanted m xs)
+    call_fits line wanted (Variable v) xs h = refused Fits 10
+    call_fits line wanted (Object k) xs h = refused Fits 10
+    call_fits line wanted Incomplete xs h = refused Fits 10
+    call_fits line wanted Assert xs h =
+        computed_fits (assertion_call line xs) (bind GoodNumber Good (one_integer xs) _ (argument_good xs h) (λ a n. given Good _ (and _ _ n.integral n.good)))
+    call_fits line wanted Assume xs h =
+        computed_fits (assumption_call line xs) (bind GoodNumber Good (one_integer xs) _ (argument_good xs h) (λ a n. given Good _ (and _ _ n.integral n.good)))
+    call_fits line wanted (Draw t) xs h = computed_fits (no_arguments xs (cores.draw line t)) (draw_good xs _ refl)
+    call_fits line wanted (Function f) xs h = callable_fits line f wanted (slice_get scope.functions.all f) xs refl h
+    call_fits line wanted (Typedef n) xs h = refused Fits 10
+    call_fits line wanted (Enumerator bits) xs h = refused Fits 10
+    call_fits line wanted (Record p) xs h = refused Fits 10
+    call_fits line wanted Enumeration xs h = refused Fits 10
+
+    called_fits : (wanted : Bool) (m : Option (ℕ × Meaning)) (xs : List Operand) → AllFit xs → Holds Fits (called scope wanted m xs)
+    called_fits wanted None xs h = refused Fits 10
+    called_fits wanted (Some m) xs h = call_fits m.0 wanted m.1 xs h
+
     mutual
-      pub well_typed : (t : Tree) → Holds Fits (typed scope t)
-      well_typed (constant line c) = given Fits _ (constant_good line c)
-      well_typed (character line bits) = given Fits _ (character_good line bits)
-      well_typed (strings line parts) = refused Fits _
-      well_typed (name line n) = on_same_line Fits line _ (name_fits line (meaning_of scope.bindings n))
-      well_typed (parens line e) = well_typed e
-      well_typed (unary line op e) =
-          bind Fits Fits (operand scope e) _ (used_on_fits (bare_line e) (typed scope e) (well_typed e)) (λ x good. on_same_line Fits line _ (unary_fits line op x good))
-      well_typed (cast line parts d e) =
+      pub well_typed : (w : Bool) (t : Tree) → Holds Fits (typed scope w t)
+      well_typed w (constant line c) = given Fits _ (constant_good line c)
+      well_typed w (character line bits) = given Fits _ (character_good line bits)
+      well_typed w (strings line parts) = refused Fits _
+      well_typed w (name line n) = on_same_line Fits line _ (name_fits line (meaning_of scope.bindings n))
+      well_typed w (parens line e) = well_typed w e
+      well_typed w (unary line op e) =
+          bind Fits Fits (operand_by scope true e) _ (used_on_fits (bare_line e) (typed scope true e) (well_typed true e)) (λ x good. on_same_line Fits line _ (unary_fits line op x good))
+      well_typed w (cast line parts d e) =
           bind (λ (t : CType). Unit {0}) Fits (type_name scope parts d (lengths scope d)) _ (λ t _. tt) (λ t _.
-          bind Fits Fits (operand scope e) _ (used_on_fits (bare_line e) (typed scope e) (well_typed e)) (λ x good. on_same_line Fits line _ (cast_fits line t x good)))
-      well_typed (sizeof_expr line e) = operand_good line scope.records.done (strings_of e) (typed scope e)
-      well_typed (sizeof_type line parts d) =
+          bind Fits Fits (operand_by scope (is_wanted t) e) _ (used_on_fits (bare_line e) (typed scope (is_wanted t) e) (well_typed (is_wanted t) e)) (λ x good. on_same_line Fits line _ (cast_fits line t x good)))
+      well_typed w (sizeof_expr line e) = operand_good line scope.records.done (strings_of e) (typed scope true e)
+      well_typed w (sizeof_type line parts d) =
           bind (λ (t : CType). Unit {0}) Fits (type_name scope parts d (lengths scope d)) _ (λ t _. tt) (λ t _. size_is_good line (on_line line (type_size scope.records.done t)))
-      well_typed (step line op e) =
-          bind Fits Fits (operand scope e) _ (used_on_fits (bare_line e) (typed scope e) (well_typed e)) (λ x good. on_same_line Fits (first_line e) _ (postfix_fits line op x good))
-      well_typed (member line e n) =
-          bind Fits Fits (operand scope e) _ (used_on_fits (bare_line e) (typed scope e) (well_typed e)) (λ x good. on_same_line Fits (first_line e) _ (member_fits line x n good))
-      well_typed (binary line op a b) =
-          bind Fits Fits (operand scope a) _ (used_on_fits (bare_line a) (typed scope a) (well_typed a)) (λ x good.
-          bind Fits Fits (operand scope b) _ (used_on_fits (bare_line b) (typed scope b) (well_typed b)) (λ y fine.
+      well_typed w (step line op e) =
+          bind Fits Fits (operand_by scope true e) _ (used_on_fits (bare_line e) (typed scope true e) (well_typed true e)) (λ x good. on_same_line Fits (first_line e) _ (postfix_fits line op x good))
+      well_typed w (member line e n) =
+          bind Fits Fits (operand_by scope true e) _ (used_on_fits (bare_line e) (typed scope true e) (well_typed true e)) (λ x good. on_same_line Fits (first_line e) _ (member_fits line x n good))
+      well_typed w (binary line op a b) =
+          bind Fits Fits (operand_by scope true a) _ (used_on_fits (bare_line a) (typed scope true a) (well_typed true a)) (λ x good.
+          bind Fits Fits (operand_by scope true b) _ (used_on_fits (bare_line b) (typed scope true b) (well_typed true b)) (λ y fine.
           on_same_line Fits (first_line a) _ (binary_fits line op x y good fine)))
-      well_typed (choice line test a b) =
-          bind Fits Fits (operand scope test) _ (used_on_fits (bare_line test) (typed scope test) (well_typed test)) (λ x good.
-          bind Fits Fits (operand scope a) _ (used_on_fits (bare_line a) (typed scope a) (well_typed a)) (λ y fine.
-          bind Fits Fits (operand scope b) _ (used_on_fits (bare_line b) (typed scope b) (well_typed b)) (λ z last.
+      well_typed w (choice line test a b) =
+          bind Fits Fits (operand_by scope true test) _ (used_on_fits (bare_line test) (typed scope true test) (well_typed true test)) (λ x good.
+          bind Fits Fits (operand_by scope w a) _ (used_on_fits (bare_line a) (typed scope w a) (well_typed w a)) (λ y fine.
+          bind Fits Fits (operand_by scope w b) _ (used_on_fits (bare_line b) (typed scope w b) (well_typed w b)) (λ z last.
           on_same_line Fits (first_line test) _ (choice_fits line x y z good fine last))))
-      well_typed (assign line op a b) =
-          bind Fits Fits (operand scope a) _ (used_on_fits (bare_line a) (typed scope a) (well_typed a)) (λ x good.
-          bind Fits Fits (operand scope b) _ (used_on_fits (bare_line b) (typed scope b) (well_typed b)) (λ y fine.
+      well_typed w (assign line op a b) =
+          bind Fits Fits (operand_by scope true a) _ (used_on_fits (bare_line a) (typed scope true a) (well_typed true a)) (λ x good.
+          bind Fits Fits (operand_by scope true b) _ (used_on_fits (bare_line b) (typed scope true b) (well_typed true b)) (λ y fine.
           on_same_line Fits (first_line a) _ (assign_fits line op x y good fine)))
-      well_typed (comma line a b) =
-          bind Fits Fits (operand scope a) _ (used_on_fits (bare_line a) (typed scope a) (well_typed a)) (λ x good.
-          bind Fits Fits (operand scope b) _ (used_on_fits (bare_line b) (typed scope b) (well_typed b)) (λ y fine.
+      well_typed w (comma line a b) =
+          bind Fits Fits (operand_by scope false a) _ (used_on_fits (bare_line a) (typed scope false a) (well_typed false a)) (λ x good.
+          bind Fits Fits (operand_by scope w b) _ (used_on_fits (bare_line b) (typed scope w b) (well_typed w b)) (λ y fine.
           given Fits _ (comma_fits line x y good fine)))
-      well_typed (call f args) =
-          bind (λ (m : Option (ℕ × Meaning)). Unit {0}) Fits (callee scope f (operand scope f)) _ (λ m e. tt) (λ m _.
-          bind AllFit Fits (typed_arguments scope args) _ (well_typed_arguments args) (λ xs good. on_same_line Fits (first_line f) _ (called_fits m xs good)))
+      well_typed w (call f args) =
+          bind (λ (m : Option (ℕ × Meaning)). Unit {0}) Fits (callee scope f (operand_by scope true f)) _ (λ m e. tt) (λ m _.
+          bind AllFit Fits (typed_arguments scope args) _ (well_typed_arguments args) (λ xs good. on_same_line Fits (first_line f) _ (called_fits w m xs good)))
 
       pub well_typed_arguments : (ts : Trees) → Holds AllFit (typed_arguments scope ts)
       well_typed_arguments none = given AllFit [] refl
       well_typed_arguments (more first rest) =
-          bind Fits AllFit (operand scope first) _ (used_on_fits (bare_line first) (typed scope first) (well_typed first)) (λ x good.
+          bind Fits AllFit (operand_by scope true first) _ (used_on_fits (bare_line first) (typed scope true first) (well_typed true first)) (λ x good.
           bind AllFit AllFit (typed_arguments scope rest) _ (well_typed_arguments rest) (λ xs fine.
           given AllFit _ (and _ _ good fine)))
 
-    pub well_used : (t : Tree) → Holds Fits (operand scope t)
-    well_used t = used_on_fits (bare_line t) (typed scope t) (well_typed t)
+    pub well_used : (w : Bool) (t : Tree) → Holds Fits (operand_by scope w t)
+    well_used w t = used_on_fits (bare_line t) (typed scope w t) (well_typed w t)

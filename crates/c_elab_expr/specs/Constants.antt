@@ -11,7 +11,7 @@ use Rattle.core_tree.specs.declared.operators.LogicalOperator.{LogicalOperator}
 use Rattle.core_tree.specs.declared.operators.LogicalOperator.TheVariants as logicals
 use Rattle.core_tree.specs.declared.operators.SignOperator.{SignOperator}
 use Rattle.core_tree.specs.Operations.{converted, is_true, truth_bits, arithmetic_check, arithmetic_value, sign_check, sign_value, compared}
-use Rattle.core_tree.specs.Trees.{Expression, constant, read, convert, sign, is_zero, arithmetic, compare, logical, choice, assign, update, step, comma, assertion, assumption, draw, part, discard, discard_structure}
+use Rattle.core_tree.specs.Trees.{Expression, constant, read, convert, sign, is_zero, arithmetic, compare, logical, choice, assign, update, step, comma, assertion, assumption, draw, part, discard, discard_structure, call, function_name}
 use Rattle.c_values.specs.Numbers.{TypedNumber, typed, same_width, are_operands_of}
 
 -- no variable, assignment, call or comma stands in it, not even where it isn't evaluated
@@ -35,6 +35,8 @@ is_constant_form (draw line t) = false
 is_constant_form (part line t offset a) = false
 is_constant_form (discard line e) = false
 is_constant_form (discard_structure a) = false
+is_constant_form (call line f used t args) = false
+is_constant_form (function_name line f) = false
 
 -- a result, where no check breaks
 abbrev pub unbroken : Option Class → TypedNumber → Option TypedNumber
@@ -81,6 +83,8 @@ value_of (draw line t) = None
 value_of (part line t offset a) = None
 value_of (discard line e) = None
 value_of (discard_structure a) = None
+value_of (call line f used t args) = None
+value_of (function_name line f) = None
 
 -- the value of an integer constant expression
 abbrev pub constant_of : Expression → Option TypedNumber

@@ -27,7 +27,7 @@ use Rattle.core_tree.specs.declared.operators.SignOperator.TheVariants as signs
 use Rattle.core_tree.specs.declared.operators.StepOperator.{StepOperator}
 use Rattle.core_tree.specs.declared.operators.StepOperator.TheVariants as steps
 use Rattle.core_tree.specs.declared.expression.Place.{Place}
-use Rattle.core_tree.specs.Trees.{Expression, constant, read, convert, sign, is_zero, arithmetic, compare, logical, choice, assign, update, step, comma, assertion, assumption, draw, part, discard, discard_structure}
+use Rattle.core_tree.specs.Trees.{Expression, constant, read, convert, sign, is_zero, arithmetic, compare, logical, choice, assign, update, step, comma, assertion, assumption, draw, part, discard, discard_structure, call, function_name}
 use Rattle.core_tree.specs.Typed.{type_of, place_type, is_shift}
 
 -- a typed node, or the rule that is broken
@@ -77,6 +77,8 @@ place_of (draw line t) = None
 place_of (part line t offset a) = None
 place_of (discard line e) = None
 place_of (discard_structure a) = None
+place_of (call line f used t args) = None
+place_of (function_name line f) = None
 
 -- the place that may be changed, which isn't const
 abbrev pub target_of : Bool → Expression → Option Place

@@ -1,31 +1,32 @@
 -- What an operator makes of typed operands, or the lowest rule that they break (C11 6.3.2.1, 6.5).
-use Rattle.std.specs.Prelude.{ℕ, ◌==◌, Bool, true, false, ◌||◌, ◌&&◌, List, [], ◌∷◌, slice_get, Option, Some, None, Result, Ok, Err, if◌then◌else◌}
+use Rattle.std.specs.Prelude.{ℕ, ◌==◌, Bool, true, false, ◌||◌, ◌&&◌, List, [], ◌∷◌, map, reverse, slice_get, Option, Some, None, Result, Ok, Err, if◌then◌else◌}
 use Rattle.c_tree.specs.declared.expr.BinaryOp.{BinaryOp}
 use Rattle.c_tree.specs.declared.expr.UnaryOp.{UnaryOp}
 use Rattle.c_tree.specs.declared.expr.StepOp.{StepOp}
 use Rattle.c_types.specs.declared.integers.IntegerType.{IntegerType}
+use Rattle.c_types.specs.declared.types.ValueType.TheVariants.{Void, Integer}
 use Rattle.c_types.specs.Types.{CType, Completed}
 use Rattle.c_types.specs.Types as ctypes
 use Rattle.c_types.specs.Types.{view as view_type}
 use Rattle.c_types.specs.Layouts.{size_of}
 use Rattle.core_tree.specs.declared.expression.Place.{Place}
 use Rattle.core_tree.specs.declared.expression.Place.TheVariants as places
-use Rattle.core_tree.specs.Trees.{Expression, Structure, view, view_structure}
+use Rattle.core_tree.specs.Trees.{Expression, Structure, Arguments, no_argument, number_argument, structure_argument, view, view_structure}
 use Rattle.core_tree.specs.Trees as cores
 use Rattle.core_tree.specs.Typed.{type_of, is_typed, is_structure, is_within, is_in_object}
 use Rattle.core_tree.specs.Typed as typed_trees
 use Rattle.c_values.specs.Numbers.{TypedNumber}
 use Rattle.c_elab_expr.specs.declared.meaning.Meaning.{Meaning}
-use Rattle.c_elab_expr.specs.declared.meaning.Meaning.TheVariants.{Variable, Object, Assert, Assume, Draw, Function, Typedef, Enumerator, Record, Enumeration}
+use Rattle.c_elab_expr.specs.declared.meaning.Meaning.TheVariants.{Variable, Object, Incomplete, Assert, Assume, Draw, Function, Typedef, Enumerator, Record, Enumeration}
 use Rattle.c_elab_expr.specs.declared.operands.Home.{Home}
 use Rattle.c_elab_expr.specs.declared.operands.Home.TheVariants as homes
 use Rattle.c_elab_expr.specs.declared.operands.CoreOperand.{CoreOperand}
 use Rattle.c_elab_expr.specs.declared.operands.CoreOperand.TheVariants as codes
 use Rattle.c_elab_expr.specs.Members.{found, members_in, part_at}
-use Rattle.c_elab_expr.specs.Scopes.{Named, Lasting, Scoped, object_at, is_incomplete, all_sizes}
+use Rattle.c_elab_expr.specs.Scopes.{Named, Lasting, FunctionType, Callable, Scoped, object_at, is_incomplete, all_sizes}
 use Rattle.c_elab_expr.specs.Types.{type_size}
 use Rattle.c_elab_expr.specs.Constants.{constant_of}
-use Rattle.c_elab_expr.specs.Nodes.{Node, ◌>>=◌, required, integer, character_node, unary_node, postfix_node, binary_node, choice_node, assignment_node, cast_node, value_size}
+use Rattle.c_elab_expr.specs.Nodes.{Node, ◌>>=◌, required, integer, as_type, character_node, unary_node, postfix_node, binary_node, choice_node, assignment_node, cast_node, value_size}
 
 -- A value of integer type or void, and whether it is a place that is const; a place of struct, union or array type: its line, the
 -- variable or the object that it lies in, the offset in it in bytes, the type, and whether it is const; or a value of such a type
@@ -136,16 +137,22 @@ abbrev pub lasting_node : List Completed → ℕ → ℕ → Option Lasting → 
 lasting_node done line k None = Err 1
 lasting_node done line k (Some o) = if is_incomplete done o then Err 3 else Ok (place_operand line (homes.Object k) 0 o.named.type o.named.constant)
 
--- A function stands only where it is called, and a type's name where a type is named. An enumerator is a constant of type int
--- (C11 6.7.2.2p3).
+-- the name of a function, which has no value where it isn't called
+abbrev pub function_node : ℕ → ℕ → Option Callable → OperandNode
+function_node line f None = Err 1
+function_node line f (Some c) = computed (Ok (cores.function_name line f))
+
+-- A built-in function stands only where it is called, and a type's name where a type is named; rule 3: a variable whose length its
+-- initializer says is no operand in this. An enumerator is a constant of type int (C11 6.7.2.2p3).
 abbrev pub name_node : Scoped → ℕ → Option Meaning → OperandNode
 name_node s line None = Err 1
 name_node s line (Some (Variable v)) = variable_node line v (slice_get s.variables v)
 name_node s line (Some (Object k)) = lasting_node s.records.done line k (object_at s k)
+name_node s line (Some Incomplete) = Err 3
 name_node s line (Some Assert) = Err 7
 name_node s line (Some Assume) = Err 7
 name_node s line (Some (Draw t)) = Err 7
-name_node s line (Some Function) = Err 7
+name_node s line (Some (Function f)) = function_node line f (slice_get s.functions.all f)
 name_node s line (Some (Typedef n)) = Err 7
 name_node s line (Some (Enumerator bits)) = computed (Ok (character_node line bits))
 name_node s line (Some (Record p)) = Err 7
@@ -277,22 +284,97 @@ abbrev pub no_arguments : List Operand → Expression → Node
 no_arguments [] e = Ok e
 no_arguments (x ∷ rest) e = Err 10
 
--- what a call of what a name on this line means is; no tree calls a function that the file defines
-abbrev pub call_node : ℕ → Meaning → List Operand → Node
-call_node line (Variable v) arguments = Err 10
-call_node line (Object k) arguments = Err 10
-call_node line Assert arguments = do
-  a ← one_integer arguments
+-- an argument in front of others, converted to its parameter's type as by assignment; rule 8: it is assignable (C11 6.5.2.2p2, p7)
+abbrev pub argument_in : List Completed → CType → Operand → Result (Arguments → Arguments) ℕ
+argument_in done ctypes.void x = Err 8
+argument_in done (ctypes.integer t) x = do
+  e ← number 8 x
+  Ok (number_argument (as_type t e))
+argument_in done (ctypes.aggregate p) x = do
+  a ← required 8 (record_value done (ctypes.aggregate p) x)
+  Ok (structure_argument a)
+argument_in done (ctypes.array element n) x = Err 8
+
+-- those of the parameters, and the arguments behind them; rule 10: there are as many
+abbrev pub arguments_in : List Completed → List CType → List Operand → Result (Arguments × List Operand) ℕ
+arguments_in done [] xs = Ok (no_argument, xs)
+arguments_in done (t ∷ ts) [] = Err 10
+arguments_in done (t ∷ ts) (x ∷ xs) = do
+  a ← argument_in done t x
+  rest ← arguments_in done ts xs
+  Ok (a rest.0, rest.1)
+
+-- rule 10: only an ellipsis takes more; rule 8: these are of integer types
+abbrev pub extra_arguments : Bool → List Operand → Result (List Expression) ℕ
+extra_arguments ellipsis [] = Ok []
+extra_arguments false (x ∷ xs) = Err 10
+extra_arguments true (x ∷ xs) = do
+  e ← number 8 x
+  es ← extra_arguments true xs
+  Ok (e ∷ es)
+
+-- rule 3: what a call gives is void or complete, and how many bytes that has (C11 6.5.2.2p1)
+abbrev pub given_size : List Completed → CType → Result ℕ ℕ
+given_size done ctypes.void = Ok 0
+given_size done (ctypes.integer t) = type_size done (ctypes.integer t)
+given_size done (ctypes.aggregate p) = type_size done (ctypes.aggregate p)
+given_size done (ctypes.array element n) = type_size done (ctypes.array element n)
+
+-- a call of the function with a number, which gives this type; a value is used where it is wanted
+abbrev pub given_operand : List Completed → (line f : ℕ) → Bool → CType → Arguments → Operand
+given_operand done line f wanted ctypes.void args = value (cores.call line f false Void args) false
+given_operand done line f wanted (ctypes.integer t) args = value (cores.call line f wanted (Integer t) args) false
+given_operand done line f wanted (ctypes.aggregate p) args = structure (ctypes.aggregate p) (cores.give line f wanted (size_of done (ctypes.aggregate p)) args)
+given_operand done line f wanted (ctypes.array element n) args = structure (ctypes.array element n) (cores.give line f wanted (size_of done (ctypes.array element n)) args)
+
+-- what an ellipsis takes goes before the call: no function with one is called in a file that is run
+abbrev pub behind_extra : List Completed → ℕ → List Expression → Operand → Operand
+behind_extra done line [] x = x
+behind_extra done line (e ∷ es) x = comma_operand done line (value e false) (behind_extra done line es x)
+
+abbrev pub function_call : List Completed → (line f : ℕ) → Bool → FunctionType → List Operand → OperandNode
+function_call done line f wanted t xs = do
+  size ← given_size done t.gives.type
+  args ← arguments_in done t.parameters xs
+  es ← extra_arguments t.ellipsis args.1
+  Ok (behind_extra done line es (given_operand done line f wanted t.gives.type args.0))
+
+-- a function that draws from the inputs has no body
+abbrev pub drawn_or_called : List Completed → (line f : ℕ) → Bool → Option IntegerType → FunctionType → List Operand → OperandNode
+drawn_or_called done line f wanted None t xs = function_call done line f wanted t xs
+drawn_or_called done line f wanted (Some u) t xs = computed (no_arguments xs (cores.draw line u))
+
+abbrev pub callable_call : List Completed → (line f : ℕ) → Bool → Option Callable → List Operand → OperandNode
+callable_call done line f wanted None xs = Err 10
+callable_call done line f wanted (Some c) xs = drawn_or_called done line f wanted c.draws c.type xs
+
+abbrev pub assertion_call : ℕ → List Operand → Node
+assertion_call line xs = do
+  a ← one_integer xs
   Ok (cores.assertion line a)
-call_node line Assume arguments = do
-  a ← one_integer arguments
+
+abbrev pub assumption_call : ℕ → List Operand → Node
+assumption_call line xs = do
+  a ← one_integer xs
   Ok (cores.assumption line a)
-call_node line (Draw t) arguments = no_arguments arguments (cores.draw line t)
-call_node line Function arguments = Err 10
-call_node line (Typedef n) arguments = Err 10
-call_node line (Enumerator bits) arguments = Err 10
-call_node line (Record p) arguments = Err 10
-call_node line Enumeration arguments = Err 10
+
+-- what a call of what a name on this line means is, whose value is wanted or not
+abbrev pub call_node : Scoped → ℕ → Bool → Meaning → List Operand → OperandNode
+call_node s line wanted (Variable v) xs = Err 10
+call_node s line wanted (Object k) xs = Err 10
+call_node s line wanted Incomplete xs = Err 10
+call_node s line wanted Assert xs = computed (assertion_call line xs)
+call_node s line wanted Assume xs = computed (assumption_call line xs)
+call_node s line wanted (Draw t) xs = computed (no_arguments xs (cores.draw line t))
+call_node s line wanted (Function f) xs = callable_call s.records.done line f wanted (slice_get s.functions.all f) xs
+call_node s line wanted (Typedef n) xs = Err 10
+call_node s line wanted (Enumerator bits) xs = Err 10
+call_node s line wanted (Record p) xs = Err 10
+call_node s line wanted Enumeration xs = Err 10
+
+-- operands that stand in memory in turned order
+abbrev pub turned : List CoreOperand → List Operand
+turned xs = map view_operand (reverse xs)
 
 -- ---- what is true of a typed operand
 

@@ -1,19 +1,26 @@
 -- What names mean at a place of a file (C11 6.2.1, 6.2.3).
-use Rattle.std.specs.Prelude.{ℕ, ◌-◌, ◌==◌, Bool, true, false, not, ◌&&◌, ◌||◌, List, [], ◌∷◌, map, length, nat_lt, nat_le, slice_get, Option, Some, None, Vec, option_map, codes, if◌then◌else◌, refl}
+use Rattle.std.specs.Prelude.{ℕ, ◌-◌, ◌==◌, Bool, true, false, not, ◌&&◌, ◌||◌, List, [], ◌∷◌, ◌++◌, map, length, nat_lt, nat_le, slice_get, Option, Some, None, Vec, option_map, codes, if◌then◌else◌, refl}
 use Rattle.std.specs.List.{list_all, list_any}
 use Rattle.std.specs.Str.{bytes_eq}
 use Rattle.std.specs.Global.{Global}
 use Rattle.std.specs.Coded.{Coded, code_by, coded_ℕ, coded_bool, coded_list, coded_option, coded×}
+use Rattle.c_types.specs.declared.integers.IntegerType.{IntegerType}
 use Rattle.c_types.specs.declared.integers.IntegerType.TheVariants as types
 use Rattle.c_types.specs.declared.types.RecordKind.TheVariants.{Struct}
-use Rattle.c_types.specs.Types.{CType, Completed, Records, view, coded_type, coded_records}
+use Rattle.c_types.specs.Types.{CType, Completed, Records, view, views, coded_type, coded_records}
 use Rattle.c_types.specs.Types as ctypes
 use Rattle.c_types.specs.Layouts.{is_complete, size_of}
-use Rattle.core_tree.specs.Typed.{Sizes}
+use Rattle.core_tree.specs.declared.functions.PassedType.{PassedType}
+use Rattle.core_tree.specs.declared.functions.PassedType.TheVariants as passed
+use Rattle.core_tree.specs.Typed.{Sizes, Signature}
 use Rattle.c_elab_expr.specs.declared.meaning.Meaning.{Meaning}
-use Rattle.c_elab_expr.specs.declared.meaning.Meaning.TheVariants.{Variable, Object, Assert, Assume, Draw, Function, Typedef, Enumerator, Record, Enumeration}
+use Rattle.c_elab_expr.specs.declared.meaning.Meaning.TheVariants.{Variable, Object, Incomplete, Assert, Assume, Draw, Function, Typedef, Enumerator, Record, Enumeration}
 use Rattle.c_elab_expr.specs.declared.scope.QualifiedType.{QualifiedType}
 use Rattle.c_elab_expr.specs.declared.scope.Lasting.{Lasting as CodeLasting}
+use Rattle.c_elab_expr.specs.declared.functions.FunctionType.{FunctionType as CodeFunctionType}
+use Rattle.c_elab_expr.specs.declared.functions.Callable.{Callable as CodeCallable}
+use Rattle.c_elab_expr.specs.declared.flow.Cases.{Cases as CodeCases}
+use Rattle.c_elab_expr.specs.declared.flow.Flow.{Flow as CodeFlow}
 use Rattle.c_elab_expr.specs.Members.{Members}
 
 -- a declared name
@@ -99,10 +106,11 @@ built_ins =
 abbrev pub is_tag : Meaning → Bool
 is_tag (Variable v) = false
 is_tag (Object k) = false
+is_tag Incomplete = false
 is_tag Assert = false
 is_tag Assume = false
 is_tag (Draw t) = false
-is_tag Function = false
+is_tag (Function f) = false
 is_tag (Typedef n) = false
 is_tag (Enumerator bits) = false
 is_tag (Record p) = true
@@ -152,9 +160,49 @@ pub record Linked : Type 0 where
   pub name : List ℕ
   pub object : ℕ
 
+-- A function's type: what it gives, void where it gives nothing; the types of its parameters, without their qualifiers; and
+-- whether an ellipsis stands behind these (C11 6.7.6.3).
+pub record FunctionType : Type 0 where
+  pub gives : Named
+  pub parameters : List CType
+  pub ellipsis : Bool
+
+-- A function of the file: its name; the line of its name, in its definition, or in its first declarator where it has none so far;
+-- its type; the line of its first declarator, where this has an ellipsis; the type of the number that it draws from the inputs,
+-- where it does; and whether it has a definition so far.
+pub record Callable : Type 0 where
+  pub name : List ℕ
+  pub line : ℕ
+  pub type : FunctionType
+  pub ellipsis : Option ℕ
+  pub draws : Option IntegerType
+  pub defined : Bool
+
+-- The functions of a file: by number, in the order of their first declarators; their numbers by their names, each of which has
+-- linkage (C11 6.2.2p5); the function types that typedefs name, by number; and the names of the functions that the file defines
+-- somewhere.
+pub record FunctionTable : Type 0 where
+  pub all : List Callable
+  pub named : List Linked
+  pub types : List FunctionType
+  pub defined : List (List ℕ)
+
+-- the cases of a switch so far: the type of its value, the bits of theirs, and whether `default` is among them
+pub record Cases : Type 0 where
+  pub type : IntegerType
+  pub values : List ℕ
+  pub has_default : Bool
+
+-- What the function gives that is typed, how many loops and how many labels it has so far, and the cases of the innermost switch.
+pub record Flow : Type 0 where
+  pub gives : CType
+  pub loops : ℕ
+  pub labels : ℕ
+  pub switch : Option Cases
+
 -- A scope: the declared names, what typedefs name by number, the structs and unions by place with the members that `.` finds
 -- in each, the types of the function's variables by number, the objects that live as long as the program, the first of which has
--- the number 1, and the names of those with linkage.
+-- the number 1, the names of those with linkage, the functions, and how far the function is typed.
 pub record Scoped : Type 0 where
   pub bindings : Environment
   pub types : List Named
@@ -163,6 +211,8 @@ pub record Scoped : Type 0 where
   pub variables : List Named
   pub objects : List Lasting
   pub linked : List Linked
+  pub functions : FunctionTable
+  pub flow : Flow
 
 abbrev pub view_lasting : CodeLasting → Lasting
 view_lasting o = record { named = view_named o.named; unknown_length = o.unknown_length; bytes = option_map (λ v. v.items) o.bytes; defined = o.defined; line = o.line }
@@ -170,18 +220,62 @@ view_lasting o = record { named = view_named o.named; unknown_length = o.unknown
 abbrev pub view_linked : Vec ℕ Global × ℕ → Linked
 view_linked l = record { name = l.0.items; object = l.1 }
 
+abbrev pub view_function_type : CodeFunctionType → FunctionType
+view_function_type t = record { gives = record { type = view t.gives; constant = t.constant }; parameters = views t.parameters.items; ellipsis = t.ellipsis }
+
+abbrev pub view_callable : CodeCallable → Callable
+view_callable f = record { name = f.name.items; line = f.line; type = view_function_type f.type_; ellipsis = f.ellipsis; draws = f.draws; defined = f.defined }
+
+abbrev pub view_cases : CodeCases → Cases
+view_cases c = record { type = c.type_; values = c.values.keys; has_default = c.has_default }
+
+abbrev pub view_flow : CodeFlow → Flow
+view_flow f = record { gives = view f.gives; loops = f.loops; labels = f.labels; switch = option_map view_cases f.switch }
+
+abbrev pub no_functions : FunctionTable
+no_functions = record { all = []; named = []; types = []; defined = [] }
+
+-- the file defines a function of this name somewhere
+abbrev pub is_defined : FunctionTable → List ℕ → Bool
+is_defined t name = list_any (λ n. bytes_eq name n) t.defined
+
+abbrev pub with_defined : FunctionTable → List ℕ → FunctionTable
+with_defined t name = record t { defined = if is_defined t name then t.defined else t.defined ++ name ∷ [] }
+
+-- one more function with a name that none has so far
+abbrev pub with_callable : FunctionTable → List ℕ → Callable → FunctionTable
+with_callable t name f = record t { all = t.all ++ f ∷ []; named = t.named ++ record { name = name; object = length t.all } ∷ [] }
+
+-- outside of functions
+abbrev pub no_flow : Flow
+no_flow = record { gives = ctypes.void; loops = 0; labels = 0; switch = None }
+
 -- nothing is declared
 abbrev pub first_scope : Scoped
-first_scope = record { bindings = []; types = built_in_types; records = built_in_records; members = built_in_members; variables = []; objects = []; linked = [] }
+first_scope = record { bindings = []; types = built_in_types; records = built_in_records; members = built_in_members; variables = []; objects = []; linked = []; functions = no_functions; flow = no_flow }
+
+-- A function type stands among the types as an array of void, which no object has: its length is the function type's number.
+abbrev pub function_numbered : ℕ → CType
+function_numbered n = ctypes.array ctypes.void n
+
+abbrev pub function_number : CType → Option ℕ
+function_number ctypes.void = None
+function_number (ctypes.integer t) = None
+function_number (ctypes.aggregate p) = None
+function_number (ctypes.array ctypes.void n) = Some n
+function_number (ctypes.array (ctypes.integer t) n) = None
+function_number (ctypes.array (ctypes.aggregate p) n) = None
+function_number (ctypes.array (ctypes.array e k) n) = None
 
 -- what a name means is there: a variable of the function, an object, a typedef's type, or a struct or union
 abbrev pub is_there : ℕ → ℕ → ℕ → ℕ → Meaning → Bool
 is_there variables objects types records (Variable v) = nat_lt v variables
 is_there variables objects types records (Object k) = nat_le 1 k && nat_le k objects
+is_there variables objects types records Incomplete = true
 is_there variables objects types records Assert = true
 is_there variables objects types records Assume = true
 is_there variables objects types records (Draw t) = true
-is_there variables objects types records Function = true
+is_there variables objects types records (Function f) = true
 is_there variables objects types records (Typedef n) = nat_lt n types
 is_there variables objects types records (Enumerator bits) = true
 is_there variables objects types records (Record p) = nat_lt p records
@@ -227,9 +321,32 @@ is_incomplete done o = o.unknown_length || not (is_complete done o.named.type)
 abbrev pub lasting_size : List Completed → Lasting → ℕ
 lasting_size done o = if is_incomplete done o then 0 else size_of done o.named.type
 
--- the sizes of what expressions name
+-- ---- functions
+
+-- a value of this type, as a call hands it over
+abbrev pub passed_as : List Completed → CType → PassedType
+passed_as done ctypes.void = passed.Structure 0
+passed_as done (ctypes.integer t) = passed.Integer t
+passed_as done (ctypes.aggregate p) = passed.Structure (size_of done (ctypes.aggregate p))
+passed_as done (ctypes.array e n) = passed.Structure (size_of done (ctypes.array e n))
+
+abbrev pub given_by : List Completed → CType → Option PassedType
+given_by done ctypes.void = None
+given_by done (ctypes.integer t) = Some (passed_as done (ctypes.integer t))
+given_by done (ctypes.aggregate p) = Some (passed_as done (ctypes.aggregate p))
+given_by done (ctypes.array e n) = Some (passed_as done (ctypes.array e n))
+
+abbrev pub signature_of : List Completed → Callable → Signature
+signature_of done f = record { gives = given_by done f.type.gives.type; parameters = map (passed_as done) f.type.parameters }
+
+-- the sizes of what expressions name, the types of the functions that they call, and what the function gives
 abbrev pub all_sizes : Scoped → Sizes
-all_sizes s = record { variables = sizes s; objects = map (lasting_size s.records.done) s.objects }
+all_sizes s = record {
+  variables = sizes s;
+  objects = map (lasting_size s.records.done) s.objects;
+  functions = map (signature_of s.records.done) s.functions.all;
+  gives = given_by s.records.done s.flow.gives;
+}
 
 -- ---- codes, by which proofs tell scopes apart
 
@@ -242,3 +359,35 @@ coded_lasting = code_by (Named × (Bool × (Option (List ℕ) × (Bool × ℕ)))
 
 abbrev pub coded_linked : Coded Linked
 coded_linked = code_by (List ℕ × ℕ) (coded× (coded_list coded_ℕ) coded_ℕ) (λ l. (l.name, l.object)) (λ p. record { name = p.0; object = p.1 }) (λ _. refl)
+
+abbrev pub coded_function_type : Coded FunctionType
+coded_function_type = code_by (Named × (List CType × Bool)) (coded× coded_named (coded× (coded_list coded_type) coded_bool))
+    (λ t. (t.gives, (t.parameters, t.ellipsis))) (λ p. record { gives = p.0; parameters = p.1.0; ellipsis = p.1.1 }) (λ _. refl)
+
+abbrev integer_in : CType → IntegerType
+integer_in ctypes.void = types.Int
+integer_in (ctypes.integer t) = t
+integer_in (ctypes.aggregate p) = types.Int
+integer_in (ctypes.array e n) = types.Int
+
+abbrev pub coded_integer : Coded IntegerType
+coded_integer = code_by CType coded_type ctypes.integer integer_in (λ _. refl)
+
+abbrev pub coded_callable : Coded Callable
+coded_callable = code_by (List ℕ × (ℕ × (FunctionType × (Option ℕ × (Option IntegerType × Bool)))))
+    (coded× (coded_list coded_ℕ) (coded× coded_ℕ (coded× coded_function_type (coded× (coded_option coded_ℕ) (coded× (coded_option coded_integer) coded_bool)))))
+    (λ f. (f.name, (f.line, (f.type, (f.ellipsis, (f.draws, f.defined))))))
+    (λ p. record { name = p.0; line = p.1.0; type = p.1.1.0; ellipsis = p.1.1.1.0; draws = p.1.1.1.1.0; defined = p.1.1.1.1.1 }) (λ _. refl)
+
+abbrev pub coded_functions : Coded FunctionTable
+coded_functions = code_by (List Callable × (List Linked × (List FunctionType × List (List ℕ))))
+    (coded× (coded_list coded_callable) (coded× (coded_list coded_linked) (coded× (coded_list coded_function_type) (coded_list (coded_list coded_ℕ)))))
+    (λ t. (t.all, (t.named, (t.types, t.defined)))) (λ p. record { all = p.0; named = p.1.0; types = p.1.1.0; defined = p.1.1.1 }) (λ _. refl)
+
+abbrev pub coded_cases : Coded Cases
+coded_cases = code_by (IntegerType × (List ℕ × Bool)) (coded× coded_integer (coded× (coded_list coded_ℕ) coded_bool))
+    (λ c. (c.type, (c.values, c.has_default))) (λ p. record { type = p.0; values = p.1.0; has_default = p.1.1 }) (λ _. refl)
+
+abbrev pub coded_flow : Coded Flow
+coded_flow = code_by (CType × (ℕ × (ℕ × Option Cases))) (coded× coded_type (coded× coded_ℕ (coded× coded_ℕ (coded_option coded_cases))))
+    (λ f. (f.gives, (f.loops, (f.labels, f.switch)))) (λ p. record { gives = p.0; loops = p.1.0; labels = p.1.1.0; switch = p.1.1.1 }) (λ _. refl)

@@ -17,7 +17,7 @@ use Rattle.c_types.specs.Types.{CType, Completed, Records}
 use Rattle.c_types.specs.Types as ctypes
 use Rattle.c_types.specs.Layouts.{is_complete, is_sized, size_of, most_bytes, kind_at}
 use Rattle.c_elab_expr.specs.declared.meaning.Meaning.{Meaning}
-use Rattle.c_elab_expr.specs.declared.meaning.Meaning.TheVariants.{Variable, Object, Assert, Assume, Draw, Function, Typedef, Enumerator, Record, Enumeration}
+use Rattle.c_elab_expr.specs.declared.meaning.Meaning.TheVariants.{Variable, Object, Incomplete, Assert, Assume, Draw, Function, Typedef, Enumerator, Record, Enumeration}
 use Rattle.c_elab_expr.specs.declared.specifying.Specified.{Specified}
 use Rattle.c_elab_expr.specs.Scopes.{Named, plain, Scoped, meaning_of, tag_of}
 use Rattle.c_elab_expr.specs.Nodes.{◌>>=◌, required}
@@ -142,10 +142,11 @@ abbrev pub typedef_of : Scoped → Option Meaning → Result Named ℕ
 typedef_of scope None = Err 1
 typedef_of scope (Some (Variable v)) = Err 1
 typedef_of scope (Some (Object k)) = Err 1
+typedef_of scope (Some Incomplete) = Err 1
 typedef_of scope (Some Assert) = Err 1
 typedef_of scope (Some Assume) = Err 1
 typedef_of scope (Some (Draw t)) = Err 1
-typedef_of scope (Some Function) = Err 1
+typedef_of scope (Some (Function f)) = Err 1
 typedef_of scope (Some (Typedef n)) = required 1 (slice_get scope.types n)
 typedef_of scope (Some (Enumerator bits)) = Err 1
 typedef_of scope (Some (Record p)) = Err 1
@@ -168,10 +169,11 @@ enumeration_of tag_kinds.Enum = Ok (plain (ctypes.integer types.Int))
 abbrev pub tag_type : Scoped → TagKind → Meaning → Result Named ℕ
 tag_type scope kind (Variable v) = Err 18
 tag_type scope kind (Object k) = Err 18
+tag_type scope kind Incomplete = Err 18
 tag_type scope kind Assert = Err 18
 tag_type scope kind Assume = Err 18
 tag_type scope kind (Draw t) = Err 18
-tag_type scope kind Function = Err 18
+tag_type scope kind (Function f) = Err 18
 tag_type scope kind (Typedef n) = Err 18
 tag_type scope kind (Enumerator bits) = Err 18
 tag_type scope kind (Record p) = record_of (kind_at scope.records p) kind p

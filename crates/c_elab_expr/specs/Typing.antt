@@ -1,6 +1,6 @@
 -- The typed operand of an expression, or the first broken rule: parts come before the node, from left to right, so it is the node
 -- whose last token comes first among those that break a rule and whose parts are all typed (C11 6.5).
-use Rattle.std.specs.Prelude.{◌≡◌, ℕ, ◌+◌, ◌++◌, false, List, [], ◌∷◌, Option, Some, None, Result, Ok, Err}
+use Rattle.std.specs.Prelude.{◌≡◌, ℕ, ◌+◌, ◌++◌, Bool, true, false, List, [], ◌∷◌, Option, Some, None, Result, Ok, Err}
 use Rattle.c_tree.specs.Tree.{TypePart, Tree, Trees, Declared, Suffixes, unnamed, named, inside, no_suffix, bounded, unbounded, constant, character, strings, name, parens, unary, cast, sizeof_expr, sizeof_type, step, member, binary, choice, assign, comma, call, none, more, first_line}
 use Rattle.c_elab_expr.specs.declared.meaning.Meaning.{Meaning}
 use Rattle.c_elab_expr.specs.declared.fault.TypingError.{TypingError}
@@ -8,6 +8,7 @@ use Rattle.c_elab_expr.specs.declared.fault.TypingError.TheVariants as errors
 use Rattle.c_elab_expr.specs.declared.fault.Broken.{Broken}
 use Rattle.c_elab_expr.specs.declared.fault.Broken.TheVariants as broken
 use Rattle.c_types.specs.Types.{CType, Completed}
+use Rattle.c_types.specs.Types as ctypes
 use Rattle.c_elab_expr.specs.Scopes.{Scoped, meaning_of}
 use Rattle.c_elab_expr.specs.Types.{nothing_said, with_parts, specified_type, parts_line, declared_line, array_of, type_size}
 use Rattle.c_elab_expr.specs.Constants.{length_said}
@@ -40,14 +41,22 @@ used_on line typing = typing >>= λ x. on_line line (used x)
 abbrev pub no_function : Result Operand Fault → Result (Option (ℕ × Meaning)) Fault
 no_function typing = typing >>= λ x. Ok None
 
--- What a callee means, with the line of its name: any other tree is typed, and is no function.
+-- What a callee means, with the line of its name, also in parentheses: any other tree is typed, and is no function.
 abbrev pub callee : Scoped → Tree → Result Operand Fault → Result (Option (ℕ × Meaning)) Fault
 callee s (name line n) typed_callee = on_line line (required 1 (meaning_of s.bindings n)) >>= λ m. Ok (Some (line, m))
+callee s (parens line e) typed_callee = callee s e typed_callee
 callee s _ typed_callee = no_function typed_callee
 
-abbrev pub called : Option (ℕ × Meaning) → List Operand → OperandNode
-called None arguments = Err 10
-called (Some m) arguments = computed (call_node m.0 m.1 arguments)
+abbrev pub called : Scoped → Bool → Option (ℕ × Meaning) → List Operand → OperandNode
+called s wanted None arguments = Err 10
+called s wanted (Some m) arguments = call_node s m.0 wanted m.1 arguments
+
+-- a cast to void doesn't use the value
+abbrev pub is_wanted : CType → Bool
+is_wanted ctypes.void = false
+is_wanted (ctypes.integer t) = true
+is_wanted (ctypes.aggregate p) = true
+is_wanted (ctypes.array element n) = true
 
 -- The type of a type name, whose specifiers are a node and whose declarator, with these typed bounds, is the next.
 abbrev pub type_name : Scoped → List TypePart → Declared → Result (List (Option ℕ)) Fault → Result CType Fault
@@ -75,57 +84,57 @@ bound line typed_bound = do
   Ok (length_said n)
 
 abbrev mutual
-  -- an expression, also as the operand of `sizeof`
-  pub typed : Scoped → Tree → Result Operand Fault
-  typed s (constant line c) = Ok (value (constant_node line c) false)
-  typed s (character line bits) = Ok (value (character_node line bits) false)
-  typed s (strings line parts) = Err (fault line 7)
-  typed s (name line n) = on_line line (name_node s line (meaning_of s.bindings n))
-  typed s (parens line e) = typed s e
-  typed s (unary line op e) = do
-    x ← used_on (bare_line e) (typed s e)
+  -- an expression, also as the operand of `sizeof`, whose value is wanted or not
+  pub typed : Scoped → Bool → Tree → Result Operand Fault
+  typed s w (constant line c) = Ok (value (constant_node line c) false)
+  typed s w (character line bits) = Ok (value (character_node line bits) false)
+  typed s w (strings line parts) = Err (fault line 7)
+  typed s w (name line n) = on_line line (name_node s line (meaning_of s.bindings n))
+  typed s w (parens line e) = typed s w e
+  typed s w (unary line op e) = do
+    x ← used_on (bare_line e) (typed s true e)
     on_line line (unary_operand line op x)
-  typed s (cast line parts d e) = do
+  typed s w (cast line parts d e) = do
     t ← type_name s parts d (lengths s d)
-    x ← used_on (bare_line e) (typed s e)
+    x ← used_on (bare_line e) (typed s (is_wanted t) e)
     on_line line (cast_operand s.records.done line t x)
-  typed s (sizeof_expr line e) = operand_size line s.records.done (strings_of e) (typed s e)
-  typed s (sizeof_type line parts d) = do
+  typed s w (sizeof_expr line e) = operand_size line s.records.done (strings_of e) (typed s true e)
+  typed s w (sizeof_type line parts d) = do
     t ← type_name s parts d (lengths s d)
     n ← on_line line (type_size s.records.done t)
     Ok (sized line n)
-  typed s (step line op e) = do
-    x ← used_on (bare_line e) (typed s e)
+  typed s w (step line op e) = do
+    x ← used_on (bare_line e) (typed s true e)
     on_line (first_line e) (postfix_operand line op x)
-  typed s (member line e n) = do
-    x ← used_on (bare_line e) (typed s e)
+  typed s w (member line e n) = do
+    x ← used_on (bare_line e) (typed s true e)
     on_line (first_line e) (member_node s line x n)
-  typed s (binary line op a b) = do
-    x ← used_on (bare_line a) (typed s a)
-    y ← used_on (bare_line b) (typed s b)
+  typed s w (binary line op a b) = do
+    x ← used_on (bare_line a) (typed s true a)
+    y ← used_on (bare_line b) (typed s true b)
     on_line (first_line a) (binary_operand line op x y)
-  typed s (choice line test a b) = do
-    x ← used_on (bare_line test) (typed s test)
-    y ← used_on (bare_line a) (typed s a)
-    z ← used_on (bare_line b) (typed s b)
+  typed s w (choice line test a b) = do
+    x ← used_on (bare_line test) (typed s true test)
+    y ← used_on (bare_line a) (typed s w a)
+    z ← used_on (bare_line b) (typed s w b)
     on_line (first_line test) (choice_operand s.records.done line x y z)
-  typed s (assign line op a b) = do
-    x ← used_on (bare_line a) (typed s a)
-    y ← used_on (bare_line b) (typed s b)
+  typed s w (assign line op a b) = do
+    x ← used_on (bare_line a) (typed s true a)
+    y ← used_on (bare_line b) (typed s true b)
     on_line (first_line a) (assign_operand s line op x y)
-  typed s (comma line a b) = do
-    x ← used_on (bare_line a) (typed s a)
-    y ← used_on (bare_line b) (typed s b)
+  typed s w (comma line a b) = do
+    x ← used_on (bare_line a) (typed s false a)
+    y ← used_on (bare_line b) (typed s w b)
     Ok (comma_operand s.records.done line x y)
-  typed s (call f arguments) = do
-    m ← callee s f (used_on (bare_line f) (typed s f))
+  typed s w (call f arguments) = do
+    m ← callee s f (used_on (bare_line f) (typed s true f))
     xs ← typed_arguments s arguments
-    on_line (first_line f) (called m xs)
+    on_line (first_line f) (called s w m xs)
 
   pub typed_arguments : Scoped → Trees → Result (List Operand) Fault
   typed_arguments s none = Ok []
   typed_arguments s (more first rest) = do
-    x ← used_on (bare_line first) (typed s first)
+    x ← used_on (bare_line first) (typed s true first)
     xs ← typed_arguments s rest
     Ok (x ∷ xs)
 
@@ -142,16 +151,19 @@ abbrev mutual
   pub suffix_lengths : Scoped → Suffixes → Result (List (Option ℕ)) Fault
   suffix_lengths s no_suffix = Ok []
   suffix_lengths s (bounded line e rest) = do
-    n ← bound (first_line e) (used_on (bare_line e) (typed s e))
+    n ← bound (first_line e) (used_on (bare_line e) (typed s true e))
     ns ← suffix_lengths s rest
     Ok (Some n ∷ ns)
   suffix_lengths s (unbounded line rest) = do
     ns ← suffix_lengths s rest
     Ok (None ∷ ns)
 
--- an expression that doesn't stand behind `sizeof`
+-- an expression that doesn't stand behind `sizeof`, whose value is wanted or not
+abbrev pub operand_by : Scoped → Bool → Tree → Result Operand Fault
+operand_by s w e = used_on (bare_line e) (typed s w e)
+
 abbrev pub operand : Scoped → Tree → Result Operand Fault
-operand s e = used_on (bare_line e) (typed s e)
+operand s e = operand_by s true e
 
 -- ---- what the code's answers say
 

@@ -13,6 +13,7 @@ fn spells(text: &[u8], word: &[u8]) -> bool
     text == word
 }
 
+/// What a built-in name means.
 #[tactic(auto, unfolding(crate::specs::Scopes::built_in))]
 pub fn built_in(name: &[u8]) -> Option<Meaning>
     ensures { result ≡ built_in name.now }

@@ -95,6 +95,17 @@ fn is_constant_form(expr: &CoreExpr) -> bool
             operand: _,
         } => false,
         CoreExpr::DiscardStructure { value: _ } => false,
+        CoreExpr::Call {
+            line: _,
+            function: _,
+            used: _,
+            type_: _,
+            arguments: _,
+        } => false,
+        CoreExpr::FunctionName {
+            line: _,
+            function: _,
+        } => false,
     }
 }
 
@@ -280,6 +291,17 @@ fn value_of(expr: &CoreExpr) -> Option<Number>
             operand: _,
         } => None,
         CoreExpr::DiscardStructure { value: _ } => None,
+        CoreExpr::Call {
+            line: _,
+            function: _,
+            used: _,
+            type_: _,
+            arguments: _,
+        } => None,
+        CoreExpr::FunctionName {
+            line: _,
+            function: _,
+        } => None,
     }
 }
 

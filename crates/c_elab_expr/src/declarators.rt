@@ -35,8 +35,8 @@ fn suffixes_line(suffixes: &[ArraySuffix]) -> u32
     }
 }
 
-// An array of that many elements, which `[]` doesn't say.
-fn one_array(
+/// An array of that many elements, which `[]` doesn't say, or the lowest rule that is broken.
+pub fn one_array(
     alloc: Global,
     element: Ty,
     length: Option<u64>,
@@ -76,8 +76,8 @@ fn is_deep(type_: &Ty, allowed: usize) -> bool {
     }
 }
 
-// The type with arrays of these lengths, the outermost first.
-fn array_of(
+/// The type with arrays of these lengths, the outermost first, or the lowest rule that is broken.
+pub fn array_of(
     alloc: Global,
     element: Ty,
     lengths: &[Option<u64>],

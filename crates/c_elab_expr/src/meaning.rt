@@ -10,14 +10,16 @@ pub enum Meaning {
     Variable { variable: u32 },
     /// An object that lives as long as the program, by its number, the first of which is 1.
     Object { object: u32 },
+    /// A variable whose length its initializer says, within this.
+    Incomplete,
     /// `assert`, which takes an integer.
     Assert,
     /// `__CPROVER_assume`, which takes an integer.
     Assume,
     /// A function without parameters that gives a number of this type from the inputs.
     Draw { type_: IntegerType },
-    /// A function that the file defines.
-    Function,
+    /// A function of the file, by its number.
+    Function { function: u32 },
     /// A typedef, with its type's number in the scope.
     Typedef { number: u32 },
     /// A constant of type int, by its bits.
@@ -37,10 +39,11 @@ impl Meaning {
             Meaning::Record { place: _ } | Meaning::Enumeration => true,
             Meaning::Variable { variable: _ }
             | Meaning::Object { object: _ }
+            | Meaning::Incomplete
             | Meaning::Assert
             | Meaning::Assume
             | Meaning::Draw { type_: _ }
-            | Meaning::Function
+            | Meaning::Function { function: _ }
             | Meaning::Typedef { number: _ }
             | Meaning::Enumerator { bits: _ } => false,
         }

@@ -6,7 +6,7 @@ ghost use Rattle.c_types.specs.Layouts.{size_of};
 ghost use Rattle.core_tree.specs.Trees.{Expression, follow, view, view_structure};
 ghost use Rattle.c_elab_expr.specs.Scopes.{view_named, object_at};
 ghost use Rattle.c_elab_expr.specs.Nodes.{required};
-ghost use Rattle.c_elab_expr.specs.Operands.{structure, view_operand, computed, valued, number, same_record, record_value, dropped, is_array, used, number_place, held_value, put_value, place_operand, variable_node, lasting_node, name_node, part_operand, member_node, operand_bytes, constant_in, cast_record, cast_operand, unary_operand, postfix_operand, binary_operand, choice_record, choice_value, choice_operand, assign_value, assign_record, assign_nothing, assign_operand, comma_operand};
+ghost use Rattle.c_elab_expr.specs.Operands.{structure, view_operand, computed, valued, number, same_record, record_value, dropped, is_array, used, number_place, held_value, put_value, place_operand, variable_node, lasting_node, function_node, name_node, part_operand, member_node, operand_bytes, constant_in, cast_record, cast_operand, unary_operand, postfix_operand, binary_operand, choice_record, choice_value, choice_operand, assign_value, assign_record, assign_nothing, assign_operand, comma_operand};
 ghost use Rattle.c_elab_expr.specs.Typing.{GivesNode};
 
 use crate::constants::constant_of;
@@ -107,8 +107,8 @@ pub fn same_record(a: &Ty, b: &Ty) -> bool
     }
 }
 
-// The bytes of an object's type. It is complete and not too large, so that no other answer comes.
-fn bytes_of(type_: &Ty, layouts: &Layouts) -> Result<u32, AllocError>
+/// The bytes of an object's type. It is complete and not too large, so that no other answer comes.
+pub fn bytes_of(type_: &Ty, layouts: &Layouts) -> Result<u32, AllocError>
     ensures { IfOk result (λ n. n ≡ size_of layouts.now.done (type_view type_.now)) }
 {
     if !is_sized(type_, layouts) {
@@ -373,6 +373,19 @@ fn lasting_node(alloc: Global, line: u32, object: u32, scope: &Scope) -> Result<
     }
 }
 
+// The name of a function that isn't called.
+fn function_node(line: u32, function: u32, scope: &Scope) -> Result<CoreOperand, Broken>
+    ensures { GivesNode view_operand result (function_node line function (slice_get scope.now.functions.all function)) }
+{
+    match scope.functions().function(function) {
+        Some(_) => Ok(CoreOperand::Value {
+            value: CoreExpr::FunctionName { line, function },
+            constant: false,
+        }),
+        None => Err(Broken::Rule { rule: 1 }),
+    }
+}
+
 /// A name by what it means.
 pub fn name_node(
     alloc: Global,
@@ -386,10 +399,11 @@ pub fn name_node(
         None => Err(Broken::Rule { rule: 1 }),
         Some(Meaning::Variable { variable }) => variable_node(alloc, line, variable, scope),
         Some(Meaning::Object { object }) => lasting_node(alloc, line, object, scope),
+        Some(Meaning::Incomplete) => Err(Broken::Rule { rule: 3 }),
         Some(Meaning::Assert) => Err(Broken::Rule { rule: 7 }),
         Some(Meaning::Assume) => Err(Broken::Rule { rule: 7 }),
         Some(Meaning::Draw { type_: _ }) => Err(Broken::Rule { rule: 7 }),
-        Some(Meaning::Function) => Err(Broken::Rule { rule: 7 }),
+        Some(Meaning::Function { function }) => function_node(line, function, scope),
         Some(Meaning::Typedef { number: _ }) => Err(Broken::Rule { rule: 7 }),
         Some(Meaning::Enumerator { bits }) => Ok(CoreOperand::Value {
             value: character_node(line, bits),

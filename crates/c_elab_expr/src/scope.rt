@@ -5,11 +5,13 @@ ghost use Rattle.c_types.specs.Types.{integer, view as type_view};
 ghost use Rattle.c_types.specs.Layouts.{kind_at, is_completed, with_completed, are_complete, fits, Refuses, IsBuilt};
 ghost use Rattle.c_elab_expr.specs.Members.{view_fields, view_members, view_tables, field_types, no_members, members_in, members_by, found};
 ghost use Rattle.c_elab_expr.specs.Places.{place_in};
-ghost use Rattle.c_elab_expr.specs.Scopes.{binding, view_lasting, object_at, linked_to, is_incomplete, view_named, meaning_of, tag_of, declares, is_there, are_there, is_known, are_known, plain, built_in_types, built_in_records, built_in_members, first_scope, sizes};
+ghost use Rattle.c_elab_expr.specs.Scopes.{binding, view_lasting, view_callable, view_function_type, view_flow, with_callable, with_defined, object_at, linked_to, is_incomplete, view_named, meaning_of, tag_of, declares, is_there, are_there, is_known, are_known, plain, built_in_types, built_in_records, built_in_members, first_scope, sizes};
 ghost use Rattle.c_elab_expr.specs.Scopes as scopes;
 ghost use Rattle.c_elab_expr.specs.Types.{type_size};
 
 use crate::built_ins::built_in;
+use crate::flow::Flow;
+use crate::functions::{Callable, FunctionType, Functions};
 use crate::meaning::Meaning;
 use crate::members::{
     Field, MemberTable, Way, field_types, is_constant_within, members_by, way_in,
@@ -57,7 +59,8 @@ pub fn is_incomplete(object: &Lasting, layouts: &Layouts) -> bool
 /// What names and tags mean at a place of a file (C11 6.2.1, 6.2.3): those that are declared, the innermost first; the types
 /// that typedefs name, by number; the structs and unions by place, with the members that `.` finds in each; the types of the
 /// function's variables by number, which are complete; and the objects that live as long as the program by number, the first of
-/// which is 1, with the names of those that have linkage. What a name means is there.
+/// which is 1, with the names of those that have linkage; the functions; and how far the function is typed. What a name means is
+/// there.
 #[derive(Drop)]
 pub struct Scope {
     bounds: Vec<Bound>,
@@ -69,6 +72,8 @@ pub struct Scope {
     sizes: Vec<u32>,
     objects: Vec<Lasting>,
     linked: IndexMap<Vec<u8>, u32>,
+    functions: Functions,
+    flow: Flow,
 }
 
 impl Model for Scope {
@@ -76,14 +81,14 @@ impl Model for Scope {
     ghost use Rattle.std.specs.Coded.{codes};
     ghost use Rattle.c_types.specs.Types.{coded_records};
     ghost use Rattle.c_elab_expr.specs.Members.{view_tables, coded_members};
-    ghost use Rattle.c_elab_expr.specs.Scopes.{Scoped, view_named, view_lasting, view_linked, are_there, are_complete, sizes_of, coded_named, coded_lasting, coded_linked};
+    ghost use Rattle.c_elab_expr.specs.Scopes.{Scoped, view_named, view_lasting, view_linked, view_flow, are_there, are_complete, sizes_of, coded_named, coded_lasting, coded_linked, coded_functions, coded_flow};
     ghost use Rattle.c_elab_expr.specs.Places.{environment, place_in, hidden_in, hidden_of, entries_of, place_at};
 
     ghost Value = { Scoped };
 
-    ghost coded = { Prim.hlevel (codes, coded_named, coded_records, coded_members, coded_lasting, coded_linked) };
+    ghost coded = { Prim.hlevel (codes, coded_named, coded_records, coded_members, coded_lasting, coded_linked, coded_functions, coded_flow) };
 
-    ghost view = { λ s. record { bindings = environment s.bounds.items; types = map view_named s.types.items; records = s.layouts; members = view_tables s.tables.items; variables = map view_named s.variables.items; objects = map view_lasting s.objects.items; linked = map view_linked s.linked.entries } };
+    ghost view = { λ s. record { bindings = environment s.bounds.items; types = map view_named s.types.items; records = s.layouts; members = view_tables s.tables.items; variables = map view_named s.variables.items; objects = map view_lasting s.objects.items; linked = map view_linked s.linked.entries; functions = s.functions; flow = view_flow s.flow } };
 
     ghost invariant = { λ s. (are_there (length (map view_named s.variables.items)) (length (map view_lasting s.objects.items)) (length (map view_named s.types.items)) (length s.layouts.declared) (environment s.bounds.items) ≡ true)
         × ((tags : Bool) (name : List ℕ) → place_at (entries_of tags s.places) name ≡ place_in tags (environment s.bounds.items) name)
@@ -160,6 +165,13 @@ impl Scope {
             sizes: Vec::new(alloc),
             objects: Vec::new(alloc),
             linked: IndexMap::new(alloc),
+            functions: Functions::new(alloc),
+            flow: Flow {
+                gives: Ty::Void,
+                loops: 0,
+                labels: 0,
+                switch: None,
+            },
         })
     }
 
@@ -240,6 +252,69 @@ impl Scope {
     {
         self.linked.insert(name.to_vec(alloc)?, object)?;
         Ok(())
+    }
+
+    /// The functions.
+    pub fn functions(&self) -> &Functions
+        ensures { result.now ≡ self.now.functions }
+    {
+        &self.functions
+    }
+
+    /// One more function with a name that none has so far, and its number.
+    pub fn add_function(
+        &mut self,
+        alloc: Global,
+        name: &[u8],
+        function: Callable,
+    ) -> Result<u32, AllocError>
+        requires new { linked_to self.old.functions.named name.now ≡ None }
+        requires room { length self.old.functions.all < 2 ^ 32 }
+        ensures number { IfOk result (λ n. n ≡ length self.old.functions.all) }
+        ensures added { OnOk result (self.new ≡ record self.old { functions = with_callable self.old.functions name.now (view_callable function) }) }
+    {
+        self.functions.add(alloc, name, function)
+    }
+
+    /// What is known of a function from now on.
+    pub fn set_function(&mut self, number: u32, function: Callable)
+        requires { number < length self.old.functions.all }
+        ensures { self.new ≡ record self.old { functions = record self.old.functions { all = slice_set self.old.functions.all number (view_callable function) } } }
+    {
+        self.functions.set(number, function);
+    }
+
+    /// One more function type that a typedef names, and its number.
+    pub fn add_function_type(&mut self, type_: FunctionType) -> Result<u32, AllocError>
+        requires { length self.old.functions.types < 2 ^ 32 }
+        ensures number { IfOk result (λ n. n ≡ length self.old.functions.types) }
+        ensures added { OnOk result (self.new ≡ record self.old { functions = record self.old.functions { types = self.old.functions.types ++ view_function_type type_ ∷ [] } }) }
+    {
+        self.functions.add_type(type_)
+    }
+
+    /// Notes that the file defines a function of this name.
+    pub fn define_function(&mut self, alloc: Global, name: &[u8]) -> Result<(), AllocError>
+        ensures { OnOk result (self.new ≡ record self.old { functions = with_defined self.old.functions name.now }) }
+    {
+        self.functions.define(alloc, name)
+    }
+
+    /// How far the function is typed.
+    pub fn flow(&self) -> &Flow
+        ensures { view_flow result.now ≡ self.now.flow }
+    {
+        &self.flow
+    }
+
+    /// Goes on with another flow, and gives the one until now.
+    pub fn set_flow(&mut self, flow: Flow) -> Flow
+        ensures is { view_flow result ≡ self.old.flow }
+        ensures set { self.new ≡ record self.old { flow = view_flow flow } }
+    {
+        let mut before = flow;
+        std::mem::swap(&mut before, &mut self.flow);
+        before
     }
 
     /// Ends the file: the objects that live as long as the program. No name is in scope.
@@ -508,6 +583,81 @@ impl Scope {
         while outer < self.len() {
             self.forget();
         }
+    }
+
+    /// Ends the scope of parameters: the names and tags that were declared behind `outer` others, and the variables from a number
+    /// on. No other name in scope is one of these.
+    pub fn end_parameters(&mut self, outer: usize, variables: usize)
+        requires within { outer ≤ length self.old.bindings }
+        requires variables { variables ≤ length self.old.variables }
+        requires there { are_there variables (length self.old.objects) (length self.old.types) (length self.old.records.declared) (drop (length self.old.bindings - outer) self.old.bindings) ≡ true }
+        ensures { self.new ≡ record self.old {
+          bindings = drop (length self.old.bindings - outer) self.old.bindings;
+          variables = take variables self.old.variables;
+        } }
+    {
+        self.leave(outer);
+        self.sizes.truncate(variables);
+        self.variables.truncate(variables);
+    }
+
+    // The innermost declaration.
+    fn innermost(&self, alloc: Global) -> Result<(Vec<u8>, Meaning), AllocError>
+        requires { 0 < length self.now.bindings }
+        ensures { IfOk result (λ b. take 1 self.now.bindings ≡ binding b.0.items b.1 ∷ []) }
+    {
+        let bound = &self.bounds[self.bounds.len() - 1];
+        Ok((bound.name.to_vec(alloc)?, bound.meaning))
+    }
+
+    // Takes back the innermost declarations, behind `outer` others: their names and meanings, the innermost first.
+    fn take_names(
+        &mut self,
+        alloc: Global,
+        outer: usize,
+    ) -> Result<Vec<(Vec<u8>, Meaning)>, AllocError>
+        requires { outer ≤ length self.old.bindings }
+        ensures taken { OnOk result (self.new ≡ record self.old { bindings = drop (length self.old.bindings - outer) self.old.bindings }) }
+        ensures names { IfOk result (λ v. map (λ b. binding b.0.items b.1) v.items ≡ take (length self.old.bindings - outer) self.old.bindings) }
+    {
+        let mut names = Vec::new(alloc);
+        'names: while outer < self.len() {
+            names.push(self.innermost(alloc)?)?;
+            self.forget();
+        }
+        Ok(names)
+    }
+
+    // Declares names again, of which the innermost stands first.
+    fn put_names(&mut self, alloc: Global, names: Vec<(Vec<u8>, Meaning)>) -> Result<(), AllocError>
+        requires { are_there (length self.old.variables) (length self.old.objects) (length self.old.types) (length self.old.records.declared) (map (λ b. binding b.0.items b.1) names.items) ≡ true }
+        ensures { OnOk result (self.new ≡ record self.old { bindings = map (λ b. binding b.0.items b.1) names.items ++ self.old.bindings }) }
+    {
+        let mut left = names;
+        'left: while let Some((name, meaning)) = left.pop() {
+            self.declare(alloc, &name, meaning)?;
+        }
+        Ok(())
+    }
+
+    /// Declares a name or a tag before the innermost ones, behind `outer` others.
+    pub fn declare_below(
+        &mut self,
+        alloc: Global,
+        outer: usize,
+        name: &[u8],
+        meaning: Meaning,
+    ) -> Result<(), AllocError>
+        requires within { outer ≤ length self.old.bindings }
+        requires known { is_known self.old meaning ≡ true }
+        ensures { OnOk result (self.new ≡ record self.old {
+          bindings = take (length self.old.bindings - outer) self.old.bindings ++ binding name.now meaning ∷ drop (length self.old.bindings - outer) self.old.bindings;
+        }) }
+    {
+        self.prove_there();
+        let names = self.take_names(alloc, outer)?;
+        self.declare(alloc, name, meaning)?;
+        self.put_names(alloc, names)
     }
 
     /// Ends a function: the sizes of its variables in bytes. No name in scope is one of them.

@@ -1,12 +1,12 @@
 //! The typed operand of an expression.
 
-ghost use Rattle.std.specs.Prelude.{◌≡◌, ℕ, true, map, Result, IfOk};
+ghost use Rattle.std.specs.Prelude.{◌≡◌, ℕ, true, false, map, Result, IfOk};
 ghost use Rattle.c_tree.specs.Tree.{first_line, view_type_part, view_declarator, view_suffix, no_suffix, suffixes_of};
 ghost use Rattle.c_tree.specs.Tree.{view as tree, views_of as trees};
 ghost use Rattle.c_types.specs.Types.{view as type_view};
 ghost use Rattle.c_elab_expr.specs.Strings.{strings_of};
 ghost use Rattle.c_elab_expr.specs.Operands.{Operand, view_operand, is_typed_operand};
-ghost use Rattle.c_elab_expr.specs.Typing.{Gives, GivesNode, Adds, on_line, bare_line, Fault, sized, used_on, no_function, callee, bound, type_name, operand_size, typed, typed_arguments, operand, lengths, suffix_lengths};
+ghost use Rattle.c_elab_expr.specs.Typing.{Gives, GivesNode, Adds, on_line, bare_line, Fault, sized, used_on, no_function, callee, bound, type_name, operand_size, is_wanted, typed, typed_arguments, operand_by, operand, lengths, suffix_lengths};
 
 use crate::calls::called;
 use crate::constants::length_said;
@@ -150,13 +150,41 @@ fn sized(line: u32, size: u64) -> CoreOperand
     }
 }
 
-// An expression that doesn't stand behind `sizeof`.
+// A cast to void doesn't use the value.
+fn is_wanted(type_: &Ty) -> bool
+    ensures { result ≡ is_wanted (type_view type_.now) }
+{
+    match type_ {
+        Ty::Void => false,
+        Ty::Integer(_) => true,
+        Ty::Record(_) => true,
+        Ty::Array {
+            element: _,
+            length: _,
+        } => true,
+    }
+}
+
+// An expression that doesn't stand behind `sizeof`, whose value is wanted or not.
+#[cycle(typing)]
+fn used_by(
+    alloc: Global,
+    expr: &Expr,
+    wanted: bool,
+    scope: &Scope,
+) -> Result<CoreOperand, TypingError>
+    ensures { Gives view_operand result (used_on (bare_line (tree expr.now)) (typed scope.now wanted (tree expr.now))) }
+{
+    let core = typed_expr(alloc, expr, wanted, scope)?;
+    used_at(used(core), expr)
+}
+
+// One whose value is wanted.
 #[cycle(typing)]
 fn used_expr(alloc: Global, expr: &Expr, scope: &Scope) -> Result<CoreOperand, TypingError>
-    ensures { Gives view_operand result (used_on (bare_line (tree expr.now)) (typed scope.now (tree expr.now))) }
+    ensures { Gives view_operand result (used_on (bare_line (tree expr.now)) (typed scope.now true (tree expr.now))) }
 {
-    let core = typed_expr(alloc, expr, scope)?;
-    used_at(used(core), expr)
+    used_by(alloc, expr, true, scope)
 }
 
 #[cycle(typing)]
@@ -187,14 +215,14 @@ fn no_function(
     }
 }
 
-// What a callee means, with the line of its name; any other callee is typed, and is no function.
+// What a callee means, with the line of its name, also in parentheses; any other callee is typed, and is no function.
 #[cycle(typing)]
 fn callee(
     alloc: Global,
     function: &Expr,
     scope: &Scope,
 ) -> Result<Option<(u32, Meaning)>, TypingError>
-    ensures { Gives (λ o. o) result (callee scope.now (tree function.now) (used_on (bare_line (tree function.now)) (typed scope.now (tree function.now)))) }
+    ensures { Gives (λ o. o) result (callee scope.now (tree function.now) (used_on (bare_line (tree function.now)) (typed scope.now true (tree function.now)))) }
 {
     match function {
         Expr::Name { line, name } => match scope.meaning(&name.bytes) {
@@ -204,14 +232,15 @@ fn callee(
                 rule: 1,
             }),
         },
+        Expr::Parens { line: _, inner } => callee(alloc, inner, scope),
         _ => no_function(used_expr(alloc, function, scope)),
     }
 }
 
-// How many elements a bound says.
+/// How many elements a bound says, which is an integer constant expression, else rule 13 is broken on its first line.
 #[cycle(typing)]
-fn bound(alloc: Global, expr: &Expr, scope: &Scope) -> Result<u64, TypingError>
-    ensures { Gives (λ n. n) result (bound (first_line (tree expr.now)) (used_on (bare_line (tree expr.now)) (typed scope.now (tree expr.now)))) }
+pub fn bound(alloc: Global, expr: &Expr, scope: &Scope) -> Result<u64, TypingError>
+    ensures { Gives (λ n. n) result (bound (first_line (tree expr.now)) (used_on (bare_line (tree expr.now)) (typed scope.now true (tree expr.now)))) }
 {
     let core = used_expr(alloc, expr, scope)?;
     match constant_in(&core) {
@@ -316,12 +345,12 @@ fn operand_size(
     operand: &Expr,
     scope: &Scope,
 ) -> Result<CoreOperand, TypingError>
-    ensures { Gives view_operand result (operand_size line scope.now.records.done (strings_of (tree operand.now)) (typed scope.now (tree operand.now))) }
+    ensures { Gives view_operand result (operand_size line scope.now.records.done (strings_of (tree operand.now)) (typed scope.now true (tree operand.now))) }
 {
     match strings_of(operand) {
         Some(parts) => Ok(sized(line, strings_length(parts)? + 1)),
         None => {
-            let core = typed_expr(alloc, operand, scope)?;
+            let core = typed_expr(alloc, operand, true, scope)?;
             let size = number_at(operand_bytes(&core, scope.layouts()), line)?;
             Ok(sized(line, size))
         }
@@ -329,8 +358,13 @@ fn operand_size(
 }
 
 #[cycle(typing)]
-fn typed_expr(alloc: Global, expr: &Expr, scope: &Scope) -> Result<CoreOperand, TypingError>
-    ensures { Gives view_operand result (typed scope.now (tree expr.now)) }
+fn typed_expr(
+    alloc: Global,
+    expr: &Expr,
+    wanted: bool,
+    scope: &Scope,
+) -> Result<CoreOperand, TypingError>
+    ensures { Gives view_operand result (typed scope.now wanted (tree expr.now)) }
 {
     match expr {
         Expr::Constant { line, constant } => Ok(CoreOperand::Value {
@@ -349,7 +383,7 @@ fn typed_expr(alloc: Global, expr: &Expr, scope: &Scope) -> Result<CoreOperand, 
             name_node(alloc, *line, scope.meaning(&name.bytes), scope),
             *line,
         ),
-        Expr::Parens { line: _, inner } => typed_expr(alloc, inner, scope),
+        Expr::Parens { line: _, inner } => typed_expr(alloc, inner, wanted, scope),
         Expr::Unary {
             line,
             operator,
@@ -364,7 +398,7 @@ fn typed_expr(alloc: Global, expr: &Expr, scope: &Scope) -> Result<CoreOperand, 
             operand,
         } => {
             let type_ = type_named(alloc, type_name, scope)?;
-            let core = used_expr(alloc, operand, scope)?;
+            let core = used_by(alloc, operand, is_wanted(&type_), scope)?;
             placed_at(
                 cast_operand(alloc, *line, &type_, core, scope.layouts()),
                 *line,
@@ -405,8 +439,8 @@ fn typed_expr(alloc: Global, expr: &Expr, scope: &Scope) -> Result<CoreOperand, 
             no,
         } => {
             let a = used_expr(alloc, test, scope)?;
-            let b = used_expr(alloc, yes, scope)?;
-            let c = used_expr(alloc, no, scope)?;
+            let b = used_by(alloc, yes, wanted, scope)?;
+            let c = used_by(alloc, no, wanted, scope)?;
             placed(choice_operand(alloc, *line, a, b, c, scope.layouts()), test)
         }
         Expr::Assign {
@@ -420,8 +454,8 @@ fn typed_expr(alloc: Global, expr: &Expr, scope: &Scope) -> Result<CoreOperand, 
             placed(assign_operand(alloc, *line, *operator, &a, b, scope), place)
         }
         Expr::Comma { line, left, right } => {
-            let a = used_expr(alloc, left, scope)?;
-            let b = used_expr(alloc, right, scope)?;
+            let a = used_by(alloc, left, false, scope)?;
+            let b = used_by(alloc, right, wanted, scope)?;
             Ok(comma_operand(alloc, *line, a, b, scope.layouts())?)
         }
         Expr::Call {
@@ -430,19 +464,32 @@ fn typed_expr(alloc: Global, expr: &Expr, scope: &Scope) -> Result<CoreOperand, 
         } => {
             let callee = callee(alloc, function, scope)?;
             let arguments = typed_arguments(alloc, arguments, scope)?;
-            placed(called(alloc, callee, arguments), function)
+            placed(called(alloc, wanted, callee, arguments, scope), function)
         }
     }
+}
+
+// The typing of an expression whose value is wanted or not.
+fn typed_by(
+    alloc: Global,
+    expr: &Expr,
+    wanted: bool,
+    scope: &Scope,
+) -> Result<CoreOperand, TypingError>
+    ensures gives { Gives view_operand result (typed scope.now wanted (tree expr.now)) }
+    ensures typed { IfOk result (λ x. is_typed_operand scope.now (view_operand x) ≡ true) }
+{
+    scope.prove_there();
+    typed_expr(alloc, expr, wanted, scope)
 }
 
 /// The typing of an expression in a scope (C11 6.5), also as the operand of `sizeof`. Operands are typed from left to right and
 /// before their operator; the first node that breaks a rule decides, by its lowest rule and the line of its first token.
 pub fn typed(alloc: Global, expr: &Expr, scope: &Scope) -> Result<CoreOperand, TypingError>
-    ensures gives { Gives view_operand result (typed scope.now (tree expr.now)) }
+    ensures gives { Gives view_operand result (typed scope.now true (tree expr.now)) }
     ensures typed { IfOk result (λ x. is_typed_operand scope.now (view_operand x) ≡ true) }
 {
-    scope.prove_there();
-    typed_expr(alloc, expr, scope)
+    typed_by(alloc, expr, true, scope)
 }
 
 /// The typing of an expression that doesn't stand behind `sizeof`: it is no array.
@@ -450,6 +497,15 @@ pub fn operand(alloc: Global, expr: &Expr, scope: &Scope) -> Result<CoreOperand,
     ensures gives { Gives view_operand result (operand scope.now (tree expr.now)) }
     ensures typed { IfOk result (λ x. is_typed_operand scope.now (view_operand x) ≡ true) }
 {
-    let core = typed(alloc, expr, scope)?;
+    let core = typed_by(alloc, expr, true, scope)?;
+    used_at(used(core), expr)
+}
+
+/// The same of an expression whose value isn't used, so that the calls that give it don't use theirs.
+pub fn ignored(alloc: Global, expr: &Expr, scope: &Scope) -> Result<CoreOperand, TypingError>
+    ensures gives { Gives view_operand result (operand_by scope.now false (tree expr.now)) }
+    ensures typed { IfOk result (λ x. is_typed_operand scope.now (view_operand x) ≡ true) }
+{
+    let core = typed_by(alloc, expr, false, scope)?;
     used_at(used(core), expr)
 }

@@ -12,6 +12,9 @@ behind_typed vs (codes.Declare line v) rest more h f = both _ _ (left_of _ _ h) 
 behind_typed vs (codes.Initialize line v drawn e) rest more h f = both _ _ (left_of _ _ h) (f (right_of _ _ h))
 behind_typed vs (codes.InitializeStructure line v drawn a) rest more h f = both _ _ (left_of _ _ h) (f (right_of _ _ h))
 behind_typed vs (codes.Statement s) rest more h f = both _ _ (left_of _ _ h) (f (right_of _ _ h))
+behind_typed vs (codes.Label n) rest more h f = f h
+behind_typed vs (codes.Case line t bits) rest more h f = both _ _ (left_of _ _ h) (f (right_of _ _ h))
+behind_typed vs (codes.Default line) rest more h f = f h
 
 pub typed_push : (vs : Sizes) (is : List CoreItem) (i : CoreItem) → are_typed_items vs (items_of is) ≡ true → are_typed_items vs (with_item i done) ≡ true
     → are_typed_items vs (items_of (is ++ i ∷ [])) ≡ true

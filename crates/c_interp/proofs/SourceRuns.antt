@@ -29,12 +29,13 @@ use Rattle.interleave.specs.declared.counts.Counts.{Counts}
 use Rattle.interleave.specs.Inputs.{InputLists, words_of}
 use Rattle.interleave.specs.World.{World, Common, Member, member_at, told, with_told, with_child, may_move, first_world, no_counts}
 use Rattle.interleave.specs.Turn.{turn, settled, outcome, with_next, with_member, HasNumber, NextHasNumber, MemberHasNumber, HasNumbers}
+use Rattle.core_tree.specs.Ranges.{Limits}
 use Rattle.c_interp.specs.Source.{main_number, source_thread}
 use Rattle.c_interp.specs.SourceThread.{IsQuiet, function_quiet}
 use Rattle.c_interp.specs.Quiet.{Quietly, OneQuiet, IsTurn}
 
 -- an outcome that starts no thread
-abbrev IsPlain : rows.Outcome → Type 0
+abbrev pub IsPlain : rows.Outcome → Type 0
 IsPlain (moves a (starts number f v)) = ⊥
 IsPlain _ = Unit {0}
 
@@ -42,7 +43,7 @@ plain_unless : (m : Memory) (c : Option Class) (row : rows.Row) → IsPlain (row
 plain_unless m None row h = h
 plain_unless m (Some class) row h = tt
 
-plain : (c : Common) (t line f : ℕ) (words : List ℕ) (counts : Counts) (action : Action) → IsQuiet (Act action line f) → IsPlain (outcome c t words counts action)
+pub plain : (c : Common) (t line f : ℕ) (words : List ℕ) (counts : Counts) (action : Action) → IsQuiet (Act action line f) → IsPlain (outcome c t words counts action)
 plain c t line f words counts (Read p n) h =
     plain_unless c.memory (access_break false p n (state_at c.memory.objects (object_of p))) (rows.sees_bytes p n (λ bytes. rows.comes (moves (answer.Bytes bytes) keeps))) tt
 plain c t line f words counts (Write p new first) h =
@@ -120,9 +121,9 @@ has_numbers w t o =
 
 -- ---- the start
 
-pub starts_quiet : (file : TypedFile) (objects : Objects) → OneQuiet (first_world (source_thread file) objects).members
-starts_quiet file objects =
-    (record { thread = source_thread file; counts = record no_counts { objects = length objects } }, refl, function_quiet file.functions true (main_number file.functions))
+pub starts_quiet : (file : TypedFile) (limits : Limits) (objects : Objects) → OneQuiet (first_world (source_thread file limits) objects).members
+starts_quiet file limits objects =
+    (record { thread = source_thread file limits; counts = record no_counts { objects = length objects } }, refl, function_quiet file.functions limits true (main_number file.functions))
 
 -- ---- turns by the schedule
 

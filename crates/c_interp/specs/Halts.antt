@@ -11,34 +11,34 @@ use Rattle.actions.specs.Behaviour.{Behaviour, after, accepts, shape_of, has_sha
 use Rattle.c_interp.specs.declared.task.Change.{Change}
 use Rattle.c_interp.specs.declared.task.Halt.{Halt}
 use Rattle.c_interp.specs.declared.task.Halt.TheVariants as halt
-use Rattle.c_interp.specs.Meaning.{Running, ask}
-use Rattle.c_interp.specs.Items.{top, left, State, state, behaves, total_work}
+use Rattle.c_interp.specs.Meaning.{Code, ask_in}
+use Rattle.c_interp.specs.Work.{weight}
+use Rattle.c_interp.specs.Items.{State, state, behaves}
 use Rattle.c_interp.specs.Steps.{Move, silent, asks, breaks, blocks, ends, move}
 use Rattle.c_interp.specs.Adequate.{Meets, meets}
-use Rattle.c_interp.specs.Tasks.{behind, changed, action_of, IsAsked, IsRequest, leave_move, IsHalt, next_by, Answers, Accepts}
+use Rattle.c_interp.specs.Tasks.{behind, changed, action_of, IsAsked, IsHalt, next_by, Answers, Accepts}
 
-module _ (r : Running) (s : State) where
-  met : (m : Move) → move r s ≡ m → Meets r s m
-  met m e = subst (Meets r s) e (meets r s)
+module _ (code : Code) (first : Bool) (s : State) where
+  met : (m : Move) → move code first true s ≡ m → Meets code first s m
+  met m e = subst (Meets code first s) e (meets code first s)
 
   -- a silent step
-  pub step_same : (t : State) → move r s ≡ silent t → behaves r s ≡ behaves r t
+  pub step_same : (t : State) → move code first true s ≡ silent t → behaves code first s ≡ behaves code first t
   step_same t e = (met (silent t) e).0
 
-  pub step_falls : (t : State) → move r s ≡ silent t → total_work t.items < total_work s.items
+  pub step_falls : (t : State) → move code first true s ≡ silent t → weight code t < weight code s
   step_falls t e = (met (silent t) e).1
 
   -- what is next at an action or an end
-  asked_next : (m : Move) (action : Action) (l : ℕ) → Meets r s m → IsAsked m action l → Act action l r.function ≡ behaves r s []
-  asked_next (asks action line follows) asked l e d = (λ i. Act (sym d.0 i) (sym d.1 i) r.function) ∙ (λ i. sym e i [])
+  asked_next : (m : Move) (action : Action) (l : ℕ) → Meets code first s m → IsAsked m action l → Act action l s.active.function ≡ behaves code first s []
+  asked_next (asks action line follows) asked l e d = (λ i. Act (sym d.0 i) (sym d.1 i) s.active.function) ∙ (λ i. sym e i [])
   asked_next (silent t) asked l e d = absurd d
   asked_next (breaks class line) asked l e d = absurd d
   asked_next blocks asked l e d = absurd d
   asked_next (ends v) asked l e d = absurd d
 
-  pub halt_next : (p : Halt) → IsHalt r.first s.values s.structures s.variables (move r s) p → next_by r.first r.function s.values s.structures p ≡ behaves r s []
-  halt_next (halt.Asks q l) h = asked_next (move r s) (action_of s.values s.structures q) l (meets r s) h
-  halt_next (halt.Leaves l) h = λ i. sym (met (leave_move r.first s.values s.structures s.variables l) h) i []
+  pub halt_next : (p : Halt) → IsHalt s.values s.structures (move code first true s) p → next_by s.active.function s.values s.structures p ≡ behaves code first s []
+  halt_next (halt.Asks q l) h = asked_next (move code first true s) (action_of s.values s.structures q) l (meets code first s) h
   halt_next (halt.Breaks class line) h = λ i. sym (met (breaks class line) h) i []
   halt_next halt.Blocks h = λ i. sym (met blocks h) i []
   halt_next (halt.Ends v) h = λ i. sym (met (ends v) h) i []
@@ -48,44 +48,40 @@ module _ (r : Running) (s : State) where
   if_true true x y h = refl
   if_true false x y h = absurd (false≢true h)
 
-  asked_after : (a : Answer) (m : Move) → Meets r s m → accepts (behaves r s []) a ≡ true → (t : State) → (line : ℕ) (follows : Answer → State) (action : _) → m ≡ asks action line follows → follows a ≡ t → behaves r t ≡ after (behaves r s) a
+  asked_after : (a : Answer) (m : Move) → Meets code first s m → accepts (behaves code first s []) a ≡ true → (t : State) → (line : ℕ) (follows : Answer → State) (action : _) → m ≡ asks action line follows → follows a ≡ t → behaves code first t ≡ after (behaves code first s) a
   asked_after a m e h t line follows action q f =
-      let k : behaves r s ≡ ask r action line (λ a. behaves r (follows a)) = subst (Meets r s) q e in
+      let k : behaves code first s ≡ ask_in s.active.function action line (λ a. behaves code first (follows a)) = subst (Meets code first s) q e in
       let P : Behaviour → Type 0 = λ b. accepts (b []) a ≡ true in
       let shape : has_shape (shape_of action) a ≡ true = subst P k h in
-      ap (behaves r) (sym f) ∙ (λ i answers. sym (if_true (has_shape (shape_of action) a) (behaves r (follows a) answers) Blocked shape) i) ∙ (λ i answers. sym k i (a ∷ answers))
+      ap (behaves code first) (sym f) ∙ (λ i answers. sym (if_true (has_shape (shape_of action) a) (behaves code first (follows a) answers) Blocked shape) i) ∙ (λ i answers. sym k i (a ∷ answers))
 
-  pub leave_after : (a : Answer) (l : ℕ) → move r s ≡ leave_move r.first s.values s.structures s.variables l → accepts (behaves r s []) a ≡ true → behaves r (state (left ∷ []) s.values s.structures s.variables) ≡ after (behaves r s) a
-  leave_after a l e h = asked_after a (move r s) (meets r s) h _ l (λ a. state (left ∷ []) s.values s.structures s.variables) (if r.first then Exit else End (top s.values).bits) e refl
-
-  answered_by_change : (a : Answer) (c : Change) (asked : Action) (l : ℕ) (m : Move) → Meets r s m → accepts (behaves r s []) a ≡ true → IsAsked m asked l → Answers (behind s.items) s.values s.structures s.variables m a c →
-      behaves r (changed c (behind s.items) s.values s.structures s.variables) ≡ after (behaves r s) a
+  answered_by_change : (a : Answer) (c : Change) (asked : Action) (l : ℕ) (m : Move) → Meets code first s m → accepts (behaves code first s []) a ≡ true → IsAsked m asked l → Answers (behind s.items) s.active s.values s.structures s.variables m a c →
+      behaves code first (changed c (behind s.items) s.active s.values s.structures s.variables) ≡ after (behaves code first s) a
   answered_by_change a c asked l (asks action line follows) e h d w =
-      let k : behaves r s ≡ ask r action line (λ a. behaves r (follows a)) = e in
-      asked_after a (asks action line follows) e h (changed c (behind s.items) s.values s.structures s.variables) line follows action refl w
+      let k : behaves code first s ≡ ask_in s.active.function action line (λ a. behaves code first (follows a)) = e in
+      asked_after a (asks action line follows) e h (changed c (behind s.items) s.active s.values s.structures s.variables) line follows action refl w
   answered_by_change a c asked l (silent t) e h d w = absurd d
   answered_by_change a c asked l (breaks class line) e h d w = absurd d
   answered_by_change a c asked l blocks e h d w = absurd d
   answered_by_change a c asked l (ends v) e h d w = absurd d
 
-  pub change_after : (a : Answer) (c : Change) (asked : Action) (l : ℕ) → accepts (behaves r s []) a ≡ true → IsAsked (move r s) asked l → Answers (behind s.items) s.values s.structures s.variables (move r s) a c →
-      behaves r (changed c (behind s.items) s.values s.structures s.variables) ≡ after (behaves r s) a
-  change_after a c asked l h d w = answered_by_change a c asked l (move r s) (meets r s) h d w
+  pub change_after : (a : Answer) (c : Change) (asked : Action) (l : ℕ) → accepts (behaves code first s []) a ≡ true → IsAsked (move code first true s) asked l → Answers (behind s.items) s.active s.values s.structures s.variables (move code first true s) a c →
+      behaves code first (changed c (behind s.items) s.active s.values s.structures s.variables) ≡ after (behaves code first s) a
+  change_after a c asked l h d w = answered_by_change a c asked l (move code first true s) (meets code first s) h d w
 
-  accepts_by : (a : Answer) (asked : Action) (l : ℕ) (m : Move) → IsRequest asked → Meets r s m → accepts (behaves r s []) a ≡ true → IsAsked m asked l → Accepts m a
-  accepts_by a asked l (asks action line follows) q e h d =
-      let k : behaves r s ≡ ask r action line (λ a. behaves r (follows a)) = e in
+  accepts_by : (a : Answer) (asked : Action) (l : ℕ) (m : Move) → Meets code first s m → accepts (behaves code first s []) a ≡ true → IsAsked m asked l → Accepts m a
+  accepts_by a asked l (asks action line follows) e h d =
+      let k : behaves code first s ≡ ask_in s.active.function action line (λ a. behaves code first (follows a)) = e in
       let P : Behaviour → Type 0 = λ b. accepts (b []) a ≡ true in
-      let shape : has_shape (shape_of action) a ≡ true = subst P k h in
-      (subst IsRequest (sym d.0) q, shape)
-  accepts_by a asked l (silent t) q e h d = absurd d
-  accepts_by a asked l (breaks class line) q e h d = absurd d
-  accepts_by a asked l blocks q e h d = absurd d
-  accepts_by a asked l (ends v) q e h d = absurd d
+      subst P k h
+  accepts_by a asked l (silent t) e h d = absurd d
+  accepts_by a asked l (breaks class line) e h d = absurd d
+  accepts_by a asked l blocks e h d = absurd d
+  accepts_by a asked l (ends v) e h d = absurd d
 
-  pub asked_accepts : (a : Answer) (asked : Action) (l : ℕ) → IsRequest asked → accepts (behaves r s []) a ≡ true → IsAsked (move r s) asked l → Accepts (move r s) a
-  asked_accepts a asked l q h d = accepts_by a asked l (move r s) q (meets r s) h d
+  pub asked_accepts : (a : Answer) (asked : Action) (l : ℕ) → accepts (behaves code first s []) a ≡ true → IsAsked (move code first true s) asked l → Accepts (move code first true s) a
+  asked_accepts a asked l h d = accepts_by a asked l (move code first true s) (meets code first s) h d
 
   -- an answer comes only to an action
-  pub end_accepts : (a : Answer) (p : Halt) → IsHalt r.first s.values s.structures s.variables (move r s) p → accepts (next_by r.first r.function s.values s.structures p) a ≡ false → accepts (behaves r s []) a ≡ false
+  pub end_accepts : (a : Answer) (p : Halt) → IsHalt s.values s.structures (move code first true s) p → accepts (next_by s.active.function s.values s.structures p) a ≡ false → accepts (behaves code first s []) a ≡ false
   end_accepts a p h k = ap (λ n. accepts n a) (sym (halt_next p h)) ∙ k

@@ -4,6 +4,8 @@ pub mod Items
 pub mod Fits
 pub mod Steps
 pub mod Small
+pub mod Work
+pub mod Cuts
 pub mod Adequate
 pub mod SourceThread
 pub mod Tasks
@@ -13,3 +15,4 @@ pub mod Halts
 pub mod View
 pub mod Quiet
 pub mod Ints
+pub mod Unlimited

@@ -1,12 +1,13 @@
 -- A thread by small steps: silent steps up to an action or an end.
-use Rattle.std.specs.Prelude.{ℕ, zero, suc}
+use Rattle.std.specs.Prelude.{ℕ, zero, suc, Bool, true, false}
 use Rattle.actions.specs.declared.action.Answer.{Answer}
 use Rattle.actions.specs.declared.action.Next.{Next}
 use Rattle.actions.specs.declared.action.Next.TheVariants.{Act, Ended, Blocked, Broken}
 use Rattle.actions.specs.Behaviour.{Behaviour, word_64}
 use Rattle.actions.specs.ByStates.{behaviour_of}
-use Rattle.c_interp.specs.Meaning.{Running}
-use Rattle.c_interp.specs.Items.{State, total_work}
+use Rattle.c_interp.specs.Meaning.{Code}
+use Rattle.c_interp.specs.Items.{Active, State}
+use Rattle.c_interp.specs.Work.{weight}
 use Rattle.c_interp.specs.Steps.{Move, silent, asks, breaks, blocks, ends, move}
 
 -- a state after a silent step, or this one
@@ -14,31 +15,42 @@ abbrev pub stepped_on : Move → State → (State → State) → State
 stepped_on (silent next) s go = go next
 stepped_on _ s go = s
 
-module _ (running : Running) where
+-- what is next by a move of the function that runs
+abbrev pub next_of : Active → Move → Next
+next_of r (silent next) = Blocked
+next_of r (asks action line follows) = Act action line r.function
+next_of r (breaks class line) = Broken class line r.function
+next_of r blocks = Blocked
+next_of r (ends v) = Ended (word_64 v)
+
+abbrev pub answered_by : Move → Answer → State → State
+answered_by (asks action line follows) a s = follows a
+answered_by _ a s = s
+
+module _ (code : Code) (first limited : Bool) where
   -- after at most so many silent steps
   abbrev pub settled : ℕ → State → State
   settled zero s = s
-  settled (suc n) s = stepped_on (move running s) s (settled n)
+  settled (suc n) s = stepped_on (move code first limited s) s (settled n)
 
-  abbrev pub settle : State → State
-  settle s = settled (total_work s.items) s
+  -- what comes next after at most as many silent steps as are said of the state, and the state after an answer
+  module _ (steps : State → ℕ) where
+    abbrev pub next_small : State → Next
+    next_small s = let t = settled (steps s) s in next_of t.active (move code first limited t)
 
-  abbrev pub next_of : Move → Next
-  next_of (silent next) = Blocked
-  next_of (asks action line follows) = Act action line running.function
-  next_of (breaks class line) = Broken class line running.function
-  next_of blocks = Blocked
-  next_of (ends v) = Ended (word_64 v)
+    abbrev pub answered_small : State → Answer → State
+    answered_small s a = let t = settled (steps s) s in answered_by (move code first limited t) a t
 
-  abbrev pub answered_by : Move → Answer → State → State
-  answered_by (asks action line follows) a s = follows a
-  answered_by _ a s = s
+    abbrev pub small : State → Behaviour
+    small = behaviour_of next_small answered_small
 
-  abbrev pub next_small : State → Next
-  next_small s = next_of (move running (settle s))
+-- under the bounds there are enough silent steps for each state
+abbrev pub settle : Code → Bool → State → State
+settle code first s = settled code first true (weight code s) s
 
-  abbrev pub answered_small : State → Answer → State
-  answered_small s a = answered_by (move running (settle s)) a (settle s)
+abbrev pub bounded : Code → Bool → State → Behaviour
+bounded code first = small code first true (weight code)
 
-  abbrev pub small : State → Behaviour
-  small = behaviour_of next_small answered_small
+-- without bounds, where a turn may make so many silent steps: one that needs more changes nothing
+abbrev pub unbounded : (silent_steps : ℕ) → Code → Bool → State → Behaviour
+unbounded q code first = small code first false (λ s. q)

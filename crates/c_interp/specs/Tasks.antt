@@ -1,5 +1,5 @@
 -- The tasks of the code as items, and what a plan has to do with a move.
-use Rattle.std.specs.Prelude.{◌≡◌, ℕ, ◌+◌, Bool, true, false, if◌then◌else◌, ◌≤◌, ◌++◌, length, List, [], ◌∷◌, Option, Some, None, slice_index}
+use Rattle.std.specs.Prelude.{◌≡◌, ℕ, ◌+◌, ◌-◌, ◌==◌, Bool, true, false, if◌then◌else◌, ◌≤◌, ◌++◌, length, drop, List, [], ◌∷◌, Option, Some, None, slice_get, slice_index}
 use Rattle.actions.specs.declared.action.Action.{Action}
 use Rattle.actions.specs.declared.action.Action.TheVariants.{Read, Write, Draw, End, Exit}
 use Rattle.actions.specs.declared.action.Answer.{Answer}
@@ -9,9 +9,21 @@ use Rattle.actions.specs.Behaviour.{shape_of, has_shape, word_64}
 use Rattle.c_types.specs.Integers.{bytes}
 use Rattle.core_tree.specs.Operations.{step_operation}
 use Rattle.core_tree.specs.Typed.{is_within}
-use Rattle.core_tree.specs.Trees.{Expression, read, convert, sign, is_zero, arithmetic, compare, logical, choice, assign, update, step, comma, assertion, assumption, part, discard, discard_structure, Structure, choose, put, store, follow, section, Statement, if_then, if_else, returns, Items, view, view_structure, parts_of, view_statement, items_of}
+use Rattle.core_tree.specs.declared.statement.CoreItem.{CoreItem}
+use Rattle.core_tree.specs.Trees as trees
+use Rattle.core_tree.specs.Trees.{Expression, read, convert, sign, is_zero, arithmetic, compare, logical, choice, assign, update, step, comma, assertion, assumption, part, discard, discard_structure, Structure, choose, put, store, follow, section, Statement, if_then, if_else, Items, no_argument, Procedure, TypedFile, view, view_structure, view_statement, items_of, with_item, parts_of, arguments_of}
 use Rattle.c_interp.specs.declared.task.Task.{Task}
 use Rattle.c_interp.specs.declared.task.Task.TheVariants as task
+use Rattle.c_interp.specs.declared.task.Wanted as coded
+use Rattle.c_interp.specs.declared.task.Wanted.TheVariants as wanted
+use Rattle.c_interp.specs.declared.task.Handed as handed
+use Rattle.c_interp.specs.declared.task.Handed.TheVariants as hand
+use Rattle.c_interp.specs.declared.task.Stage.{Stage}
+use Rattle.c_interp.specs.declared.task.Stage.TheVariants as stage
+use Rattle.c_interp.specs.declared.task.Cut.{Cut}
+use Rattle.c_interp.specs.declared.task.Cut.TheVariants as cut
+use Rattle.c_interp.specs.declared.task.Call.{Call}
+use Rattle.c_interp.specs.declared.task.Caller.{Caller}
 use Rattle.c_interp.specs.declared.task.Tasks.{Tasks}
 use Rattle.c_interp.specs.declared.task.Taken.{Taken}
 use Rattle.c_interp.specs.declared.task.Taken.TheVariants as taken
@@ -26,11 +38,12 @@ use Rattle.c_interp.specs.declared.task.Request.{Request}
 use Rattle.c_interp.specs.declared.task.Request.TheVariants as request
 use Rattle.c_interp.specs.declared.task.Halt.{Halt}
 use Rattle.c_interp.specs.declared.task.Halt.TheVariants as halt
-use Rattle.c_values.specs.Variables.{Variables, low_bytes, put_at, put_bytes, cleared}
+use Rattle.c_values.specs.Variables.{Variables, low_bytes, put_at, put_bytes, cleared, first_variables}
 use Rattle.c_values.specs.Numbers.{TypedNumber}
-use Rattle.c_interp.specs.Items.{top, rest, top_bytes, rest_bytes, second_bytes, Item, evaluates, converts, signs, negates, operates, compares, decides_on, tests, chooses, retypes, stores, combines, increments, drops, passes, asserts, assumes, evaluates_structure, picks, discards, discards_structure, chooses_structure, puts, stores_structure, passes_structure, cuts, lists, places_number, places_structure, runs, branches, divides, enters, goes_on, initial, initial_structure, fills, leaving, left, State, state}
+use Rattle.c_interp.specs.Meaning.{total, opened}
+use Rattle.c_interp.specs.Items.{top, rest, top_bytes, rest_bytes, second_bytes, Active, active, sizes_at, Wanted, wants_number, wants_structure, wants_end, Handed, by_nothing, by_number, by_structure, blocks_on, Loop, loop_of, Item, evaluates, converts, signs, negates, operates, compares, decides_on, tests, chooses, retypes, stores, combines, increments, drops, passes, asserts, assumes, evaluates_structure, picks, discards, discards_structure, chooses_structure, puts, stores_structure, passes_structure, cuts, lists, places_number, places_structure, runs, branches, divides, enters, goes_on, initial, initial_structure, fills, gathers, adds_number, resumes, hands, gets, turns, retests, repeats, loops, selects, switches, ending, ended, State, state}
 use Rattle.c_interp.specs.Fits.{sizes_of, rest_sizes, has_top}
-use Rattle.c_interp.specs.Steps.{Move, silent, asks, breaks, blocks, ends}
+use Rattle.c_interp.specs.Steps.{Move, silent, asks, breaks, blocks, ends, after_break, after_continue, behind_label, after_jump, returned}
 
 -- what comes behind the operands of an expression
 abbrev pub finish_of : Expression → Item
@@ -65,8 +78,16 @@ completion_of _ = drops
 abbrev pub end_of : Statement → Item
 end_of (if_then line test s) = branches s
 end_of (if_else line test s t) = divides s t
-end_of (returns line e) = leaving line
+end_of (trees.returns line e) = hands by_number
+end_of (trees.returns_structure line a) = hands by_structure
+end_of (trees.switch line e items) = selects items
 end_of _ = drops
+
+-- the parts of a loop; `do` has no last part
+abbrev pub loop_in : Statement → Loop
+loop_in (trees.for_loop line n start test last s) = loop_of line test last s
+loop_in (trees.do_loop line n s test) = loop_of line (Some test) None s
+loop_in s = loop_of 0 None None s
 
 -- an expression is to be evaluated, or finished
 abbrev pub expression_item : Expression → Bool → Item
@@ -76,9 +97,24 @@ expression_item e finish = if finish then finish_of e else evaluates e
 abbrev pub structure_item : Structure → Bool → Item
 structure_item a complete = if complete then completion_of a else evaluates_structure a
 
--- a statement is to be run, or ended
-abbrev pub statement_item : Statement → Bool → Item
-statement_item s end = if end then end_of s else runs s
+-- a statement at a stage
+abbrev pub statement_item : Statement → Stage → Item
+statement_item s stage.Run = runs s
+statement_item s stage.End = end_of s
+statement_item s (stage.Turn n) = turns n (loop_in s)
+statement_item s (stage.Retest n) = retests n (loop_in s)
+statement_item s (stage.Repeat n) = repeats n (loop_in s)
+statement_item s (stage.Body n) = loops n (loop_in s)
+
+abbrev pub want_of : coded.Wanted → Wanted
+want_of (wanted.Number line used t) = wants_number line used t
+want_of (wanted.Structure line used size) = wants_structure line used size
+want_of (wanted.End line) = wants_end line
+
+abbrev pub how_of : handed.Handed → Handed
+how_of hand.Nothing = by_nothing
+how_of hand.Number = by_number
+how_of hand.Structure = by_structure
 
 -- the items of a block are to be entered, or run
 abbrev pub items_item : Items → Bool → Item
@@ -90,18 +126,25 @@ item_of (task.Fetch p) = evaluates (read p)
 item_of (task.Store line p) = stores line p
 item_of task.Drop = drops
 item_of (task.Structure a complete) = structure_item (view_structure a.now) complete
-item_of (task.List parts) = lists (parts_of parts.now)
+item_of (task.List parts from) = lists (parts_of (drop from parts.now.items))
 item_of (task.PlaceNumber offset t) = places_number offset t
 item_of (task.PlaceStructure offset) = places_structure offset
 item_of task.Test = tests
 item_of (task.Retype t) = retypes t
-item_of (task.Statement s end) = statement_item (view_statement s.now) end
-item_of (task.Items items entered) = items_item (items_of items.now) entered
+item_of (task.Statement s stage) = statement_item (view_statement s.now) stage
+item_of (task.Items items from entered) = items_item (items_of (drop from items.now.items)) entered
+item_of task.Switched = switches
 item_of (task.Initialize v t) = initial v t
 item_of (task.InitializeStructure v) = initial_structure v
 item_of (task.Fill words line v offset) = fills words line v offset
-item_of (task.Leave line) = leaving line
-item_of task.Left = left
+item_of (task.Begin f line) = gathers (wants_end line) f 0 no_argument
+item_of (task.Gather want f args from) = gathers (want_of want) f from (arguments_of (drop from args.now.items))
+item_of (task.Add want f t args next) = adds_number (want_of want) f (next - 1) t (arguments_of (drop (next - 1 + 1) args.now.items))
+item_of (task.Resume want caller saved) = resumes (want_of want) caller saved.items
+item_of (task.Hand how) = hands (how_of how)
+item_of (task.Get want how) = gets (want_of want) (how_of how)
+item_of (task.End line x) = ending line x
+item_of (task.Ended x) = ended x
 
 -- a list of the code has its first item last
 abbrev pub items_in : List Task → List Item
@@ -169,8 +212,28 @@ abbrev pub ChangesWithin : List ℕ → List (List ℕ) → Change → Type 0
 ChangesWithin sizes bs c = StacksWithin bs c.stacked × LiesWithin sizes bs c.written
 
 -- the state after a change, where these items stand behind the first
-abbrev pub changed : Change → List Item → List TypedNumber → List (List ℕ) → Variables → State
-changed c is xs bs vs = state (with_tasks c.tasks is) (with_put c.put (without c.taken xs)) (with_stacked c.stacked bs) (with_written c.written bs vs)
+abbrev pub changed : Change → List Item → Active → List TypedNumber → List (List ℕ) → Variables → State
+changed c is r xs bs vs = state (with_tasks c.tasks is) r (with_put c.put (without c.taken xs)) (with_stacked c.stacked bs) (with_written c.written bs vs)
+
+-- the state where items are cut back
+abbrev pub cut_to : Cut → List Item → Active → List TypedNumber → List (List ℕ) → Variables → State
+cut_to cut.Break is r xs bs vs = state (after_break is) r xs bs vs
+cut_to cut.Continue is r xs bs vs = state (after_continue is) r xs bs vs
+cut_to (cut.Jump n) is r xs bs vs = state (after_jump n is) r xs bs vs
+cut_to (cut.Return how) is r xs bs vs = returned (how_of how) is r xs bs
+
+-- the variables of a function at its start, of these sizes: so many structure values on top, and behind them bytes that are 0
+abbrev pub frame_on : ℕ → List (List ℕ) → List ℕ → Variables
+frame_on count bs sizes = let args = blocks_on count bs in args ++ first_variables (drop (length args) sizes)
+
+-- the state at the start of a function's body
+abbrev pub called : TypedFile → Call → Statement → List Item → Active → List TypedNumber → List (List ℕ) → Variables → State
+called file c s is r xs bs vs =
+    state (runs s ∷ resumes (want_of c.want) r.function vs ∷ is) (active c.function (opened r.left c.function)) xs (drop c.count bs) (frame_on c.count bs (sizes_at (slice_get file.functions c.function)))
+
+abbrev pub body_of : Option Procedure → Option Statement
+body_of None = None
+body_of (Some p) = p.body
 
 -- what is asked for, with these numbers and structure values on top
 abbrev pub action_of : List TypedNumber → List (List ℕ) → Request → Action
@@ -178,60 +241,95 @@ action_of xs bs (request.Draw n) = Draw n
 action_of xs bs (request.Read p n) = Read p n
 action_of xs bs (request.WriteNumber p t) = Write p (low_bytes (bytes t) (top xs).bits) false
 action_of xs bs (request.WriteStructure p) = Write p (top_bytes bs) false
+action_of xs bs (request.End x) = End x
+action_of xs bs request.Exit = Exit
 
 -- this action comes next, at this line
 abbrev pub IsAsked : Move → Action → ℕ → Type 0
 IsAsked (asks action line follows) asked l = (action ≡ asked) × (line ≡ l)
 IsAsked _ asked l = ⊥
 
--- the end of the function comes next
-abbrev pub leave_move : Bool → List TypedNumber → List (List ℕ) → Variables → ℕ → Move
-leave_move first xs bs vs line = asks (if first then Exit else End (top xs).bits) line (λ a. state (left ∷ []) xs bs vs)
-
 -- this is the move, which is no silent step
-abbrev pub IsHalt : Bool → List TypedNumber → List (List ℕ) → Variables → Move → Halt → Type 0
-IsHalt first xs bs vs m (halt.Asks q l) = IsAsked m (action_of xs bs q) l
-IsHalt first xs bs vs m (halt.Leaves l) = m ≡ leave_move first xs bs vs l
-IsHalt first xs bs vs m (halt.Breaks class line) = m ≡ breaks class line
-IsHalt first xs bs vs m halt.Blocks = m ≡ blocks
-IsHalt first xs bs vs m (halt.Ends v) = m ≡ ends v
+abbrev pub IsHalt : List TypedNumber → List (List ℕ) → Move → Halt → Type 0
+IsHalt xs bs m (halt.Asks q l) = IsAsked m (action_of xs bs q) l
+IsHalt xs bs m (halt.Breaks class line) = m ≡ breaks class line
+IsHalt xs bs m halt.Blocks = m ≡ blocks
+IsHalt xs bs m (halt.Ends v) = m ≡ ends v
 
--- the plan is the move, where these items stand behind the first
-abbrev pub IsPlan : Bool → List Item → List TypedNumber → List (List ℕ) → Variables → Move → Plan → Type 0
-IsPlan first is xs bs vs m (plan.Goes c) = m ≡ silent (changed c is xs bs vs)
-IsPlan first is xs bs vs m (plan.Halts h) = IsHalt first xs bs vs m h
+-- the plan is the move, where these are the items
+abbrev pub IsPlan : TypedFile → List Item → Active → List TypedNumber → List (List ℕ) → Variables → Move → Plan → Type 0
+IsPlan file is r xs bs vs m (plan.Goes c) = m ≡ silent (changed c (behind is) r xs bs vs)
+IsPlan file is r xs bs vs m (plan.Cuts c) = m ≡ silent (cut_to c is r xs bs vs)
+IsPlan file is r xs bs vs m (plan.Calls c) =
+    (s : Statement) × (body_of (slice_get file.functions c.function) ≡ Some s) × ((slice_index r.left c.function == 0) ≡ false) × (m ≡ silent (called file c s (behind is) r xs bs vs))
+IsPlan file is r xs bs vs m (plan.Halts h) = IsHalt xs bs m h
 
 -- what a plan writes lies where it belongs
 abbrev pub WritesWithin : List ℕ → List (List ℕ) → Plan → Type 0
 WritesWithin sizes bs (plan.Goes c) = ChangesWithin sizes bs c
+WritesWithin sizes bs (plan.Cuts c) = Unit {0}
+WritesWithin sizes bs (plan.Calls c) = Unit {0}
 WritesWithin sizes bs (plan.Halts h) = Unit {0}
 
 -- what is next at a halt
-abbrev pub next_by : Bool → ℕ → List TypedNumber → List (List ℕ) → Halt → Next
-next_by first function xs bs (halt.Asks q l) = Act (action_of xs bs q) l function
-next_by first function xs bs (halt.Leaves l) = Act (if first then Exit else End (top xs).bits) l function
-next_by first function xs bs (halt.Breaks class line) = Broken class line function
-next_by first function xs bs halt.Blocks = Blocked
-next_by first function xs bs (halt.Ends v) = Ended (word_64 v)
+abbrev pub next_by : ℕ → List TypedNumber → List (List ℕ) → Halt → Next
+next_by function xs bs (halt.Asks q l) = Act (action_of xs bs q) l function
+next_by function xs bs (halt.Breaks class line) = Broken class line function
+next_by function xs bs halt.Blocks = Blocked
+next_by function xs bs (halt.Ends v) = Ended (word_64 v)
 
 -- the change that the answer to an action makes
-abbrev pub Answers : List Item → List TypedNumber → List (List ℕ) → Variables → Move → Answer → Change → Type 0
-Answers is xs bs vs (asks action line follows) a c = follows a ≡ changed c is xs bs vs
-Answers is xs bs vs _ a c = Unit {0}
+abbrev pub Answers : List Item → Active → List TypedNumber → List (List ℕ) → Variables → Move → Answer → Change → Type 0
+Answers is r xs bs vs (asks action line follows) a c = follows a ≡ changed c is r xs bs vs
+Answers is r xs bs vs _ a c = Unit {0}
 
 -- that change is planned, and what it writes lies where it belongs
-abbrev pub IsAnswered : List ℕ → List Item → List TypedNumber → List (List ℕ) → Variables → Move → Answer → Plan → Type 0
-IsAnswered sizes is xs bs vs m a (plan.Goes c) = Answers is xs bs vs m a c × ChangesWithin sizes bs c
-IsAnswered sizes is xs bs vs m a (plan.Halts h) = ⊥
+abbrev pub IsAnswered : List ℕ → List Item → Active → List TypedNumber → List (List ℕ) → Variables → Move → Answer → Change → Type 0
+IsAnswered sizes is r xs bs vs m a c = Answers is r xs bs vs m a c × ChangesWithin sizes bs c
 
--- an action behind which the function goes on
-abbrev pub IsRequest : Action → Type 0
-IsRequest (Read p n) = Unit {0}
-IsRequest (Write p new first) = Unit {0}
-IsRequest (Draw n) = Unit {0}
-IsRequest _ = ⊥
-
--- such an action comes next, and the answer has its shape
+-- an action comes next, and the answer has its shape
 abbrev pub Accepts : Move → Answer → Type 0
-Accepts (asks action line follows) a = IsRequest action × (has_shape (shape_of action) a ≡ true)
+Accepts (asks action line follows) a = has_shape (shape_of action) a ≡ true
 Accepts _ a = ⊥
+
+-- how many activations are open
+abbrev pub open_in : List Item → ℕ
+open_in [] = 0
+open_in (resumes want caller saved ∷ is) = 1 + open_in is
+open_in (_ ∷ is) = open_in is
+
+-- how many are open or may be opened
+abbrev pub activations : State → ℕ
+activations s = let r = s.active in total r.left + open_in s.items
+
+-- a function is called
+abbrev pub IsCall : TypedFile → Call → Active → Move → List Item → List TypedNumber → List (List ℕ) → Variables → Type 0
+IsCall file c r m is xs bs vs =
+    (s : Statement) × (body_of (slice_get file.functions c.function) ≡ Some s) × ((slice_index r.left c.function == 0) ≡ false) × (m ≡ silent (called file c s (behind is) r xs bs vs))
+
+-- from the end of the function that runs on
+abbrev pub after_return : List Item → List Item
+after_return [] = []
+after_return (resumes want caller saved ∷ is) = resumes want caller saved ∷ is
+after_return (_ ∷ is) = after_return is
+
+-- the tasks up to there are taken off
+abbrev pub IsBack : List Item → List Item → Option Caller → Type 0
+IsBack old new None = (after_return old ≡ []) × (new ≡ [])
+IsBack old new (Some c) = after_return old ≡ resumes (want_of c.want) c.function c.variables.items ∷ new
+
+-- whether an item is the label with this number
+abbrev pub IsLabelItem : CoreItem → ℕ → Bool → Type 0
+IsLabelItem i n b = (more : Items) → behind_label n (with_item i more) ≡ (if b then Some more else behind_label n more)
+
+-- behind which item it stands, of the items from one on
+abbrev pub IsBehind : List CoreItem → (from : ℕ) → ℕ → Option ℕ → Type 0
+IsBehind items from n (Some place) = behind_label n (items_of (drop from items)) ≡ Some (items_of (drop place items))
+IsBehind items from n None = behind_label n (items_of (drop from items)) ≡ None
+
+-- items that are cut back within the function
+abbrev pub IsCut : Cut → List Item → List Item → Type 0
+IsCut cut.Break old new = new ≡ after_break old
+IsCut cut.Continue old new = new ≡ after_continue old
+IsCut (cut.Jump n) old new = new ≡ after_jump n old
+IsCut (cut.Return how) old new = new ≡ old

@@ -1,33 +1,59 @@
 -- The thread of the code as a state, and what it does.
-use Rattle.std.specs.Prelude.{◌≡◌}
-use Rattle.core_tree.specs.Typed.{Sizes, sizes_of_objects}
-use Rattle.core_tree.specs.Trees.{view_functions, view_statics}
+use Rattle.std.specs.Prelude.{◌≡◌, ◌≤◌, ◌+◌, ◌^◌, true}
+use Rattle.core_tree.specs.Trees.{TypedFile, core_file, view_core, view_functions}
 use Rattle.actions.specs.Behaviour as actions
 use Rattle.c_interp.specs.declared.thread.Thread.{Thread}
 use Rattle.c_interp.specs.declared.task.Halt.{Halt}
-use Rattle.c_interp.specs.Meaning.{Running}
-use Rattle.c_interp.specs.Steps.{move}
-use Rattle.c_interp.specs.Items.{State, state}
-use Rattle.c_interp.specs.Tasks.{items_in, values_in, structures_in, IsHalt}
+use Rattle.c_interp.specs.declared.task.Change.{Change}
+use Rattle.c_interp.specs.declared.task.Cut.{Cut}
+use Rattle.c_interp.specs.declared.task.Plan.{Plan}
+use Rattle.c_interp.specs.Meaning.{Code}
+use Rattle.c_interp.specs.Source.{code_of}
+use Rattle.c_interp.specs.Steps.{Move, move}
+use Rattle.c_interp.specs.Fits.{Fits, IsSized, variables_at}
+use Rattle.c_interp.specs.Items.{Active, active, State, state}
+use Rattle.c_interp.specs.Tasks.{items_in, values_in, structures_in, behind, changed, cut_to, activations, IsPlan, WritesWithin, IsHalt}
 use Rattle.c_interp.specs.SourceThread.{thread_in}
 
-abbrev pub running_of : Thread → Running
-running_of t = record { function = t.function; sizes = t.sizes.now; first = t.first }
+abbrev pub file_of : Thread → TypedFile
+file_of t = view_core (core_file t.functions.now t.objects.now)
 
--- how many bytes the variables and the static objects have
-abbrev pub sizes_in : Thread → Sizes
-sizes_in t = record { variables = t.sizes.now; objects = sizes_of_objects (view_statics t.objects.now) }
+abbrev pub code_under : Thread → Code
+code_under t = code_of (view_functions t.functions.now) t.bounds.now
+
+abbrev pub active_of : Thread → Active
+active_of t = active t.function t.left.items
 
 abbrev pub state_of : Thread → State
-state_of t = state (items_in t.tasks.items) (values_in t.numbers.items) (structures_in t.structures.items) t.variables.items
+state_of t = state (items_in t.tasks.items) (active_of t) (values_in t.numbers.items) (structures_in t.structures.items) t.variables.items
 
 abbrev pub thread_of : Thread → actions.Thread
-thread_of t = thread_in (view_functions t.functions.now) t.startable (running_of t) (state_of t)
+thread_of t = thread_in (view_functions t.functions.now) t.bounds.now t.startable t.first (state_of t)
 
--- both can start the same threads
+-- both run the same file under the same bounds, and can start the same threads
 abbrev pub SameProgram : Thread → Thread → Type 0
-SameProgram t u = (u.functions ≡ t.functions) × (u.objects ≡ t.objects) × (u.startable ≡ t.startable)
+SameProgram t u = (u.functions ≡ t.functions) × (u.objects ≡ t.objects) × (u.bounds ≡ t.bounds) × (u.startable ≡ t.startable) × (u.first ≡ t.first)
+
+abbrev pub next_move : Thread → Move
+next_move t = move (code_under t) t.first true (state_of t)
 
 -- this is what comes next, which is no silent step
 abbrev pub Halts : Thread → Halt → Type 0
-Halts t p = IsHalt t.first (values_in t.numbers.items) (structures_in t.structures.items) t.variables.items (move (running_of t) (state_of t)) p
+Halts t p = IsHalt (values_in t.numbers.items) (structures_in t.structures.items) (next_move t) p
+
+-- this is planned
+abbrev pub IsPlanned : Thread → Plan → Type 0
+IsPlanned t p =
+    IsPlan (file_of t) (items_in t.tasks.items) (active_of t) (values_in t.numbers.items) (structures_in t.structures.items) t.variables.items (next_move t) p
+    × WritesWithin (variables_at (file_of t) t.function) (structures_in t.structures.items) p
+
+-- the state after a change, and where the tasks are cut back
+abbrev pub after_change : Thread → Change → State
+after_change t c = changed c (behind (items_in t.tasks.items)) (active_of t) (values_in t.numbers.items) (structures_in t.structures.items) t.variables.items
+
+abbrev pub after_cut : Thread → Cut → State
+after_cut t c = cut_to c (items_in t.tasks.items) (active_of t) (values_in t.numbers.items) (structures_in t.structures.items) t.variables.items
+
+-- what each state of a thread keeps to: its items can be done, its variables are there, and not too many activations are open
+abbrev pub IsSound : TypedFile → State → Type 0
+IsSound file s = Fits file s × IsSized file s × (activations s ≤ 2 ^ 42)

@@ -9,7 +9,7 @@ ghost use Rattle.c_interp.specs.Meaning.{drawn, bytes_in};
 ghost use Rattle.c_interp.specs.Items.{evaluates, stores, fills};
 ghost use Rattle.c_interp.specs.Tasks.{item_of, finish_of, structure_item};
 ghost use Rattle.c_interp.specs.Plans.{FitsIn};
-ghost use Rattle.c_interp.specs.Answered.{AnswersItem, AcceptsItem};
+ghost use Rattle.c_interp.specs.Answered.{AnswersItem, AcceptsItem, IsAssign};
 
 use crate::plan::{count_drawn, top_of, type_of_place};
 use crate::task::{Change, Look, Stacked, Taken, Task, Tasks, Written};
@@ -124,6 +124,7 @@ fn answer_expression<'a>(look: &Look, expr: &'a CoreExpr, answer: &Answer) -> Ch
 
 // Of an expression whose operands are evaluated.
 fn answer_finish<'a>(look: &Look, expr: &'a CoreExpr, answer: &Answer) -> Change<'a>
+    requires assign { IsAssign (view expr.now) }
     requires fits { FitsIn look.now (finish_of (view expr.now)) }
     requires accepts { AcceptsItem look.now (finish_of (view expr.now)) answer.now }
     ensures { AnswersItem look.now (finish_of (view expr.now)) answer.now result }
@@ -189,26 +190,30 @@ fn answer_fill<'a>(
 // What the answer to an action changes.
 pub(crate) fn answer_task<'a>(
     look: &Look,
-    task: Task<'a>,
+    task: &Task<'a>,
     answer: &Answer,
 ) -> Result<Change<'a>, AllocError>
-    requires fits { FitsIn look.now (item_of task) }
-    requires accepts { AcceptsItem look.now (item_of task) answer.now }
-    ensures { IfOk result (λ c. AnswersItem look.now (item_of task.entry) answer.now c) }
+    requires fits { FitsIn look.now (item_of task.now) }
+    requires accepts { AcceptsItem look.now (item_of task.now) answer.now }
+    ensures { IfOk result (λ c. AnswersItem look.now (item_of task.now) answer.now c) }
 {
     match task {
-        Task::Fetch(place) => Ok(answer_read(look, place, answer)),
+        Task::Fetch(place) => Ok(answer_read(look, *place, answer)),
         Task::Expression { expression, finish } => {
-            if finish {
-                Ok(answer_finish(look, expression, answer))
+            if *finish {
+                Ok(answer_finish(look, *expression, answer))
             } else {
-                Ok(answer_expression(look, expression, answer))
+                Ok(answer_expression(look, *expression, answer))
             }
         }
-        Task::Store(line, place) => Ok(answer_write(look, line, place, answer)),
-        Task::Structure { value, complete } => answer_structure(look, value, complete, answer),
-        Task::Fill(words, line, variable, offset) => {
-            Ok(answer_fill(look, words, line, variable, offset, answer))
+        Task::Store(line, place) => Ok(answer_write(look, *line, *place, answer)),
+        Task::Structure { value, complete } => answer_structure(look, *value, *complete, answer),
+        Task::Fill(words, line, variable, offset) => Ok(answer_fill(
+            look, *words, *line, *variable, *offset, answer,
+        )),
+        Task::End(_, value) => {
+            let ended = Some(Task::Ended(*value));
+            Ok(change(ended, Taken::None, None, Stacked::Kept, Written::Nothing))
         }
         _ => unreachable!(),
     }

@@ -1,9 +1,11 @@
-ghost use Rattle.std.specs.Prelude.{◌≡◌, option_map, slice_get, codes};
+ghost use Rattle.std.specs.Prelude.{◌≡◌, Some, None, option_map, slice_get, codes, MatchOption};
 ghost use Rattle.std.specs.Str.{bytes_eq};
-ghost use Rattle.core_tree.specs.Trees.{view_functions};
+ghost use Rattle.core_tree.specs.Trees.{view_statement, view_functions};
 ghost use Rattle.c_interp.specs.Source.{main_number};
+ghost use Rattle.c_interp.specs.Items.{sizes_at};
+ghost use Rattle.c_interp.specs.Tasks.{body_of};
 
-use core_tree::{Function, Name};
+use core_tree::{CoreStatement, Function, Name};
 
 // The function with this number, where there is one.
 pub(crate) fn body_of(functions: &[Function], function: u32) -> Option<&Function>
@@ -11,6 +13,29 @@ pub(crate) fn body_of(functions: &[Function], function: u32) -> Option<&Function
 {
     match functions.get(function as usize) {
         Some(body) => Some(body),
+        None => None,
+    }
+}
+
+// The sizes of a function's variables, and its body.
+#[derive(Clone, Copy)]
+pub(crate) struct Body<'a> {
+    pub(crate) sizes: &'a [u32],
+    pub(crate) statement: &'a CoreStatement,
+}
+
+// The body of the function with this number, where it has one.
+pub(crate) fn defined<'a>(functions: &'a [Function], function: u32) -> Option<Body<'a>>
+    ensures { MatchOption result (body_of (slice_get (view_functions functions.now) function) ≡ None) (λ b. (body_of (slice_get (view_functions functions.now) function) ≡ Some (view_statement b.statement.now)) × (b.sizes.now ≡ sizes_at (slice_get (view_functions functions.now) function))) }
+{
+    let Some(found) = functions.get(function as usize) else {
+        return None;
+    };
+    match &found.body {
+        Some(statement) => Some(Body {
+            sizes: found.variables.as_slice(),
+            statement,
+        }),
         None => None,
     }
 }

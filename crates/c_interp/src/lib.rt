@@ -2,12 +2,16 @@
 //! them.
 #![tactic(auto)]
 
+mod activations;
 mod answered;
+mod calls;
 mod functions;
 #[cfg(test)]
 mod object_tests;
 mod objects;
 mod plan;
+#[cfg(test)]
+mod program_tests;
 mod replay;
 mod stacks;
 mod structures;
@@ -19,5 +23,5 @@ mod variables;
 
 pub use functions::number_of_main;
 pub use objects::{are_storable, first_store};
-pub use replay::{run, small_steps_mean};
+pub use replay::{run, safe_at_all, small_steps_mean};
 pub use thread::Thread;

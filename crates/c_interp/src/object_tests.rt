@@ -13,7 +13,7 @@ use c_profile::admit;
 use c_types::IntegerType;
 use core_tree::{
     ArithmeticOperator, Bounds, Comparison, Core, CoreExpr, CoreItem, CoreStatement, CoreStructure,
-    Function, Name, Place, StaticObject, StepOperator,
+    Function, Name, PassedType, Place, StaticObject, StepOperator,
 };
 use interleave::{Inputs, Outcome, Schedule, Words};
 use std::alloc::{AllocError, Global};
@@ -227,8 +227,11 @@ fn file(alloc: Global, items: Vec<CoreItem>) -> Result<Core, AllocError>
             bytes: Vec::from_slice(alloc, b"main".as_slice())?,
         },
         line: 1,
+        gives: Some(PassedType::Integer(IntegerType::Int)),
+        parameters: Vec::new(alloc),
+        ellipsis: None,
         variables: Vec::from_slice(alloc, &[4])?,
-        body: CoreStatement::Block { items },
+        body: Some(CoreStatement::Block { items }),
     };
     let first = StaticObject {
         size: 8,
@@ -258,7 +261,7 @@ fn ending(
     let mut inputs = Inputs::new(alloc);
     inputs.insert(0, Words::new(Vec::from_slice(alloc, &[word])?))?;
     let schedule = Schedule::new(vec![in alloc; 0; turns]?);
-    match admit(core) {
+    match admit(alloc, core) {
         Ok(admitted) => {
             if are_storable(&admitted) {
                 Ok(Some(run(alloc, &admitted, &bounds, &inputs, &schedule)?))
@@ -357,7 +360,7 @@ fn a_sum_in_a_static_object_breaks(rt: HostRuntime) -> Result<(), Fail> {
 fn the_first_store_has_the_static_objects(rt: HostRuntime) -> Result<(), Fail> {
     let alloc = rt.alloc();
     let core = file(alloc, body(alloc, 0, 5)?)?;
-    match admit(core) {
+    match admit(alloc, core) {
         Ok(admitted) => {
             assert!(rt; are_storable(&admitted));
             if are_storable(&admitted) {

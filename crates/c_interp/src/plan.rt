@@ -1,4 +1,9 @@
-ghost use Rattle.std.specs.Prelude.{◌≡◌, ◌+◌, ◌<◌, ◌≤◌, ◌^◌, true, false, not, Some, None, IfOk, [], ◌∷◌, if◌then◌else◌};
+ghost use Rattle.std.specs.Prelude.{◌≡◌, ◌+◌, ◌<◌, ◌≤◌, ◌^◌, ◌==◌, ◌&&◌, true, false, not, Some, None, IfOk, List, [], ◌∷◌, drop, slice_index, option_map, if◌then◌else◌};
+ghost use Rattle.std.specs.Str.{bytes_eq};
+ghost use Rattle.core_tree.specs.Trees.{TypedFile};
+ghost use Rattle.c_values.specs.Variables.{Variables};
+ghost use Rattle.c_values.specs.Numbers.{TypedNumber};
+ghost use Rattle.c_interp.specs.Source as source;
 ghost use Rattle.core_tree.specs.Trees.{view, view_statement, items_of, read, block};
 ghost use Rattle.core_tree.specs.Typed.{place_type};
 ghost use Rattle.core_tree.specs.Operations as operations;
@@ -6,23 +11,27 @@ ghost use Rattle.c_interp.specs.Meaning as meaning;
 ghost use Rattle.c_interp.specs.Meaning.{number_type, size_of};
 ghost use Rattle.c_values.specs.Variables.{drawn_count, cleared};
 ghost use Rattle.c_values.specs.Numbers.{same_width, are_operands_of};
-ghost use Rattle.c_interp.specs.Items.{top, second, rest, state, drops, evaluates, initial, leaving, runs, enters, goes_on, stores, combines, increments, fills};
-ghost use Rattle.c_interp.specs.Steps.{move_combined, draws_variable, enters_initialized, silent};
-ghost use Rattle.c_interp.specs.Plans.{IsByOperand, IsByStructure, IsNoOperation, IsTested, TakesNoMemory};
-ghost use Rattle.c_interp.specs.Tasks.{finish_of, end_of, item_of, values_in, with_task, without};
-ghost use Rattle.c_interp.specs.Plans.{FitsIn, PlansItem, Plans, running_in, items_behind, values_on, structures_on};
+ghost use Rattle.c_interp.specs.Items.{top, second, rest, Active, Item, state, drops, evaluates, initial, runs, enters, goes_on, stores, combines, increments, fills, turns, retests, loops, selects};
+ghost use Rattle.c_interp.specs.Steps.{move_combined, draws_variable, enters_initialized, stops, silent};
+ghost use Rattle.c_interp.specs.Plans.{IsNoCall, IsByOperand, IsByStructure, IsNoOperation, IsTested, LeadsOut, IsCaseItem, IsBehindCase, IsDefaultItem, IsBehindDefault, TakesNoMemory};
+ghost use Rattle.c_interp.specs.Tasks.{finish_of, end_of, loop_in, statement_item, item_of, values_in, with_task, without, behind, IsPlan};
+ghost use Rattle.c_interp.specs.Plans.{FitsIn, PlansItem, Plans, code_in, active_in, running_in, items_behind, values_on, structures_on};
 
+use crate::calls::{plan_add, plan_call_task, plan_get, plan_number_call};
 use crate::structures::{
     evaluation, plan_discard, plan_initial_structure, plan_list, plan_pick, plan_place_number,
     plan_place_structure, plan_structure_task,
 };
-use crate::task::{Change, Halt, Look, Plan, Request, Stacked, Taken, Task, Tasks, Written};
+use crate::task::{
+    Change, Cut, Halt, Handed, Look, Plan, Request, Stacked, Stage, Taken, Task, Tasks, Written,
+};
 use crate::variables::read_variable;
 use actions::DrawBits;
-use c_types::{IntegerType, promote};
+use c_types::{IntegerType, ValueType, promote};
 use c_values::{Number, compare, drawn_count, operate, pointer_to, sign, word_count};
 use core_tree::{
-    ArithmeticOperator, CoreExpr, CoreItem, CoreStatement, LogicalOperator, Place, StepOperator,
+    ArithmeticOperator, Bounds, CoreExpr, CoreItem, CoreStatement, LogicalOperator, LoopBound,
+    Place, StepOperator,
 };
 use std::alloc::AllocError;
 use words::Class;
@@ -178,7 +187,16 @@ fn second_of(numbers: &[Number]) -> Number
 pub(crate) fn size_of_variable(look: &Look, variable: u32) -> u32
     ensures { result ≡ size_of (running_in look.now) variable }
 {
-    match look.sizes.get(variable as usize) {
+    match look.functions.get(look.function as usize) {
+        Some(function) => size_in(&function.variables, variable),
+        None => 0,
+    }
+}
+
+fn size_in(sizes: &[u32], variable: u32) -> u32
+    ensures { result ≡ slice_index sizes.now variable }
+{
+    match sizes.get(variable as usize) {
         Some(size) => *size,
         None => 0,
     }
@@ -243,7 +261,23 @@ pub(crate) fn number_type_of(expr: &CoreExpr) -> IntegerType
             offset: _,
             value: _,
         } => *type_,
+        CoreExpr::Call {
+            line: _,
+            function: _,
+            used: _,
+            type_,
+            arguments: _,
+        } => integer_of(*type_),
         _ => IntegerType::Int,
+    }
+}
+
+pub(crate) fn integer_of(type_: ValueType) -> IntegerType
+    ensures { result ≡ meaning.integer_of type_ }
+{
+    match type_ {
+        ValueType::Void => IntegerType::Int,
+        ValueType::Integer(t) => t,
     }
 }
 
@@ -369,7 +403,7 @@ fn plan_combined<'a>(
 ) -> Plan<'a>
     requires old { same_width old.type (place_type place) ≡ true }
     requires operands { are_operands_of operator type_ y.type ≡ true }
-    ensures { Plans look.now (move_combined (running_in look.now) place operator type_ y.type old.bits y.bits line (with_task behind.entry (items_behind look.now)) (without taken (values_on look.now)) (structures_on look.now) look.now.variables.now) result }
+    ensures { (i : Item) → Plans look.now i (move_combined (code_in look.now) look.now.first true place operator type_ y.type old.bits y.bits line (with_task behind.entry (items_behind look.now)) (active_in look.now) (without taken (values_on look.now)) (structures_on look.now) look.now.variables.now) result }
 {
     let left = old.retyped(type_of_place(place)).converted(type_);
     match operate(operator, left, y) {
@@ -449,6 +483,28 @@ fn plan_increment<'a>(
 // The plan of an expression that is to be evaluated.
 fn plan_expression<'a>(look: &Look, expr: &'a CoreExpr) -> Plan<'a>
     requires { FitsIn look.now (evaluates (view expr.now)) }
+    ensures { PlansItem look.now (evaluates (view expr.now)) result }
+{
+    match expr {
+        CoreExpr::Call {
+            line,
+            function,
+            used,
+            type_,
+            arguments,
+        } => plan_number_call(look, *line, *function, *used, *type_, arguments),
+        CoreExpr::FunctionName {
+            line: _,
+            function: _,
+        } => puts(Taken::None, Number::new(IntegerType::Int, 0)),
+        _ => plan_value(look, expr),
+    }
+}
+
+// The plan of an expression that neither calls nor names a function.
+fn plan_value<'a>(look: &Look, expr: &'a CoreExpr) -> Plan<'a>
+    requires no_call { IsNoCall (view expr.now) }
+    requires fits { FitsIn look.now (evaluates (view expr.now)) }
     ensures { PlansItem look.now (evaluates (view expr.now)) result }
 {
     let finish = Some(finishing(expr));
@@ -720,32 +776,49 @@ fn plan_tested<'a>(look: &Look, expr: &'a CoreExpr) -> Plan<'a>
 
 // ---- statements
 
+// A statement at a stage.
+fn at_stage<'a>(statement: &'a CoreStatement, stage: Stage) -> Task<'a>
+    ensures { result ≡ Task.Statement statement.entry stage }
+{
+    Task::Statement { statement, stage }
+}
+
 // A statement is to be run.
 pub(crate) fn running<'a>(statement: &'a CoreStatement) -> Task<'a>
-    ensures { result ≡ Task.Statement statement.entry false }
+    ensures { result ≡ Task.Statement statement.entry Stage.Run }
 {
     Task::Statement {
         statement,
-        end: false,
+        stage: Stage::Run,
     }
 }
 
-fn plan_block<'a>(look: &Look, items: &'a [CoreItem]) -> Plan<'a>
-    ensures { PlansItem look.now (runs (block (items_of items.now))) result }
+fn plan_block<'a>(look: &Look, items: &'a Vec<CoreItem>) -> Plan<'a>
+    ensures { PlansItem look.now (runs (block (items_of items.now.items))) result }
 {
-    pushes(Taken::None, entry(items), Some(going_on(items)), None)
+    pushes(Taken::None, entry(items, 0), Some(going_on(items, 0)), None)
+}
+
+// A part of a loop whose value isn't used is evaluated before another task.
+fn before<'a>(part: &'a CoreExpr, next: Task<'a>) -> Plan<'a>
+    ensures { result ≡ Plan.Goes (record {
+      tasks = record { first = Some (Task.Expression part.entry false); second = Some Task.Drop; third = Some next.entry };
+      taken = Taken.None;
+      put = None;
+      stacked = Stacked.Kept;
+      written = Written.Nothing;
+    }) }
+{
+    pushes(Taken::None, evaluating(part), Some(Task::Drop), Some(next))
 }
 
 // The plan of a statement that is to be run.
 fn plan_statement<'a>(look: &Look, statement: &'a CoreStatement) -> Plan<'a>
     ensures { PlansItem look.now (runs (view_statement statement.now)) result }
 {
-    let end = Some(Task::Statement {
-        statement,
-        end: true,
-    });
+    let end = Some(at_stage(statement, Stage::End));
     match statement {
-        CoreStatement::Block { items } => { plan_block(look, items) }
+        CoreStatement::Block { items } => plan_block(look, items),
         CoreStatement::If {
             line: _,
             test,
@@ -760,17 +833,76 @@ fn plan_statement<'a>(look: &Look, statement: &'a CoreStatement) -> Plan<'a>
         CoreStatement::Evaluate { expression } => {
             pushes(Taken::None, evaluating(expression), end, None)
         }
-        CoreStatement::Return { line: _, value } => {
-            pushes(Taken::None, evaluating(value), end, None)
+        CoreStatement::Switch {
+            line: _,
+            value,
+            items: _,
+        } => pushes(Taken::None, evaluating(value), end, None),
+        CoreStatement::For {
+            line: _,
+            number,
+            first: Some(first),
+            test: _,
+            last: _,
+            body: _,
+        } => {
+            let rounds = tests_of(look, *number).saturating_sub(1);
+            before(first, at_stage(statement, Stage::Retest(rounds)))
         }
+        CoreStatement::For {
+            line: _,
+            number,
+            first: None,
+            test: _,
+            last: _,
+            body: _,
+        } => {
+            let rounds = tests_of(look, *number).saturating_sub(1);
+            let next = at_stage(statement, Stage::Retest(rounds));
+            pushes(Taken::None, next, None, None)
+        }
+        CoreStatement::Do {
+            line: _,
+            number,
+            body: _,
+            test: _,
+        } => {
+            let rounds = tests_of(look, *number);
+            pushes(
+                Taken::None,
+                at_stage(statement, Stage::Turn(rounds)),
+                None,
+                None,
+            )
+        }
+        CoreStatement::Stray { line: _, statement } => {
+            pushes(Taken::None, running(statement), None, None)
+        }
+        _ => plan_jump(look, statement),
     }
 }
 
-// The function ends with the number on top.
-fn plan_leave<'a>(_look: &Look, line: u32) -> Plan<'a>
-    ensures { PlansItem _look.now (leaving line) result }
+// The plan of a statement that leads out of others.
+fn plan_jump<'a>(look: &Look, statement: &'a CoreStatement) -> Plan<'a>
+    requires { LeadsOut (view_statement statement.now) }
+    ensures { PlansItem look.now (runs (view_statement statement.now)) result }
 {
-    Plan::Halts(Halt::Leaves(line))
+    let end = Some(at_stage(statement, Stage::End));
+    match statement {
+        CoreStatement::Return { line: _, value } => {
+            pushes(Taken::None, evaluating(value), end, None)
+        }
+        CoreStatement::ReturnStructure { line: _, value } => {
+            pushes(Taken::None, evaluation(value), end, None)
+        }
+        CoreStatement::ReturnNothing { line: _ } => {
+            pushes(Taken::None, Task::Hand(Handed::Nothing), None, None)
+        }
+        CoreStatement::Break { line: _ } => Plan::Cuts(Cut::Break),
+        CoreStatement::Continue { line: _ } => Plan::Cuts(Cut::Continue),
+        CoreStatement::Goto { line: _, label } => Plan::Cuts(Cut::Jump(*label)),
+        _ => unreachable!(),
+    }
 }
 
 // The plan of a statement whose test or value is evaluated.
@@ -802,53 +934,306 @@ fn plan_end<'a>(look: &Look, statement: &'a CoreStatement) -> Plan<'a>
                 pushes(Taken::One, running(no), None, None)
             }
         }
-        CoreStatement::Return { line, value: _ } => plan_leave(look, *line),
+        CoreStatement::Return { line: _, value: _ } => Plan::Cuts(Cut::Return(Handed::Number)),
+        CoreStatement::ReturnStructure { line: _, value: _ } => {
+            Plan::Cuts(Cut::Return(Handed::Structure))
+        }
+        CoreStatement::Switch {
+            line: _,
+            value: _,
+            items,
+        } => plan_select(look, items),
         _ => takes(Taken::One),
+    }
+}
+
+// ---- loops
+
+fn is_loop_named(bound: &LoopBound, name: &[u8], number: u32) -> bool
+    ensures { result ≡ (bytes_eq bound.now.function.bytes.items name.now && bound.now.number == number) }
+{
+    bound.function.bytes.as_slice() == name && bound.number == number
+}
+
+// How many times the test of a loop may be evaluated.
+fn tests_in(bounds: &Bounds, name: &[u8], number: u32) -> u32
+    ensures { result ≡ source.tests_in bounds.now.set bounds.now.unwind name.now number }
+{
+    for bound in bounds.set() {
+        if is_loop_named(bound, name, number) {
+            return bound.unwind;
+        }
+    }
+    bounds.unwind()
+}
+
+fn tests_of(look: &Look, number: u32) -> u32
+    ensures { result ≡ (code_in look.now).tests look.now.function number }
+{
+    match look.functions.get(look.function as usize) {
+        Some(function) => tests_in(look.bounds, &function.name.bytes, number),
+        None => tests_in(look.bounds, &[], number),
+    }
+}
+
+fn line_of_loop(statement: &CoreStatement) -> u32
+    ensures { result ≡ (loop_in (view_statement statement.now)).line }
+{
+    match statement {
+        CoreStatement::For {
+            line,
+            number: _,
+            first: _,
+            test: _,
+            last: _,
+            body: _,
+        } => *line,
+        CoreStatement::Do {
+            line,
+            number: _,
+            body: _,
+            test: _,
+        } => *line,
+        _ => 0,
+    }
+}
+
+pub(crate) fn plan_passed_bound<'a>(look: &Look, class: Class, line: u32) -> Plan<'a>
+    ensures { (i : Item) → Plans look.now i (stops (code_in look.now) look.now.first true class line) result }
+{
+    if look.bounds.assertions() {
+        Plan::Halts(Halt::Breaks(class, line))
+    } else {
+        Plan::Halts(Halt::Blocks)
+    }
+}
+
+// The plan of a loop's next round.
+fn plan_turn<'a>(look: &Look, rounds: u32, statement: &'a CoreStatement) -> Plan<'a>
+    ensures { PlansItem look.now (turns rounds (loop_in (view_statement statement.now))) result }
+{
+    if rounds == 0 {
+        return plan_passed_bound(look, Class::Unwind, line_of_loop(statement));
+    }
+    let end = Some(at_stage(statement, Stage::Body(rounds - 1)));
+    match statement {
+        CoreStatement::For {
+            line: _,
+            number: _,
+            first: _,
+            test: _,
+            last: _,
+            body,
+        } => pushes(Taken::None, running(body), end, None),
+        CoreStatement::Do {
+            line: _,
+            number: _,
+            body,
+            test: _,
+        } => pushes(Taken::None, running(body), end, None),
+        _ => pushes(Taken::None, running(statement), end, None),
+    }
+}
+
+// The plan of a loop's test.
+fn plan_retest<'a>(look: &Look, rounds: u32, statement: &'a CoreStatement) -> Plan<'a>
+    ensures { PlansItem look.now (retests rounds (loop_in (view_statement statement.now))) result }
+{
+    let turn = at_stage(statement, Stage::Turn(rounds));
+    let repeat = Some(at_stage(statement, Stage::Repeat(rounds)));
+    match statement {
+        CoreStatement::For {
+            line: _,
+            number: _,
+            first: _,
+            test: Some(test),
+            last: _,
+            body: _,
+        } => pushes(Taken::None, evaluating(test), repeat, None),
+        CoreStatement::Do {
+            line: _,
+            number: _,
+            body: _,
+            test,
+        } => pushes(Taken::None, evaluating(test), repeat, None),
+        _ => pushes(Taken::None, turn, None, None),
+    }
+}
+
+// The plan of the end of a loop's body.
+fn plan_body_end<'a>(look: &Look, rounds: u32, statement: &'a CoreStatement) -> Plan<'a>
+    ensures { PlansItem look.now (loops rounds (loop_in (view_statement statement.now))) result }
+{
+    let next = at_stage(statement, Stage::Retest(rounds));
+    match statement {
+        CoreStatement::For {
+            line: _,
+            number: _,
+            first: _,
+            test: _,
+            last: Some(last),
+            body: _,
+        } => before(last, next),
+        _ => pushes(Taken::None, next, None, None),
+    }
+}
+
+// The plan of a statement at a stage.
+fn plan_stage<'a>(look: &Look, statement: &'a CoreStatement, stage: Stage) -> Plan<'a>
+    ensures { PlansItem look.now (statement_item (view_statement statement.now) stage) result }
+{
+    match stage {
+        Stage::Run => plan_statement(look, statement),
+        Stage::End => plan_end(look, statement),
+        Stage::Turn(rounds) => plan_turn(look, rounds, statement),
+        Stage::Retest(rounds) => plan_retest(look, rounds, statement),
+        Stage::Repeat(rounds) => {
+            if top_of(look.numbers).is_true() {
+                pushes(
+                    Taken::One,
+                    at_stage(statement, Stage::Turn(rounds)),
+                    None,
+                    None,
+                )
+            } else {
+                takes(Taken::One)
+            }
+        }
+        Stage::Body(rounds) => plan_body_end(look, rounds, statement),
     }
 }
 
 // ---- items of a block
 
-// The variables of these items are to get their first values.
-fn entry<'a>(items: &'a [CoreItem]) -> Task<'a>
-    ensures { result ≡ Task.Items items.entry false }
+// The variables of the items from one on are to get their first values.
+fn entry<'a>(items: &'a Vec<CoreItem>, from: usize) -> Task<'a>
+    ensures { result ≡ Task.Items items.entry from false }
 {
     Task::Items {
         items,
+        from,
         entered: false,
     }
 }
 
-// These items are to be run.
-fn going_on<'a>(items: &'a [CoreItem]) -> Task<'a>
-    ensures { result ≡ Task.Items items.entry true }
+// The items from one on are to be run.
+pub(crate) fn going_on<'a>(items: &'a Vec<CoreItem>, from: usize) -> Task<'a>
+    ensures { result ≡ Task.Items items.entry from true }
 {
     Task::Items {
         items,
+        from,
         entered: true,
     }
 }
 
+fn is_case(item: &CoreItem, bits: u64) -> bool
+    ensures { IsCaseItem item.now bits result }
+{
+    match item {
+        CoreItem::Case {
+            line: _,
+            type_: _,
+            bits: value,
+        } => *value == bits,
+        _ => false,
+    }
+}
+
+// Behind the case with these bits, where there is one.
+fn behind_case(items: &[CoreItem], bits: u64) -> Option<usize>
+    ensures { IsBehindCase items.now bits result }
+{
+    let mut place = 0;
+    for item in items {
+        place += 1;
+        if is_case(item, bits) {
+            return Some(place);
+        }
+    }
+    None
+}
+
+fn is_default(item: &CoreItem) -> bool
+    ensures { IsDefaultItem item.now result }
+{
+    match item {
+        CoreItem::Default { line: _ } => true,
+        _ => false,
+    }
+}
+
+// Behind `default`, where it stands.
+fn behind_default(items: &[CoreItem]) -> Option<usize>
+    ensures { IsBehindDefault items.now result }
+{
+    let mut place = 0;
+    for item in items {
+        place += 1;
+        if is_default(item) {
+            return Some(place);
+        }
+    }
+    None
+}
+
+// A switch is entered, and goes on behind an item.
+fn plan_enter<'a>(items: &'a Vec<CoreItem>, from: usize) -> Plan<'a>
+    ensures { result ≡ Plan.Goes (record {
+      tasks = record { first = Some (Task.Items items.entry 0 false); second = Some (Task.Items items.entry from true); third = Some Task.Switched };
+      taken = Taken.One;
+      put = None;
+      stacked = Stacked.Kept;
+      written = Written.Nothing;
+    }) }
+{
+    pushes(
+        Taken::One,
+        entry(items, 0),
+        Some(going_on(items, from)),
+        Some(Task::Switched),
+    )
+}
+
+// A switch goes on behind the case that its value selects, else behind `default`, or isn't entered.
+fn plan_select<'a>(look: &Look, items: &'a Vec<CoreItem>) -> Plan<'a>
+    ensures { PlansItem look.now (selects (items_of items.now.items)) result }
+{
+    match behind_case(items, top_of(look.numbers).bits()) {
+        Some(from) => plan_enter(items, from),
+        None => match behind_default(items) {
+            Some(from) => plan_enter(items, from),
+            None => takes(Taken::One),
+        },
+    }
+}
+
 // The words of a variable are drawn, and then come the items behind it.
-fn draws<'a>(look: &Look, line: u32, variable: u32, rest: &'a [CoreItem]) -> Plan<'a>
-    ensures { Plans look.now (draws_variable (running_in look.now) line variable (items_of rest.now) (items_behind look.now) (values_on look.now) (structures_on look.now) look.now.variables.now) result }
+fn draws<'a>(
+    look: &Look,
+    line: u32,
+    variable: u32,
+    items: &'a Vec<CoreItem>,
+    from: usize,
+) -> Plan<'a>
+    ensures { (i : Item) → Plans look.now i (draws_variable (code_in look.now) look.now.first true line variable (items_of (drop from items.now.items)) (items_behind look.now) (active_in look.now) (values_on look.now) (structures_on look.now) look.now.variables.now) result }
 {
     let words = word_count(size_of_variable(look, variable));
     pushes(
         Taken::None,
         Task::Fill(words, line, variable, 0),
-        Some(entry(rest)),
+        Some(entry(items, from)),
         None,
     )
 }
 
 // A variable becomes 0, and then come the items behind it.
-fn clears<'a>(look: &Look, variable: u32, rest: &'a [CoreItem]) -> Plan<'a>
-    ensures { Plans look.now (silent (state (enters (items_of rest.now) ∷ items_behind look.now) (values_on look.now) (structures_on look.now) (cleared look.now.variables.now variable (size_of (running_in look.now) variable)))) result }
+fn clears<'a>(look: &Look, variable: u32, items: &'a Vec<CoreItem>, from: usize) -> Plan<'a>
+    ensures { (i : Item) → Plans look.now i (silent (state (enters (items_of (drop from items.now.items)) ∷ items_behind look.now) (active_in look.now) (values_on look.now) (structures_on look.now) (cleared look.now.variables.now variable (size_of (running_in look.now) variable)))) result }
 {
     let size = size_of_variable(look, variable);
     let zeros = Written::Zeros { variable, size };
-    writes(Some(entry(rest)), Taken::None, None, zeros)
+    writes(Some(entry(items, from)), Taken::None, None, zeros)
 }
 
 // A variable with an initializer is drawn where that names it, and else becomes 0.
@@ -857,55 +1242,53 @@ fn plan_initialized<'a>(
     line: u32,
     variable: u32,
     drawn: bool,
-    rest: &'a [CoreItem],
+    items: &'a Vec<CoreItem>,
+    from: usize,
 ) -> Plan<'a>
-    ensures { Plans look.now (enters_initialized (running_in look.now) line variable drawn (items_of rest.now) (items_behind look.now) (values_on look.now) (structures_on look.now) look.now.variables.now) result }
+    ensures { (i : Item) → Plans look.now i (enters_initialized (code_in look.now) look.now.first true line variable drawn (items_of (drop from items.now.items)) (items_behind look.now) (active_in look.now) (values_on look.now) (structures_on look.now) look.now.variables.now) result }
 {
     if drawn {
-        draws(look, line, variable, rest)
+        draws(look, line, variable, items, from)
     } else {
-        clears(look, variable, rest)
+        clears(look, variable, items, from)
     }
 }
 
-// The plan of the entry to a block of which these items are left.
-fn plan_entry<'a>(look: &Look, items: &'a [CoreItem]) -> Plan<'a>
-    ensures { PlansItem look.now (enters (items_of items.now)) result }
+// The plan of the entry to a block of which the items from one on are left.
+fn plan_entry<'a>(look: &Look, items: &'a Vec<CoreItem>, from: usize) -> Plan<'a>
+    ensures { PlansItem look.now (enters (items_of (drop from items.now.items))) result }
 {
-    let Some((item, rest)) = items.split_first() else {
+    let Some(item) = items.get(from) else {
         return takes(Taken::None);
     };
+    let next = from + 1;
     match item {
-        CoreItem::Declare { line, variable } => draws(look, *line, *variable, rest),
+        CoreItem::Declare { line, variable } => draws(look, *line, *variable, items, next),
         CoreItem::Initialize {
             line,
             variable,
             drawn,
             value: _,
-        } => plan_initialized(look, *line, *variable, *drawn, rest),
+        } => plan_initialized(look, *line, *variable, *drawn, items, next),
         CoreItem::InitializeStructure {
             line,
             variable,
             drawn,
             value: _,
-        } => plan_initialized(look, *line, *variable, *drawn, rest),
-        CoreItem::Statement { statement: _ } => { pushes(Taken::None, entry(rest), None, None) }
+        } => plan_initialized(look, *line, *variable, *drawn, items, next),
+        _ => pushes(Taken::None, entry(items, next), None, None),
     }
 }
 
-// The plan of a block of which these items are left.
-fn plan_items<'a>(look: &Look, items: &'a [CoreItem]) -> Plan<'a>
-    ensures { PlansItem look.now (goes_on (items_of items.now)) result }
+// The plan of a block of which the items from one on are left.
+fn plan_items<'a>(look: &Look, items: &'a Vec<CoreItem>, from: usize) -> Plan<'a>
+    ensures { PlansItem look.now (goes_on (items_of (drop from items.now.items))) result }
 {
-    let Some((item, rest)) = items.split_first() else {
+    let Some(item) = items.get(from) else {
         return takes(Taken::None);
     };
-    let more = going_on(rest);
+    let more = going_on(items, from + 1);
     match item {
-        CoreItem::Declare {
-            line: _,
-            variable: _,
-        } => pushes(Taken::None, more, None, None),
         CoreItem::Initialize {
             line: _,
             variable,
@@ -931,6 +1314,7 @@ fn plan_items<'a>(look: &Look, items: &'a [CoreItem]) -> Plan<'a>
         CoreItem::Statement { statement } => {
             pushes(Taken::None, running(statement), Some(more), None)
         }
+        _ => pushes(Taken::None, more, None, None),
     }
 }
 
@@ -974,63 +1358,64 @@ fn plan_fill<'a>(look: &Look, words: u32, line: u32, variable: u32, offset: usiz
 }
 
 // The plan of a task.
-pub(crate) fn plan_task<'a>(look: &Look, task: Task<'a>) -> Result<Plan<'a>, AllocError>
-    requires { FitsIn look.now (item_of task) }
-    ensures { IfOk result (λ p. PlansItem look.now (item_of task.entry) p) }
+pub(crate) fn plan_task<'a>(look: &Look, task: &Task<'a>) -> Result<Plan<'a>, AllocError>
+    requires { FitsIn look.now (item_of task.now) }
+    ensures { IfOk result (λ p. PlansItem look.now (item_of task.now) p) }
 {
     match task {
-        Task::Structure { value, complete } => plan_structure_task(look, value, complete),
+        Task::Structure { value, complete } => plan_structure_task(look, *value, *complete),
+        Task::Add {
+            want,
+            function,
+            type_,
+            arguments,
+            next,
+        } => plan_add(look, *want, *function, *type_, *arguments, *next),
+        Task::Get(want, how) => plan_get(look, *want, *how),
         _ => Ok(plan_other(look, task)),
     }
 }
 
 // The plan of a task that takes no memory.
-fn plan_other<'a>(look: &Look, task: Task<'a>) -> Plan<'a>
-    requires fits { FitsIn look.now (item_of task) }
-    requires other { TakesNoMemory task }
-    ensures { PlansItem look.now (item_of task.entry) result }
+fn plan_other<'a>(look: &Look, task: &Task<'a>) -> Plan<'a>
+    requires fits { FitsIn look.now (item_of task.now) }
+    requires other { TakesNoMemory task.now }
+    ensures { PlansItem look.now (item_of task.now) result }
 {
     let x = top_of(look.numbers);
     match task {
-        Task::Fetch(place) => plan_read(look, place),
+        Task::Fetch(place) => plan_read(look, *place),
         Task::Expression { expression, finish } => {
-            if finish {
-                plan_finish(look, expression)
+            if *finish {
+                plan_finish(look, *expression)
             } else {
-                plan_expression(look, expression)
+                plan_expression(look, *expression)
             }
         }
-        Task::Store(line, place) => plan_store(look, line, place),
+        Task::Store(line, place) => plan_store(look, *line, *place),
         Task::Drop => takes(Taken::One),
-        Task::List(parts) => plan_list(look, parts),
-        Task::PlaceNumber(offset, type_) => plan_place_number(look, offset, type_),
-        Task::PlaceStructure(offset) => plan_place_structure(look, offset),
+        Task::List(parts, from) => plan_list(look, *parts, *from),
+        Task::PlaceNumber(offset, type_) => plan_place_number(look, *offset, *type_),
+        Task::PlaceStructure(offset) => plan_place_structure(look, *offset),
         Task::Test => puts(Taken::One, Number::of_truth(x.is_true())),
-        Task::Retype(type_) => puts(Taken::One, x.retyped(type_)),
-        Task::Statement { statement, end } => {
-            if end {
-                plan_end(look, statement)
+        Task::Retype(type_) => puts(Taken::One, x.retyped(*type_)),
+        Task::Statement { statement, stage } => plan_stage(look, *statement, *stage),
+        Task::Items {
+            items,
+            from,
+            entered,
+        } => {
+            if *entered {
+                plan_items(look, *items, *from)
             } else {
-                plan_statement(look, statement)
+                plan_entry(look, *items, *from)
             }
         }
-        Task::Items { items, entered } => {
-            if entered {
-                plan_items(look, items)
-            } else {
-                plan_entry(look, items)
-            }
-        }
-        Task::Initialize(variable, type_) => plan_initial(look, variable, type_),
-        Task::InitializeStructure(variable) => plan_initial_structure(look, variable),
+        Task::Initialize(variable, type_) => plan_initial(look, *variable, *type_),
+        Task::InitializeStructure(variable) => plan_initial_structure(look, *variable),
         Task::Fill(words, line, variable, offset) => {
-            plan_fill(look, words, line, variable, offset)
+            plan_fill(look, *words, *line, *variable, *offset)
         }
-        Task::Leave(line) => plan_leave(look, line),
-        Task::Left => Plan::Halts(Halt::Ends(if look.first { 0 } else { x.bits() })),
-        Task::Structure {
-            value: _,
-            complete: _,
-        } => unreachable!(),
+        _ => plan_call_task(look, task),
     }
 }

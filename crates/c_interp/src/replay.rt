@@ -1,7 +1,8 @@
 ghost use Rattle.std.specs.Prelude.{◌≡◌, true, IfOk, OnOk};
 ghost use Rattle.core_tree.specs.Trees.{view_core};
 ghost use Rattle.c_interp.specs.Source.{source_run, are_storable};
-ghost use Rattle.c_interp.specs.SourceThread.{SmallSteps};
+ghost use Rattle.c_interp.specs.SourceThread.{SmallSteps, EnoughFuel};
+ghost use Rattle.c_interp.specs.Unlimited.{SafeAtAll};
 ghost use Rattle.interleave.specs.View.{world_of};
 ghost use Rattle.interleave.specs.Turn.{turn};
 ghost use Rattle.interleave.specs.Run as definition;
@@ -62,7 +63,7 @@ pub fn run(
     schedule: &Schedule,
 ) -> Result<Outcome, AllocError>
     requires { are_storable (view_core file.now).objects ≡ true }
-    ensures { IfOk result (λ o. o ≡ source_run (view_core file.now) inputs.now schedule.now) }
+    ensures { IfOk result (λ o. o ≡ source_run (view_core file.now) bounds.now inputs.now schedule.now) }
 {
     let first = Thread::new(alloc, file, bounds)?;
     let store = first_store(alloc, file)?;
@@ -70,7 +71,15 @@ pub fn run(
     take_turns(&mut system, inputs, schedule.as_slice())
 }
 
-/// The law of small steps: from the start of a function they do what the function means.
+/// The law of small steps: from the start of a thread they do what its function means. And that of fuel:
+/// what calls do doesn't depend on it, where it is more than can be open of all functions together.
 pub fn small_steps_mean()
-    ensures { SmallSteps }
+    ensures steps { SmallSteps }
+    ensures fuel { EnoughFuel }
+{}
+
+/// The law of unwinding assertions: where passing a bound breaks a check and no run within the bounds
+/// breaks one, no run without bounds does (TACAS 2004, section 3).
+pub fn safe_at_all()
+    ensures { SafeAtAll }
 {}

@@ -3,11 +3,13 @@ ghost use Rattle.core_tree.specs.Typed.{is_within};
 ghost use Rattle.c_values.specs.Variables.{low_bytes, put_at, put_bytes, cleared};
 ghost use Rattle.c_interp.specs.Fits.{sizes_of, rest_sizes, has_top};
 ghost use Rattle.c_interp.specs.Items.{rest, top_bytes, rest_bytes, second_bytes};
-ghost use Rattle.c_interp.specs.Tasks.{items_in, values_in, with_task, with_tasks, with_put, without, structures_in, with_stacked, StacksWithin, with_written, LiesWithin, behind};
+ghost use Rattle.c_interp.specs.Steps.{after_break, after_continue, after_jump};
+ghost use Rattle.c_interp.specs.Tasks.{IsBack, IsBehind, IsLabelItem, IsCut, item_of, items_in, values_in, with_task, with_tasks, with_put, without, structures_in, with_stacked, StacksWithin, with_written, LiesWithin, behind};
 
-use crate::task::{Stacked, Taken, Task, Tasks, Written};
+use crate::task::{Caller, Cut, Stacked, Stage, Taken, Task, Tasks, Written};
 use crate::variables::Block;
 use c_values::Number;
+use core_tree::CoreItem;
 
 #[tactic(auto, using(crate::proofs::Tops::items_push))]
 fn push_task<'a>(tasks: &mut Vec<Task<'a>>, task: Option<Task<'a>>)
@@ -264,4 +266,160 @@ pub(crate) fn change_structures(structures: &mut Vec<Block>, stacked: Stacked)
         } => place_bits(structures, offset, count, bits),
         Stacked::Joined { offset } => join_structures(structures, offset),
     }
+}
+
+// ---- ways out
+
+// A task that was taken off comes back.
+#[tactic(auto, using(crate::proofs::Tops::items_push))]
+pub(crate) fn push_back<'a>(tasks: &mut Vec<Task<'a>>, task: Task<'a>)
+    requires { vec_len tasks.old < vec_capacity tasks.old }
+    ensures { items_in tasks.new.items ≡ item_of task.entry ∷ items_in tasks.old.items }
+{
+    match tasks.push(task) {
+        Ok(()) => {}
+        Err(_) => unreachable!(),
+    }
+}
+
+fn is_label(item: &CoreItem, label: u32) -> bool
+    ensures { IsLabelItem item.now label result }
+{
+    match item {
+        CoreItem::Label { label: found } => *found == label,
+        _ => false,
+    }
+}
+
+// Behind the label with this number, where it stands among the items from one on.
+fn behind_label(items: &[CoreItem], from: usize, label: u32) -> Option<usize>
+    ensures { IsBehind items.now from label result }
+{
+    for place in from..items.len() {
+        if is_label(&items[place], label) {
+            return Some(place + 1);
+        }
+    }
+    None
+}
+
+// Cuts the tasks back to behind the innermost loop or switch.
+#[tactic(auto, using(crate::proofs::Tops::items_push, crate::proofs::Tops::no_tasks))]
+fn cut_to_break(tasks: &mut Vec<Task>)
+    ensures { items_in tasks.new.items ≡ after_break (items_in tasks.old.items) }
+{
+    while let Some(task) = tasks.pop() {
+        match task {
+            Task::Statement {
+                statement: _,
+                stage: Stage::Body(_),
+            } => return,
+            Task::Switched => return,
+            Task::Resume {
+                want: _,
+                caller: _,
+                saved: _,
+            } => tasks.clear(),
+            _ => {}
+        }
+    }
+}
+
+// Cuts the tasks back to the end of the innermost loop's body.
+#[tactic(auto, using(crate::proofs::Tops::items_push, crate::proofs::Tops::no_tasks))]
+fn cut_to_continue<'a>(tasks: &mut Vec<Task<'a>>)
+    ensures { items_in tasks.new.items ≡ after_continue (items_in tasks.old.items) }
+{
+    while let Some(task) = tasks.pop() {
+        match task {
+            Task::Statement {
+                statement,
+                stage: Stage::Body(rounds),
+            } => {
+                push_back(
+                    tasks,
+                    Task::Statement {
+                        statement,
+                        stage: Stage::Body(rounds),
+                    },
+                );
+                return;
+            }
+            Task::Resume {
+                want: _,
+                caller: _,
+                saved: _,
+            } => tasks.clear(),
+            _ => {}
+        }
+    }
+}
+
+// Cuts the tasks back to behind the innermost label with this number.
+#[tactic(auto, using(crate::proofs::Tops::items_push, crate::proofs::Tops::no_tasks))]
+fn cut_to_label<'a>(tasks: &mut Vec<Task<'a>>, label: u32)
+    ensures { items_in tasks.new.items ≡ after_jump label (items_in tasks.old.items) }
+{
+    while let Some(task) = tasks.pop() {
+        match task {
+            Task::Items {
+                items,
+                from,
+                entered: true,
+            } => {
+                if let Some(place) = behind_label(items, from, label) {
+                    push_back(
+                        tasks,
+                        Task::Items {
+                            items,
+                            from: place,
+                            entered: true,
+                        },
+                    );
+                    return;
+                }
+            }
+            Task::Resume {
+                want: _,
+                caller: _,
+                saved: _,
+            } => tasks.clear(),
+            _ => {}
+        }
+    }
+}
+
+// Cuts the tasks back within the function.
+pub(crate) fn cut_items(tasks: &mut Vec<Task>, cut: Cut)
+    ensures { IsCut cut (items_in tasks.old.items) (items_in tasks.new.items) }
+{
+    match cut {
+        Cut::Break => cut_to_break(tasks),
+        Cut::Continue => cut_to_continue(tasks),
+        Cut::Jump(label) => cut_to_label(tasks, label),
+        Cut::Return(_) => {}
+    }
+}
+
+// Takes off the tasks up to the end of the function that runs, where there is one.
+#[tactic(auto, using(crate::proofs::Tops::items_push, crate::proofs::Tops::no_tasks))]
+pub(crate) fn take_caller(tasks: &mut Vec<Task>) -> Option<Caller>
+    ensures back { IsBack (items_in tasks.old.items) (items_in tasks.new.items) result }
+    ensures room { IsSome result → vec_len tasks.new < vec_capacity tasks.new }
+{
+    while let Some(task) = tasks.pop() {
+        if let Task::Resume {
+            want,
+            caller,
+            saved,
+        } = task
+        {
+            return Some(Caller {
+                want,
+                function: caller,
+                variables: saved,
+            });
+        }
+    }
+    None
 }

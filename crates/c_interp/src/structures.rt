@@ -6,6 +6,7 @@ ghost use Rattle.c_interp.specs.Items.{top_bytes, evaluates_structure, picks, di
 ghost use Rattle.c_interp.specs.Tasks.{completion_of, structure_item, structures_in};
 ghost use Rattle.c_interp.specs.Plans.{FitsIn, PlansItem, IsByPart};
 
+use crate::calls::plan_structure_call;
 use crate::plan::{evaluating, number_type_of, pushes, takes, top_of};
 use crate::task::{Change, Halt, Look, Plan, Request, Stacked, Taken, Task, Tasks, Written};
 use crate::variables::Block;
@@ -17,7 +18,7 @@ use std::alloc::{AllocError, Global};
 // ---- changes
 
 // The structure values that wait change.
-fn stacks<'a>(
+pub(crate) fn stacks<'a>(
     first: Option<Task<'a>>,
     taken: Taken,
     put: Option<Number>,
@@ -147,6 +148,13 @@ fn plan_structure<'a>(look: &Look, value: &'a CoreStructure) -> Result<Plan<'a>,
             let block = Block::of_string(look.alloc, *size, bytes)?;
             Ok(plan_pushed(block))
         }
+        CoreStructure::Call {
+            line,
+            function,
+            used,
+            size,
+            arguments,
+        } => Ok(plan_structure_call(look, *line, *function, *used, *size, arguments)),
         _ => Ok(plan_first_part(look, value)),
     }
 }
@@ -182,13 +190,13 @@ fn plan_started<'a>(
     look: &Look,
     line: u32,
     size: u32,
-    parts: &'a [CorePart],
+    parts: &'a Vec<CorePart>,
 ) -> Result<Plan<'a>, AllocError>
-    ensures { IfOk result (λ p. PlansItem look.now (evaluates_structure (list line size (parts_of parts.now))) p) }
+    ensures { IfOk result (λ p. PlansItem look.now (evaluates_structure (list line size (parts_of parts.now.items))) p) }
 {
     let zeros = Block::new(look.alloc, size)?;
     Ok(stacks(
-        Some(Task::List(parts)),
+        Some(Task::List(parts, 0)),
         Taken::None,
         None,
         Stacked::Pushed(zeros),
@@ -320,15 +328,15 @@ fn plan_cut<'a>(look: &Look, offset: u32, size: u32) -> Result<Plan<'a>, AllocEr
 
 // ---- lists
 
-// The plan of an initializer's list of which these parts are left.
-pub(crate) fn plan_list<'a>(look: &Look, parts: &'a [CorePart]) -> Plan<'a>
-    requires { FitsIn look.now (lists (parts_of parts.now)) }
-    ensures { PlansItem look.now (lists (parts_of parts.now)) result }
+// The plan of an initializer's list of which the parts from one on are left.
+pub(crate) fn plan_list<'a>(look: &Look, parts: &'a Vec<CorePart>, from: usize) -> Plan<'a>
+    requires { FitsIn look.now (lists (parts_of (drop from parts.now.items))) }
+    ensures { PlansItem look.now (lists (parts_of (drop from parts.now.items))) result }
 {
-    let Some((part, rest)) = parts.split_first() else {
+    let Some(part) = parts.get(from) else {
         return takes(Taken::None);
     };
-    let more = Some(Task::List(rest));
+    let more = Some(Task::List(parts, from + 1));
     match part {
         CorePart::Number { offset, value } => pushes(
             Taken::None,

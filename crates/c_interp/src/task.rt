@@ -2,12 +2,55 @@ use crate::variables::Block;
 use actions::DrawBits;
 use c_types::IntegerType;
 use c_values::Number;
-use core_tree::{CoreExpr, CoreItem, CorePart, CoreStatement, CoreStructure, Place, StaticObject};
+use core_tree::{
+    Bounds, CoreArgument, CoreExpr, CoreItem, CorePart, CoreStatement, CoreStructure, Function,
+    Place, StaticObject,
+};
 use std::alloc::Global;
 use words::Class;
 
-// What is still to be done.
+// What a call is for: a number of a type or a structure value of a size, at this line, which may not be
+// used; or it is the first of a thread, whose function's name stands on this line.
 #[derive(Clone, Copy)]
+pub(crate) enum Wanted {
+    Number {
+        line: u32,
+        used: bool,
+        type_: IntegerType,
+    },
+    Structure {
+        line: u32,
+        used: bool,
+        size: u32,
+    },
+    End {
+        line: u32,
+    },
+}
+
+// What a function hands over: nothing, the number on top, or the structure value on top.
+#[derive(Clone, Copy)]
+pub(crate) enum Handed {
+    Nothing,
+    Number,
+    Structure,
+}
+
+// How far a statement is: it is to be run; its test or its value is evaluated; or it is a loop that may do
+// so many more rounds, before its next one, before its test, where that is evaluated, or at the end of its
+// body.
+#[derive(Clone, Copy)]
+pub(crate) enum Stage {
+    Run,
+    End,
+    Turn(u32),
+    Retest(u32),
+    Repeat(u32),
+    Body(u32),
+}
+
+// What is still to be done.
+#[derive(Drop)]
 pub(crate) enum Task<'a> {
     // An expression is evaluated, or finished where its operands are.
     Expression {
@@ -25,32 +68,73 @@ pub(crate) enum Task<'a> {
         value: &'a CoreStructure,
         complete: bool,
     },
-    List(&'a [CorePart]),
+    // The parts of a list from one on.
+    List(&'a Vec<CorePart>, usize),
     // A number or a structure value of a list is put at this offset.
     PlaceNumber(u32, IntegerType),
     PlaceStructure(u32),
     Test,
     Retype(IntegerType),
-    // A statement is run, or ended where its test or its value is evaluated.
     Statement {
         statement: &'a CoreStatement,
-        end: bool,
+        stage: Stage,
     },
-    // The variables of these items get their first values, or they are run where that is done.
+    // The variables of the items from one on get their first values, or these are run where that is done.
     Items {
-        items: &'a [CoreItem],
+        items: &'a Vec<CoreItem>,
+        from: usize,
         entered: bool,
     },
+    // The end of a switch.
+    Switched,
     Initialize(u32, IntegerType),
     InitializeStructure(u32),
     // So many words are drawn, at this line, from an offset of a variable on.
     Fill(u32, u32, u32, usize),
-    Leave(u32),
-    Left,
+    // A function is called that has no parameters, as the first of the thread, at this line.
+    Begin {
+        function: u32,
+        line: u32,
+    },
+    // The arguments of a call from one on are evaluated, those before it wait as structure values.
+    Gather {
+        want: Wanted,
+        function: u32,
+        arguments: &'a Vec<CoreArgument>,
+        from: usize,
+    },
+    // The number on top is the argument before the next one.
+    Add {
+        want: Wanted,
+        function: u32,
+        type_: IntegerType,
+        arguments: &'a Vec<CoreArgument>,
+        next: usize,
+    },
+    // The end of a function's body, with the caller and its variables.
+    Resume {
+        want: Wanted,
+        caller: u32,
+        saved: Vec<Block>,
+    },
+    // A function hands over, and the caller gets that.
+    Hand(Handed),
+    Get(Wanted, Handed),
+    // The end of the thread's first call, at this line and with the thread's value; then nothing is left.
+    End(u32, u64),
+    Ended(u64),
+}
+
+// What a call is for, the caller, and its variables.
+#[derive(Drop)]
+pub(crate) struct Caller {
+    pub(crate) want: Wanted,
+    pub(crate) function: u32,
+    pub(crate) variables: Vec<Block>,
 }
 
 // The tasks that take the place of one, in their order.
-#[derive(Clone, Copy)]
+#[derive(Drop)]
 pub(crate) struct Tasks<'a> {
     pub(crate) first: Option<Task<'a>>,
     pub(crate) second: Option<Task<'a>>,
@@ -116,21 +200,44 @@ pub(crate) struct Change<'a> {
     pub(crate) written: Written,
 }
 
+// Where a thread goes on elsewhere: behind the innermost loop or switch, at the end of the innermost loop's
+// body, behind a label, or in the caller.
+#[derive(Clone, Copy)]
+pub(crate) enum Cut {
+    Break,
+    Continue,
+    Jump(u32),
+    Return(Handed),
+}
+
+// A function is called; so many structure values on top are its arguments.
+#[derive(Clone, Copy)]
+pub(crate) struct Call {
+    pub(crate) want: Wanted,
+    pub(crate) function: u32,
+    pub(crate) count: usize,
+}
+
 // What a thread does next in a state.
 #[derive(Drop)]
 pub(crate) enum Plan<'a> {
     Goes(Change<'a>),
+    Cuts(Cut),
+    Calls(Call),
     Halts(Halt),
 }
 
-// What a step asks for: a draw of so many bits; so many bytes at a pointer; or a write there of the number
-// on top as an object of this type, or of the structure value on top.
+// What a step asks for: a draw of so many bits; so many bytes at a pointer; a write there of the number on
+// top as an object of this type, or of the structure value on top; or the end of the thread with a value,
+// or of the process.
 #[derive(Clone, Copy)]
 pub(crate) enum Request {
     Draw(DrawBits),
     Read(u64, u32),
     WriteNumber(u64, IntegerType),
     WriteStructure(u64),
+    End(u64),
+    Exit,
 }
 
 // What comes next where no silent step does.
@@ -138,23 +245,23 @@ pub(crate) enum Request {
 pub(crate) enum Halt {
     // An action, at this line.
     Asks(Request, u32),
-    // The end of the function, at this line.
-    Leaves(u32),
     Breaks(Class, u32),
     Blocks,
     Ends(u64),
 }
 
-// What a plan depends on: the running function, the tasks behind the first, the numbers and the structure
-// values that wait, the variables and their sizes, and the file's static objects. The last of the tasks and
-// of what waits come first.
+// What a plan depends on: the file's functions and static objects, the bounds, the running function, how
+// many more activations of each function may be opened, the tasks behind the first, the numbers and the
+// structure values that wait, and the variables. The last of the tasks and of what waits come first.
 #[derive(Drop)]
 pub(crate) struct Look<'a, 'b> {
     pub(crate) alloc: Global,
-    pub(crate) function: u32,
     pub(crate) first: bool,
-    pub(crate) sizes: &'a [u32],
+    pub(crate) functions: &'a [Function],
     pub(crate) objects: &'a [StaticObject],
+    pub(crate) bounds: &'a Bounds,
+    pub(crate) function: u32,
+    pub(crate) left: &'b [u64],
     pub(crate) behind: &'b [Task<'a>],
     pub(crate) numbers: &'b [Number],
     pub(crate) structures: &'b [Block],

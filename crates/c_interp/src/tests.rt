@@ -10,7 +10,7 @@ use c_profile::admit;
 use c_types::IntegerType;
 use core_tree::{
     ArithmeticOperator, Bounds, Comparison, Core, CoreExpr, CoreItem, CorePart, CoreStatement,
-    CoreStructure, Function, LogicalOperator, Name, Place, StepOperator,
+    CoreStructure, Function, LogicalOperator, Name, PassedType, Place, StepOperator,
 };
 use interleave::{Inputs, Outcome, Schedule, Words};
 use std::alloc::{AllocError, Global};
@@ -209,8 +209,11 @@ fn file(alloc: Global, sizes: [u32; 2], items: Vec<CoreItem>) -> Result<Core, Al
     let main = Function {
         name: Name { bytes },
         line: 1,
+        gives: Some(PassedType::Integer(IntegerType::Int)),
+        parameters: Vec::new(alloc),
+        ellipsis: None,
         variables,
-        body: CoreStatement::Block { items },
+        body: Some(CoreStatement::Block { items }),
     };
     let functions = only(alloc, main)?;
     Ok(Core::new(functions, Vec::new(alloc)))
@@ -248,7 +251,7 @@ fn end_of_run(
     schedule: &Schedule,
 ) -> Result<Option<Outcome>, AllocError> {
     let bounds = Bounds::new(1, Vec::new(alloc), true, 1, false);
-    match admit(core) {
+    match admit(alloc, core) {
         Ok(admitted) => {
             if are_storable(&admitted) {
                 Ok(Some(run(alloc, &admitted, &bounds, inputs, schedule)?))

@@ -1,107 +1,121 @@
-ghost use Rattle.std.specs.Prelude.{◌≡◌, true};
-ghost use Rattle.core_tree.specs.Trees.{core_file, view_statics, view_core};
-ghost use Rattle.core_tree.specs.Typed.{sizes_of_objects, are_typed};
-ghost use Rattle.c_interp.specs.Fits.{fits, types_of, sizes_of};
-ghost use Rattle.c_interp.specs.Tasks.{items_in, values_in, structures_in};
+ghost use Rattle.std.specs.Prelude.{◌≡◌, ◌≤◌, ◌<◌, ◌+◌, ◌^◌, true, length};
+ghost use Rattle.core_tree.specs.Trees.{core_file, view_core};
+ghost use Rattle.core_tree.specs.Typed.{are_typed};
+ghost use Rattle.c_interp.specs.Meaning.{total};
+ghost use Rattle.c_interp.specs.Fits.{fits, variables_at, types_of, sizes_of};
+ghost use Rattle.c_interp.specs.Tasks.{items_in, values_in, structures_in, open_in};
 
+use crate::activations::{close_activation, first_left, open_activation};
 use crate::answered::answer_task;
-use crate::functions::{body_of, number_of_main};
+use crate::functions::{body_of, defined, number_of_main};
 use crate::plan::{plan_task, running, top_of};
-use crate::stacks::{change_numbers, change_structures, change_tasks, change_variables};
-use crate::task::{Change, Halt, Look, Plan, Request, Task};
-use crate::variables::{Block, first_variables};
+use crate::stacks::{
+    change_numbers, change_structures, change_tasks, change_variables, cut_items, push_back,
+    take_caller,
+};
+use crate::task::{Call, Caller, Change, Cut, Halt, Handed, Look, Plan, Request, Task, Tasks};
+use crate::variables::{Block, add_variables, take_frame};
 use actions::{Action, Answer, Bytes, Machine, Next};
 use c_profile::Admitted;
-use c_types::IntegerType;
 use c_values::{Number, low_bytes};
 use core_tree::{Bounds, Function, StaticObject};
 use std::alloc::{AllocError, Global};
 use words::Word;
 
-/// A thread of the typed source: the functions and the static objects of the file, the function that it
-/// runs, the tasks that are still to be done, the numbers and the structure values that wait, in each list
-/// the first one last, and the function's variables.
+/// A thread of the typed source: the functions and the static objects of the file, the bounds of a command,
+/// the function that it runs, how many more activations of each function may be opened, the tasks that are
+/// still to be done, the numbers and the structure values that wait, in each list the first one last, and
+/// the function's variables.
 #[derive(Drop)]
 pub struct Thread<'a> {
     alloc: Global,
     functions: &'a [Function],
     objects: &'a [StaticObject],
+    bounds: &'a Bounds,
     startable: u32,
-    function: u32,
     first: bool,
-    sizes: &'a [u32],
+    function: u32,
+    left: Vec<u64>,
     tasks: Vec<Task<'a>>,
     numbers: Vec<Number>,
     structures: Vec<Block>,
     variables: Vec<Block>,
+    ghost few: { length functions.now < 2 ^ 31 },
     ghost all_typed: { are_typed (view_core (core_file functions.now objects.now)) ≡ true },
-    ghost typed: { fits (record { variables = sizes.now; objects = sizes_of_objects (view_statics objects.now) }) (items_in tasks.items) (types_of (values_in numbers.items)) (sizes_of (structures_in structures.items)) ≡ true },
-    ghost sized: { sizes_of variables.items ≡ sizes.now },
+    ghost typed: { fits (view_core (core_file functions.now objects.now)) (items_in tasks.items) function (types_of (values_in numbers.items)) (sizes_of (structures_in structures.items)) ≡ true },
+    ghost sized: { sizes_of variables.items ≡ variables_at (view_core (core_file functions.now objects.now)) function },
+    ghost counted: { total left.items + open_in (items_in tasks.items) ≤ 2 ^ 42 },
 }
 
 impl<'a> Thread<'a> {
-    ghost use Rattle.std.specs.Prelude.{◌≡◌, ◌<◌, ◌≤◌, ◌+◌, true, [], ◌∷◌, IfOk, OnOk, OnErr, MatchOption, vec_len, vec_capacity};
+    ghost use Rattle.std.specs.Prelude.{◌≡◌, ◌<◌, ◌≤◌, ◌+◌, ◌^◌, true, [], Some, None, length, slice_get, IfOk, OnOk, OnErr, MatchOption, vec_len, vec_capacity};
     ghost use Rattle.actions.specs.Behaviour.{accepts, answered};
-    ghost use Rattle.c_interp.specs.Items.{state, left, total_work};
-    ghost use Rattle.c_interp.specs.Fits.{Fits};
-    ghost use Rattle.core_tree.specs.Typed.{is_typed_function, are_typed};
-    ghost use Rattle.core_tree.specs.Trees.{core_file, view_function, view_functions, view_statics, view_core};
     ghost use Rattle.actions.specs.declared.action.Next.TheVariants.{Blocked};
+    ghost use Rattle.core_tree.specs.Typed.{are_typed};
+    ghost use Rattle.core_tree.specs.Trees.{core_file, view_function, view_functions, view_core};
+    ghost use Rattle.c_interp.specs.declared.task.Cut.TheVariants as Cut;
     ghost use Rattle.c_interp.specs.Meaning.{final};
-    ghost use Rattle.c_interp.specs.Source.{running, source_program, source_thread};
-    ghost use Rattle.c_interp.specs.Steps.{move, silent};
+    ghost use Rattle.c_interp.specs.Source.{source_program, source_thread};
     ghost use Rattle.c_interp.specs.SourceThread.{start_state, thread_in, function_thread};
-    ghost use Rattle.c_interp.specs.Tasks.{items_in, values_in, structures_in, behind, action_of, IsPlan, IsAsked, changed, next_by, IsAnswered, Accepts, ChangesWithin, WritesWithin};
+    ghost use Rattle.c_interp.specs.Work.{weight};
+    ghost use Rattle.c_interp.specs.Steps.{silent};
     ghost use Rattle.c_interp.specs.Items.{top_bytes};
-    ghost use Rattle.c_interp.specs.View.{running_of, sizes_in, state_of, thread_of, SameProgram, Halts};
+    ghost use Rattle.c_interp.specs.Fits.{Fits, variables_at};
+    ghost use Rattle.c_interp.specs.Tasks.{items_in, values_in, structures_in, behind, activations, action_of, IsAsked, IsCall, next_by, IsAnswered, Accepts, ChangesWithin};
+    ghost use Rattle.c_interp.specs.View.{file_of, code_under, active_of, state_of, thread_of, next_move, after_change, after_cut, SameProgram, Halts, IsPlanned, IsSound};
 
-    /// Thread 0 of a file at its start: it runs the function named `main`. The bounds are of loops, calls
-    /// and allocations, of which there are none yet. Fails only for want of memory.
+    /// Thread 0 of a file at its start: it calls the function named `main`. The bounds tell how many times
+    /// the test of a loop may be evaluated at an arrival, and how many activations of a function may be
+    /// open. Fails only for want of memory.
     pub fn new(
         alloc: Global,
         file: &'a Admitted,
-        _bounds: &Bounds,
+        bounds: &'a Bounds,
     ) -> Result<Thread<'a>, AllocError>
-        ensures { IfOk result (λ t. thread_of t ≡ source_thread (view_core file.now)) }
+        ensures { IfOk result (λ t. thread_of t ≡ source_thread (view_core file.now) bounds.now) }
     {
         let functions = file.core().functions();
         let objects = file.core().objects();
         let number = number_of_main(functions);
-        Thread::at_function(alloc, functions, objects, 0, number as u32, true)
+        Thread::at_function(alloc, functions, objects, bounds, 0, number as u32, true)
     }
 
-    // A thread at the start of a function.
+    // A thread that calls a function, whose name stands on this line.
     fn at_start(
         alloc: Global,
         functions: &'a [Function],
         objects: &'a [StaticObject],
+        bounds: &'a Bounds,
         startable: u32,
         function: u32,
         first: bool,
         body: &'a Function,
     ) -> Result<Thread<'a>, AllocError>
-        requires body { is_typed_function (view_statics objects.now) (view_function body.now) ≡ true }
+        requires few { length functions.now < 2 ^ 31 }
         requires all { are_typed (view_core (core_file functions.now objects.now)) ≡ true }
-        ensures { IfOk result (λ t. thread_of t ≡ thread_in (view_functions functions.now) startable (running first function (view_function body.now)) (start_state (view_function body.now))) }
+        requires body { slice_get (view_functions functions.now) function ≡ Some (view_function body.now) }
+        ensures { IfOk result (λ t. thread_of t ≡ thread_in (view_functions functions.now) bounds.now startable first (start_state (view_functions functions.now) bounds.now function body.now.line)) }
     {
-        let mut tasks = Vec::with_capacity(alloc, 2)?;
-        tasks.push(Task::Leave(body.line))?;
-        tasks.push(running(&body.body))?;
-        let mut numbers = Vec::with_capacity(alloc, 1)?;
-        numbers.push(Number::new(IntegerType::Int, 0))?;
-        let variables = first_variables(alloc, &body.variables)?;
-        let structures = Vec::new(alloc);
+        let mut tasks = Vec::with_capacity(alloc, 1)?;
+        tasks.push(Task::Begin {
+            function,
+            line: body.line,
+        })?;
+        let left = first_left(alloc, functions, bounds)?;
+        let mut variables = Vec::with_capacity(alloc, body.variables.len())?;
+        add_variables(alloc, &mut variables, &body.variables, 0)?;
         Ok(Thread {
             alloc,
             functions,
             objects,
+            bounds,
             startable,
-            function,
             first,
-            sizes: &body.variables,
+            function,
+            left,
             tasks,
-            numbers,
-            structures,
+            numbers: Vec::new(alloc),
+            structures: Vec::new(alloc),
             variables,
         })
     }
@@ -111,20 +125,24 @@ impl<'a> Thread<'a> {
         alloc: Global,
         functions: &'a [Function],
         objects: &'a [StaticObject],
+        bounds: &'a Bounds,
         startable: u32,
         function: u32,
     ) -> Result<Thread<'a>, AllocError>
-        requires { are_typed (view_core (core_file functions.now objects.now)) ≡ true }
-        ensures { IfOk result (λ t. thread_of t ≡ record { behaves = final Blocked; program = source_program (view_functions functions.now) startable }) }
+        requires few { length functions.now < 2 ^ 31 }
+        requires all { are_typed (view_core (core_file functions.now objects.now)) ≡ true }
+        requires nothing { slice_get (view_functions functions.now) function ≡ None }
+        ensures { IfOk result (λ t. thread_of t ≡ record { behaves = final Blocked; program = source_program (view_functions functions.now) bounds.now startable }) }
     {
         Ok(Thread {
             alloc,
             functions,
             objects,
+            bounds,
             startable,
-            function,
             first: false,
-            sizes: &[],
+            function,
+            left: Vec::new(alloc),
             tasks: Vec::new(alloc),
             numbers: Vec::new(alloc),
             structures: Vec::new(alloc),
@@ -137,25 +155,26 @@ impl<'a> Thread<'a> {
         alloc: Global,
         functions: &'a [Function],
         objects: &'a [StaticObject],
+        bounds: &'a Bounds,
         startable: u32,
         function: u32,
         first: bool,
     ) -> Result<Thread<'a>, AllocError>
-        requires { are_typed (view_core (core_file functions.now objects.now)) ≡ true }
-        ensures { IfOk result (λ t. thread_of t ≡ function_thread (view_functions functions.now) startable first function) }
+        requires few { length functions.now < 2 ^ 31 }
+        requires all { are_typed (view_core (core_file functions.now objects.now)) ≡ true }
+        ensures { IfOk result (λ t. thread_of t ≡ function_thread (view_functions functions.now) bounds.now startable first function) }
     {
         match body_of(functions, function) {
-            Some(body) => {
-                Thread::at_start(alloc, functions, objects, startable, function, first, body)
-            }
-            None => Thread::nowhere(alloc, functions, objects, startable, function),
+            Some(body) => Thread::at_start(
+                alloc, functions, objects, bounds, startable, function, first, body,
+            ),
+            None => Thread::nowhere(alloc, functions, objects, bounds, startable, function),
         }
     }
 
     // Makes room for a step.
     fn make_room(&mut self) -> Result<(), AllocError>
         ensures state { state_of self.new ≡ state_of self.old }
-        ensures running { running_of self.new ≡ running_of self.old }
         ensures program { SameProgram self.old self.new }
         ensures tasks { OnOk result (vec_len (self.new).tasks + 3 ≤ vec_capacity (self.new).tasks) }
         ensures numbers { OnOk result (vec_len (self.new).numbers < vec_capacity (self.new).numbers) }
@@ -169,36 +188,38 @@ impl<'a> Thread<'a> {
 
     // What is next in this state.
     fn plan(&self) -> Result<Plan<'a>, AllocError>
-        ensures { IfOk result (λ p. IsPlan (self.now).first (behind (items_in (self.now).tasks.items)) (values_in (self.now).numbers.items) (structures_in (self.now).structures.items) (self.now).variables.items (move (running_of self.now) (state_of self.now)) p × WritesWithin (self.now).sizes.now (structures_in (self.now).structures.items) p) }
+        ensures { IfOk result (λ p. IsPlanned self.now p) }
     {
         match self.tasks.as_slice().split_last() {
             None => Ok(Plan::Halts(Halt::Blocks)),
             Some((task, behind)) => {
                 let look = Look {
                     alloc: self.alloc,
-                    function: self.function,
                     first: self.first,
-                    sizes: self.sizes,
+                    functions: self.functions,
                     objects: self.objects,
+                    bounds: self.bounds,
+                    function: self.function,
+                    left: self.left.as_slice(),
                     behind,
                     numbers: self.numbers.as_slice(),
                     structures: self.structures.as_slice(),
                     variables: self.variables.as_slice(),
                 };
-                plan_task(&look, *task)
+                plan_task(&look, task)
             }
         }
     }
 
     // Makes a change, where there is room for it.
     fn apply(&mut self, change: Change<'a>)
-        requires step { Fits (sizes_in self.old) (changed change (behind (items_in (self.old).tasks.items)) (values_in (self.old).numbers.items) (structures_in (self.old).structures.items) (self.old).variables.items) }
-        requires within { ChangesWithin (self.old).sizes.now (structures_in (self.old).structures.items) change }
+        requires step { Fits (file_of self.old) (after_change self.old change) }
+        requires counted { activations (after_change self.old change) ≤ 2 ^ 42 }
+        requires within { ChangesWithin (variables_at (file_of self.old) (self.old).function) (structures_in (self.old).structures.items) change }
         requires tasks { vec_len (self.old).tasks + 3 ≤ vec_capacity (self.old).tasks }
         requires numbers { vec_len (self.old).numbers < vec_capacity (self.old).numbers }
         requires structures { vec_len (self.old).structures < vec_capacity (self.old).structures }
-        ensures state { state_of self.new ≡ changed change.entry (behind (items_in (self.old).tasks.items)) (values_in (self.old).numbers.items) (structures_in (self.old).structures.items) (self.old).variables.items }
-        ensures running { running_of self.new ≡ running_of self.old }
+        ensures state { state_of self.new ≡ after_change self.old change.entry }
         ensures program { SameProgram self.old self.new }
     {
         let Change {
@@ -214,19 +235,102 @@ impl<'a> Thread<'a> {
         change_structures(&mut self.structures, stacked);
     }
 
-    // Makes a silent step, or says what is next instead.
-    fn step(&mut self) -> Result<Option<Halt>, AllocError>
-        ensures same { thread_of self.new ≡ thread_of self.old }
-        ensures step { IfOk result (λ o. MatchOption o (total_work (state_of self.new).items < total_work (state_of self.old).items) (λ p. Halts self.new p)) }
+    // Goes on elsewhere.
+    fn cut(&mut self, cut: Cut)
+        requires { IsSound (file_of self.old) (after_cut self.old cut) }
+        ensures state { state_of self.new ≡ after_cut self.old cut }
+        ensures program { SameProgram self.old self.new }
     {
-        self.make_room()?;
-        match self.plan()? {
+        match cut {
+            Cut::Return(how) => self.return_(how),
+            Cut::Break | Cut::Continue | Cut::Jump(_) => cut_items(&mut self.tasks, cut),
+        }
+    }
+
+    // The caller goes on, where there is one.
+    fn return_(&mut self, how: Handed)
+        requires { IsSound (file_of self.old) (after_cut self.old (Cut.Return how)) }
+        ensures state { state_of self.new ≡ after_cut self.old (Cut.Return how) }
+        ensures program { SameProgram self.old self.new }
+    {
+        match take_caller(&mut self.tasks) {
+            Some(caller) => {
+                let Caller {
+                    want,
+                    function,
+                    variables,
+                } = caller;
+                push_back(&mut self.tasks, Task::Get(want, how));
+                close_activation(&mut self.left, self.function);
+                self.function = function;
+                self.variables = variables;
+            }
+            None => self.variables.clear(),
+        }
+    }
+
+    // Begins the body of a function, where there is room for that. On an error the thread is unchanged.
+    fn call(&mut self, call: Call) -> Result<(), AllocError>
+        requires planned { IsCall (file_of self.old) call (active_of self.old) (next_move self.old) (items_in (self.old).tasks.items) (values_in (self.old).numbers.items) (structures_in (self.old).structures.items) (self.old).variables.items }
+        requires tasks { vec_len (self.old).tasks + 3 ≤ vec_capacity (self.old).tasks }
+        ensures ok { OnOk result (next_move self.old ≡ silent (state_of self.new)) }
+        ensures err { OnErr result (state_of self.new ≡ state_of self.old) }
+        ensures program { SameProgram self.old self.new }
+    {
+        let Some(body) = defined(self.functions, call.function) else {
+            unreachable!();
+        };
+        let variables = take_frame(self.alloc, &mut self.structures, call.count, body.sizes)?;
+        let saved = std::mem::replace(&mut self.variables, variables);
+        let tasks = Tasks {
+            first: Some(running(body.statement)),
+            second: Some(Task::Resume {
+                want: call.want,
+                caller: self.function,
+                saved,
+            }),
+            third: None,
+        };
+        change_tasks(&mut self.tasks, tasks);
+        open_activation(&mut self.left, call.function);
+        self.function = call.function;
+        Ok(())
+    }
+
+    // Makes a silent step that is planned, where there is room for it, or says what is next instead.
+    fn follow(&mut self, plan: Plan<'a>) -> Result<Option<Halt>, AllocError>
+        requires planned { IsPlanned self.old plan }
+        requires tasks { vec_len (self.old).tasks + 3 ≤ vec_capacity (self.old).tasks }
+        requires numbers { vec_len (self.old).numbers < vec_capacity (self.old).numbers }
+        requires structures { vec_len (self.old).structures < vec_capacity (self.old).structures }
+        ensures same { thread_of self.new ≡ thread_of self.old }
+        ensures step { IfOk result (λ o. MatchOption o (weight (code_under self.new) (state_of self.new) < weight (code_under self.old) (state_of self.old)) (λ p. Halts self.new p)) }
+    {
+        match plan {
             Plan::Goes(change) => {
                 self.apply(change);
                 Ok(None)
             }
+            Plan::Cuts(cut) => {
+                self.cut(cut);
+                Ok(None)
+            }
+            Plan::Calls(call) => {
+                self.call(call)?;
+                Ok(None)
+            }
             Plan::Halts(halt) => Ok(Some(halt)),
         }
+    }
+
+    // Makes a silent step, or says what is next instead.
+    fn step(&mut self) -> Result<Option<Halt>, AllocError>
+        ensures same { thread_of self.new ≡ thread_of self.old }
+        ensures step { IfOk result (λ o. MatchOption o (weight (code_under self.new) (state_of self.new) < weight (code_under self.old) (state_of self.old)) (λ p. Halts self.new p)) }
+    {
+        self.make_room()?;
+        let plan = self.plan()?;
+        self.follow(plan)
     }
 
     // Makes the silent steps up to what is next.
@@ -267,25 +371,19 @@ impl<'a> Thread<'a> {
             Request::WriteStructure(pointer) => {
                 Ok(Action::Write(pointer, self.top_bytes()?, false))
             }
+            Request::End(value) => Ok(Action::End(value)),
+            Request::Exit => Ok(Action::Exit),
         }
     }
 
     // What is next, by what comes next in the state.
     fn next_of(&self, halt: Halt) -> Result<Next, AllocError>
         requires { Halts self.now halt }
-        ensures { IfOk result (λ n. n ≡ next_by (self.now).first (self.now).function (values_in (self.now).numbers.items) (structures_in (self.now).structures.items) halt) }
+        ensures { IfOk result (λ n. n ≡ next_by (self.now).function (values_in (self.now).numbers.items) (structures_in (self.now).structures.items) halt) }
     {
         match halt {
             Halt::Asks(request, line) => {
                 Ok(Next::Act(self.action_of(request)?, line, self.function))
-            }
-            Halt::Leaves(line) => {
-                let action = if self.first {
-                    Action::Exit
-                } else {
-                    Action::End(top_of(self.numbers.as_slice()).bits())
-                };
-                Ok(Next::Act(action, line, self.function))
             }
             Halt::Breaks(class, line) => Ok(Next::Broken(class, line, self.function)),
             Halt::Blocks => Ok(Next::Blocked),
@@ -302,53 +400,39 @@ impl<'a> Thread<'a> {
     }
 
     // The change that an answer makes.
-    fn answered(&self, answer: &Answer) -> Result<Plan<'a>, AllocError>
-        requires { Accepts (move (running_of self.now) (state_of self.now)) answer.now }
-        ensures { IfOk result (λ p. IsAnswered (self.now).sizes.now (behind (items_in (self.now).tasks.items)) (values_in (self.now).numbers.items) (structures_in (self.now).structures.items) (self.now).variables.items (move (running_of self.now) (state_of self.now)) answer.now p) }
+    fn answered(&self, answer: &Answer) -> Result<Change<'a>, AllocError>
+        requires { Accepts (next_move self.now) answer.now }
+        ensures { IfOk result (λ c. IsAnswered (variables_at (file_of self.now) (self.now).function) (behind (items_in (self.now).tasks.items)) (active_of self.now) (values_in (self.now).numbers.items) (structures_in (self.now).structures.items) (self.now).variables.items (next_move self.now) answer.now c) }
     {
         match self.tasks.as_slice().split_last() {
             None => unreachable!(),
             Some((task, behind)) => {
                 let look = Look {
                     alloc: self.alloc,
-                    function: self.function,
                     first: self.first,
-                    sizes: self.sizes,
+                    functions: self.functions,
                     objects: self.objects,
+                    bounds: self.bounds,
+                    function: self.function,
+                    left: self.left.as_slice(),
                     behind,
                     numbers: self.numbers.as_slice(),
                     structures: self.structures.as_slice(),
                     variables: self.variables.as_slice(),
                 };
-                Ok(Plan::Goes(answer_task(&look, *task, answer)?))
+                answer_task(&look, task, answer)
             }
         }
     }
 
-    // Takes the answer to the end of the function.
-    fn leave(&mut self) -> Result<(), AllocError>
-        ensures ok { OnOk result (state_of self.new ≡ state (left ∷ []) (values_in (self.old).numbers.items) (structures_in (self.old).structures.items) (self.old).variables.items) }
-        ensures err { OnErr result (state_of self.new ≡ state_of self.old) }
-        ensures running { running_of self.new ≡ running_of self.old }
-        ensures program { SameProgram self.old self.new }
-    {
-        self.tasks.reserve(1)?;
-        self.tasks.clear();
-        match self.tasks.push(Task::Left) {
-            Ok(()) => {}
-            Err(_) => unreachable!(),
-        }
-        Ok(())
-    }
-
-    // Takes the answer to an action behind which the function goes on.
+    // Takes the answer to an action.
     fn take_answer(
         &mut self,
         request: Request,
         line: u32,
         answer: &Answer,
     ) -> Result<(), AllocError>
-        requires asked { IsAsked (move (running_of self.old) (state_of self.old)) (action_of (values_in (self.old).numbers.items) (structures_in (self.old).structures.items) request) line }
+        requires asked { IsAsked (next_move self.old) (action_of (values_in (self.old).numbers.items) (structures_in (self.old).structures.items) request) line }
         requires accepts { accepts ((thread_of self.old).behaves []) answer.now ≡ true }
         ensures ok { OnOk result (thread_of self.new ≡ answered (thread_of self.old) answer.now) }
         ensures err { OnErr result (thread_of self.new ≡ thread_of self.old) }
@@ -356,10 +440,8 @@ impl<'a> Thread<'a> {
         let _ = request;
         let _ = line;
         self.make_room()?;
-        match self.answered(answer)? {
-            Plan::Goes(change) => self.apply(change),
-            Plan::Halts(_) => unreachable!(),
-        }
+        let change = self.answered(answer)?;
+        self.apply(change);
         Ok(())
     }
 
@@ -367,20 +449,19 @@ impl<'a> Thread<'a> {
     fn take(&mut self, halt: Halt, answer: &Answer) -> Result<(), AllocError>
         requires halts { Halts self.old halt }
         requires accepts { accepts ((thread_of self.old).behaves []) answer.now ≡ true }
-        requires next { accepts (next_by (self.old).first (self.old).function (values_in (self.old).numbers.items) (structures_in (self.old).structures.items) halt) answer.now ≡ true }
+        requires next { accepts (next_by (self.old).function (values_in (self.old).numbers.items) (structures_in (self.old).structures.items) halt) answer.now ≡ true }
         ensures ok { OnOk result (thread_of self.new ≡ answered (thread_of self.old) answer.now) }
         ensures err { OnErr result (thread_of self.new ≡ thread_of self.old) }
     {
         match halt {
             Halt::Asks(request, line) => self.take_answer(request, line, answer),
-            Halt::Leaves(_) => self.leave(),
             Halt::Breaks(_, _) | Halt::Blocks | Halt::Ends(_) => unreachable!(),
         }
     }
 }
 
 impl<'a> Machine for Thread<'a> {
-    ghost use Rattle.c_interp.specs.View.{thread_of, running_of, state_of};
+    ghost use Rattle.c_interp.specs.View.{thread_of, state_of};
     ghost use Rattle.core_tree.specs.Trees.{view_functions};
     ghost use Rattle.c_interp.specs.SourceThread.{is_thread};
 
@@ -391,6 +472,7 @@ impl<'a> Machine for Thread<'a> {
             self.alloc,
             self.functions,
             self.objects,
+            self.bounds,
             self.startable,
             function,
             false,
@@ -411,5 +493,5 @@ impl<'a> Machine for Thread<'a> {
         }
     }
 
-    ghost valid = { λ t. is_thread (view_functions t.functions.now) t.startable (running_of t) (state_of t) };
+    ghost valid = { λ t. is_thread (view_functions t.functions.now) t.bounds.now t.startable t.first (state_of t) };
 }

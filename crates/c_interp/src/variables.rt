@@ -1,10 +1,10 @@
-ghost use Rattle.std.specs.Prelude.{◌≡◌, ◌+◌, ◌≤◌, length, take, drop, IfOk};
+ghost use Rattle.std.specs.Prelude.{◌≡◌, ◌+◌, ◌-◌, ◌≤◌, ◌++◌, length, take, drop, vec_len, IfOk, OnOk, OnErr};
 ghost use Rattle.c_values.specs.Variables.{low_bytes, put_at, zeros, number_at, read_variable, first_variables};
 ghost use Rattle.c_values.specs.Numbers.{typed};
-ghost use Rattle.c_interp.specs.Fits.{sizes_of};
+ghost use Rattle.c_interp.specs.Tasks.{structures_in, frame_on};
 
 use c_types::IntegerType;
-use c_values::{Number, read_block, write_block};
+use c_values::{Number, low_bytes, read_block, write_block};
 use std::alloc::{AllocError, Global};
 use std::marker::Model;
 
@@ -46,6 +46,15 @@ impl Block {
         ensures { IfOk result (λ block. block ≡ bytes.now) }
     {
         let bytes = Vec::from_slice(alloc, bytes)?;
+        Ok(Block { bytes })
+    }
+
+    // The lowest bytes of a number, so many of 8.
+    pub(crate) fn of_number(alloc: Global, count: usize, bits: u64) -> Result<Block, AllocError>
+        requires { count ≤ 8 }
+        ensures { IfOk result (λ block. block ≡ low_bytes count bits) }
+    {
+        let bytes = low_bytes(alloc, count, bits)?;
         Ok(Block { bytes })
     }
 
@@ -151,15 +160,60 @@ pub(crate) fn read_variable(
     }
 }
 
-// The variables before the function's body: each byte is 0.
-pub(crate) fn first_variables(alloc: Global, sizes: &[u32]) -> Result<Vec<Block>, AllocError>
-    ensures values { IfOk result (λ vs. vs.items ≡ first_variables sizes.now) }
-    ensures sizes { IfOk result (λ vs. sizes_of vs.items ≡ sizes.now) }
+// ---- the variables of a function at its start
+
+// Adds blocks of these sizes, from one on: each byte is 0.
+pub(crate) fn add_variables(
+    alloc: Global,
+    blocks: &mut Vec<Block>,
+    sizes: &[u32],
+    from: usize,
+) -> Result<(), AllocError>
+    ensures added { OnOk result (blocks.new.items ≡ blocks.old.items ++ first_variables (drop from sizes.now)) }
+    ensures kept { take (length blocks.old.items) blocks.new.items ≡ blocks.old.items }
 {
-    let mut variables = Vec::with_capacity(alloc, sizes.len())?;
-    for size in sizes {
-        let block = Block::new(alloc, *size)?;
-        variables.push(block)?;
+    for place in from..sizes.len() {
+        let block = Block::new(alloc, sizes[place])?;
+        blocks.push(block)?;
     }
-    Ok(variables)
+    Ok(())
+}
+
+// Behind the blocks from one on, which are the arguments, the other variables. The blocks before it stay.
+fn split_frame(
+    alloc: Global,
+    blocks: &mut Vec<Block>,
+    first: usize,
+    sizes: &[u32],
+) -> Result<Vec<Block>, AllocError>
+    requires { first ≤ vec_len blocks.old }
+    ensures frame { IfOk result (λ variables. variables.items ≡ drop first blocks.old.items ++ first_variables (drop (length blocks.old.items - first) sizes.now)) }
+    ensures rest { OnOk result (blocks.new.items ≡ take first blocks.old.items) }
+    ensures err { OnErr result (take (length blocks.old.items) blocks.new.items ≡ blocks.old.items) }
+{
+    let count = blocks.len() - first;
+    add_variables(alloc, blocks, sizes, count)?;
+    blocks.split_off(first)
+}
+
+// The variables of a function at its start: so many structure values on top, which are its arguments, and
+// behind them the others. On an error all structure values stay.
+pub(crate) fn take_frame(
+    alloc: Global,
+    structures: &mut Vec<Block>,
+    count: usize,
+    sizes: &[u32],
+) -> Result<Vec<Block>, AllocError>
+    ensures frame { IfOk result (λ variables. variables.items ≡ frame_on count (structures_in structures.old.items) sizes.now) }
+    ensures rest { OnOk result (structures_in structures.new.items ≡ drop count (structures_in structures.old.items)) }
+    ensures err { OnErr result (structures.new.items ≡ structures.old.items) }
+{
+    let len = structures.len();
+    match split_frame(alloc, structures, len.saturating_sub(count), sizes) {
+        Ok(variables) => Ok(variables),
+        Err(error) => {
+            structures.truncate(len);
+            Err(error)
+        }
+    }
 }

@@ -13,3 +13,4 @@ pub mod AgainStatements
 pub mod Outers
 pub mod Shorter
 pub mod Loops
+pub mod DeclaredNames

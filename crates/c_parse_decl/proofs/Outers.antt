@@ -1,6 +1,6 @@
 -- What stands in a file, one after another.
-use Rattle.std.proofs.Common.{◌≡◌, ◌≢◌, ◌≤◌, ◌+◌, max, ℕ, List, [], ◌∷◌, ◌++◌, length, Bool, true, false, Option, Some, None, refl, ap, sym, subst, ◌∙◌, arith, inl, inr}
-use Rattle.std.specs.Prelude.{codes, ◌==◌, ◌⊎◌}
+use Rattle.std.proofs.Common.{◌≡◌, ◌≢◌, ◌≤◌, ◌+◌, max, ℕ, List, [], ◌∷◌, ◌++◌, length, Bool, true, false, cond, Option, Some, None, refl, ap, sym, subst, ◌∙◌, arith, inl, inr}
+use Rattle.std.specs.Prelude.{◌==◌}
 use Rattle.std.proofs.lemmas.List.{append_assoc, append-nil}
 use Rattle.std.proofs.lemmas.Bool.{eqb-true}
 use Rattle.c_lexer.specs.declared.token.Token.{Token}
@@ -9,37 +9,26 @@ use Rattle.c_lexer.specs.declared.token.Kind.TheVariants as kinds
 use Rattle.c_lexer.specs.declared.token.Keyword.{Keyword}
 use Rattle.c_lexer.specs.declared.token.Keyword.TheVariants as keywords
 use Rattle.c_lexer.specs.declared.token.Mark.TheVariants as marks
-use Rattle.c_tree.specs.declared.specifier.Qualifier.{Qualifier}
-use Rattle.c_tree.specs.declared.specifier.Qualifier.TheVariants as qualifiers
-use Rattle.c_tree.specs.declared.specifier.TypeWord.{TypeWord}
-use Rattle.c_tree.specs.declared.specifier.TypeWord.TheVariants as type_words
-use Rattle.c_tree.specs.declared.specifier.TagKind.{TagKind}
-use Rattle.c_tree.specs.declared.specifier.TagKind.TheVariants as tag_kinds
-use Rattle.c_tree.specs.declared.declaration.StorageClass.{StorageClass}
-use Rattle.c_tree.specs.declared.declaration.StorageClass.TheVariants as storage_classes
-use Rattle.c_tree.specs.declared.declaration.FunctionSpecifier.{FunctionSpecifier}
-use Rattle.c_tree.specs.declared.declaration.FunctionSpecifier.TheVariants as function_specifiers
-use Rattle.c_tree.specs.declared.declaration.RecordKind.{RecordKind}
-use Rattle.c_tree.specs.declared.declaration.RecordKind.TheVariants as record_kinds
 use Rattle.c_tree.specs.declared.statement.External.{External}
 use Rattle.c_tree.specs.declared.statement.External.TheVariants as external
-use Rattle.c_tree.specs.Tree.{TypePart, qualified, word, tagged, typedef_name, Declared, Suffixes, unnamed, named, inside, no_suffix, bounded, unbounded}
-use Rattle.c_tree.specs.Tables.{qualifier_keyword, word_keyword, tag_keyword, storage_keyword, function_keyword, record_keyword}
 use Rattle.c_tree.specs.Names.{Scope, built_in_names}
-use Rattle.c_tree.specs.Spelling.{Then, Names, SpellsDeclared, SpellsSuffixes, has_name}
-use Rattle.c_tree.specs.Declarations.{Part, type_part, storage, function, structure, enumeration, Parts, no_part, part, Initial, Declarators, none_declared, declarator, parts_depth, declarators_depth, specifies, have_typedef, with_part, with_parts, with_declaration}
-use Rattle.c_tree.specs.Statements.{Statement, block, if_then, if_else, evaluate, return_nothing, return_value, Externals, no_more, declared, defines, statement_depth, view_external, externals_of, file_depth}
-use Rattle.c_tree.specs.Files.{SpellsInitializer, SpellsOthers, SpellsDeclarators, SpellsPart, SpellsParts, SpellsDeclaration, SpellsStatement, SpellsDefinition, SpellsFile, IsWellPart, AreWellParts, AreWellDeclarators, IsWellDeclaration, IsWellStatement, AreWellExternals, is_block, IsFile}
+use Rattle.c_tree.specs.Spelling.{Single, Then, IsMark}
+use Rattle.c_tree.specs.Declarations.{Parts, no_part, Full, Initial, Declarators, none_declared, declarator, nearest, is_function, full_has_name, name_of, initializer_depth, parts_depth, full_depth, declarators_depth, specify, have_typedef, with_parts, with_parameters_of, with_function, with_body, with_declaration}
+use Rattle.c_tree.specs.Statements.{Statement, block, if_then, if_else, evaluate, return_nothing, return_value, empty, while_loop, do_loop, for_loop, for_declared, switch_on, case_of, default_of, labelled, goto_label, break_off, continue_on, Externals, no_more, declared, defines, statement_depth, view_external, externals_of, file_depth}
+use Rattle.c_tree.specs.Files.{SpellsParts, SpellsFull, SpellsInitializer, SpellsOthers, SpellsDeclarators, SpellsDeclaration, SpellsStatement, SpellsDefinition, SpellsFile, AreWellParts, IsWellFull, AreWellDeclarators, FrontIsNoType, FrontIsNoTypeOfDeclarators, IsWellInitializer, IsWellDeclaration, IsWellDefinition, IsWellStatement, AreWellExternals, is_block, IsFile}
 use Rattle.c_parse_expr.specs.Many.{◌>>=◌}
 use Rattle.c_parse_expr.specs.Reading.{is_mark, is_identifier}
-use Rattle.c_parse_decl.specs.Reading.{Read, is_keyword, token_at, main_at, run_at, start_at, parts_at, items_at, block_at, statement_at, declaration_at, main_body_at, head_at, definition_at, outer_by, outer_at}
+use Rattle.c_parse_decl.specs.Reading.{Read, token_at, run_at, start_at, parts_at, are_some, body_at, full_at, items_at, block_at, statement_at, initializer_at, declarators_at, declaration_at, definition_at, others_at, outer_behind, first_at, outer_from, outer_at}
 use Rattle.c_parse_decl.specs.Standing.{Outer, declaring, defining, outer_of, outermost, with_outer, with_externals, SpellsOuter, IsWellOuter, outer_depth, IsExternal, Stands, NoneStands, StandBefore, EndsAt}
 use Rattle.c_parse_decl.proofs.Lists.{some_is, bind_some, bind_gives, bind_none}
-use Rattle.c_parse_decl.proofs.Words.{Front, passes_at, token_fails, mark_takes, keyword_takes, main_takes, mark_gives, keyword_gives, main_gives, main_fails}
-use Rattle.c_parse_decl.proofs.TakenDeclarations.{declaration_takes}
+use Rattle.c_parse_decl.proofs.Words.{passes_at, token_fails, mark_takes, mark_gives}
+use Rattle.c_parse_decl.proofs.Runs.{Run, seam}
+use Rattle.c_parse_decl.proofs.TakenParts.{FullRun, PartsRun, parts_take, body_takes, full_takes, front_no_type, if_some, some_parts, named_full}
+use Rattle.c_parse_decl.proofs.TakenDeclarations.{DeclaratorsRun, InitializerRun, initializer_takes, declarators_take, front_of_declarators}
 use Rattle.c_parse_decl.proofs.TakenStatements.{Stated, block_takes, statement_takes}
-use Rattle.c_parse_decl.proofs.Steps.{apart, from_token, IsEnder, ender_not, Opens, IsNot, opens_not}
-use Rattle.c_parse_decl.proofs.AgainDeclarations.{declaration_read, others_end}
+use Rattle.c_parse_decl.proofs.Steps.{apart, from_token, IsEnder, Follows, ender_not, Opens, opens_not, IsNot, opens_longer, ended_gives, full_opens_not, full_quiet, Quiet}
+use Rattle.c_parse_decl.proofs.AgainParts.{parts_read, parts_again, full_again, are_there}
+use Rattle.c_parse_decl.proofs.AgainDeclarations.{declarators_read, declarators_quiet, initializer_read, initializer_opens, others_end}
 use Rattle.c_parse_decl.proofs.AgainStatements.{block_read, items_again}
 
 block_is : (bytes : List ℕ) (n line : ℕ) (names : Scope) (ts : List Token) (x : Statement × List Token) → block_at bytes n (statement_at bytes n) names line ts ≡ Some x → is_block x.0 ≡ true
@@ -48,317 +37,241 @@ block_is bytes n line names ts x e =
     let a = bind_some (items_at bytes n (statement_at bytes n) names ts) (λ is. Some (block line is.0, is.1)) x e in
     subst (λ (y : Statement × List Token). is_block y.0 ≡ true) (some_is a.2) refl
 
-main_body_takes : (bytes : List ℕ) (names : Scope) (ts : List Token) (x : Statement × List Token) → main_body_at bytes names ts ≡ Some x → Stated bytes names 400 x.0 ts x.1 × (is_block x.0 ≡ true)
-unfolding main_body_at
-main_body_takes bytes names ts x e =
-    let a = bind_some (token_at (is_mark marks.LeftBrace) ts) (λ x. block_at bytes 399 (statement_at bytes 399) names x.0.line x.1) x e in
-    let h = mark_takes marks.LeftBrace ts a.0 a.1 in
-    (block_takes bytes names 399 (statement_at bytes 399) (statement_takes bytes 399) a.0.0 ts a.0.1 x h.is h.whole a.2, block_is bytes 399 a.0.0.line names a.0.1 x a.2)
-
--- the tokens before a definition's parameters
-pub record Head (bytes : List ℕ) (lines : ℕ × ℕ) (ts rest : List Token) : Type 0 where
-  pub int : Token
-  pub name : Token
-  pub opens : Token
-  pub is_int : int.kind ≡ kinds.Keyword keywords.Int
-  pub int_line : int.line ≡ lines.0
-  pub is_main : Names bytes lines.1 (codes "main") name
-  pub is_open : opens.kind ≡ kinds.Mark marks.LeftParenthesis
-  pub whole : ts ≡ int ∷ (name ∷ (opens ∷ rest))
-
-head_takes : (bytes : List ℕ) (ts : List Token) (x : (ℕ × ℕ) × List Token) → head_at bytes ts ≡ Some x → Head bytes x.0 ts x.1
-unfolding head_at
-head_takes bytes ts x e =
-    let a = bind_some (token_at (is_keyword keywords.Int) ts) (λ i. main_at bytes i.1 >>= λ n. token_at (is_mark marks.LeftParenthesis) n.1 >>= λ p. Some ((i.0.line, n.0.line), p.1)) x e in
-    let b = bind_some (main_at bytes a.0.1) (λ n. token_at (is_mark marks.LeftParenthesis) n.1 >>= λ p. Some ((a.0.0.line, n.0.line), p.1)) x a.2 in
-    let d = bind_some (token_at (is_mark marks.LeftParenthesis) b.0.1) (λ p. Some ((a.0.0.line, b.0.0.line), p.1)) x b.2 in
-    let h = keyword_takes keywords.Int ts a.0 a.1 in
-    let i = main_takes bytes a.0.1 b.0 b.1 in
-    let j = mark_takes marks.LeftParenthesis b.0.1 d.0 d.1 in
-    subst (λ (y : (ℕ × ℕ) × List Token). Head bytes y.0 ts y.1) (some_is d.2)
+definition_takes : (bytes : List ℕ) (names : Scope) (ps : Parts) (d : Full) (t : Token) (all tokens ts mid rest : List Token) (x : Outer × List Token) → PartsRun false bytes 400 (names, false) ps tokens mid → ps ≢ no_part → FullRun bytes 400 false (with_parts names ps) d mid all → all ≡ t ∷ ts → t.kind ≡ kinds.Mark marks.LeftBrace → definition_at bytes (with_function names ps d) ps d t.line ts ≡ Some x → Stands bytes names x.0 tokens x.1
+unfolding definition_at
+definition_takes bytes names ps d t all tokens ts mid rest x p some f whole is e =
+    let scope = with_parameters_of (with_function names ps d) (nearest d) in
+    let a = bind_some (cond (is_function d) (block_at bytes 399 (statement_at bytes 399) scope t.line ts) None) (λ b. Some (defining ps d b.0, b.1)) x e in
+    let b = if_some (is_function d) (block_at bytes 399 (statement_at bytes 399) scope t.line ts) a.0 a.1 in
+    let s = block_takes bytes scope 399 (statement_at bytes 399) (statement_takes bytes 399) t all ts a.0 is whole b.1 in
+    subst (λ (y : Outer × List Token). Stands bytes names y.0 tokens y.1) (some_is a.2)
     (record {
-      int = a.0.0;
-      name = b.0.0;
-      opens = d.0.0;
-      is_int = h.is;
-      int_line = refl;
-      is_main = i.is;
-      is_open = j.is;
-      whole = h.whole ∙ ap (λ (xs : List Token). a.0.0 ∷ xs) (i.whole ∙ ap (λ (xs : List Token). b.0.0 ∷ xs) j.whole);
-    })
-
-definition_stands : (bytes : List ℕ) (names : Scope) (lines : ℕ × ℕ) (ts t3 t4 t5 rest : List Token) (void shuts : Token) (body : Statement) → Head bytes lines ts t3 → Front (λ t. t.kind ≡ kinds.Keyword keywords.Void) t3 (void, t4) → Front (λ t. t.kind ≡ kinds.Mark marks.RightParenthesis) t4 (shuts, t5) → Stated bytes ((codes "main", false) ∷ names) 400 body t5 rest × (is_block body ≡ true) → Stands bytes names (defining lines.0 lines.1 body) ts rest
-definition_stands bytes names lines ts t3 t4 t5 rest void shuts body a f g h =
-    let own = h.0.run.own in
-    let behind = a.opens ∷ (void ∷ (shuts ∷ own)) in
-    record {
-      own = a.int ∷ (a.name ∷ behind);
+      own = p.run.own ++ (f.own ++ s.run.own);
       is = record {
         spelled = record {
-          token = a.int;
-          rest = a.name ∷ behind;
-          is = record { kind = a.is_int; line = a.int_line };
-          behind = record {
-            token = a.name;
-            rest = behind;
-            is = a.is_main;
-            behind = record {
-              token = a.opens;
-              rest = void ∷ (shuts ∷ own);
-              is = a.is_open;
-              behind = record {
-                token = void;
-                rest = shuts ∷ own;
-                is = f.is;
-                behind = record { token = shuts; rest = own; is = g.is; behind = h.0.run.spelled; whole = refl };
-                whole = refl;
-              };
-              whole = refl;
-            };
+          left = p.run.own;
+          right = f.own ++ s.run.own;
+          first = p.run.spelled;
+          second = record { left = f.own; right = s.run.own; first = f.spelled; second = s.run.spelled; whole = refl };
+          whole = refl;
+        };
+        well = (
+          some,
+          p.run.well.0,
+          front_no_type false bytes (with_parts names ps) (specify ps) d mid f.own all p.ends f.front f.spelled,
+          f.well.1 refl,
+          b.0,
+          f.well.0,
+          block_is bytes 399 t.line scope ts a.0 b.1,
+          s.run.well,
+        );
+        deep = (let h = p.run.deep in let g = f.deep in let i = s.run.deep in omega (arith, h, g, i));
+      };
+      front = seam tokens p.run.own mid a.0.1 (f.own ++ s.run.own) p.run.front (seam mid f.own all a.0.1 s.run.own f.front s.run.front);
+    })
+
+others_take : (bytes : List ℕ) (names : Scope) (ps : Parts) (d : Full) (tokens all mid : List Token) (x : Declarators × List Token) → PartsRun false bytes 400 (names, false) ps tokens mid → ps ≢ no_part → FullRun bytes 400 false (with_parts names ps) d mid all → others_at bytes (with_function names ps d) (have_typedef ps) d all ≡ Some x → Stands bytes names (declaring ps x.0) tokens x.1
+unfolding others_at
+others_take bytes names ps d tokens all mid x p some f e =
+    let scope = with_function names ps d in
+    let a = bind_some (initializer_at bytes scope 400 all) (λ i. declarators_at bytes scope (have_typedef ps) 400 false i.1 >>= λ ds. Some (declarator d i.0 ds.0, ds.1)) x e in
+    let b = bind_some (declarators_at bytes scope (have_typedef ps) 400 false a.0.1) (λ ds. Some (declarator d a.0.0 ds.0, ds.1)) x a.2 in
+    let i = initializer_takes bytes scope 400 all a.0 a.1 in
+    let r = declarators_take bytes scope (have_typedef ps) 400 false a.0.1 b.0 b.1 in
+    let back = i.own ++ r.own in
+    let no_type = front_no_type false bytes (with_parts names ps) (specify ps) d mid f.own all p.ends f.front f.spelled in
+    subst (λ (y : Declarators × List Token). Stands bytes names (declaring ps y.0) tokens y.1) (some_is b.2)
+    (record {
+      own = p.run.own ++ (f.own ++ back);
+      is = record {
+        spelled = record {
+          left = p.run.own;
+          right = f.own ++ back;
+          first = p.run.spelled;
+          second = record {
+            left = f.own;
+            right = back;
+            first = f.spelled;
+            second = record { left = i.own; right = r.own; first = i.spelled; second = r.spelled; whole = refl };
             whole = refl;
           };
           whole = refl;
         };
-        well = (h.1, h.0.run.well);
-        deep = (let d = h.0.run.deep in omega (arith, d));
+        well = (some, p.run.well.0, no_type, (f.well.1 refl, f.well.0, i.well, r.well));
+        deep = (let h = p.run.deep in let g = f.deep in let j = i.deep in let k = r.deep in omega (arith, h, g, j, k));
       };
-      front = a.whole ∙ ap (λ (xs : List Token). a.int ∷ (a.name ∷ (a.opens ∷ xs))) (f.whole ∙ ap (λ (xs : List Token). void ∷ xs) (g.whole ∙ ap (λ (xs : List Token). shuts ∷ xs) h.0.run.front));
-    }
+      front = seam tokens p.run.own mid b.0.1 (f.own ++ back) p.run.front (seam mid f.own all b.0.1 back f.front (seam all i.own a.0.1 b.0.1 r.own i.front r.front));
+    })
 
-definition_takes : (bytes : List ℕ) (names : Scope) (lines : ℕ × ℕ) (ts mid : List Token) (x : Outer × List Token) → Head bytes lines ts mid → definition_at bytes names lines mid ≡ Some x → Stands bytes names x.0 ts x.1
-unfolding definition_at
-definition_takes bytes names lines ts mid x head e =
-    let main = (codes "main", false) ∷ names in
-    let f = bind_some (token_at (is_keyword keywords.Void) mid) (λ y. token_at (is_mark marks.RightParenthesis) y.1 >>= λ z. main_body_at bytes main z.1 >>= λ b. Some (defining lines.0 lines.1 b.0, b.1)) x e in
-    let g = bind_some (token_at (is_mark marks.RightParenthesis) f.0.1) (λ z. main_body_at bytes main z.1 >>= λ b. Some (defining lines.0 lines.1 b.0, b.1)) x f.2 in
-    let h = bind_some (main_body_at bytes main g.0.1) (λ b. Some (defining lines.0 lines.1 b.0, b.1)) x g.2 in
-    subst (λ (y : Outer × List Token). Stands bytes names y.0 ts y.1) (some_is h.2)
-    (definition_stands bytes names lines ts mid f.0.1 g.0.1 h.0.1 f.0.0 g.0.0 h.0.0 head (keyword_takes keywords.Void mid f.0 f.1) (mark_takes marks.RightParenthesis f.0.1 g.0 g.1) (main_body_takes bytes main g.0.1 h.0 h.1))
+behind_takes : (bytes : List ℕ) (names : Scope) (ps : Parts) (d : Full) (tokens all mid : List Token) (o : Read Token) (x : Outer × List Token) → PartsRun false bytes 400 (names, false) ps tokens mid → ps ≢ no_part → FullRun bytes 400 false (with_parts names ps) d mid all → token_at (is_mark marks.LeftBrace) all ≡ o → outer_behind bytes (with_function names ps d) ps d all o ≡ Some x → Stands bytes names x.0 tokens x.1
+behind_takes bytes names ps d tokens all mid None x p some f g e =
+    let a = bind_some (others_at bytes (with_function names ps d) (have_typedef ps) d all) (λ ds. Some (declaring ps ds.0, ds.1)) x e in
+    subst (λ (y : Outer × List Token). Stands bytes names y.0 tokens y.1) (some_is a.2) (others_take bytes names ps d tokens all mid a.0 p some f a.1)
+behind_takes bytes names ps d tokens all mid (Some y) x p some f g e =
+    let h = mark_takes marks.LeftBrace all y g in
+    definition_takes bytes names ps d y.0 all tokens y.1 mid x.1 x p some f h.whole h.is e
 
-outer_either : (bytes : List ℕ) (names : Scope) (ts : List Token) (o : Read (ℕ × ℕ)) (x : Outer × List Token) → head_at bytes ts ≡ o → outer_by bytes names ts o ≡ Some x → Stands bytes names x.0 ts x.1
-outer_either bytes names ts None x f e =
-    let a = bind_some (declaration_at bytes names 400 ts) (λ d. Some (declaring d.0.0 d.0.1, d.1)) x e in
-    let d = declaration_takes bytes names 400 ts a.0 a.1 in
-    subst (λ (y : Outer × List Token). Stands bytes names y.0 ts y.1) (some_is a.2)
-    (record { own = d.own; is = record { spelled = d.spelled; well = d.well; deep = d.deep }; front = d.front })
-outer_either bytes names ts (Some h) x f e = definition_takes bytes names h.0 ts h.1 x (head_takes bytes ts h f) e
+from_takes : (bytes : List ℕ) (names : Scope) (ps : Parts) (tokens mid : List Token) (o : Read Token) (x : Outer × List Token) → PartsRun false bytes 400 (names, false) ps tokens mid → ps ≢ no_part → token_at (is_mark marks.Semicolon) mid ≡ o → outer_from bytes (with_parts names ps) ps mid o ≡ Some x → Stands bytes names x.0 tokens x.1
+unfolding first_at
+from_takes bytes names ps tokens mid None x p some g e =
+    let scope = with_parts names ps in
+    let a = bind_some (full_at bytes 400 false scope mid) (λ d. outer_behind bytes ((name_of d.0, have_typedef ps) ∷ scope) ps d.0 d.1 (token_at (is_mark marks.LeftBrace) d.1)) x e in
+    behind_takes bytes names ps a.0.0 tokens a.0.1 mid (token_at (is_mark marks.LeftBrace) a.0.1) x p some (full_takes bytes 400 false scope mid a.0 a.1) refl a.2
+from_takes bytes names ps tokens mid (Some y) x p some g e =
+    let h = mark_takes marks.Semicolon mid y g in
+    subst (λ (y : Outer × List Token). Stands bytes names y.0 tokens y.1) (some_is e)
+    (record {
+      own = p.run.own ++ (y.0 ∷ []);
+      is = record {
+        spelled = record { left = p.run.own; right = y.0 ∷ []; first = p.run.spelled; second = record { token = y.0; is = h.is; whole = refl }; whole = refl };
+        well = (some, p.run.well.0, tt, tt);
+        deep = (let d = p.run.deep in omega (arith, d));
+      };
+      front = seam tokens p.run.own mid y.1 (y.0 ∷ []) p.run.front h.whole;
+    })
 
 -- what is read stands there
 pub outer_takes : (bytes : List ℕ) (names : Scope) (ts : List Token) (x : Outer × List Token) → outer_at bytes names ts ≡ Some x → Stands bytes names x.0 ts x.1
 unfolding outer_at
-outer_takes bytes names ts x e = outer_either bytes names ts (head_at bytes ts) x refl e
+outer_takes bytes names ts x e =
+    let a = bind_some (parts_at false bytes 400 (body_at bytes 400) names ts) (λ p. cond (are_some p.0) (outer_from bytes (with_parts names p.0) p.0 p.1 (token_at (is_mark marks.Semicolon) p.1)) None) x e in
+    let b = if_some (are_some a.0.0) (outer_from bytes (with_parts names a.0.0) a.0.0 a.0.1 (token_at (is_mark marks.Semicolon) a.0.1)) x a.2 in
+    from_takes bytes names a.0.0 ts a.0.1 (token_at (is_mark marks.Semicolon) a.0.1) x (parts_take false bytes 400 (body_at bytes 400) (body_takes bytes 400) names ts a.0 a.1) (some_parts a.0.0 b.0) refl b.1
 
--- no declaration begins like a definition: the specifier `int` is followed by another keyword, or by the declarators
-qualifier_no_int : (q : Qualifier) → is_keyword keywords.Int (kinds.Keyword (qualifier_keyword q)) ≡ false
-qualifier_no_int qualifiers.Const = refl
-qualifier_no_int qualifiers.Volatile = refl
-qualifier_no_int qualifiers.Restrict = refl
+-- behind specifiers
+parts_then : (bytes : List ℕ) (names : Scope) (ps : Parts) (left right : List Token) (y : Read Outer) → ps ≢ no_part → SpellsParts bytes ps left → AreWellParts names false ps → parts_depth ps ≤ 400 → Quiet false bytes (with_parts names ps) (specify ps) right → outer_from bytes (with_parts names ps) ps right (token_at (is_mark marks.Semicolon) right) ≡ y → outer_at bytes names (left ++ right) ≡ y
+unfolding outer_at
+parts_then bytes names ps left right y some s w d q e =
+    bind_gives (parts_at false bytes 400 (body_at bytes 400) names (left ++ right)) (λ p. cond (are_some p.0) (outer_from bytes (with_parts names p.0) p.0 p.1 (token_at (is_mark marks.Semicolon) p.1)) None) (ps, right) y
+    (parts_read bytes ps (parts_again bytes ps) false 400 names left right s w (λ e. absurd cc) d q)
+    (ap (λ (b : Bool). cond b (outer_from bytes (with_parts names ps) ps right (token_at (is_mark marks.Semicolon) right)) None) (are_there ps some) ∙ e)
 
-storage_no_int : (c : StorageClass) → is_keyword keywords.Int (kinds.Keyword (storage_keyword c)) ≡ false
-storage_no_int storage_classes.Typedef = refl
-storage_no_int storage_classes.Extern = refl
-storage_no_int storage_classes.Static = refl
-storage_no_int storage_classes.Auto = refl
-storage_no_int storage_classes.Register = refl
+-- behind a declarator
+full_then : (bytes : List ℕ) (names : Scope) (ps : Parts) (d : Full) (left right : List Token) (y : Read Outer) → SpellsFull bytes d left → full_has_name d ≡ true → IsWellFull names false d → full_depth d ≤ 400 → Opens Follows right → outer_behind bytes ((name_of d, have_typedef ps) ∷ names) ps d right (token_at (is_mark marks.LeftBrace) right) ≡ y → outer_from bytes names ps (left ++ right) (token_at (is_mark marks.Semicolon) (left ++ right)) ≡ y
+unfolding first_at
+full_then bytes names ps d left right y s h w deep o e =
+    ap (outer_from bytes names ps (left ++ right)) (opens_not marks.Semicolon left right (full_opens_not bytes marks.Semicolon d left refl refl (named_full d h) s))
+    ∙ bind_gives (full_at bytes 400 false names (left ++ right)) (λ d. outer_behind bytes ((name_of d.0, have_typedef ps) ∷ names) ps d.0 d.1 (token_at (is_mark marks.LeftBrace) d.1)) (d, right) y
+    (full_again bytes d 400 false names left right s w (λ _. h) deep o) e
 
-function_no_int : (f : FunctionSpecifier) → is_keyword keywords.Int (kinds.Keyword (function_keyword f)) ≡ false
-function_no_int function_specifiers.Inline = refl
-function_no_int function_specifiers.Noreturn = refl
+-- what follows the declarator of a declaration is no brace
+initializer_no_brace : (bytes : List ℕ) (i : Option Initial) (own rest : List Token) → Opens IsEnder rest → SpellsInitializer bytes i own → token_at (is_mark marks.LeftBrace) (own ++ rest) ≡ None
+initializer_no_brace bytes None own rest o s =
+    ap (λ (xs : List Token). token_at (is_mark marks.LeftBrace) (xs ++ rest)) s
+    ∙ ap (token_at (is_mark marks.LeftBrace)) o.whole ∙ token_fails (is_mark marks.LeftBrace) o.token o.others (ender_not marks.LeftBrace o.token.kind refl refl refl o.is)
+initializer_no_brace bytes (Some i) own rest o s =
+    ap (token_at (is_mark marks.LeftBrace)) (from_token own rest s.rest s.token s.whole)
+    ∙ token_fails (is_mark marks.LeftBrace) s.token (s.rest ++ rest) (passes_at (is_mark marks.LeftBrace) s.token.kind (kinds.Mark marks.Equal) false s.is refl)
 
-record_no_int : (r : RecordKind) → is_keyword keywords.Int (kinds.Keyword (record_keyword r)) ≡ false
-record_no_int record_kinds.Struct = refl
-record_no_int record_kinds.Union = refl
+others_read : (bytes : List ℕ) (names : Scope) (types : Bool) (d : Full) (i : Option Initial) (ds : Declarators) (left right rest : List Token) → SpellsInitializer bytes i left → SpellsOthers bytes ds right → IsWellInitializer names i → AreWellDeclarators names types ds → initializer_depth i ≤ 400 → declarators_depth ds ≤ 400 → others_at bytes names types d (left ++ (right ++ rest)) ≡ Some (declarator d i ds, rest)
+unfolding others_at
+others_read bytes names types d i ds left right rest s r w v h g =
+    bind_gives (initializer_at bytes names 400 (left ++ (right ++ rest))) (λ i. declarators_at bytes names types 400 false i.1 >>= λ ds. Some (declarator d i.0 ds.0, ds.1)) (i, right ++ rest) (Some (declarator d i ds, rest))
+    (initializer_read bytes names 400 i left (right ++ rest) (others_end bytes ds right rest r) s w h)
+    (bind_gives (declarators_at bytes names types 400 false (right ++ rest)) (λ ds. Some (declarator d i ds.0, ds.1)) (ds, rest) (Some (declarator d i ds, rest)) (declarators_read bytes names types ds 400 false right rest r v g) refl)
 
-tag_no_int : (k : TagKind) → is_keyword keywords.Int (kinds.Keyword (tag_keyword k)) ≡ false
-tag_no_int tag_kinds.Struct = refl
-tag_no_int tag_kinds.Union = refl
-tag_no_int tag_kinds.Enum = refl
-
--- either no `int` stands there, or a type is specified by one token
-abbrev IntOrNot : Part → List Token → List Token → Type 0
-IntOrNot p own rest = (token_at (is_keyword keywords.Int) (own ++ rest) ≡ None) ⊎ ((t : Token) × (own ≡ t ∷ []) × (t.kind ≡ kinds.Keyword keywords.Int))
-
-no_int_here : (own rest others : List Token) (t : Token) (k : Kind) → own ≡ t ∷ others → t.kind ≡ k → is_keyword keywords.Int k ≡ false → token_at (is_keyword keywords.Int) (own ++ rest) ≡ None
-no_int_here own rest others t k e is f = ap (token_at (is_keyword keywords.Int)) (from_token own rest others t e) ∙ token_fails (is_keyword keywords.Int) t (others ++ rest) (passes_at (is_keyword keywords.Int) t.kind k false is f)
-
-word_int : (bytes : List ℕ) (line : ℕ) (w : TypeWord) (own rest : List Token) → SpellsPart bytes (type_part (word line w)) own → IntOrNot (type_part (word line w)) own rest
-word_int bytes line type_words.Void own rest s = inl (no_int_here own rest [] s.token (kinds.Keyword keywords.Void) s.whole s.is.kind refl)
-word_int bytes line type_words.Char own rest s = inl (no_int_here own rest [] s.token (kinds.Keyword keywords.Char) s.whole s.is.kind refl)
-word_int bytes line type_words.Short own rest s = inl (no_int_here own rest [] s.token (kinds.Keyword keywords.Short) s.whole s.is.kind refl)
-word_int bytes line type_words.Int own rest s = inr (s.token, s.whole, s.is.kind)
-word_int bytes line type_words.Long own rest s = inl (no_int_here own rest [] s.token (kinds.Keyword keywords.Long) s.whole s.is.kind refl)
-word_int bytes line type_words.Signed own rest s = inl (no_int_here own rest [] s.token (kinds.Keyword keywords.Signed) s.whole s.is.kind refl)
-word_int bytes line type_words.Unsigned own rest s = inl (no_int_here own rest [] s.token (kinds.Keyword keywords.Unsigned) s.whole s.is.kind refl)
-word_int bytes line type_words.Bool own rest s = inl (no_int_here own rest [] s.token (kinds.Keyword keywords.Bool) s.whole s.is.kind refl)
-
-type_part_int : (bytes : List ℕ) (p : TypePart) (own rest : List Token) → SpellsPart bytes (type_part p) own → IntOrNot (type_part p) own rest
-type_part_int bytes (qualified line q) own rest s = inl (no_int_here own rest [] s.token (kinds.Keyword (qualifier_keyword q)) s.whole s.is.kind (qualifier_no_int q))
-type_part_int bytes (word line w) own rest s = word_int bytes line w own rest s
-type_part_int bytes (tagged line kind text) own rest s = inl (no_int_here own rest s.rest s.token (kinds.Keyword (tag_keyword kind)) s.whole s.is.kind (tag_no_int kind))
-type_part_int bytes (typedef_name line text) own rest s = inl (no_int_here own rest [] s.token kinds.Identifier s.whole s.is.kind refl)
-
-part_int : (bytes : List ℕ) (p : Part) (own rest : List Token) → SpellsPart bytes p own → IntOrNot p own rest
-part_int bytes (type_part p) own rest s = type_part_int bytes p own rest s
-part_int bytes (storage line c) own rest s = inl (no_int_here own rest [] s.token (kinds.Keyword (storage_keyword c)) s.whole s.is.kind (storage_no_int c))
-part_int bytes (function line f) own rest s = inl (no_int_here own rest [] s.token (kinds.Keyword (function_keyword f)) s.whole s.is.kind (function_no_int f))
-part_int bytes (structure line kind tag ms) own rest s = inl (no_int_here own rest s.rest s.token (kinds.Keyword (record_keyword kind)) s.whole s.is.kind (record_no_int kind))
-part_int bytes (enumeration line tag es) own rest s = inl (no_int_here own rest s.rest s.token (kinds.Keyword keywords.Enum) s.whole s.is.kind refl)
-
-head_is : {x y : Token} {xs ys : List Token} → (x ∷ xs) ≡ (y ∷ ys) → x ≡ y
-head_is e = cc
-
-tail_is : {x y : Token} {xs ys : List Token} → (x ∷ xs) ≡ (y ∷ ys) → xs ≡ ys
-tail_is e = cc
-
--- behind the `int`
-abbrev behind_int : List ℕ → ℕ → List Token → Read (ℕ × ℕ)
-behind_int bytes line ts = main_at bytes ts >>= λ n. token_at (is_mark marks.LeftParenthesis) n.1 >>= λ p. Some ((line, n.0.line), p.1)
-
-no_main : (bytes : List ℕ) (line : ℕ) (ts others : List Token) (t : Token) → ts ≡ t ∷ others → is_identifier t.kind ≡ false → behind_int bytes line ts ≡ None
-no_main bytes line ts others t e f =
-    bind_none (main_at bytes ts) (λ n. token_at (is_mark marks.LeftParenthesis) n.1 >>= λ p. Some ((line, n.0.line), p.1)) (ap (main_at bytes) e ∙ main_fails bytes t others f)
-
-no_call : (bytes : List ℕ) (line : ℕ) (ts others : List Token) (t : Token) (o : Read Token) → ts ≡ t ∷ others → token_at (is_mark marks.LeftParenthesis) others ≡ None → main_at bytes ts ≡ o → behind_int bytes line ts ≡ None
-no_call bytes line ts others t None e f g = bind_none (main_at bytes ts) (λ n. token_at (is_mark marks.LeftParenthesis) n.1 >>= λ p. Some ((line, n.0.line), p.1)) g
-no_call bytes line ts others t (Some x) e f g =
-    let h = main_takes bytes ts x g in
-    let rest_is : others ≡ x.1 = tail_is (sym e ∙ h.whole) in
-    bind_gives (main_at bytes ts) (λ n. token_at (is_mark marks.LeftParenthesis) n.1 >>= λ p. Some ((line, n.0.line), p.1)) x None g
-    (bind_none (token_at (is_mark marks.LeftParenthesis) x.1) (λ p. Some ((line, x.0.line), p.1)) (ap (token_at (is_mark marks.LeftParenthesis)) (sym rest_is) ∙ f))
-
--- a declarator's name is followed by no parenthesis
-initializer_no_open : (bytes : List ℕ) (i : Option Initial) (ds : Declarators) (left right rest : List Token) → SpellsInitializer bytes i left → SpellsOthers bytes ds right → token_at (is_mark marks.LeftParenthesis) (left ++ (right ++ rest)) ≡ None
-initializer_no_open bytes None ds left right rest s r =
-    let o = others_end bytes ds right rest r in
-    ap (λ (xs : List Token). token_at (is_mark marks.LeftParenthesis) (xs ++ (right ++ rest))) s
-    ∙ ap (token_at (is_mark marks.LeftParenthesis)) o.whole
-    ∙ token_fails (is_mark marks.LeftParenthesis) o.token o.others (ender_not marks.LeftParenthesis o.token.kind refl refl refl o.is)
-initializer_no_open bytes (Some i) ds left right rest s r =
-    ap (token_at (is_mark marks.LeftParenthesis)) (from_token left (right ++ rest) s.rest s.token s.whole)
-    ∙ token_fails (is_mark marks.LeftParenthesis) s.token (s.rest ++ (right ++ rest)) (passes_at (is_mark marks.LeftParenthesis) s.token.kind (kinds.Mark marks.Equal) false s.is refl)
-
-suffixes_no_open : (bytes : List ℕ) (ss : Suffixes) (own rest : List Token) → SpellsSuffixes bytes ss own → token_at (is_mark marks.LeftParenthesis) rest ≡ None → token_at (is_mark marks.LeftParenthesis) (own ++ rest) ≡ None
-suffixes_no_open bytes no_suffix own rest s e = ap (λ (xs : List Token). token_at (is_mark marks.LeftParenthesis) (xs ++ rest)) s ∙ e
-suffixes_no_open bytes (bounded line b ss) own rest s e =
-    ap (token_at (is_mark marks.LeftParenthesis)) (from_token own rest s.rest s.token s.whole)
-    ∙ token_fails (is_mark marks.LeftParenthesis) s.token (s.rest ++ rest) (passes_at (is_mark marks.LeftParenthesis) s.token.kind (kinds.Mark marks.LeftBracket) false s.is.kind refl)
-suffixes_no_open bytes (unbounded line ss) own rest s e =
-    ap (token_at (is_mark marks.LeftParenthesis)) (from_token own rest s.rest s.token s.whole)
-    ∙ token_fails (is_mark marks.LeftParenthesis) s.token (s.rest ++ rest) (passes_at (is_mark marks.LeftParenthesis) s.token.kind (kinds.Mark marks.LeftBracket) false s.is.kind refl)
-
-declared_no_head : (bytes : List ℕ) (line : ℕ) (d : Declared) (i : Option Initial) (ds : Declarators) (own left right back rest : List Token) → has_name d ≡ true → SpellsDeclared bytes d left → SpellsInitializer bytes i right → SpellsOthers bytes ds back → own ≡ left ++ (right ++ (back ++ rest)) → behind_int bytes line own ≡ None
-declared_no_head bytes line (unnamed ss) i ds own left right back rest h s r t e = absurd cc
-declared_no_head bytes line (named at text ss) i ds own left right back rest h s r t e =
-    no_call bytes line own (s.rest ++ (right ++ (back ++ rest))) s.token (main_at bytes own) (e ∙ from_token left (right ++ (back ++ rest)) s.rest s.token s.whole)
-    (suffixes_no_open bytes ss s.rest (right ++ (back ++ rest)) s.behind (initializer_no_open bytes i ds right back rest r t)) refl
-declared_no_head bytes line (inside at d ss) i ds own left right back rest h s r t e =
-    no_main bytes line own (s.rest ++ (right ++ (back ++ rest))) s.token (e ∙ from_token left (right ++ (back ++ rest)) s.rest s.token s.whole) (ap is_identifier s.is.kind)
-
-declarators_no_head : (bytes : List ℕ) (line : ℕ) (names : Scope) (types : Bool) (ds : Declarators) (own rest : List Token) → SpellsDeclarators bytes ds own → AreWellDeclarators names types ds → behind_int bytes line (own ++ rest) ≡ None
-declarators_no_head bytes line names types none_declared own rest s w = no_main bytes line (own ++ rest) rest s.token (from_token own rest [] s.token s.whole) (ap is_identifier s.is)
-declarators_no_head bytes line names types (declarator d i ds) own rest s w =
+declarators_then : (bytes : List ℕ) (names : Scope) (ps : Parts) (ds : Declarators) (own rest : List Token) → SpellsDeclarators bytes ds own → AreWellDeclarators names (have_typedef ps) ds → declarators_depth ds ≤ 400 → outer_from bytes names ps (own ++ rest) (token_at (is_mark marks.Semicolon) (own ++ rest)) ≡ Some (declaring ps ds, rest)
+declarators_then bytes names ps none_declared own rest s w d =
+    ap (outer_from bytes names ps (own ++ rest)) (ap (token_at (is_mark marks.Semicolon)) (from_token own rest [] s.token s.whole) ∙ mark_gives marks.Semicolon s.token rest s.is)
+declarators_then bytes names ps (declarator x i ds) own rest s w d =
     let two = s.second in
-    declared_no_head bytes line d i ds (own ++ rest) s.left two.left two.right rest w.0 s.first two.first two.second
-    (apart own s.left s.right rest s.whole ∙ ap (λ (xs : List Token). s.left ++ xs) (apart s.right two.left two.right rest two.whole))
+    let e = apart own s.left s.right rest s.whole ∙ ap (λ (xs : List Token). s.left ++ xs) (apart s.right two.left two.right rest two.whole) in
+    let all = two.left ++ (two.right ++ rest) in
+    let end = others_end bytes ds two.right rest two.second in
+    ap (λ (xs : List Token). outer_from bytes names ps xs (token_at (is_mark marks.Semicolon) xs)) e
+    ∙ full_then bytes names ps x s.left all (Some (declaring ps (declarator x i ds), rest)) s.first w.0 w.1 (omega arith) (initializer_opens bytes i two.left (two.right ++ rest) end two.first)
+    (ap (outer_behind bytes ((name_of x, have_typedef ps) ∷ names) ps x all) (initializer_no_brace bytes i two.left (two.right ++ rest) end two.first)
+    ∙ bind_gives (others_at bytes ((name_of x, have_typedef ps) ∷ names) (have_typedef ps) x all) (λ ds. Some (declaring ps ds.0, ds.1)) (declarator x i ds, rest) (Some (declaring ps (declarator x i ds), rest))
+    (others_read bytes ((name_of x, have_typedef ps) ∷ names) (have_typedef ps) x i ds two.left two.right rest two.first two.second w.2 w.3 (omega arith) (omega arith)) refl)
 
--- behind a type a specifier is no name
-part_no_head : (bytes : List ℕ) (line : ℕ) (names : Scope) (p : Part) (own rest : List Token) → SpellsPart bytes p own → IsWellPart names true p → behind_int bytes line (own ++ rest) ≡ None
-part_no_head bytes line names (type_part (qualified at q)) own rest s w = no_main bytes line (own ++ rest) rest s.token (from_token own rest [] s.token s.whole) (ap is_identifier s.is.kind)
-part_no_head bytes line names (type_part (word at v)) own rest s w = no_main bytes line (own ++ rest) rest s.token (from_token own rest [] s.token s.whole) (ap is_identifier s.is.kind)
-part_no_head bytes line names (type_part (tagged at kind text)) own rest s w = no_main bytes line (own ++ rest) (s.rest ++ rest) s.token (from_token own rest s.rest s.token s.whole) (ap is_identifier s.is.kind)
-part_no_head bytes line names (type_part (typedef_name at text)) own rest s w = let e = w.0 in absurd cc
-part_no_head bytes line names (storage at c) own rest s w = no_main bytes line (own ++ rest) rest s.token (from_token own rest [] s.token s.whole) (ap is_identifier s.is.kind)
-part_no_head bytes line names (function at f) own rest s w = no_main bytes line (own ++ rest) rest s.token (from_token own rest [] s.token s.whole) (ap is_identifier s.is.kind)
-part_no_head bytes line names (structure at kind tag ms) own rest s w = no_main bytes line (own ++ rest) (s.rest ++ rest) s.token (from_token own rest s.rest s.token s.whole) (ap is_identifier s.is.kind)
-part_no_head bytes line names (enumeration at tag es) own rest s w = no_main bytes line (own ++ rest) (s.rest ++ rest) s.token (from_token own rest s.rest s.token s.whole) (ap is_identifier s.is.kind)
+-- a body
+record BraceFront (own : List Token) : Type 0 where
+  pub token : Token
+  pub others : List Token
+  pub is : token.kind ≡ kinds.Mark marks.LeftBrace
+  pub whole : own ≡ token ∷ others
 
-parts_no_head : (bytes : List ℕ) (line : ℕ) (names : Scope) (ps : Parts) (own rest : List Token) → SpellsParts bytes ps own → AreWellParts names true ps → behind_int bytes line rest ≡ None → behind_int bytes line (own ++ rest) ≡ None
-parts_no_head bytes line names no_part own rest s w e = ap (λ (xs : List Token). behind_int bytes line (xs ++ rest)) s ∙ e
-parts_no_head bytes line names (part p ps) own rest s w e =
-    ap (behind_int bytes line) (apart own s.left s.right rest s.whole) ∙ part_no_head bytes line names p s.left (s.right ++ rest) s.first w.0
+body_opens : (bytes : List ℕ) (body : Statement) (own : List Token) → is_block body ≡ true → SpellsStatement bytes body own → BraceFront own
+body_opens bytes (block line is) own e s = record { token = s.token; others = s.rest; is = s.is.kind; whole = s.whole }
+body_opens bytes (if_then line x u) own e s = absurd cc
+body_opens bytes (if_else line x u v) own e s = absurd cc
+body_opens bytes (evaluate x) own e s = absurd cc
+body_opens bytes (return_nothing line) own e s = absurd cc
+body_opens bytes (return_value line x) own e s = absurd cc
+body_opens bytes (empty line) own e s = absurd cc
+body_opens bytes (while_loop line x u) own e s = absurd cc
+body_opens bytes (do_loop line u x) own e s = absurd cc
+body_opens bytes (for_loop line a b c u) own e s = absurd cc
+body_opens bytes (for_declared line ps ds b c u) own e s = absurd cc
+body_opens bytes (switch_on line x u) own e s = absurd cc
+body_opens bytes (case_of line x u) own e s = absurd cc
+body_opens bytes (default_of line u) own e s = absurd cc
+body_opens bytes (labelled line text u) own e s = absurd cc
+body_opens bytes (goto_label line text) own e s = absurd cc
+body_opens bytes (break_off line) own e s = absurd cc
+body_opens bytes (continue_on line) own e s = absurd cc
 
-int_no_head : (bytes : List ℕ) (names : Scope) (p : Part) (ps : Parts) (types : Bool) (ds : Declarators) (own left mid right rest : List Token) → IntOrNot p left (mid ++ (right ++ rest)) → own ≡ left ++ (mid ++ (right ++ rest)) → SpellsParts bytes ps mid → ((t : Token) → left ≡ t ∷ [] → t.kind ≡ kinds.Keyword keywords.Int → (before : Scope) × AreWellParts before true ps) → SpellsDeclarators bytes ds right → AreWellDeclarators names types ds → head_at bytes own ≡ None
-unfolding head_at
-int_no_head bytes names p ps types ds own left mid right rest (inl e) f s w r v =
-    bind_none (token_at (is_keyword keywords.Int) own) (λ i. behind_int bytes i.0.line i.1) (ap (token_at (is_keyword keywords.Int)) f ∙ e)
-int_no_head bytes names p ps types ds own left mid right rest (inr (t, e, is)) f s w r v =
-    let b = w t e is in
-    bind_gives (token_at (is_keyword keywords.Int) own) (λ i. behind_int bytes i.0.line i.1) (t, mid ++ (right ++ rest)) None
-    (ap (token_at (is_keyword keywords.Int)) (f ∙ from_token left (mid ++ (right ++ rest)) [] t e) ∙ keyword_gives keywords.Int t (mid ++ (right ++ rest)) is)
-    (parts_no_head bytes t.line b.0 ps mid (right ++ rest) s b.1 (declarators_no_head bytes t.line names types ds right rest r v))
+body_read : (bytes : List ℕ) (names : Scope) (ps : Parts) (d : Full) (body : Statement) (own rest : List Token) → is_block body ≡ true → is_function d ≡ true → SpellsStatement bytes body own → IsWellStatement (with_parameters_of names (nearest d)) body → statement_depth body ≤ 400 → outer_behind bytes names ps d (own ++ rest) (token_at (is_mark marks.LeftBrace) (own ++ rest)) ≡ Some (defining ps d body, rest)
+unfolding definition_at
+body_read bytes names ps d (block line is) own rest e f s w h =
+    let scope = with_parameters_of names (nearest d) in
+    ap (outer_behind bytes names ps d (own ++ rest)) (ap (token_at (is_mark marks.LeftBrace)) (from_token own rest s.rest s.token s.whole) ∙ mark_gives marks.LeftBrace s.token (s.rest ++ rest) s.is.kind)
+    ∙ ap (λ (b : Bool). cond b (block_at bytes 399 (statement_at bytes 399) scope s.token.line (s.rest ++ rest)) None >>= λ b. Some (defining ps d b.0, b.1)) f
+    ∙ ap (λ (r : Read Statement). r >>= λ b. Some (defining ps d b.0, b.1)) (block_read bytes is 399 s.token.line scope s.rest rest (items_again bytes is) s.behind w (omega arith))
+    ∙ ap (λ (l : ℕ). Some (defining ps d (block l is), rest)) s.is.line
+body_read bytes names ps d (if_then line x u) own rest e f s w h = absurd cc
+body_read bytes names ps d (if_else line x u v) own rest e f s w h = absurd cc
+body_read bytes names ps d (evaluate x) own rest e f s w h = absurd cc
+body_read bytes names ps d (return_nothing line) own rest e f s w h = absurd cc
+body_read bytes names ps d (return_value line x) own rest e f s w h = absurd cc
+body_read bytes names ps d (empty line) own rest e f s w h = absurd cc
+body_read bytes names ps d (while_loop line x u) own rest e f s w h = absurd cc
+body_read bytes names ps d (do_loop line u x) own rest e f s w h = absurd cc
+body_read bytes names ps d (for_loop line a b c u) own rest e f s w h = absurd cc
+body_read bytes names ps d (for_declared line qs ds b c u) own rest e f s w h = absurd cc
+body_read bytes names ps d (switch_on line x u) own rest e f s w h = absurd cc
+body_read bytes names ps d (case_of line x u) own rest e f s w h = absurd cc
+body_read bytes names ps d (default_of line u) own rest e f s w h = absurd cc
+body_read bytes names ps d (labelled line text u) own rest e f s w h = absurd cc
+body_read bytes names ps d (goto_label line text) own rest e f s w h = absurd cc
+body_read bytes names ps d (break_off line) own rest e f s w h = absurd cc
+body_read bytes names ps d (continue_on line) own rest e f s w h = absurd cc
 
-same_keyword : (own others : List Token) (s t : Token) (k : Kind) → own ≡ s ∷ others → own ≡ t ∷ [] → s.kind ≡ k → t.kind ≡ kinds.Keyword keywords.Int → k ≡ kinds.Keyword keywords.Int
-same_keyword own others s t k e f g h = sym g ∙ ap (λ (x : Token). x.kind) (head_is (sym e ∙ f)) ∙ h
-
-not_int : {P : Type 0} (k : Keyword) (own others : List Token) (s t : Token) → own ≡ s ∷ others → own ≡ t ∷ [] → s.kind ≡ kinds.Keyword k → t.kind ≡ kinds.Keyword keywords.Int → is_keyword keywords.Int (kinds.Keyword k) ≡ false → P
-not_int k own others s t e f g h no_int =
-    let same = ap (is_keyword keywords.Int) (same_keyword own others s t (kinds.Keyword k) e f g h) in
-    let yes : is_keyword keywords.Int (kinds.Keyword keywords.Int) ≡ true = refl in
-    let both = sym no_int ∙ same ∙ yes in
-    absurd cc
-
--- one token that is a type word specifies a type
-int_specifies : (bytes : List ℕ) (p : Part) (own : List Token) (t : Token) → SpellsPart bytes p own → own ≡ t ∷ [] → t.kind ≡ kinds.Keyword keywords.Int → specifies p ≡ true
-int_specifies bytes (type_part (qualified line q)) own t s e is = not_int (qualifier_keyword q) own [] s.token t s.whole e s.is.kind is (qualifier_no_int q)
-int_specifies bytes (type_part (word line w)) own t s e is = refl
-int_specifies bytes (type_part (tagged line kind text)) own t s e is = refl
-int_specifies bytes (type_part (typedef_name line text)) own t s e is = refl
-int_specifies bytes (storage line c) own t s e is = not_int (storage_keyword c) own [] s.token t s.whole e s.is.kind is (storage_no_int c)
-int_specifies bytes (function line f) own t s e is = not_int (function_keyword f) own [] s.token t s.whole e s.is.kind is (function_no_int f)
-int_specifies bytes (structure line kind tag ms) own t s e is = refl
-int_specifies bytes (enumeration line tag es) own t s e is = refl
-
-pub declaration_no_head : (bytes : List ℕ) (names : Scope) (ps : Parts) (ds : Declarators) (own rest : List Token) → SpellsDeclaration bytes ps ds own → IsWellDeclaration names ps ds → head_at bytes (own ++ rest) ≡ None
-declaration_no_head bytes names no_part ds own rest s w = absurd (w.0 refl)
-declaration_no_head bytes names (part p ps) ds own rest s w =
-    let two = s.first in
-    let e = apart own s.left s.right rest s.whole ∙ apart s.left two.left two.right (s.right ++ rest) two.whole in
-    int_no_head bytes (with_parts names (part p ps)) p ps (have_typedef (part p ps)) ds (own ++ rest) two.left two.right s.right rest (part_int bytes p two.left (two.right ++ (s.right ++ rest)) two.first) e two.second
-    (λ t f is. (with_part names p, subst (λ (b : Bool). AreWellParts (with_part names p) b ps) (int_specifies bytes p two.left t two.first f is) w.1.1))
-    s.second w.3
-
--- a token in front of a reading
-step_read : {B : Type 0} (o : List Token → Read Token) (all ts : List Token) (tok : Token) (k : Token × List Token → Read B) (y : Read B) → all ≡ tok ∷ ts → o (tok ∷ ts) ≡ Some (tok, ts) → k (tok, ts) ≡ y → (o all >>= k) ≡ y
-step_read o all ts tok k y e f g = ap (λ (xs : List Token). o xs >>= k) e ∙ ap (λ (x : Read Token). x >>= k) f ∙ g
-
-main_body_read : (bytes : List ℕ) (names : Scope) (body : Statement) (own rest : List Token) → is_block body ≡ true → SpellsStatement bytes body own → IsWellStatement names body → statement_depth body ≤ 400 → main_body_at bytes names (own ++ rest) ≡ Some (body, rest)
-unfolding main_body_at
-main_body_read bytes names (block line is) own rest e s w d =
-    step_read (token_at (is_mark marks.LeftBrace)) (own ++ rest) (s.rest ++ rest) s.token (λ x. block_at bytes 399 (statement_at bytes 399) names x.0.line x.1) (Some (block line is, rest))
-    (from_token own rest s.rest s.token s.whole) (mark_gives marks.LeftBrace s.token (s.rest ++ rest) s.is.kind)
-    (block_read bytes is 399 s.token.line names s.rest rest (items_again bytes is) s.behind w (omega arith) ∙ ap (λ (l : ℕ). Some (block l is, rest)) s.is.line)
-main_body_read bytes names (if_then line test s) own rest e sp w d = cc
-main_body_read bytes names (if_else line test s u) own rest e sp w d = cc
-main_body_read bytes names (evaluate x) own rest e sp w d = cc
-main_body_read bytes names (return_nothing line) own rest e sp w d = cc
-main_body_read bytes names (return_value line x) own rest e sp w d = cc
-
-definition_read : (bytes : List ℕ) (names : Scope) (line name_line : ℕ) (body : Statement) (own rest : List Token) → SpellsDefinition bytes line name_line body own → IsWellOuter names (defining line name_line body) → statement_depth body ≤ 400 → outer_at bytes names (own ++ rest) ≡ Some (defining line name_line body, rest)
-unfolding outer_at head_at definition_at
-definition_read bytes names line name_line body own rest a w d =
-    let main = (codes "main", false) ∷ names in
-    let b = a.behind in
-    let o = b.behind in
-    let v = o.behind in
-    let p = v.behind in
-    let head : (token_at (is_keyword keywords.Int) (own ++ rest) >>= λ i. behind_int bytes i.0.line i.1) ≡ Some ((line, name_line), o.rest ++ rest) =
-    step_read (token_at (is_keyword keywords.Int)) (own ++ rest) (a.rest ++ rest) a.token (λ i. behind_int bytes i.0.line i.1) (Some ((line, name_line), o.rest ++ rest)) (from_token own rest a.rest a.token a.whole) (keyword_gives keywords.Int a.token (a.rest ++ rest) a.is.kind)
-    (step_read (main_at bytes) (a.rest ++ rest) (b.rest ++ rest) b.token (λ n. token_at (is_mark marks.LeftParenthesis) n.1 >>= λ p. Some ((a.token.line, n.0.line), p.1)) (Some ((line, name_line), o.rest ++ rest)) (from_token a.rest rest b.rest b.token b.whole) (main_gives bytes name_line b.token (b.rest ++ rest) b.is)
-    (step_read (token_at (is_mark marks.LeftParenthesis)) (b.rest ++ rest) (o.rest ++ rest) o.token (λ p. Some ((a.token.line, b.token.line), p.1)) (Some ((line, name_line), o.rest ++ rest)) (from_token b.rest rest o.rest o.token o.whole) (mark_gives marks.LeftParenthesis o.token (o.rest ++ rest) o.is)
-    (ap (λ (l : ℕ). Some ((l, b.token.line), o.rest ++ rest)) a.is.line ∙ ap (λ (l : ℕ). Some ((line, l), o.rest ++ rest)) b.is.line))) in
-    ap (outer_by bytes names (own ++ rest)) head
-    ∙ step_read (token_at (is_keyword keywords.Void)) (o.rest ++ rest) (v.rest ++ rest) v.token (λ y. token_at (is_mark marks.RightParenthesis) y.1 >>= λ z. main_body_at bytes main z.1 >>= λ b. Some (defining line name_line b.0, b.1)) (Some (defining line name_line body, rest)) (from_token o.rest rest v.rest v.token v.whole) (keyword_gives keywords.Void v.token (v.rest ++ rest) v.is)
-    (step_read (token_at (is_mark marks.RightParenthesis)) (v.rest ++ rest) (p.rest ++ rest) p.token (λ z. main_body_at bytes main z.1 >>= λ b. Some (defining line name_line b.0, b.1)) (Some (defining line name_line body, rest)) (from_token v.rest rest p.rest p.token p.whole) (mark_gives marks.RightParenthesis p.token (p.rest ++ rest) p.is)
-    (ap (λ (r : Read Statement). r >>= λ b. Some (defining line name_line b.0, b.1)) (main_body_read bytes main body p.rest rest w.0 p.behind w.1 d)))
+definition_read : (bytes : List ℕ) (names : Scope) (ps : Parts) (d : Full) (body : Statement) (own rest : List Token) → SpellsDefinition bytes ps d body own → IsWellDefinition names ps d body → parts_depth ps ≤ 400 → full_depth d ≤ 400 → statement_depth body ≤ 400 → outer_at bytes names (own ++ rest) ≡ Some (defining ps d body, rest)
+definition_read bytes names ps d body own rest s w a b c =
+    let two = s.second in
+    let e = apart own s.left s.right rest s.whole in
+    let f = apart s.right two.left two.right rest two.whole in
+    let q = full_quiet false bytes (with_parts names ps) (specify ps) d two.left (two.right ++ rest) two.first (named_full d w.3) w.2 in
+    let brace = body_opens bytes body two.right w.6 two.second in
+    let follows : Opens Follows (two.right ++ rest) = record {
+      token = brace.token;
+      others = brace.others ++ rest;
+      whole = from_token two.right rest brace.others brace.token brace.whole;
+      is = (
+        passes_at (is_mark marks.LeftBracket) brace.token.kind (kinds.Mark marks.LeftBrace) false brace.is refl,
+        passes_at (is_mark marks.LeftParenthesis) brace.token.kind (kinds.Mark marks.LeftBrace) false brace.is refl,
+        ap is_identifier brace.is,
+      );
+    } in
+    ap (outer_at bytes names) (e ∙ ap (λ (xs : List Token). s.left ++ xs) f)
+    ∙ parts_then bytes names ps s.left (two.left ++ (two.right ++ rest)) (Some (defining ps d body, rest)) w.0 s.first w.1 a q
+    (full_then bytes (with_parts names ps) ps d two.left (two.right ++ rest) (Some (defining ps d body, rest)) two.first w.3 w.5 b follows
+    (body_read bytes (with_function names ps d) ps d body two.right rest w.6 w.4 two.second w.7 c))
 
 -- what stands there is read
 pub outer_again : (bytes : List ℕ) (names : Scope) (e : Outer) (own rest : List Token) → IsExternal bytes names e own → outer_at bytes names (own ++ rest) ≡ Some (e, rest)
-unfolding outer_at
 outer_again bytes names (declaring ps ds) own rest d =
-    ap (outer_by bytes names (own ++ rest)) (declaration_no_head bytes names ps ds own rest d.spelled d.well)
-    ∙ ap (λ (r : Read (Parts × Declarators)). r >>= λ d. Some (declaring d.0.0 d.0.1, d.1)) (declaration_read bytes names 400 ps ds own rest d.spelled d.well d.deep)
-outer_again bytes names (defining line name_line body) own rest d =
-    definition_read bytes names line name_line body own rest d.spelled d.well (let h = d.deep in omega (arith, h))
+    let s = d.spelled in
+    let w = d.well in
+    let h = d.deep in
+    let q = declarators_quiet bytes (with_parts names ps) (specify ps) (have_typedef ps) ds s.right rest s.second w.3 w.2 in
+    ap (outer_at bytes names) (apart own s.left s.right rest s.whole)
+    ∙ parts_then bytes names ps s.left (s.right ++ rest) (Some (declaring ps ds, rest)) w.0 s.first w.1 (omega (arith, h)) q
+    (declarators_then bytes (with_parts names ps) ps ds s.right rest s.second w.3 (omega (arith, h)))
+outer_again bytes names (defining ps d body) own rest e =
+    let h = e.deep in
+    definition_read bytes names ps d body own rest e.spelled e.well (omega (arith, h)) (omega (arith, h)) (omega (arith, h))
 
 outer_read : (bytes : List ℕ) (names : Scope) (e : Outer) (tokens rest : List Token) → Stands bytes names e tokens rest → outer_at bytes names tokens ≡ Some (e, rest)
 outer_read bytes names e tokens rest s = ap (outer_at bytes names) s.front ∙ outer_again bytes names e s.own rest s.is
@@ -379,7 +292,7 @@ no_longer bytes names a b own others s r =
     ap (λ (x : Outer × List Token). x.1) (some_is (sym e ∙ f))
 
 nothing_read : (bytes : List ℕ) (names : Scope) → outer_at bytes names [] ≡ None
-unfolding outer_at head_at token_at declaration_at parts_at run_at start_at
+unfolding outer_at token_at parts_at run_at start_at
 nothing_read bytes names = refl
 
 -- without tokens nothing stands there
@@ -398,15 +311,15 @@ first_stands bytes names (declaring ps ds) es tokens rest s =
       },
       record { own = t.right; spelled = t.second; well = s.well.1; deep = omega (arith, s.deep); front = refl },
     )
-first_stands bytes names (defining line name_line body) es tokens rest s =
+first_stands bytes names (defining qs d body) es tokens rest s =
     let t = s.spelled in (
       t.right ++ rest,
       record {
         own = t.left;
-        is = record { spelled = t.first; well = (s.well.0, s.well.1); deep = omega (arith, s.deep) };
+        is = record { spelled = t.first; well = s.well.0; deep = omega (arith, s.deep) };
         front = s.front ∙ ap (λ (xs : List Token). xs ++ rest) t.whole ∙ append_assoc t.left t.right rest;
       },
-      record { own = t.right; spelled = t.second; well = s.well.2; deep = omega (arith, s.deep); front = refl },
+      record { own = t.right; spelled = t.second; well = s.well.1; deep = omega (arith, s.deep); front = refl },
     )
 
 moved : (bytes : List ℕ) (names : Scope) (tree : Externals) (tokens others rest : List Token) → tokens ≡ others → StandBefore bytes names tree tokens rest → StandBefore bytes names tree others rest
@@ -439,11 +352,11 @@ same_end bytes (defines l m b us) no_more names tokens rest others s r none last
 same_end bytes (declared ps ds us) (declared qs es bs) names tokens rest others s r none last =
     both_more bytes names (declaring ps ds) (declaring qs es) us bs tokens rest others (λ mid. same_end bytes us bs (with_declaration names qs es) mid rest others) s r none last
 same_end bytes (declared ps ds us) (defines k n c bs) names tokens rest others s r none last =
-    both_more bytes names (declaring ps ds) (defining k n c) us bs tokens rest others (λ mid. same_end bytes us bs ((codes "main", false) ∷ names) mid rest others) s r none last
+    both_more bytes names (declaring ps ds) (defining k n c) us bs tokens rest others (λ mid. same_end bytes us bs (with_function names k n) mid rest others) s r none last
 same_end bytes (defines l m b us) (declared qs es bs) names tokens rest others s r none last =
     both_more bytes names (defining l m b) (declaring qs es) us bs tokens rest others (λ mid. same_end bytes us bs (with_declaration names qs es) mid rest others) s r none last
 same_end bytes (defines l m b us) (defines k n c bs) names tokens rest others s r none last =
-    both_more bytes names (defining l m b) (defining k n c) us bs tokens rest others (λ mid. same_end bytes us bs ((codes "main", false) ∷ names) mid rest others) s r none last
+    both_more bytes names (defining l m b) (defining k n c) us bs tokens rest others (λ mid. same_end bytes us bs (with_function names k n) mid rest others) s r none last
 
 pub file_stands : (bytes : List ℕ) (tokens : List Token) (tree : Externals) → IsFile bytes tokens tree → StandBefore bytes built_in_names tree tokens []
 file_stands bytes tokens tree f = record { own = tokens; spelled = f.spelled; well = f.well; deep = f.deep; front = sym (append-nil tokens) }
@@ -463,11 +376,11 @@ spelled_file bytes (external.Defines d) es own s = s
 
 file_well : (names : Scope) (e : External) (es : Externals) → AreWellExternals names (view_external e es) → IsWellOuter names (outer_of e) × AreWellExternals (with_outer names (outer_of e)) es
 file_well names (external.Declares d) es w = (w.0, w.1)
-file_well names (external.Defines d) es w = ((w.0, w.1), w.2)
+file_well names (external.Defines d) es w = (w.0, w.1)
 
 well_file : (names : Scope) (e : External) (es : Externals) → IsWellOuter names (outer_of e) → AreWellExternals (with_outer names (outer_of e)) es → AreWellExternals names (view_external e es)
 well_file names (external.Declares d) es w v = (w, v)
-well_file names (external.Defines d) es w v = (w.0, w.1, v)
+well_file names (external.Defines d) es w v = (w, v)
 
 deep_file : (e : External) (es : Externals) → file_depth (view_external e es) ≡ max (outer_depth (outer_of e)) (file_depth es)
 deep_file (external.Declares d) es = refl

@@ -8,24 +8,26 @@ use Rattle.c_lexer.specs.declared.token.Kind.TheVariants as kinds
 use Rattle.c_lexer.specs.declared.token.Keyword.{Keyword}
 use Rattle.c_lexer.specs.declared.token.Mark.{Mark}
 use Rattle.c_lexer.specs.declared.token.Mark.TheVariants as marks
-use Rattle.c_tree.specs.Tree.{Tree, Declared, unnamed, named, inside, depth, declared_depth}
+use Rattle.c_tree.specs.Tree.{Tree, depth}
+use Rattle.c_tree.specs.Declarations.{Full, full_unnamed, full_named, full_inside, full_end, full_bounded, full_open, full_empty, full_void, full_parameters, full_has_name}
 use Rattle.c_tree.specs.Tables.{level_of}
 use Rattle.c_tree.specs.Names.{Scope, is_type}
-use Rattle.c_tree.specs.Spelling.{Single, Behind, Then, IsMark, Spells, SpellsDeclared, IsWell, IsWellDeclared, is_empty, has_name}
-use Rattle.c_tree.specs.Files.{Closes, FrontIsNoType}
+use Rattle.c_tree.specs.Spelling.{Single, Behind, Then, IsMark, Spells, IsWell}
+use Rattle.c_tree.specs.Files.{Closes, FrontIsNoType, SpellsFull, full_is_empty}
 use Rattle.c_parse_expr.specs.declared.table.Suffix.{Suffix}
 use Rattle.c_parse_expr.specs.declared.table.Suffix.TheVariants as suffixes
 use Rattle.c_parse_expr.specs.Tables.{suffix_of}
 use Rattle.c_parse_expr.specs.Many.{◌>>=◌}
-use Rattle.c_parse_expr.specs.Reading.{is_mark, is_identifier, goes_on, reader, declared_at}
-use Rattle.c_parse_expr.specs.Standing.{goes_on_inside, Inside, Ends, goes_on_with}
+use Rattle.c_parse_expr.specs.Reading.{is_mark, is_identifier, goes_on, reader}
+use Rattle.c_parse_expr.specs.Standing.{goes_on_inside, Inside, Ends}
 use Rattle.c_parse_decl.specs.Reading.{Read, token_at, or_else, comma_at, shut_at, ended_at, start_at}
 use Rattle.c_parse_decl.proofs.Lists.{bind_gives, bind_none}
 use Rattle.c_parse_decl.proofs.Words.{passes_at, token_fails, mark_gives}
 use Rattle.c_parse_decl.proofs.Starts.{start_fails, name_fails}
-use Rattle.c_parse_expr.proofs.Again.{is_read, is_declared}
+use Rattle.c_parse_expr.proofs.Again.{is_read}
 use Rattle.c_parse_expr.proofs.Within.{quiet}
 use Rattle.c_parse_decl.proofs.Runs.{Separated}
+use Rattle.c_parse_decl.proofs.TakenParts.{nothing_spelled}
 
 pub apart : (own left right rest : List Token) → own ≡ left ++ right → own ++ rest ≡ left ++ (right ++ rest)
 apart own left right rest e = ap (λ (xs : List Token). xs ++ rest) e ∙ append_assoc left right rest
@@ -169,42 +171,55 @@ expression_read bytes names n k e own rest tok stops s w d l =
     let f = stops names e rest w l in
     is_read bytes names n k e (own ++ (tok ∷ rest)) (tok ∷ rest) (record { own = own; spelled = s; front = refl; level = l; well = w; inside = f.0; ends = f.1; deep = d })
 
--- the token goes on with no declarator
-neither_goes : (a b c : Bool) → a ≡ false → c ≡ false → (a || (b && c)) ≡ false
-neither_goes true b c e f = absurd cc
-neither_goes false true c e f = f
-neither_goes false false c e f = refl
+-- what follows a declarator: no suffix, and no name
+abbrev pub Follows : Kind → Type 0
+Follows k = (is_mark marks.LeftBracket k ≡ false) × (is_mark marks.LeftParenthesis k ≡ false) × (is_identifier k ≡ false)
 
-pub declared_read : (bytes : List ℕ) (names : Scope) (n : ℕ) (d : Declared) (own others : List Token) (tok : Token) → is_mark marks.LeftBracket tok.kind ≡ false → is_mark marks.LeftParenthesis tok.kind ≡ false → SpellsDeclared bytes d own → has_name d ≡ true → IsWellDeclared names d → declared_depth d ≤ n → declared_at bytes names n true (own ++ (tok ∷ others)) ≡ Some (d, tok ∷ others)
-declared_read bytes names n d own others tok no_bracket no_open s has w deep =
-    is_declared bytes names n true d (own ++ (tok ∷ others)) (tok ∷ others)
-    (record {
-      own = own;
-      spelled = s;
-      front = refl;
-      heart = has;
-      well = w;
-      ends = neither_goes (is_mark marks.LeftBracket tok.kind) (is_empty d) (is_mark marks.LeftParenthesis tok.kind) no_bracket no_open;
-      deep = deep;
-    })
+pub ender_follows : (k : Kind) → IsEnder k → Follows k
+ender_follows k e = (ender_not marks.LeftBracket k refl refl refl e, ender_not marks.LeftParenthesis k refl refl refl e, ender_no_name k e)
+  where
+    ender_no_name : (k : Kind) → IsEnder k → is_identifier k ≡ false
+    ender_no_name k (inl f) = ap is_identifier f
+    ender_no_name k (inr (inl f)) = ap is_identifier f
+    ender_no_name k (inr (inr f)) = ap is_identifier f
 
--- a declarator with a name begins with the name or with a parenthesis
-abbrev pub BeginsDeclared : Kind → Type 0
-BeginsDeclared k = (k ≡ kinds.Identifier) ⊎ (k ≡ kinds.Mark marks.LeftParenthesis)
+pub enders_follow : (ts : List Token) → Opens IsEnder ts → Opens Follows ts
+enders_follow ts o = record { token = o.token; others = o.others; whole = o.whole; is = ender_follows o.token.kind o.is }
 
-pub declared_opens : (bytes : List ℕ) (d : Declared) (own : List Token) → has_name d ≡ true → SpellsDeclared bytes d own → Opens BeginsDeclared own
-declared_opens bytes (unnamed ss) own e s = absurd cc
-declared_opens bytes (named line text ss) own e s = record { token = s.token; others = s.rest; whole = s.whole; is = inl s.is.kind }
-declared_opens bytes (inside line d ss) own e s = record { token = s.token; others = s.rest; whole = s.whole; is = inr s.is.kind }
+-- what follows a parameter
+abbrev pub IsCloser : Kind → Type 0
+IsCloser k = (k ≡ kinds.Mark marks.Comma) ⊎ (k ≡ kinds.Mark marks.RightParenthesis)
 
-pub declared_not : (m : Mark) (k : Kind) → is_mark m (kinds.Mark marks.LeftParenthesis) ≡ false → BeginsDeclared k → is_mark m k ≡ false
-declared_not m k e (inl f) = passes_at (is_mark m) k kinds.Identifier false f refl
-declared_not m k e (inr f) = passes_at (is_mark m) k (kinds.Mark marks.LeftParenthesis) false f e
+pub closers_follow : (ts : List Token) → Opens IsCloser ts → Opens Follows ts
+closers_follow ts o = record { token = o.token; others = o.others; whole = o.whole; is = closer_follows o.token.kind o.is }
+  where
+    closer_follows : (k : Kind) → IsCloser k → Follows k
+    closer_follows k (inl e) = (passes_at (is_mark marks.LeftBracket) k (kinds.Mark marks.Comma) false e refl, passes_at (is_mark marks.LeftParenthesis) k (kinds.Mark marks.Comma) false e refl, ap is_identifier e)
+    closer_follows k (inr e) = (passes_at (is_mark marks.LeftBracket) k (kinds.Mark marks.RightParenthesis) false e refl, passes_at (is_mark marks.LeftParenthesis) k (kinds.Mark marks.RightParenthesis) false e refl, ap is_identifier e)
 
-pub declared_opens_not : (bytes : List ℕ) (m : Mark) (d : Declared) (own : List Token) → is_mark m (kinds.Mark marks.LeftParenthesis) ≡ false → has_name d ≡ true → SpellsDeclared bytes d own → Opens (IsNot m) own
-declared_opens_not bytes m d own e h s =
-    let o = declared_opens bytes d own h s in
-    record { token = o.token; others = o.others; whole = o.whole; is = declared_not m o.token.kind e o.is }
+-- a declarator that isn't empty begins with its name, a parenthesis or a bracket
+abbrev pub BeginsFull : Kind → Type 0
+BeginsFull k = (k ≡ kinds.Identifier) ⊎ ((k ≡ kinds.Mark marks.LeftParenthesis) ⊎ (k ≡ kinds.Mark marks.LeftBracket))
+
+pub full_opens : (bytes : List ℕ) (d : Full) (own : List Token) → full_is_empty d ≡ false → SpellsFull bytes d own → Opens BeginsFull own
+full_opens bytes (full_unnamed full_end) own e s = absurd cc
+full_opens bytes (full_unnamed (full_bounded line b ss)) own e s = record { token = s.token; others = s.rest; whole = s.whole; is = inr (inr s.is.kind) }
+full_opens bytes (full_unnamed (full_open line ss)) own e s = record { token = s.token; others = s.rest; whole = s.whole; is = inr (inr s.is.kind) }
+full_opens bytes (full_unnamed (full_empty line ss)) own e s = record { token = s.token; others = s.rest; whole = s.whole; is = inr (inl s.is.kind) }
+full_opens bytes (full_unnamed (full_void line ss)) own e s = record { token = s.token; others = s.rest; whole = s.whole; is = inr (inl s.is.kind) }
+full_opens bytes (full_unnamed (full_parameters line ps v ss)) own e s = record { token = s.token; others = s.rest; whole = s.whole; is = inr (inl s.is.kind) }
+full_opens bytes (full_named line text ss) own e s = record { token = s.token; others = s.rest; whole = s.whole; is = inl s.is.kind }
+full_opens bytes (full_inside line d ss) own e s = record { token = s.token; others = s.rest; whole = s.whole; is = inr (inl s.is.kind) }
+
+pub full_not : (m : Mark) (k : Kind) → is_mark m (kinds.Mark marks.LeftParenthesis) ≡ false → is_mark m (kinds.Mark marks.LeftBracket) ≡ false → BeginsFull k → is_mark m k ≡ false
+full_not m k e f (inl g) = passes_at (is_mark m) k kinds.Identifier false g refl
+full_not m k e f (inr (inl g)) = passes_at (is_mark m) k (kinds.Mark marks.LeftParenthesis) false g e
+full_not m k e f (inr (inr g)) = passes_at (is_mark m) k (kinds.Mark marks.LeftBracket) false g f
+
+pub full_opens_not : (bytes : List ℕ) (m : Mark) (d : Full) (own : List Token) → is_mark m (kinds.Mark marks.LeftParenthesis) ≡ false → is_mark m (kinds.Mark marks.LeftBracket) ≡ false → full_is_empty d ≡ false → SpellsFull bytes d own → Opens (IsNot m) own
+full_opens_not bytes m d own e f h s =
+    let o = full_opens bytes d own h s in
+    record { token = o.token; others = o.others; whole = o.whole; is = full_not m o.token.kind e f o.is }
 
 -- no specifier begins, and no brace stands there
 pub record Quiet (inner : Bool) (bytes : List ℕ) (names : Scope) (before : Bool) (ts : List Token) : Type 0 where
@@ -217,13 +232,32 @@ quiet_at_mark inner bytes names before m t ts others e is other = record {
   no_brace = ap (token_at (is_mark marks.LeftBrace)) e ∙ token_fails (is_mark marks.LeftBrace) t others (passes_at (is_mark marks.LeftBrace) t.kind (kinds.Mark m) false is other);
 }
 
-pub declared_quiet : (inner : Bool) (bytes : List ℕ) (names : Scope) (before : Bool) (d : Declared) (own rest : List Token) → SpellsDeclared bytes d own → has_name d ≡ true → FrontIsNoType names before d → Quiet inner bytes names before (own ++ rest)
-declared_quiet inner bytes names before (unnamed ss) own rest s h f = absurd cc
-declared_quiet inner bytes names before (named line text ss) own rest s h f =
-    let e = from_token own rest s.rest s.token s.whole in
-    record {
-      no_start = ap (start_at inner bytes (names, before)) e ∙ name_fails inner bytes (names, before) s.token (s.rest ++ rest) s.is.kind (λ not. ap (is_type names) s.is.text ∙ f not);
-      no_brace = ap (token_at (is_mark marks.LeftBrace)) e ∙ token_fails (is_mark marks.LeftBrace) s.token (s.rest ++ rest) (passes_at (is_mark marks.LeftBrace) s.token.kind kinds.Identifier false s.is.kind refl);
-    }
-declared_quiet inner bytes names before (inside line d ss) own rest s h f =
+-- a declarator that isn't empty begins no specifier
+pub full_quiet : (inner : Bool) (bytes : List ℕ) (names : Scope) (before : Bool) (d : Full) (own rest : List Token) → SpellsFull bytes d own → full_is_empty d ≡ false → FrontIsNoType names before d → Quiet inner bytes names before (own ++ rest)
+full_quiet inner bytes names before (full_unnamed full_end) own rest s h f = absurd cc
+full_quiet inner bytes names before (full_unnamed (full_bounded line b ss)) own rest s h f =
+    quiet_at_mark inner bytes names before marks.LeftBracket s.token (own ++ rest) (s.rest ++ rest) (from_token own rest s.rest s.token s.whole) s.is.kind refl
+full_quiet inner bytes names before (full_unnamed (full_open line ss)) own rest s h f =
+    quiet_at_mark inner bytes names before marks.LeftBracket s.token (own ++ rest) (s.rest ++ rest) (from_token own rest s.rest s.token s.whole) s.is.kind refl
+full_quiet inner bytes names before (full_unnamed (full_empty line ss)) own rest s h f =
     quiet_at_mark inner bytes names before marks.LeftParenthesis s.token (own ++ rest) (s.rest ++ rest) (from_token own rest s.rest s.token s.whole) s.is.kind refl
+full_quiet inner bytes names before (full_unnamed (full_void line ss)) own rest s h f =
+    quiet_at_mark inner bytes names before marks.LeftParenthesis s.token (own ++ rest) (s.rest ++ rest) (from_token own rest s.rest s.token s.whole) s.is.kind refl
+full_quiet inner bytes names before (full_unnamed (full_parameters line ps v ss)) own rest s h f =
+    quiet_at_mark inner bytes names before marks.LeftParenthesis s.token (own ++ rest) (s.rest ++ rest) (from_token own rest s.rest s.token s.whole) s.is.kind refl
+full_quiet inner bytes names before (full_named line text ss) own rest s h f = record {
+  no_start = ap (start_at inner bytes (names, before)) (from_token own rest s.rest s.token s.whole) ∙ name_fails inner bytes (names, before) s.token (s.rest ++ rest) s.is.kind (λ no. ap (is_type names) s.is.text ∙ f no);
+  no_brace = ap (token_at (is_mark marks.LeftBrace)) (from_token own rest s.rest s.token s.whole) ∙ token_fails (is_mark marks.LeftBrace) s.token (s.rest ++ rest) (passes_at (is_mark marks.LeftBrace) s.token.kind kinds.Identifier false s.is.kind refl);
+}
+full_quiet inner bytes names before (full_inside line d ss) own rest s h f =
+    quiet_at_mark inner bytes names before marks.LeftParenthesis s.token (own ++ rest) (s.rest ++ rest) (from_token own rest s.rest s.token s.whole) s.is.kind refl
+
+closer_quiet : (inner : Bool) (bytes : List ℕ) (names : Scope) (before : Bool) (ts others : List Token) (t : Token) → ts ≡ t ∷ others → IsCloser t.kind → Quiet inner bytes names before ts
+closer_quiet inner bytes names before ts others t e (inl f) = quiet_at_mark inner bytes names before marks.Comma t ts others e f refl
+closer_quiet inner bytes names before ts others t e (inr f) = quiet_at_mark inner bytes names before marks.RightParenthesis t ts others e f refl
+
+-- nor does the declarator of a parameter with what follows it
+pub parameter_quiet : (bytes : List ℕ) (names : Scope) (before : Bool) (d : Full) (b : Bool) (own rest : List Token) → full_is_empty d ≡ b → Opens IsCloser rest → SpellsFull bytes d own → FrontIsNoType names before d → Quiet false bytes names before (own ++ rest)
+parameter_quiet bytes names before d false own rest h o s f = full_quiet false bytes names before d own rest s h f
+parameter_quiet bytes names before d true own rest h o s f =
+    closer_quiet false bytes names before (own ++ rest) o.others o.token (ap (λ (xs : List Token). xs ++ rest) (nothing_spelled bytes d own h s) ∙ o.whole) o.is

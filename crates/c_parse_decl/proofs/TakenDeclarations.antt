@@ -3,19 +3,19 @@ use Rattle.std.proofs.Common.{◌≡◌, ◌≢◌, ◌≤◌, ◌+◌, max, ℕ
 use Rattle.std.proofs.lemmas.List.{append_assoc}
 use Rattle.c_lexer.specs.declared.token.Token.{Token}
 use Rattle.c_lexer.specs.declared.token.Mark.TheVariants as marks
-use Rattle.c_tree.specs.Tree.{Tree, Declared, depth, declared_depth}
+use Rattle.c_tree.specs.Tree.{Tree, depth}
 use Rattle.c_tree.specs.Names.{Scope}
-use Rattle.c_tree.specs.Spelling.{Single, Behind, Then, IsMark, Spells, SpellsDeclared, IsWell, IsWellDeclared, has_name}
-use Rattle.c_tree.specs.Declarations.{Parts, Initial, initial, braces, Initials, no_initial, initials, Declarators, none_declared, declarator, initial_depth, initials_depth, initializer_depth, declarators_depth, parts_depth, name_of, with_parts, have_typedef, specify}
-use Rattle.c_tree.specs.Files.{SpellsInitial, SpellsInitials, SpellsOtherInitials, SpellsInitializer, SpellsOthers, SpellsDeclarators, SpellsParts, SpellsDeclaration, IsWellInitial, AreWellInitials, IsWellInitializer, AreWellDeclarators, FrontIsNoTypeOfDeclarators, IsWellDeclaration}
+use Rattle.c_tree.specs.Spelling.{Single, Behind, Then, IsMark, Spells, IsWell}
+use Rattle.c_tree.specs.Declarations.{Full, full_depth, full_has_name, Parts, Initial, initial, braces, Initials, no_initial, initials, Declarators, none_declared, declarator, initial_depth, initials_depth, initializer_depth, declarators_depth, parts_depth, name_of, with_parts, have_typedef, specify}
+use Rattle.c_tree.specs.Files.{SpellsFull, IsWellFull, SpellsInitial, SpellsInitials, SpellsOtherInitials, SpellsInitializer, SpellsOthers, SpellsDeclarators, SpellsParts, SpellsDeclaration, IsWellInitial, AreWellInitials, IsWellInitializer, AreWellDeclarators, FrontIsNoTypeOfDeclarators, IsWellDeclaration}
 use Rattle.c_parse_expr.specs.Many.{◌>>=◌}
-use Rattle.c_parse_expr.specs.Reading.{is_mark, reader, declared_at}
-use Rattle.c_parse_decl.specs.Reading.{Read, State, token_at, run_at, comma_at, shut_at, ended_at, start_at, parts_at, are_some, body_at, initials_list, initials_at, initial_by, initial_at, initializer_by, initializer_at, declarator_at, declarators_list, declarators_at, declaration_at}
+use Rattle.c_parse_expr.specs.Reading.{is_mark, reader}
+use Rattle.c_parse_decl.specs.Reading.{Read, State, token_at, run_at, comma_at, shut_at, ended_at, start_at, parts_at, are_some, body_at, full_at, initials_list, initials_at, initial_by, initial_at, initializer_by, initializer_at, declarator_at, declarators_list, declarators_at, declaration_at}
 use Rattle.c_parse_decl.proofs.Lists.{some_is, bind_some, run_takes}
 use Rattle.c_parse_decl.proofs.Words.{mark_takes}
-use Rattle.c_parse_expr.proofs.Taken.{reads, reads_declared}
+use Rattle.c_parse_expr.proofs.Taken.{reads}
 use Rattle.c_parse_decl.proofs.Runs.{Run, seam, in_front_of, Separated, separated_joins, comma_takes, shut_takes, ended_takes, regroup}
-use Rattle.c_parse_decl.proofs.TakenParts.{parts_take, body_takes, front_no_type, if_some, some_parts}
+use Rattle.c_parse_decl.proofs.TakenParts.{parts_take, body_takes, full_takes, front_no_type, if_some, some_parts, grouped_behind}
 
 -- initializers
 abbrev pub InitialRun : List ℕ → Scope → ℕ → Initial → List Token → List Token → Type 0
@@ -95,7 +95,7 @@ initial_takes bytes names zero ts x e = absurd cc
 initial_takes bytes names (suc n) ts x e =
     initial_either bytes names n (initial_at bytes names n) (initial_takes bytes names n) ts (token_at (is_mark marks.LeftBrace) ts) x refl e
 
-abbrev InitializerRun : List ℕ → Scope → ℕ → Option Initial → List Token → List Token → Type 0
+abbrev pub InitializerRun : List ℕ → Scope → ℕ → Option Initial → List Token → List Token → Type 0
 InitializerRun bytes names n i = Run (SpellsInitializer bytes i) (IsWellInitializer names i) (initializer_depth i) n
 
 initializer_either : (bytes : List ℕ) (names : Scope) (n : ℕ) (ts : List Token) (o : Read Token) (x : Option Initial × List Token) → token_at (is_mark marks.Equal) ts ≡ o → initializer_by bytes names n ts o ≡ Some x → InitializerRun bytes names n x.0 ts x.1
@@ -115,29 +115,33 @@ initializer_either bytes names n ts (Some y) x f e =
       deep = s.deep;
     })
 
+pub initializer_takes : (bytes : List ℕ) (names : Scope) (n : ℕ) (ts : List Token) (x : Option Initial × List Token) → initializer_at bytes names n ts ≡ Some x → InitializerRun bytes names n x.0 ts x.1
+unfolding initializer_at
+initializer_takes bytes names n ts x e = initializer_either bytes names n ts (token_at (is_mark marks.Equal) ts) x refl e
+
 -- declarators
-abbrev SpellsDeclarator : List ℕ → Declared × Option Initial → List Token → Type 0
-SpellsDeclarator bytes d = Then (SpellsDeclared bytes d.0) (SpellsInitializer bytes d.1)
+abbrev pub SpellsDeclarator : List ℕ → Full × Option Initial → List Token → Type 0
+SpellsDeclarator bytes d = Then (SpellsFull bytes d.0) (SpellsInitializer bytes d.1)
 
-abbrev DeclaratorWell : Scope → Bool → Declared × Option Initial → Type 0
-DeclaratorWell names types d = (has_name d.0 ≡ true) × IsWellDeclared names d.0 × IsWellInitializer ((name_of d.0, types) ∷ names) d.1
+abbrev pub DeclaratorWell : Scope → Bool → Full × Option Initial → Type 0
+DeclaratorWell names types d = (full_has_name d.0 ≡ true) × IsWellFull names false d.0 × IsWellInitializer ((name_of d.0, types) ∷ names) d.1
 
-abbrev declarator_depth : Declared × Option Initial → ℕ
-declarator_depth d = max (declared_depth d.0) (initializer_depth d.1)
+abbrev pub declarator_depth : Full × Option Initial → ℕ
+declarator_depth d = max (full_depth d.0) (initializer_depth d.1)
 
-declarator_takes : (bytes : List ℕ) (names : Scope) (types : Bool) (n : ℕ) (ts : List Token) (x : (Declared × Option Initial) × List Token) → declarator_at bytes names types n ts ≡ Some x → Run (SpellsDeclarator bytes x.0) (DeclaratorWell names types x.0) (declarator_depth x.0) n ts x.1
+declarator_takes : (bytes : List ℕ) (names : Scope) (types : Bool) (n : ℕ) (ts : List Token) (x : (Full × Option Initial) × List Token) → declarator_at bytes names types n ts ≡ Some x → Run (SpellsDeclarator bytes x.0) (DeclaratorWell names types x.0) (declarator_depth x.0) n ts x.1
 unfolding declarator_at initializer_at
 declarator_takes bytes names types n ts x e =
-    let a = bind_some (declared_at bytes names n true ts) (λ d. initializer_at bytes ((name_of d.0, types) ∷ names) n d.1 >>= λ i. Some ((d.0, i.0), i.1)) x e in
+    let a = bind_some (full_at bytes n false names ts) (λ d. initializer_at bytes ((name_of d.0, types) ∷ names) n d.1 >>= λ i. Some ((d.0, i.0), i.1)) x e in
     let b = bind_some (initializer_at bytes ((name_of a.0.0, types) ∷ names) n a.0.1) (λ i. Some ((a.0.0, i.0), i.1)) x a.2 in
-    let d = reads_declared bytes names n true ts a.0 a.1 in
+    let d = full_takes bytes n false names ts a.0 a.1 in
     let i = initializer_either bytes ((name_of a.0.0, types) ∷ names) n a.0.1 (token_at (is_mark marks.Equal) a.0.1) b.0 refl b.1 in
-    subst (λ (y : (Declared × Option Initial) × List Token). Run (SpellsDeclarator bytes y.0) (DeclaratorWell names types y.0) (declarator_depth y.0) n ts y.1) (some_is b.2)
+    subst (λ (y : (Full × Option Initial) × List Token). Run (SpellsDeclarator bytes y.0) (DeclaratorWell names types y.0) (declarator_depth y.0) n ts y.1) (some_is b.2)
     (record {
       own = d.own ++ i.own;
       spelled = record { left = d.own; right = i.own; first = d.spelled; second = i.spelled; whole = refl };
       front = seam ts d.own a.0.1 b.0.1 i.own d.front i.front;
-      well = (d.heart, d.well, i.well);
+      well = (d.well.1 refl, d.well.0, i.well);
       deep = omega (arith, d.deep, i.deep);
     })
 
@@ -145,21 +149,18 @@ abbrev pub SpellsDeclaratorsBy : Bool → List ℕ → Declarators → List Toke
 SpellsDeclaratorsBy true bytes ds = SpellsDeclarators bytes ds
 SpellsDeclaratorsBy false bytes ds = SpellsOthers bytes ds
 
-grouped_behind : (P : Token → Type 0) (A B C : List Token → Type 0) (xs : List Token) → Behind P (Then (Then A B) C) xs → Behind P (Then A (Then B C)) xs
-grouped_behind P A B C xs s = record { token = s.token; rest = s.rest; is = s.is; behind = regroup A B C s.rest s.behind; whole = s.whole }
-
-declarators_are : (first : Bool) (bytes : List ℕ) (d : Declared × Option Initial) (ds : Declarators) (own : List Token) → Separated first (Then (SpellsDeclarator bytes d) (SpellsOthers bytes ds)) own → SpellsDeclaratorsBy first bytes (declarator d.0 d.1 ds) own
-declarators_are true bytes d ds own s = regroup (SpellsDeclared bytes d.0) (SpellsInitializer bytes d.1) (SpellsOthers bytes ds) own s
-declarators_are false bytes d ds own s = grouped_behind (IsMark marks.Comma) (SpellsDeclared bytes d.0) (SpellsInitializer bytes d.1) (SpellsOthers bytes ds) own s
+declarators_are : (first : Bool) (bytes : List ℕ) (d : Full × Option Initial) (ds : Declarators) (own : List Token) → Separated first (Then (SpellsDeclarator bytes d) (SpellsOthers bytes ds)) own → SpellsDeclaratorsBy first bytes (declarator d.0 d.1 ds) own
+declarators_are true bytes d ds own s = regroup (SpellsFull bytes d.0) (SpellsInitializer bytes d.1) (SpellsOthers bytes ds) own s
+declarators_are false bytes d ds own s = grouped_behind (IsMark marks.Comma) (SpellsFull bytes d.0) (SpellsInitializer bytes d.1) (SpellsOthers bytes ds) own s
 
 none_are : (first : Bool) (bytes : List ℕ) (own : List Token) → Single (IsMark marks.Semicolon) own → SpellsDeclaratorsBy first bytes none_declared own
 none_are true bytes own s = s
 none_are false bytes own s = s
 
-abbrev SeparateDeclarator : List ℕ → Bool → ℕ → State → Declared × Option Initial → List Token → List Token → Type 0
+abbrev pub SeparateDeclarator : List ℕ → Bool → ℕ → State → Full × Option Initial → List Token → List Token → Type 0
 SeparateDeclarator bytes types n s d = Run (Separated s.1 (SpellsDeclarator bytes d)) (DeclaratorWell s.0 types d) (declarator_depth d) n
 
-abbrev DeclaratorsRun : List ℕ → Bool → ℕ → State → Declarators → List Token → List Token → Type 0
+abbrev pub DeclaratorsRun : List ℕ → Bool → ℕ → State → Declarators → List Token → List Token → Type 0
 DeclaratorsRun bytes types n s ds = Run (SpellsDeclaratorsBy s.1 bytes ds) (AreWellDeclarators s.0 types ds) (declarators_depth ds) n
 
 declarators_stop : (bytes : List ℕ) (types : Bool) (n : ℕ) (s : State) (ts : List Token) (x : Declarators × List Token) → ended_at marks.Semicolon none_declared ts ≡ Some x → DeclaratorsRun bytes types n s x.0 ts x.1
@@ -168,12 +169,12 @@ declarators_stop bytes types n s ts x e =
     subst (λ (ds : Declarators). DeclaratorsRun bytes types n s ds ts x.1) h.same
     (record { own = h.token ∷ []; spelled = none_are s.1 bytes (h.token ∷ []) (record { token = h.token; is = h.is; whole = refl }); front = h.whole; well = tt; deep = omega arith })
 
-declarators_item : (bytes : List ℕ) (types : Bool) (n : ℕ) (s : State) (ts : List Token) (x : (Declared × Option Initial) × List Token) → (comma_at s.1 ts >>= λ rest. declarator_at bytes s.0 types n rest) ≡ Some x → SeparateDeclarator bytes types n s x.0 ts x.1
+declarators_item : (bytes : List ℕ) (types : Bool) (n : ℕ) (s : State) (ts : List Token) (x : (Full × Option Initial) × List Token) → (comma_at s.1 ts >>= λ rest. declarator_at bytes s.0 types n rest) ≡ Some x → SeparateDeclarator bytes types n s x.0 ts x.1
 declarators_item bytes types n s ts x e =
     let a = bind_some (comma_at s.1 ts) (λ rest. declarator_at bytes s.0 types n rest) x e in
     comma_takes s.1 (SpellsDeclarator bytes x.0) (DeclaratorWell s.0 types x.0) (declarator_depth x.0) n ts a.0 x.1 a.1 (declarator_takes bytes s.0 types n a.0 x a.2)
 
-declarators_join : (bytes : List ℕ) (types : Bool) (n : ℕ) (s : State) (d : Declared × Option Initial) (ds : Declarators) (ts mid rest : List Token) → SeparateDeclarator bytes types n s d ts mid → DeclaratorsRun bytes types n ((name_of d.0, types) ∷ s.0, false) ds mid rest → DeclaratorsRun bytes types n s (declarator d.0 d.1 ds) ts rest
+pub declarators_join : (bytes : List ℕ) (types : Bool) (n : ℕ) (s : State) (d : Full × Option Initial) (ds : Declarators) (ts mid rest : List Token) → SeparateDeclarator bytes types n s d ts mid → DeclaratorsRun bytes types n ((name_of d.0, types) ∷ s.0, false) ds mid rest → DeclaratorsRun bytes types n s (declarator d.0 d.1 ds) ts rest
 declarators_join bytes types n s d ds ts mid rest a b = record {
   own = a.own ++ b.own;
   spelled = declarators_are s.1 bytes d ds (a.own ++ b.own) (separated_joins s.1 (SpellsDeclarator bytes d) (SpellsOthers bytes ds) a.own b.own a.spelled b.spelled);
@@ -182,12 +183,12 @@ declarators_join bytes types n s d ds ts mid rest a b = record {
   deep = omega (arith, a.deep, b.deep);
 }
 
-declarators_take : (bytes : List ℕ) (names : Scope) (types : Bool) (n : ℕ) (ts : List Token) (x : Declarators × List Token) → declarators_at bytes names types n ts ≡ Some x → DeclaratorsRun bytes types n (names, true) x.0 ts x.1
+pub declarators_take : (bytes : List ℕ) (names : Scope) (types : Bool) (n : ℕ) (first : Bool) (ts : List Token) (x : Declarators × List Token) → declarators_at bytes names types n first ts ≡ Some x → DeclaratorsRun bytes types n (names, first) x.0 ts x.1
 unfolding declarators_at
-declarators_take bytes names types n ts x e =
-    run_takes (declarators_list bytes types n) (SeparateDeclarator bytes types n) (DeclaratorsRun bytes types n) (declarators_stop bytes types n) (declarators_item bytes types n) (declarators_join bytes types n) (length ts + 1) (names, true) ts x e
+declarators_take bytes names types n first ts x e =
+    run_takes (declarators_list bytes types n) (SeparateDeclarator bytes types n) (DeclaratorsRun bytes types n) (declarators_stop bytes types n) (declarators_item bytes types n) (declarators_join bytes types n) (length ts + 1) (names, first) ts x e
 
-front_of_declarators : (bytes : List ℕ) (names : Scope) (before : Bool) (ds : Declarators) (ts own rest : List Token) → start_at false bytes (names, before) ts ≡ None → ts ≡ own ++ rest → SpellsDeclarators bytes ds own → FrontIsNoTypeOfDeclarators names before ds
+pub front_of_declarators : (bytes : List ℕ) (names : Scope) (before : Bool) (ds : Declarators) (ts own rest : List Token) → start_at false bytes (names, before) ts ≡ None → ts ≡ own ++ rest → SpellsDeclarators bytes ds own → FrontIsNoTypeOfDeclarators names before ds
 front_of_declarators bytes names before none_declared ts own rest e f s = tt
 front_of_declarators bytes names before (declarator d i ds) ts own rest e f s =
     front_no_type false bytes names before d ts s.left (s.right ++ rest) e (f ∙ ap (λ (xs : List Token). xs ++ rest) s.whole ∙ append_assoc s.left s.right rest) s.first
@@ -199,11 +200,11 @@ DeclarationRun bytes names n d = Run (SpellsDeclaration bytes d.0 d.1) (IsWellDe
 pub declaration_takes : (bytes : List ℕ) (names : Scope) (n : ℕ) (ts : List Token) (x : (Parts × Declarators) × List Token) → declaration_at bytes names n ts ≡ Some x → DeclarationRun bytes names n x.0 ts x.1
 unfolding declaration_at
 declaration_takes bytes names n ts x e =
-    let a = bind_some (parts_at false bytes n (body_at bytes n) names ts) (λ p. cond (are_some p.0) (declarators_at bytes (with_parts names p.0) (have_typedef p.0) n p.1) None >>= λ ds. Some ((p.0, ds.0), ds.1)) x e in
-    let b = bind_some (cond (are_some a.0.0) (declarators_at bytes (with_parts names a.0.0) (have_typedef a.0.0) n a.0.1) None) (λ ds. Some ((a.0.0, ds.0), ds.1)) x a.2 in
-    let c = if_some (are_some a.0.0) (declarators_at bytes (with_parts names a.0.0) (have_typedef a.0.0) n a.0.1) b.0 b.1 in
+    let a = bind_some (parts_at false bytes n (body_at bytes n) names ts) (λ p. cond (are_some p.0) (declarators_at bytes (with_parts names p.0) (have_typedef p.0) n true p.1) None >>= λ ds. Some ((p.0, ds.0), ds.1)) x e in
+    let b = bind_some (cond (are_some a.0.0) (declarators_at bytes (with_parts names a.0.0) (have_typedef a.0.0) n true a.0.1) None) (λ ds. Some ((a.0.0, ds.0), ds.1)) x a.2 in
+    let c = if_some (are_some a.0.0) (declarators_at bytes (with_parts names a.0.0) (have_typedef a.0.0) n true a.0.1) b.0 b.1 in
     let p = parts_take false bytes n (body_at bytes n) (body_takes bytes n) names ts a.0 a.1 in
-    let d = declarators_take bytes (with_parts names a.0.0) (have_typedef a.0.0) n a.0.1 b.0 c.1 in
+    let d = declarators_take bytes (with_parts names a.0.0) (have_typedef a.0.0) n true a.0.1 b.0 c.1 in
     subst (λ (y : (Parts × Declarators) × List Token). DeclarationRun bytes names n y.0 ts y.1) (some_is b.2)
     (record {
       own = p.run.own ++ d.own;

@@ -1,8 +1,9 @@
 -- What is read of specifiers stands there.
 use Rattle.std.proofs.Common.{◌≡◌, ◌≢◌, ◌≤◌, ◌+◌, max, ℕ, zero, suc, List, [], ◌∷◌, ◌++◌, length, Bool, true, false, cond, Option, Some, None, refl, ap, sym, subst, ◌∙◌, arith}
-use Rattle.std.specs.Prelude.{◌||◌}
+use Rattle.std.specs.Prelude.{◌||◌, ◌&&◌}
 use Rattle.std.proofs.lemmas.List.{append_assoc}
 use Rattle.c_lexer.specs.declared.token.Token.{Token}
+use Rattle.c_lexer.specs.declared.token.Kind.{Kind}
 use Rattle.c_lexer.specs.declared.token.Kind.TheVariants as kinds
 use Rattle.c_lexer.specs.declared.token.Mark.TheVariants as marks
 use Rattle.c_lexer.specs.declared.token.Keyword.TheVariants as keywords
@@ -12,22 +13,28 @@ use Rattle.c_tree.specs.declared.specifier.TagKind.{TagKind}
 use Rattle.c_tree.specs.declared.specifier.TagKind.TheVariants as tag_kinds
 use Rattle.c_tree.specs.declared.declaration.RecordKind.{RecordKind}
 use Rattle.c_tree.specs.declared.declaration.RecordKind.TheVariants as record_kinds
-use Rattle.c_tree.specs.Tree.{qualified, word, tagged, typedef_name, Tree, Declared, unnamed, named, inside, depth, declared_depth}
+use Rattle.c_tree.specs.declared.specifier.TypeWord.{TypeWord}
+use Rattle.c_tree.specs.declared.specifier.TypeWord.TheVariants as type_words
+use Rattle.c_tree.specs.Tree.{TypePart, qualified, word, tagged, typedef_name, Tree, depth}
 use Rattle.c_tree.specs.Tables.{level_of, tag_keyword, record_keyword}
 use Rattle.c_tree.specs.Names.{Scope, is_type}
-use Rattle.c_tree.specs.Spelling.{Single, Behind, Then, IsMark, On, Spells, SpellsDeclared, IsWell, IsWellDeclared, has_name}
-use Rattle.c_tree.specs.Declarations.{Enumerated, Part, type_part, storage, function, structure, enumeration, Parts, no_part, part, Members, no_member, members, value_depth, enumerators_depth, declareds_depth, part_depth, parts_depth, members_depth, with_part, with_parts, specifies, specify}
-use Rattle.c_tree.specs.Files.{SpellsValue, SpellsEnumerator, SpellsOtherEnumerators, SpellsEnumerators, SpellsOtherMembers, SpellsMembers, SpellsTag, SpellsPart, SpellsParts, SpellsMemberDeclarations, IsWellValue, AreWellEnumerators, FrontIsNoType, AreWellMembers, FrontIsNoTypeOfMembers, is_of_member, are_of_member, IsWellPart, AreWellParts, AreWellMemberDeclarations}
+use Rattle.c_tree.specs.Spelling.{Single, Behind, Then, IsMark, On, Spells, IsWell}
+use Rattle.c_tree.specs.Declarations.{Enumerated, Part, type_part, storage, function, structure, enumeration, Parts, no_part, part, Members, no_member, members, Full, full_unnamed, full_named, full_inside, Fulls, no_full, full, FullSuffixes, full_end, full_bounded, full_open, full_empty, full_void, full_parameters, Parameters, no_parameter, parameter, value_depth, enumerators_depth, part_depth, parts_depth, members_depth, full_depth, fulls_depth, full_suffixes_depth, parameters_depth, full_has_name, with_part, with_parts, with_named, have_typedef, specifies, specify}
+use Rattle.c_tree.specs.Files.{SpellsValue, SpellsEnumerator, SpellsOtherEnumerators, SpellsEnumerators, SpellsOtherMembers, SpellsMembers, SpellsTag, SpellsPart, SpellsParts, SpellsMemberDeclarations, SpellsFull, SpellsFullSuffixes, SpellsParameters, SpellsOtherParameters, IsWellValue, AreWellEnumerators, FrontIsNoType, AreWellMembers, FrontIsNoTypeOfMembers, is_of_member, are_of_member, IsWellPart, AreWellParts, AreWellMemberDeclarations, OpensNoType, full_is_empty, is_void, is_void_part, are_void, is_void_alone, IsWellFull, AreWellFullSuffixes, AreWellParameters}
 use Rattle.c_parse_expr.specs.Many.{◌>>=◌}
-use Rattle.c_parse_expr.specs.Reading.{is_mark, is_identifier, reader, declared_at}
+use Rattle.c_parse_expr.specs.Reading.{is_mark, is_identifier, reader}
 use Rattle.c_parse_decl.specs.declared.table.Start.{Start}
 use Rattle.c_parse_decl.specs.declared.table.Start.TheVariants as starts
+use Rattle.c_parse_decl.specs.declared.slices.Heart.{Heart}
+use Rattle.c_parse_decl.specs.declared.slices.Heart.TheVariants as hearts
+use Rattle.c_parse_decl.specs.declared.slices.Opening.{Opening}
+use Rattle.c_parse_decl.specs.declared.slices.Opening.TheVariants as openings
 use Rattle.c_parse_decl.specs.Tables.{record_tag}
-use Rattle.c_parse_decl.specs.Reading.{Read, State, Body, token_at, run_at, comma_at, shut_at, ended_at, start_at, tag_by, tag_at, tagged_by, record_by, record_from, record_at, value_by, value_at, enumerator_at, enumerators_list, enumerators_at, enumeration_by, enumeration_from, enumeration_at, part_from, parts_stop, parts_list, parts_at, are_some, declareds_list, declareds_at, member_at, members_list, have_some, members_at, some_members_at, body_at}
+use Rattle.c_parse_decl.specs.Reading.{Read, State, Body, FullReader, OneSuffix, one_bounded, one_open, one_empty, one_void, one_takes, placed_suffix, is_keyword, token_at, run_at, comma_at, shut_at, ended_at, start_at, is_there, stands, tag_by, tag_at, tagged_by, record_by, record_from, record_at, value_by, value_at, enumerator_at, enumerators_list, enumerators_at, enumeration_by, enumeration_from, enumeration_at, part_from, parts_stop, parts_list, parts_at, are_some, fulls_list, fulls_at, member_at, members_list, have_some, members_at, some_members_at, opening_of, opening_at, bound_by, bound_at, void_at, dots_at, last_by, last_at, parameter_at, parameters_list, parameters_at, given_by, given_at, taken_by, taken_at, one_from, suffixes_stop, suffixes_list, suffixes_at, takes, heart_of, heart_at, inside_at, full_from, bare_full, body_at, full_at}
 use Rattle.c_parse_decl.proofs.Lists.{some_is, bind_some, run_takes}
-use Rattle.c_parse_decl.proofs.Words.{mark_takes, identifier_takes}
+use Rattle.c_parse_decl.proofs.Words.{mark_by, identifier_by, mark_takes, keyword_takes, identifier_takes, mark_gives, keyword_gives}
 use Rattle.c_parse_decl.proofs.Starts.{StartsKind, is_name_in, name_facts, start_takes, no_name}
-use Rattle.c_parse_expr.proofs.Taken.{reads, reads_declared}
+use Rattle.c_parse_expr.proofs.Taken.{reads}
 use Rattle.c_parse_decl.proofs.Runs.{Run, seam, in_front_of, Separated, separated_joins, comma_takes, shut_takes, ended_takes, regroup}
 
 -- enumerators
@@ -307,72 +314,80 @@ parts_take inner bytes n body takes names ts x e =
     (parts_item inner bytes n body takes) (parts_join inner bytes n) (length ts + 1) (names, false) ts x e
 
 -- the first declarator begins with no name of a type, where a specifier would be read
-pub front_no_type : (inner : Bool) (bytes : List ℕ) (names : Scope) (before : Bool) (d : Declared) (ts left more : List Token) → start_at inner bytes (names, before) ts ≡ None → ts ≡ left ++ more → SpellsDeclared bytes d left → FrontIsNoType names before d
-front_no_type inner bytes names before (unnamed ss) ts left more e f s = tt
-front_no_type inner bytes names before (named line text ss) ts left more e f s =
+pub front_no_type : (inner : Bool) (bytes : List ℕ) (names : Scope) (before : Bool) (d : Full) (ts left more : List Token) → start_at inner bytes (names, before) ts ≡ None → ts ≡ left ++ more → SpellsFull bytes d left → FrontIsNoType names before d
+front_no_type inner bytes names before (full_unnamed ss) ts left more e f s = tt
+front_no_type inner bytes names before (full_named line text ss) ts left more e f s =
     λ not. sym (ap (is_type names) s.is.text)
     ∙ no_name inner bytes (names, before) ts (s.rest ++ more) s.token (f ∙ ap (λ (xs : List Token). xs ++ more) s.whole) s.is.kind e not
-front_no_type inner bytes names before (inside line d ss) ts left more e f s = tt
+front_no_type inner bytes names before (full_inside line d ss) ts left more e f s = tt
+
+-- what is known of a declarator, of a parameter or not
+abbrev pub FullWell : Bool → Scope → Full → Type 0
+FullWell inner names d = IsWellFull names inner d × (inner ≡ false → full_has_name d ≡ true)
+
+abbrev pub FullRun : List ℕ → ℕ → Bool → Scope → Full → List Token → List Token → Type 0
+FullRun bytes n inner names d = Run (SpellsFull bytes d) (FullWell inner names d) (full_depth d) n
+
+abbrev pub FullTakes : List ℕ → ℕ → FullReader → Type 0
+FullTakes bytes n sub = (inner : Bool) (names : Scope) (ts : List Token) (x : Full × List Token) → sub inner names ts ≡ Some x → FullRun bytes n inner names x.0 ts x.1
 
 -- declarators of members
-abbrev pub SpellsMembersBy : Bool → List ℕ → List Declared → List Token → Type 0
+abbrev pub SpellsMembersBy : Bool → List ℕ → Fulls → List Token → Type 0
 SpellsMembersBy true bytes ds = SpellsMembers bytes ds
 SpellsMembersBy false bytes ds = SpellsOtherMembers bytes ds
 
-members_are : (first : Bool) (bytes : List ℕ) (d : Declared) (ds : List Declared) (own : List Token) → Separated first (Then (SpellsDeclared bytes d) (SpellsOtherMembers bytes ds)) own → SpellsMembersBy first bytes (d ∷ ds) own
+members_are : (first : Bool) (bytes : List ℕ) (d : Full) (ds : Fulls) (own : List Token) → Separated first (Then (SpellsFull bytes d) (SpellsOtherMembers bytes ds)) own → SpellsMembersBy first bytes (full d ds) own
 members_are true bytes d ds own s = s
 members_are false bytes d ds own s = s
 
-no_members_are : (first : Bool) (bytes : List ℕ) (own : List Token) → Single (IsMark marks.Semicolon) own → SpellsMembersBy first bytes [] own
+no_members_are : (first : Bool) (bytes : List ℕ) (own : List Token) → Single (IsMark marks.Semicolon) own → SpellsMembersBy first bytes no_full own
 no_members_are true bytes own s = s
 no_members_are false bytes own s = s
 
-abbrev SeparateDeclared : List ℕ → ℕ → State → Declared → List Token → List Token → Type 0
-SeparateDeclared bytes n s d = Run (Separated s.1 (SpellsDeclared bytes d)) ((has_name d ≡ true) × IsWellDeclared s.0 d) (declared_depth d) n
+abbrev SeparateFull : List ℕ → ℕ → State → Full → List Token → List Token → Type 0
+SeparateFull bytes n s d = Run (Separated s.1 (SpellsFull bytes d)) (FullWell false s.0 d) (full_depth d) n
 
-abbrev DeclaredsRun : List ℕ → ℕ → State → List Declared → List Token → List Token → Type 0
-DeclaredsRun bytes n s ds = Run (SpellsMembersBy s.1 bytes ds) (AreWellMembers s.0 ds) (declareds_depth ds) n
+abbrev FullsRun : List ℕ → ℕ → State → Fulls → List Token → List Token → Type 0
+FullsRun bytes n s ds = Run (SpellsMembersBy s.1 bytes ds) (AreWellMembers s.0 ds) (fulls_depth ds) n
 
-declareds_stop : (bytes : List ℕ) (n : ℕ) (s : State) (ts : List Token) (x : List Declared × List Token) → ended_at marks.Semicolon [] ts ≡ Some x → DeclaredsRun bytes n s x.0 ts x.1
-declareds_stop bytes n s ts x e =
-    let h = ended_takes marks.Semicolon [] ts x e in
-    subst (λ (ds : List Declared). DeclaredsRun bytes n s ds ts x.1) h.same
+fulls_stop : (bytes : List ℕ) (n : ℕ) (s : State) (ts : List Token) (x : Fulls × List Token) → ended_at marks.Semicolon no_full ts ≡ Some x → FullsRun bytes n s x.0 ts x.1
+fulls_stop bytes n s ts x e =
+    let h = ended_takes marks.Semicolon no_full ts x e in
+    subst (λ (ds : Fulls). FullsRun bytes n s ds ts x.1) h.same
     (record { own = h.token ∷ []; spelled = no_members_are s.1 bytes (h.token ∷ []) (record { token = h.token; is = h.is; whole = refl }); front = h.whole; well = tt; deep = omega arith })
 
-declareds_item : (bytes : List ℕ) (n : ℕ) (s : State) (ts : List Token) (x : Declared × List Token) → (comma_at s.1 ts >>= λ rest. declared_at bytes s.0 n true rest) ≡ Some x → SeparateDeclared bytes n s x.0 ts x.1
-declareds_item bytes n s ts x e =
-    let a = bind_some (comma_at s.1 ts) (λ rest. declared_at bytes s.0 n true rest) x e in
-    let d = reads_declared bytes s.0 n true a.0 x a.2 in
-    comma_takes s.1 (SpellsDeclared bytes x.0) ((has_name x.0 ≡ true) × IsWellDeclared s.0 x.0) (declared_depth x.0) n ts a.0 x.1 a.1
-    (record { own = d.own; spelled = d.spelled; front = d.front; well = (d.heart, d.well); deep = d.deep })
+fulls_item : (bytes : List ℕ) (n : ℕ) (sub : FullReader) → FullTakes bytes n sub → (s : State) (ts : List Token) (x : Full × List Token) → (comma_at s.1 ts >>= λ rest. sub false s.0 rest) ≡ Some x → SeparateFull bytes n s x.0 ts x.1
+fulls_item bytes n sub known s ts x e =
+    let a = bind_some (comma_at s.1 ts) (λ rest. sub false s.0 rest) x e in
+    comma_takes s.1 (SpellsFull bytes x.0) (FullWell false s.0 x.0) (full_depth x.0) n ts a.0 x.1 a.1 (known false s.0 a.0 x a.2)
 
-declareds_join : (bytes : List ℕ) (n : ℕ) (s : State) (d : Declared) (ds : List Declared) (ts mid rest : List Token) → SeparateDeclared bytes n s d ts mid → DeclaredsRun bytes n (s.0, false) ds mid rest → DeclaredsRun bytes n s (d ∷ ds) ts rest
-declareds_join bytes n s d ds ts mid rest a b = record {
+fulls_join : (bytes : List ℕ) (n : ℕ) (s : State) (d : Full) (ds : Fulls) (ts mid rest : List Token) → SeparateFull bytes n s d ts mid → FullsRun bytes n (s.0, false) ds mid rest → FullsRun bytes n s (full d ds) ts rest
+fulls_join bytes n s d ds ts mid rest a b = record {
   own = a.own ++ b.own;
-  spelled = members_are s.1 bytes d ds (a.own ++ b.own) (separated_joins s.1 (SpellsDeclared bytes d) (SpellsOtherMembers bytes ds) a.own b.own a.spelled b.spelled);
+  spelled = members_are s.1 bytes d ds (a.own ++ b.own) (separated_joins s.1 (SpellsFull bytes d) (SpellsOtherMembers bytes ds) a.own b.own a.spelled b.spelled);
   front = seam ts a.own mid rest b.own a.front b.front;
-  well = (a.well.0, a.well.1, b.well);
+  well = (a.well.1 refl, a.well.0, b.well);
   deep = omega (arith, a.deep, b.deep);
 }
 
-declareds_take : (bytes : List ℕ) (names : Scope) (n : ℕ) (ts : List Token) (x : List Declared × List Token) → declareds_at bytes names n ts ≡ Some x → DeclaredsRun bytes n (names, true) x.0 ts x.1
-unfolding declareds_at
-declareds_take bytes names n ts x e =
-    run_takes (declareds_list bytes n) (SeparateDeclared bytes n) (DeclaredsRun bytes n) (declareds_stop bytes n) (declareds_item bytes n) (declareds_join bytes n) (length ts + 1) (names, true) ts x e
+fulls_take : (bytes : List ℕ) (names : Scope) (n : ℕ) (sub : FullReader) → FullTakes bytes n sub → (ts : List Token) (x : Fulls × List Token) → fulls_at (sub false) names ts ≡ Some x → FullsRun bytes n (names, true) x.0 ts x.1
+unfolding fulls_at
+fulls_take bytes names n sub known ts x e =
+    run_takes (fulls_list (sub false)) (SeparateFull bytes n) (FullsRun bytes n) (fulls_stop bytes n) (fulls_item bytes n sub known) (fulls_join bytes n) (length ts + 1) (names, true) ts x e
 
-front_of_members : (bytes : List ℕ) (names : Scope) (before : Bool) (ds : List Declared) (ts own rest : List Token) → start_at true bytes (names, before) ts ≡ None → ts ≡ own ++ rest → SpellsMembers bytes ds own → FrontIsNoTypeOfMembers names before ds
-front_of_members bytes names before [] ts own rest e f s = tt
-front_of_members bytes names before (d ∷ ds) ts own rest e f s =
+front_of_members : (bytes : List ℕ) (names : Scope) (before : Bool) (ds : Fulls) (ts own rest : List Token) → start_at true bytes (names, before) ts ≡ None → ts ≡ own ++ rest → SpellsMembers bytes ds own → FrontIsNoTypeOfMembers names before ds
+front_of_members bytes names before no_full ts own rest e f s = tt
+front_of_members bytes names before (full d ds) ts own rest e f s =
     front_no_type true bytes names before d ts s.left (s.right ++ rest) e (f ∙ ap (λ (xs : List Token). xs ++ rest) s.whole ∙ append_assoc s.left s.right rest) s.first
 
 -- a declaration of members
-abbrev MemberWell : Scope → Parts × List Declared → Type 0
+abbrev MemberWell : Scope → Parts × Fulls → Type 0
 MemberWell names m =
     (m.0 ≢ no_part) × are_of_member m.0 × AreWellParts names false m.0
     × FrontIsNoTypeOfMembers (with_parts names m.0) (specify m.0) m.1 × AreWellMembers (with_parts names m.0) m.1
 
-abbrev MemberRun : List ℕ → ℕ → Scope → Parts × List Declared → List Token → List Token → Type 0
-MemberRun bytes n names m = Run (Then (SpellsParts bytes m.0) (SpellsMembers bytes m.1)) (MemberWell names m) (max (parts_depth m.0) (declareds_depth m.1)) n
+abbrev MemberRun : List ℕ → ℕ → Scope → Parts × Fulls → List Token → List Token → Type 0
+MemberRun bytes n names m = Run (Then (SpellsParts bytes m.0) (SpellsMembers bytes m.1)) (MemberWell names m) (max (parts_depth m.0) (fulls_depth m.1)) n
 
 pub if_some : {A : Type 0} (b : Bool) (o : Option A) (x : A) → cond b o None ≡ Some x → (b ≡ true) × (o ≡ Some x)
 if_some true o x e = (refl, e)
@@ -386,15 +401,15 @@ some_members : (ms : Members) → have_some ms ≡ true → ms ≢ no_member
 some_members no_member e f = cc
 some_members (members ps ds ms) e f = cc
 
-member_takes : (bytes : List ℕ) (n : ℕ) (body : Body) → BodyTakes bytes n body → (names : Scope) (ts : List Token) (x : (Parts × List Declared) × List Token) → member_at bytes n body names ts ≡ Some x → MemberRun bytes n names x.0 ts x.1
+member_takes : (bytes : List ℕ) (n : ℕ) (body : Body) (sub : FullReader) → BodyTakes bytes n body → FullTakes bytes n sub → (names : Scope) (ts : List Token) (x : (Parts × Fulls) × List Token) → member_at bytes n body sub names ts ≡ Some x → MemberRun bytes n names x.0 ts x.1
 unfolding member_at
-member_takes bytes n body takes names ts x e =
-    let a = bind_some (parts_at true bytes n body names ts) (λ p. cond (are_some p.0) (declareds_at bytes (with_parts names p.0) n p.1) None >>= λ ds. Some ((p.0, ds.0), ds.1)) x e in
-    let b = bind_some (cond (are_some a.0.0) (declareds_at bytes (with_parts names a.0.0) n a.0.1) None) (λ ds. Some ((a.0.0, ds.0), ds.1)) x a.2 in
-    let c = if_some (are_some a.0.0) (declareds_at bytes (with_parts names a.0.0) n a.0.1) b.0 b.1 in
-    let p = parts_take true bytes n body takes names ts a.0 a.1 in
-    let d = declareds_take bytes (with_parts names a.0.0) n a.0.1 b.0 c.1 in
-    subst (λ (y : (Parts × List Declared) × List Token). MemberRun bytes n names y.0 ts y.1) (some_is b.2)
+member_takes bytes n body sub known fulls names ts x e =
+    let a = bind_some (parts_at true bytes n body names ts) (λ p. cond (are_some p.0) (fulls_at (sub false) (with_parts names p.0) p.1) None >>= λ ds. Some ((p.0, ds.0), ds.1)) x e in
+    let b = bind_some (cond (are_some a.0.0) (fulls_at (sub false) (with_parts names a.0.0) a.0.1) None) (λ ds. Some ((a.0.0, ds.0), ds.1)) x a.2 in
+    let c = if_some (are_some a.0.0) (fulls_at (sub false) (with_parts names a.0.0) a.0.1) b.0 b.1 in
+    let p = parts_take true bytes n body known names ts a.0 a.1 in
+    let d = fulls_take bytes (with_parts names a.0.0) n sub fulls a.0.1 b.0 c.1 in
+    subst (λ (y : (Parts × Fulls) × List Token). MemberRun bytes n names y.0 ts y.1) (some_is b.2)
     (record {
       own = p.run.own ++ d.own;
       spelled = record { left = p.run.own; right = d.own; first = p.run.spelled; second = d.spelled; whole = refl };
@@ -412,7 +427,7 @@ members_stop bytes n names ts x e =
     subst (λ (ms : Members). MembersRun bytes n names ms ts x.1) h.same
     (record { own = h.token ∷ []; spelled = record { token = h.token; is = h.is; whole = refl }; front = h.whole; well = tt; deep = omega arith })
 
-members_join : (bytes : List ℕ) (n : ℕ) (names : Scope) (m : Parts × List Declared) (ms : Members) (ts mid rest : List Token) → MemberRun bytes n names m ts mid → MembersRun bytes n (with_parts names m.0) ms mid rest → MembersRun bytes n names (members m.0 m.1 ms) ts rest
+members_join : (bytes : List ℕ) (n : ℕ) (names : Scope) (m : Parts × Fulls) (ms : Members) (ts mid rest : List Token) → MemberRun bytes n names m ts mid → MembersRun bytes n (with_parts names m.0) ms mid rest → MembersRun bytes n names (members m.0 m.1 ms) ts rest
 members_join bytes n names m ms ts mid rest a b = record {
   own = a.own ++ b.own;
   spelled = regroup (SpellsParts bytes m.0) (SpellsMembers bytes m.1) (SpellsMemberDeclarations bytes ms) (a.own ++ b.own) (record { left = a.own; right = b.own; first = a.spelled; second = b.spelled; whole = refl });
@@ -421,19 +436,566 @@ members_join bytes n names m ms ts mid rest a b = record {
   deep = omega (arith, a.deep, b.deep);
 }
 
-members_take : (bytes : List ℕ) (n : ℕ) (body : Body) → BodyTakes bytes n body → (names : Scope) (ts : List Token) (x : Members × List Token) → some_members_at (members_at bytes n body) names ts ≡ Some x → BodyRun bytes names (suc n) x.0 ts x.1
+members_take : (bytes : List ℕ) (n : ℕ) (body : Body) (sub : FullReader) → BodyTakes bytes n body → FullTakes bytes n sub → (names : Scope) (ts : List Token) (x : Members × List Token) → some_members_at (members_at bytes n body sub) names ts ≡ Some x → BodyRun bytes names (suc n) x.0 ts x.1
 unfolding some_members_at members_at
-members_take bytes n body takes names ts x e =
-    let a = bind_some (run_at (members_list bytes n body) (length ts + 1) names ts) (λ ms. cond (have_some ms.0) (Some ms) None) x e in
+members_take bytes n body sub known fulls names ts x e =
+    let a = bind_some (run_at (members_list bytes n body sub) (length ts + 1) names ts) (λ ms. cond (have_some ms.0) (Some ms) None) x e in
     let b = if_some (have_some a.0.0) (Some a.0) x a.2 in
-    let r = run_takes (members_list bytes n body) (MemberRun bytes n) (MembersRun bytes n) (members_stop bytes n) (member_takes bytes n body takes) (members_join bytes n) (length ts + 1) names ts a.0 a.1 in
+    let r = run_takes (members_list bytes n body sub) (MemberRun bytes n) (MembersRun bytes n) (members_stop bytes n) (member_takes bytes n body sub known fulls) (members_join bytes n) (length ts + 1) names ts a.0 a.1 in
     subst (λ (y : Members × List Token). BodyRun bytes names (suc n) y.0 ts y.1) (some_is b.1)
     (record {
       run = record { own = r.own; spelled = r.spelled; front = r.front; well = r.well; deep = omega (arith, r.deep) };
       some = some_members a.0.0 b.0;
     })
 
-pub body_takes : (bytes : List ℕ) (n : ℕ) → BodyTakes bytes n (body_at bytes n)
-unfolding body_at
-body_takes bytes zero names ts x e = absurd cc
-body_takes bytes (suc n) names ts x e = members_take bytes n (body_at bytes n) (body_takes bytes n) names ts x e
+-- A suffix, by what it is in front of others.
+record OneTaken (bytes : List ℕ) (names : Scope) (n : ℕ) (x : OneSuffix) (tokens rest : List Token) : Type 0 where
+  pub own : List Token
+  pub spelled : (ss : FullSuffixes) (back : List Token) → SpellsFullSuffixes bytes ss back → SpellsFullSuffixes bytes (placed_suffix x ss) (own ++ back)
+  pub front : tokens ≡ own ++ rest
+  pub well : (ss : FullSuffixes) → AreWellFullSuffixes names ss → AreWellFullSuffixes names (placed_suffix x ss)
+  pub deep : (ss : FullSuffixes) → full_suffixes_depth ss ≤ n → full_suffixes_depth (placed_suffix x ss) ≤ n
+
+bound_either : (bytes : List ℕ) (names : Scope) (n : ℕ) (t : Token) (ts mid : List Token) (o : Read Token) (x : OneSuffix × List Token) → t.kind ≡ kinds.Mark marks.LeftBracket → ts ≡ t ∷ mid → token_at (is_mark marks.RightBracket) mid ≡ o → bound_by bytes names n t.line mid o ≡ Some x → OneTaken bytes names n x.0 ts x.1
+bound_either bytes names n t ts mid None x is whole f e =
+    let a = bind_some (reader bytes names n 3 mid) (λ e. token_at (is_mark marks.RightBracket) e.1 >>= λ x. Some (one_bounded t.line e.0, x.1)) x e in
+    let b = bind_some (token_at (is_mark marks.RightBracket) a.0.1) (λ x. Some (one_bounded t.line a.0.0, x.1)) x a.2 in
+    let s = reads bytes names n 3 mid a.0 (omega arith) a.1 in
+    let h = mark_takes marks.RightBracket a.0.1 b.0 b.1 in
+    let own = s.own ++ (b.0.0 ∷ []) in
+    subst (λ (y : OneSuffix × List Token). OneTaken bytes names n y.0 ts y.1) (some_is b.2)
+    (record {
+      own = t ∷ own;
+      spelled = λ ss back r. record {
+        token = t;
+        rest = own ++ back;
+        is = record { kind = is; line = refl };
+        behind = record {
+          left = s.own;
+          right = b.0.0 ∷ back;
+          first = s.spelled;
+          second = record { token = b.0.0; rest = back; is = h.is; behind = r; whole = refl };
+          whole = append_assoc s.own (b.0.0 ∷ []) back;
+        };
+        whole = refl;
+      };
+      front = in_front_of t ts mid own b.0.1 whole (seam mid s.own a.0.1 b.0.1 (b.0.0 ∷ []) s.front h.whole);
+      well = λ ss w. (s.level, s.well, w);
+      deep = λ ss d. omega (arith, s.deep, d);
+    })
+bound_either bytes names n t ts mid (Some y) x is whole f e =
+    let h = mark_takes marks.RightBracket mid y f in
+    subst (λ (y : OneSuffix × List Token). OneTaken bytes names n y.0 ts y.1) (some_is e)
+    (record {
+      own = t ∷ (y.0 ∷ []);
+      spelled = λ ss back r. record {
+        token = t;
+        rest = y.0 ∷ back;
+        is = record { kind = is; line = refl };
+        behind = record { token = y.0; rest = back; is = h.is; behind = r; whole = refl };
+        whole = refl;
+      };
+      front = in_front_of t ts mid (y.0 ∷ []) y.1 whole h.whole;
+      well = λ ss w. w;
+      deep = λ ss d. d;
+    })
+
+-- `void` and a parenthesis
+record VoidTaken (ts rest : List Token) : Type 0 where
+  pub void : Token
+  pub close : Token
+  pub is_void : void.kind ≡ kinds.Keyword keywords.Void
+  pub is_close : close.kind ≡ kinds.Mark marks.RightParenthesis
+  pub whole : ts ≡ void ∷ (close ∷ rest)
+
+void_takes : (ts rest : List Token) → void_at ts ≡ Some rest → VoidTaken ts rest
+unfolding void_at
+void_takes ts rest e =
+    let a = bind_some (token_at (is_keyword keywords.Void) ts) (λ x. token_at (is_mark marks.RightParenthesis) x.1 >>= λ y. Some y.1) rest e in
+    let b = bind_some (token_at (is_mark marks.RightParenthesis) a.0.1) (λ y. Some y.1) rest a.2 in
+    let h = keyword_takes keywords.Void ts a.0 a.1 in
+    let i = mark_takes marks.RightParenthesis a.0.1 b.0 b.1 in
+    record {
+      void = a.0.0;
+      close = b.0.0;
+      is_void = h.is;
+      is_close = i.is;
+      whole = h.whole ∙ ap (λ (xs : List Token). a.0.0 ∷ xs) (i.whole ∙ ap (λ (xs : List Token). b.0.0 ∷ xs) (some_is b.2));
+    }
+
+pub void_gives : (ts rest : List Token) (void close : Token) → ts ≡ void ∷ (close ∷ rest) → void.kind ≡ kinds.Keyword keywords.Void → close.kind ≡ kinds.Mark marks.RightParenthesis → void_at ts ≡ Some rest
+unfolding void_at
+void_gives ts rest void close e f g =
+    ap (λ (xs : List Token). token_at (is_keyword keywords.Void) xs >>= λ x. token_at (is_mark marks.RightParenthesis) x.1 >>= λ y. Some y.1) e
+    ∙ ap (λ (o : Read Token). o >>= λ x. token_at (is_mark marks.RightParenthesis) x.1 >>= λ y. Some y.1) (keyword_gives keywords.Void void (close ∷ rest) f)
+    ∙ ap (λ (o : Read Token). o >>= λ y. Some y.1) (mark_gives marks.RightParenthesis close rest g)
+
+and_true : (a b : Bool) → (a && b) ≡ true → (a ≡ true) × (b ≡ true)
+and_true true b e = (refl, e)
+and_true false b e = absurd cc
+
+-- the token of a specifier that is `void`
+record OneVoid (own : List Token) : Type 0 where
+  pub token : Token
+  pub is : token.kind ≡ kinds.Keyword keywords.Void
+  pub whole : own ≡ token ∷ []
+
+word_void : (bytes : List ℕ) (line : ℕ) (w : TypeWord) (own : List Token) → is_void w ≡ true → SpellsPart bytes (type_part (word line w)) own → OneVoid own
+word_void bytes line type_words.Void own e s = record { token = s.token; is = s.is.kind; whole = s.whole }
+word_void bytes line type_words.Char own e s = absurd cc
+word_void bytes line type_words.Short own e s = absurd cc
+word_void bytes line type_words.Int own e s = absurd cc
+word_void bytes line type_words.Long own e s = absurd cc
+word_void bytes line type_words.Signed own e s = absurd cc
+word_void bytes line type_words.Unsigned own e s = absurd cc
+word_void bytes line type_words.Bool own e s = absurd cc
+
+part_void : (bytes : List ℕ) (p : Part) (own : List Token) → is_void_part p ≡ true → SpellsPart bytes p own → OneVoid own
+part_void bytes (type_part (qualified line q)) own e s = absurd cc
+part_void bytes (type_part (word line w)) own e s = word_void bytes line w own e s
+part_void bytes (type_part (tagged line kind text)) own e s = absurd cc
+part_void bytes (type_part (typedef_name line text)) own e s = absurd cc
+part_void bytes (storage line c) own e s = absurd cc
+part_void bytes (function line f) own e s = absurd cc
+part_void bytes (structure line kind tag ms) own e s = absurd cc
+part_void bytes (enumeration line tag es) own e s = absurd cc
+
+parts_void : (bytes : List ℕ) (ps : Parts) (own : List Token) → are_void ps ≡ true → SpellsParts bytes ps own → OneVoid own
+parts_void bytes no_part own e s = absurd cc
+parts_void bytes (part p no_part) own e s =
+    let o = part_void bytes p s.left e s.first in
+    record { token = o.token; is = o.is; whole = s.whole ∙ ap (λ (xs : List Token). s.left ++ xs) s.second ∙ ap (λ (xs : List Token). xs ++ []) o.whole }
+parts_void bytes (part p (part q ps)) own e s = absurd cc
+
+pub nothing_spelled : (bytes : List ℕ) (d : Full) (own : List Token) → full_is_empty d ≡ true → SpellsFull bytes d own → own ≡ []
+nothing_spelled bytes (full_unnamed full_end) own e s = s
+nothing_spelled bytes (full_unnamed (full_bounded line b ss)) own e s = absurd cc
+nothing_spelled bytes (full_unnamed (full_open line ss)) own e s = absurd cc
+nothing_spelled bytes (full_unnamed (full_empty line ss)) own e s = absurd cc
+nothing_spelled bytes (full_unnamed (full_void line ss)) own e s = absurd cc
+nothing_spelled bytes (full_unnamed (full_parameters line ps v ss)) own e s = absurd cc
+nothing_spelled bytes (full_named line text ss) own e s = absurd cc
+nothing_spelled bytes (full_inside line d ss) own e s = absurd cc
+
+-- one parameter that is `void`
+void_spelled : (bytes : List ℕ) (ps : Parameters) (variadic : Bool) (ts own rest : List Token) → is_void_alone ps variadic ≡ true → SpellsParameters bytes ps variadic own → ts ≡ own ++ rest → void_at ts ≡ Some rest
+void_spelled bytes no_parameter variadic ts own rest e s f = absurd cc
+void_spelled bytes (parameter parts d no_parameter) true ts own rest e s f = absurd cc
+void_spelled bytes (parameter parts d (parameter others c ps)) variadic ts own rest e s f = absurd cc
+void_spelled bytes (parameter parts d no_parameter) false ts own rest e s f =
+    let g = and_true (are_void parts) (full_is_empty d) e in
+    let o = parts_void bytes parts s.left g.0 s.first in
+    let two = s.second in
+    let none = nothing_spelled bytes d two.left g.1 two.first in
+    let last = two.second in
+    let inner : own ≡ o.token ∷ (last.token ∷ []) =
+    s.whole ∙ ap (λ (xs : List Token). xs ++ s.right) o.whole
+    ∙ ap (λ (xs : List Token). o.token ∷ xs) (two.whole ∙ ap (λ (xs : List Token). xs ++ two.right) none ∙ last.whole) in
+    void_gives ts rest o.token last.token (f ∙ ap (λ (xs : List Token). xs ++ rest) inner) o.is last.is
+
+not_when : {A : Type 0} (b : Bool) (o : Option A) (y : A) → (b ≡ true → o ≡ Some y) → o ≡ None → b ≡ false
+not_when true o y f e = let g = sym (f refl) ∙ e in absurd cc
+not_when false o y f e = refl
+
+-- parameters
+abbrev ParameterWell : Scope → Parts × Full → Type 0
+ParameterWell names p =
+    (p.0 ≢ no_part) × AreWellParts names false p.0 × FrontIsNoType (with_parts names p.0) (specify p.0) p.1 × IsWellFull (with_parts names p.0) true p.1
+
+abbrev ParameterRun : List ℕ → ℕ → Scope → Parts × Full → List Token → List Token → Type 0
+ParameterRun bytes n names p = Run (Then (SpellsParts bytes p.0) (SpellsFull bytes p.1)) (ParameterWell names p) (max (parts_depth p.0) (full_depth p.1)) n
+
+parameter_takes : (bytes : List ℕ) (n : ℕ) (body : Body) (sub : FullReader) → BodyTakes bytes n body → FullTakes bytes n sub → (names : Scope) (ts : List Token) (x : (Parts × Full) × List Token) → parameter_at bytes n body sub names ts ≡ Some x → ParameterRun bytes n names x.0 ts x.1
+unfolding parameter_at
+parameter_takes bytes n body sub known fulls names ts x e =
+    let a = bind_some (parts_at false bytes n body names ts) (λ p. cond (are_some p.0) (sub true (with_parts names p.0) p.1) None >>= λ d. Some ((p.0, d.0), d.1)) x e in
+    let b = bind_some (cond (are_some a.0.0) (sub true (with_parts names a.0.0) a.0.1) None) (λ d. Some ((a.0.0, d.0), d.1)) x a.2 in
+    let c = if_some (are_some a.0.0) (sub true (with_parts names a.0.0) a.0.1) b.0 b.1 in
+    let p = parts_take false bytes n body known names ts a.0 a.1 in
+    let d = fulls true (with_parts names a.0.0) a.0.1 b.0 c.1 in
+    subst (λ (y : (Parts × Full) × List Token). ParameterRun bytes n names y.0 ts y.1) (some_is b.2)
+    (record {
+      own = p.run.own ++ d.own;
+      spelled = record { left = p.run.own; right = d.own; first = p.run.spelled; second = d.spelled; whole = refl };
+      front = seam ts p.run.own a.0.1 b.0.1 d.own p.run.front d.front;
+      well = (some_parts a.0.0 c.0, p.run.well.0, front_no_type false bytes (with_parts names a.0.0) (specify a.0.0) b.0.0 a.0.1 d.own b.0.1 p.ends d.front d.spelled, d.well.0);
+      deep = omega (arith, p.run.deep, d.deep);
+    })
+
+abbrev pub SpellsParametersBy : Bool → List ℕ → Parameters → Bool → List Token → Type 0
+SpellsParametersBy true bytes ps variadic = SpellsParameters bytes ps variadic
+SpellsParametersBy false bytes ps variadic = SpellsOtherParameters bytes ps variadic
+
+pub grouped_behind : (P : Token → Type 0) (A B C : List Token → Type 0) (xs : List Token) → Behind P (Then (Then A B) C) xs → Behind P (Then A (Then B C)) xs
+grouped_behind P A B C xs s = record { token = s.token; rest = s.rest; is = s.is; behind = regroup A B C s.rest s.behind; whole = s.whole }
+
+parameters_are : (first : Bool) (bytes : List ℕ) (p : Parts × Full) (ps : Parameters) (variadic : Bool) (own : List Token) → Separated first (Then (Then (SpellsParts bytes p.0) (SpellsFull bytes p.1)) (SpellsOtherParameters bytes ps variadic)) own → SpellsParametersBy first bytes (parameter p.0 p.1 ps) variadic own
+parameters_are true bytes p ps variadic own s = regroup (SpellsParts bytes p.0) (SpellsFull bytes p.1) (SpellsOtherParameters bytes ps variadic) own s
+parameters_are false bytes p ps variadic own s = grouped_behind (IsMark marks.Comma) (SpellsParts bytes p.0) (SpellsFull bytes p.1) (SpellsOtherParameters bytes ps variadic) own s
+
+-- what closes a list of parameters
+record Last (bytes : List ℕ) (first : Bool) (ts : List Token) (x : Bool × List Token) : Type 0 where
+  pub own : List Token
+  pub spelled : SpellsOtherParameters bytes no_parameter x.0 own
+  pub front : ts ≡ own ++ x.1
+  pub later : first ≡ false
+
+last_either : (bytes : List ℕ) (ts : List Token) (o : Read Token) (x : Bool × List Token) → token_at (is_mark marks.RightParenthesis) ts ≡ o → last_by ts o ≡ Some x → Last bytes false ts x
+unfolding dots_at
+last_either bytes ts None x f e =
+    let d = bind_some (dots_at ts) (λ rest. Some (true, rest)) x e in
+    let a = bind_some (token_at (is_mark marks.Comma) ts) (λ x. token_at (is_mark marks.Ellipsis) x.1 >>= λ y. token_at (is_mark marks.RightParenthesis) y.1 >>= λ z. Some z.1) d.0 d.1 in
+    let b = bind_some (token_at (is_mark marks.Ellipsis) a.0.1) (λ y. token_at (is_mark marks.RightParenthesis) y.1 >>= λ z. Some z.1) d.0 a.2 in
+    let c = bind_some (token_at (is_mark marks.RightParenthesis) b.0.1) (λ z. Some z.1) d.0 b.2 in
+    let h = mark_takes marks.Comma ts a.0 a.1 in
+    let i = mark_takes marks.Ellipsis a.0.1 b.0 b.1 in
+    let j = mark_takes marks.RightParenthesis b.0.1 c.0 c.1 in
+    subst (λ (y : Bool × List Token). Last bytes false ts y) (some_is d.2)
+    (record {
+      own = a.0.0 ∷ (b.0.0 ∷ (c.0.0 ∷ []));
+      spelled = record {
+        token = a.0.0;
+        rest = b.0.0 ∷ (c.0.0 ∷ []);
+        is = h.is;
+        behind = record { token = b.0.0; rest = c.0.0 ∷ []; is = i.is; behind = record { token = c.0.0; is = j.is; whole = refl }; whole = refl };
+        whole = refl;
+      };
+      front = h.whole ∙ ap (λ (xs : List Token). a.0.0 ∷ xs) (i.whole ∙ ap (λ (xs : List Token). b.0.0 ∷ xs) (j.whole ∙ ap (λ (xs : List Token). c.0.0 ∷ xs) (some_is c.2)));
+      later = refl;
+    })
+last_either bytes ts (Some y) x f e =
+    let h = mark_takes marks.RightParenthesis ts y f in
+    subst (λ (y : Bool × List Token). Last bytes false ts y) (some_is e)
+    (record { own = y.0 ∷ []; spelled = record { token = y.0; is = h.is; whole = refl }; front = h.whole; later = refl })
+
+last_takes : (bytes : List ℕ) (first : Bool) (ts : List Token) (x : Bool × List Token) → last_at first ts ≡ Some x → Last bytes first ts x
+unfolding last_at
+last_takes bytes true ts x e = absurd cc
+last_takes bytes false ts x e = last_either bytes ts (token_at (is_mark marks.RightParenthesis) ts) x refl e
+
+abbrev SeparateParameter : List ℕ → ℕ → State → Parts × Full → List Token → List Token → Type 0
+SeparateParameter bytes n s p = Run (Separated s.1 (Then (SpellsParts bytes p.0) (SpellsFull bytes p.1))) (ParameterWell s.0 p) (max (parts_depth p.0) (full_depth p.1)) n
+
+abbrev ParametersRun : List ℕ → ℕ → State → Parameters × Bool → List Token → List Token → Type 0
+ParametersRun bytes n s ps = Run (SpellsParametersBy s.1 bytes ps.0 ps.1) (AreWellParameters s.0 ps.0) (parameters_depth ps.0) n
+
+parameters_stop : (bytes : List ℕ) (n : ℕ) (s : State) (ts : List Token) (x : (Parameters × Bool) × List Token) → (last_at s.1 ts >>= λ x. Some ((no_parameter, x.0), x.1)) ≡ Some x → ParametersRun bytes n s x.0 ts x.1
+parameters_stop bytes n s ts x e =
+    let a = bind_some (last_at s.1 ts) (λ x. Some ((no_parameter, x.0), x.1)) x e in
+    let h = last_takes bytes s.1 ts a.0 a.1 in
+    subst (λ (y : (Parameters × Bool) × List Token). ParametersRun bytes n s y.0 ts y.1) (some_is a.2)
+    (record {
+      own = h.own;
+      spelled = subst (λ (b : Bool). SpellsParametersBy b bytes no_parameter a.0.0 h.own) (sym h.later) h.spelled;
+      front = h.front;
+      well = tt;
+      deep = omega arith;
+    })
+
+parameters_item : (bytes : List ℕ) (n : ℕ) (body : Body) (sub : FullReader) → BodyTakes bytes n body → FullTakes bytes n sub → (s : State) (ts : List Token) (x : (Parts × Full) × List Token) → (comma_at s.1 ts >>= λ rest. parameter_at bytes n body sub s.0 rest) ≡ Some x → SeparateParameter bytes n s x.0 ts x.1
+parameters_item bytes n body sub known fulls s ts x e =
+    let a = bind_some (comma_at s.1 ts) (λ rest. parameter_at bytes n body sub s.0 rest) x e in
+    comma_takes s.1 (Then (SpellsParts bytes x.0.0) (SpellsFull bytes x.0.1)) (ParameterWell s.0 x.0) (max (parts_depth x.0.0) (full_depth x.0.1)) n ts a.0 x.1 a.1 (parameter_takes bytes n body sub known fulls s.0 a.0 x a.2)
+
+parameters_join : (bytes : List ℕ) (n : ℕ) (s : State) (p : Parts × Full) (ps : Parameters × Bool) (ts mid rest : List Token) → SeparateParameter bytes n s p ts mid → ParametersRun bytes n (with_named (with_parts s.0 p.0) (have_typedef p.0) p.1, false) ps mid rest → ParametersRun bytes n s (parameter p.0 p.1 ps.0, ps.1) ts rest
+parameters_join bytes n s p ps ts mid rest a b = record {
+  own = a.own ++ b.own;
+  spelled = parameters_are s.1 bytes p ps.0 ps.1 (a.own ++ b.own) (separated_joins s.1 (Then (SpellsParts bytes p.0) (SpellsFull bytes p.1)) (SpellsOtherParameters bytes ps.0 ps.1) a.own b.own a.spelled b.spelled);
+  front = seam ts a.own mid rest b.own a.front b.front;
+  well = (a.well.0, a.well.1, a.well.2, a.well.3, b.well);
+  deep = omega (arith, a.deep, b.deep);
+}
+
+parameters_take : (bytes : List ℕ) (n : ℕ) (body : Body) (sub : FullReader) → BodyTakes bytes n body → FullTakes bytes n sub → (names : Scope) (ts : List Token) (x : (Parameters × Bool) × List Token) → parameters_at bytes n body sub names ts ≡ Some x → ParametersRun bytes n (names, true) x.0 ts x.1
+unfolding parameters_at
+parameters_take bytes n body sub known fulls names ts x e =
+    run_takes (parameters_list bytes n body sub) (SeparateParameter bytes n) (ParametersRun bytes n) (parameters_stop bytes n) (parameters_item bytes n body sub known fulls) (parameters_join bytes n) (length ts + 1) (names, true) ts x e
+
+given_either : (bytes : List ℕ) (n : ℕ) (body : Body) (sub : FullReader) → BodyTakes bytes n body → FullTakes bytes n sub → (names : Scope) (t : Token) (ts mid : List Token) (o : Option (List Token)) (x : OneSuffix × List Token) → t.kind ≡ kinds.Mark marks.LeftParenthesis → ts ≡ t ∷ mid → void_at mid ≡ o → given_by bytes n body sub names t.line mid o ≡ Some x → OneTaken bytes names n x.0 ts x.1
+given_either bytes n body sub known fulls names t ts mid None x is whole f e =
+    let a = bind_some (parameters_at bytes n body sub names mid) (λ ps. Some (one_takes t.line ps.0.0 ps.0.1, ps.1)) x e in
+    let r = parameters_take bytes n body sub known fulls names mid a.0 a.1 in
+    let alone = not_when (is_void_alone a.0.0.0 a.0.0.1) (void_at mid) a.0.1 (λ v. void_spelled bytes a.0.0.0 a.0.0.1 mid r.own a.0.1 v r.spelled r.front) f in
+    subst (λ (y : OneSuffix × List Token). OneTaken bytes names n y.0 ts y.1) (some_is a.2)
+    (record {
+      own = t ∷ r.own;
+      spelled = λ ss back s. record {
+        token = t;
+        rest = r.own ++ back;
+        is = record { kind = is; line = refl };
+        behind = record { left = r.own; right = back; first = r.spelled; second = s; whole = refl };
+        whole = refl;
+      };
+      front = in_front_of t ts mid r.own a.0.1 whole r.front;
+      well = λ ss w. (alone, r.well, w);
+      deep = λ ss d. omega (arith, r.deep, d);
+    })
+given_either bytes n body sub known fulls names t ts mid (Some rest) x is whole f e =
+    let v = void_takes mid rest f in
+    subst (λ (y : OneSuffix × List Token). OneTaken bytes names n y.0 ts y.1) (some_is e)
+    (record {
+      own = t ∷ (v.void ∷ (v.close ∷ []));
+      spelled = λ ss back s. record {
+        token = t;
+        rest = v.void ∷ (v.close ∷ back);
+        is = record { kind = is; line = refl };
+        behind = record { token = v.void; rest = v.close ∷ back; is = v.is_void; behind = record { token = v.close; rest = back; is = v.is_close; behind = s; whole = refl }; whole = refl };
+        whole = refl;
+      };
+      front = in_front_of t ts mid (v.void ∷ (v.close ∷ [])) rest whole v.whole;
+      well = λ ss w. w;
+      deep = λ ss d. d;
+    })
+
+taken_either : (bytes : List ℕ) (n : ℕ) (body : Body) (sub : FullReader) → BodyTakes bytes n body → FullTakes bytes n sub → (names : Scope) (t : Token) (ts mid : List Token) (o : Read Token) (x : OneSuffix × List Token) → t.kind ≡ kinds.Mark marks.LeftParenthesis → ts ≡ t ∷ mid → token_at (is_mark marks.RightParenthesis) mid ≡ o → taken_by bytes n body sub names t.line mid o ≡ Some x → OneTaken bytes names n x.0 ts x.1
+unfolding given_at
+taken_either bytes n body sub known fulls names t ts mid None x is whole f e =
+    given_either bytes n body sub known fulls names t ts mid (void_at mid) x is whole refl e
+taken_either bytes n body sub known fulls names t ts mid (Some y) x is whole f e =
+    let h = mark_takes marks.RightParenthesis mid y f in
+    subst (λ (y : OneSuffix × List Token). OneTaken bytes names n y.0 ts y.1) (some_is e)
+    (record {
+      own = t ∷ (y.0 ∷ []);
+      spelled = λ ss back s. record {
+        token = t;
+        rest = y.0 ∷ back;
+        is = record { kind = is; line = refl };
+        behind = record { token = y.0; rest = back; is = h.is; behind = s; whole = refl };
+        whole = refl;
+      };
+      front = in_front_of t ts mid (y.0 ∷ []) y.1 whole h.whole;
+      well = λ ss w. w;
+      deep = λ ss d. d;
+    })
+
+-- what begins a suffix
+abbrev OpensKind : Opening → Kind → Type 0
+OpensKind openings.Bracket k = k ≡ kinds.Mark marks.LeftBracket
+OpensKind openings.Parenthesis k = k ≡ kinds.Mark marks.LeftParenthesis
+
+opening_by : (k : Kind) (a b : Bool) (x : Opening) → is_mark marks.LeftBracket k ≡ a → is_mark marks.LeftParenthesis k ≡ b → cond a (Some openings.Bracket) (cond b (Some openings.Parenthesis) None) ≡ Some x → OpensKind x k
+opening_by k true b x f g e = subst (λ y. OpensKind y k) (some_is e) (mark_by marks.LeftBracket k f)
+opening_by k false true x f g e = subst (λ y. OpensKind y k) (some_is e) (mark_by marks.LeftParenthesis k g)
+opening_by k false false x f g e = absurd cc
+
+record Opened (ts : List Token) (x : Opening × Token × List Token) : Type 0 where
+  pub is : OpensKind x.0 x.1.kind
+  pub whole : ts ≡ x.1 ∷ x.2
+
+opening_takes : (ts : List Token) (x : Opening × Token × List Token) → opening_at ts ≡ Some x → Opened ts x
+unfolding opening_at
+opening_takes [] x e = absurd cc
+opening_takes (t ∷ ts) x e =
+    let a = bind_some (opening_of t.kind) (λ x. Some (x, t, ts)) x e in
+    subst (λ (y : Opening × Token × List Token). Opened (t ∷ ts) y) (some_is a.2)
+    (record { is = opening_by t.kind (is_mark marks.LeftBracket t.kind) (is_mark marks.LeftParenthesis t.kind) a.0 refl refl a.1; whole = refl })
+
+one_taken : (bytes : List ℕ) (n : ℕ) (body : Body) (sub : FullReader) → BodyTakes bytes n body → FullTakes bytes n sub → (names : Scope) (o : Opening) (t : Token) (ts mid : List Token) (x : OneSuffix × List Token) → OpensKind o t.kind → ts ≡ t ∷ mid → one_from bytes n body sub names o t mid ≡ Some x → OneTaken bytes names n x.0 ts x.1
+unfolding one_from bound_at taken_at
+one_taken bytes n body sub known fulls names openings.Bracket t ts mid x is whole e =
+    bound_either bytes names n t ts mid (token_at (is_mark marks.RightBracket) mid) x is whole refl e
+one_taken bytes n body sub known fulls names openings.Parenthesis t ts mid x is whole e =
+    taken_either bytes n body sub known fulls names t ts mid (token_at (is_mark marks.RightParenthesis) mid) x is whole refl e
+
+abbrev SuffixesRun : List ℕ → ℕ → Scope → FullSuffixes → List Token → List Token → Type 0
+SuffixesRun bytes n names ss = Run (SpellsFullSuffixes bytes ss) (AreWellFullSuffixes names ss) (full_suffixes_depth ss) n
+
+suffixes_end : (bytes : List ℕ) (n : ℕ) (names : Scope) (ts : List Token) (o : Option (Opening × Token × List Token)) (x : FullSuffixes × List Token) → suffixes_stop ts o ≡ Some x → SuffixesRun bytes n names x.0 ts x.1
+suffixes_end bytes n names ts None x e =
+    subst (λ (y : FullSuffixes × List Token). SuffixesRun bytes n names y.0 ts y.1) (some_is e)
+    (record { own = []; spelled = refl; front = refl; well = tt; deep = omega arith })
+suffixes_end bytes n names ts (Some y) x e = absurd cc
+
+suffixes_item : (bytes : List ℕ) (n : ℕ) (body : Body) (sub : FullReader) → BodyTakes bytes n body → FullTakes bytes n sub → (names : Scope) (ts : List Token) (x : OneSuffix × List Token) → (opening_at ts >>= λ x. one_from bytes n body sub names x.0 x.1 x.2) ≡ Some x → OneTaken bytes names n x.0 ts x.1
+suffixes_item bytes n body sub known fulls names ts x e =
+    let a = bind_some (opening_at ts) (λ x. one_from bytes n body sub names x.0 x.1 x.2) x e in
+    let b = opening_takes ts a.0 a.1 in
+    one_taken bytes n body sub known fulls names a.0.0 a.0.1 ts a.0.2 x b.is b.whole a.2
+
+suffixes_join : (bytes : List ℕ) (n : ℕ) (names : Scope) (x : OneSuffix) (ss : FullSuffixes) (ts mid rest : List Token) → OneTaken bytes names n x ts mid → SuffixesRun bytes n names ss mid rest → SuffixesRun bytes n names (placed_suffix x ss) ts rest
+suffixes_join bytes n names x ss ts mid rest a b = record {
+  own = a.own ++ b.own;
+  spelled = a.spelled ss b.own b.spelled;
+  front = seam ts a.own mid rest b.own a.front b.front;
+  well = a.well ss b.well;
+  deep = a.deep ss b.deep;
+}
+
+suffixes_take : (bytes : List ℕ) (n : ℕ) (body : Body) (sub : FullReader) → BodyTakes bytes n body → FullTakes bytes n sub → (names : Scope) (ts : List Token) (x : FullSuffixes × List Token) → suffixes_at bytes n body sub names ts ≡ Some x → SuffixesRun bytes n names x.0 ts x.1
+unfolding suffixes_at
+suffixes_take bytes n body sub known fulls names ts x e =
+    run_takes (suffixes_list bytes n body sub) (λ names x. OneTaken bytes names n x) (SuffixesRun bytes n) (λ names ts x e. suffixes_end bytes n names ts (opening_at ts) x e) (suffixes_item bytes n body sub known fulls) (suffixes_join bytes n) (length ts + 1) names ts x e
+
+-- what a declarator begins with
+abbrev HeartIs : Heart → Bool → Bool → Kind → Type 0
+HeartIs hearts.Inside inner given k = (k ≡ kinds.Mark marks.LeftParenthesis) × (inner ≡ true → given ≡ false)
+HeartIs hearts.Name inner given k = k ≡ kinds.Identifier
+HeartIs hearts.Suffixes inner given k = inner ≡ true
+HeartIs hearts.Nothing inner given k = inner ≡ true
+
+heart_by : (k : Kind) (inner given a b c : Bool) (h : Heart) → is_mark marks.LeftParenthesis k ≡ a → is_identifier k ≡ b → cond a (cond (inner && given) (Some hearts.Suffixes) (Some hearts.Inside)) (cond b (Some hearts.Name) (cond inner (cond c (Some hearts.Suffixes) (Some hearts.Nothing)) None)) ≡ Some h → HeartIs h inner given k
+heart_by k true true true b c h f g e = subst (λ y. HeartIs y true true k) (some_is e) refl
+heart_by k true false true b c h f g e = subst (λ y. HeartIs y true false k) (some_is e) (mark_by marks.LeftParenthesis k f, λ _. refl)
+heart_by k false given true b c h f g e = subst (λ y. HeartIs y false given k) (some_is e) (mark_by marks.LeftParenthesis k f, λ e. absurd cc)
+heart_by k inner given false true c h f g e = subst (λ y. HeartIs y inner given k) (some_is e) (identifier_by k g)
+heart_by k true given false false true h f g e = subst (λ y. HeartIs y true given k) (some_is e) refl
+heart_by k true given false false false h f g e = subst (λ y. HeartIs y true given k) (some_is e) refl
+heart_by k false given false false c h f g e = absurd cc
+
+pub either_false : (a b : Bool) → (a || b) ≡ false → (a ≡ false) × (b ≡ false)
+either_false true b e = absurd cc
+either_false false b e = (refl, e)
+
+not_there : {A : Type 0} (o : Option A) → is_there o ≡ false → o ≡ None
+not_there None e = refl
+not_there (Some x) e = absurd cc
+
+-- a declarator in parentheses isn't empty
+pub named_full : (d : Full) → full_has_name d ≡ true → full_is_empty d ≡ false
+named_full (full_unnamed ss) e = absurd cc
+named_full (full_named line text ss) e = refl
+named_full (full_inside line d ss) e = refl
+
+true_and_false : {P : Type 0} (b : Bool) → b ≡ true → b ≡ false → P
+true_and_false true e f = absurd cc
+true_and_false false e f = absurd cc
+
+some_full : (bytes : List ℕ) (names : Scope) (d : Full) (ts own mid : List Token) (y : Token × List Token) → SpellsFull bytes d own → ts ≡ own ++ mid → token_at (is_mark marks.RightParenthesis) mid ≡ Some y → takes bytes names ts ≡ false → full_is_empty d ≡ false
+some_full bytes names (full_unnamed full_end) ts own mid y s e f g =
+    let there = ap (stands marks.RightParenthesis) (e ∙ ap (λ (xs : List Token). xs ++ mid) s) ∙ ap (λ (o : Read Token). is_there o) f in
+    true_and_false (stands marks.RightParenthesis ts) there (either_false (stands marks.RightParenthesis ts) (is_there (start_at false bytes (names, false) ts)) g).0
+some_full bytes names (full_unnamed (full_bounded line b ss)) ts own mid y s e f g = refl
+some_full bytes names (full_unnamed (full_open line ss)) ts own mid y s e f g = refl
+some_full bytes names (full_unnamed (full_empty line ss)) ts own mid y s e f g = refl
+some_full bytes names (full_unnamed (full_void line ss)) ts own mid y s e f g = refl
+some_full bytes names (full_unnamed (full_parameters line ps v ss)) ts own mid y s e f g = refl
+some_full bytes names (full_named line text ss) ts own mid y s e f g = refl
+some_full bytes names (full_inside line d ss) ts own mid y s e f g = refl
+
+inside_full : (bytes : List ℕ) (inner : Bool) (names : Scope) (d : Full) (ts own mid : List Token) (y : Token × List Token) → SpellsFull bytes d own → (inner ≡ false → full_has_name d ≡ true) → ts ≡ own ++ mid → token_at (is_mark marks.RightParenthesis) mid ≡ Some y → (inner ≡ true → takes bytes names ts ≡ false) → full_is_empty d ≡ false
+inside_full bytes true names d ts own mid y s h e f g = some_full bytes names d ts own mid y s e f (g refl)
+inside_full bytes false names d ts own mid y s h e f g = named_full d (h refl)
+
+inside_no_type : (bytes : List ℕ) (inner : Bool) (names : Scope) (d : Full) (ts own mid : List Token) → SpellsFull bytes d own → ts ≡ own ++ mid → (inner ≡ true → takes bytes names ts ≡ false) → OpensNoType names inner d
+inside_no_type bytes false names d ts own mid s e g = tt
+inside_no_type bytes true names d ts own mid s e g =
+    let start = start_at false bytes (names, false) ts in
+    front_no_type false bytes names false d ts own mid (not_there start (either_false (stands marks.RightParenthesis ts) (is_there start) (g refl)).1) e s
+
+inside_takes : (bytes : List ℕ) (n : ℕ) (body : Body) (sub : FullReader) → BodyTakes bytes n body → FullTakes bytes n sub → (inner : Bool) (names : Scope) (t : Token) (ts : List Token) (x : Full × List Token) → t.kind ≡ kinds.Mark marks.LeftParenthesis → (inner ≡ true → takes bytes names ts ≡ false) → inside_at bytes n body sub inner names t.line ts ≡ Some x → FullRun bytes (suc n) inner names x.0 (t ∷ ts) x.1
+unfolding inside_at
+inside_takes bytes n body sub known fulls inner names t ts x is no_types e =
+    let a = bind_some (sub inner names ts) (λ d. token_at (is_mark marks.RightParenthesis) d.1 >>= λ x. suffixes_at bytes n body sub names x.1 >>= λ ss. Some (full_inside t.line d.0 ss.0, ss.1)) x e in
+    let b = bind_some (token_at (is_mark marks.RightParenthesis) a.0.1) (λ x. suffixes_at bytes n body sub names x.1 >>= λ ss. Some (full_inside t.line a.0.0 ss.0, ss.1)) x a.2 in
+    let c = bind_some (suffixes_at bytes n body sub names b.0.1) (λ ss. Some (full_inside t.line a.0.0 ss.0, ss.1)) x b.2 in
+    let d = fulls inner names ts a.0 a.1 in
+    let h = mark_takes marks.RightParenthesis a.0.1 b.0 b.1 in
+    let s = suffixes_take bytes n body sub known fulls names b.0.1 c.0 c.1 in
+    let own = d.own ++ (b.0.0 ∷ s.own) in
+    subst (λ (y : Full × List Token). FullRun bytes (suc n) inner names y.0 (t ∷ ts) y.1) (some_is c.2)
+    (record {
+      own = t ∷ own;
+      spelled = record {
+        token = t;
+        rest = own;
+        is = record { kind = is; line = refl };
+        behind = record {
+          left = d.own;
+          right = b.0.0 ∷ s.own;
+          first = d.spelled;
+          second = record { token = b.0.0; rest = s.own; is = h.is; behind = s.spelled; whole = refl };
+          whole = refl;
+        };
+        whole = refl;
+      };
+      front = ap (λ (xs : List Token). t ∷ xs) (seam ts d.own a.0.1 c.0.1 (b.0.0 ∷ s.own) d.front (h.whole ∙ ap (λ (xs : List Token). b.0.0 ∷ xs) s.front));
+      well = (
+        (
+          inside_full bytes inner names a.0.0 ts d.own a.0.1 b.0 d.spelled d.well.1 d.front b.1 no_types,
+          inside_no_type bytes inner names a.0.0 ts d.own a.0.1 d.spelled d.front no_types,
+          d.well.0,
+          s.well,
+        ),
+        d.well.1,
+      );
+      deep = omega (arith, d.deep, s.deep);
+    })
+
+unnamed_deep : (n : ℕ) (ss : FullSuffixes) → full_suffixes_depth ss ≤ n → full_depth (full_unnamed ss) ≤ suc n
+unnamed_deep n full_end h = omega arith
+unnamed_deep n (full_bounded line e ss) h = omega arith
+unnamed_deep n (full_open line ss) h = omega arith
+unnamed_deep n (full_empty line ss) h = omega arith
+unnamed_deep n (full_void line ss) h = omega arith
+unnamed_deep n (full_parameters line ps v ss) h = omega arith
+
+inner_only : (inner : Bool) (b : Bool) → inner ≡ true → inner ≡ false → b ≡ true
+inner_only true b e f = absurd cc
+inner_only false b e f = absurd cc
+
+empty_run : (bytes : List ℕ) (n : ℕ) (inner : Bool) (names : Scope) (ts : List Token) → inner ≡ true → FullRun bytes n inner names (full_unnamed full_end) ts ts
+empty_run bytes n inner names ts h = record { own = []; spelled = refl; front = refl; well = (tt, inner_only inner false h); deep = omega arith }
+
+heart_none : (bytes : List ℕ) (inner : Bool) (names : Scope) (h : Heart) → cond inner (Some hearts.Nothing) None ≡ Some h → (h ≡ hearts.Nothing) × (inner ≡ true)
+heart_none bytes true names h e = (sym (some_is e), refl)
+heart_none bytes false names h e = absurd cc
+
+full_by : (bytes : List ℕ) (n : ℕ) (body : Body) (sub : FullReader) → BodyTakes bytes n body → FullTakes bytes n sub → (inner : Bool) (names : Scope) (h : Heart) (t : Token) (ts : List Token) (x : Full × List Token) → HeartIs h inner (takes bytes names ts) t.kind → full_from bytes n body sub inner names h (t ∷ ts) ≡ Some x → FullRun bytes (suc n) inner names x.0 (t ∷ ts) x.1
+unfolding full_from
+full_by bytes n body sub known fulls inner names hearts.Nothing t ts x is e =
+    subst (λ (y : Full × List Token). FullRun bytes (suc n) inner names y.0 (t ∷ ts) y.1) (some_is e) (empty_run bytes (suc n) inner names (t ∷ ts) is)
+full_by bytes n body sub known fulls inner names hearts.Suffixes t ts x is e =
+    let a = bind_some (suffixes_at bytes n body sub names (t ∷ ts)) (λ ss. Some (full_unnamed ss.0, ss.1)) x e in
+    let s = suffixes_take bytes n body sub known fulls names (t ∷ ts) a.0 a.1 in
+    subst (λ (y : Full × List Token). FullRun bytes (suc n) inner names y.0 (t ∷ ts) y.1) (some_is a.2)
+    (record { own = s.own; spelled = s.spelled; front = s.front; well = (s.well, inner_only inner false is); deep = unnamed_deep n a.0.0 s.deep })
+full_by bytes n body sub known fulls inner names hearts.Name t ts x is e =
+    let a = bind_some (suffixes_at bytes n body sub names ts) (λ ss. Some (full_named t.line (text_of bytes t) ss.0, ss.1)) x e in
+    let s = suffixes_take bytes n body sub known fulls names ts a.0 a.1 in
+    subst (λ (y : Full × List Token). FullRun bytes (suc n) inner names y.0 (t ∷ ts) y.1) (some_is a.2)
+    (record {
+      own = t ∷ s.own;
+      spelled = record { token = t; rest = s.own; is = record { kind = is; line = refl; text = refl }; behind = s.spelled; whole = refl };
+      front = ap (λ (xs : List Token). t ∷ xs) s.front;
+      well = (s.well, λ _. refl);
+      deep = omega (arith, s.deep);
+    })
+full_by bytes n body sub known fulls inner names hearts.Inside t ts x is e = inside_takes bytes n body sub known fulls inner names t ts x is.0 is.1 e
+
+full_begun : (bytes : List ℕ) (n : ℕ) (body : Body) (sub : FullReader) → BodyTakes bytes n body → FullTakes bytes n sub → (inner : Bool) (names : Scope) (h : Heart) (ts : List Token) (x : Full × List Token) → heart_at inner bytes names ts ≡ Some h → full_from bytes n body sub inner names h ts ≡ Some x → FullRun bytes (suc n) inner names x.0 ts x.1
+unfolding heart_at full_from
+full_begun bytes n body sub known fulls inner names h [] x f e =
+    let g = heart_none bytes inner names h f in
+    let k : full_from bytes n body sub inner names hearts.Nothing [] ≡ Some x = ap (λ (y : Heart). full_from bytes n body sub inner names y []) (sym g.0) ∙ e in
+    subst (λ (y : Full × List Token). FullRun bytes (suc n) inner names y.0 [] y.1) (some_is k) (empty_run bytes (suc n) inner names [] g.1)
+full_begun bytes n body sub known fulls inner names h (t ∷ ts) x f e =
+    full_by bytes n body sub known fulls inner names h t ts x
+    (heart_by t.kind inner (takes bytes names ts) (is_mark marks.LeftParenthesis t.kind) (is_identifier t.kind) (is_mark marks.LeftBracket t.kind) h refl refl f) e
+
+bare_inner : (bytes : List ℕ) (inner : Bool) (names : Scope) (ts : List Token) → heart_at inner bytes names ts ≡ Some hearts.Nothing → inner ≡ true
+unfolding heart_at
+bare_inner bytes inner names [] f = (heart_none bytes inner names hearts.Nothing f).1
+bare_inner bytes inner names (t ∷ ts) f =
+    heart_by t.kind inner (takes bytes names ts) (is_mark marks.LeftParenthesis t.kind) (is_identifier t.kind) (is_mark marks.LeftBracket t.kind) hearts.Nothing refl refl f
+
+bare_takes : (bytes : List ℕ) (inner : Bool) (names : Scope) (h : Heart) (ts : List Token) (x : Full × List Token) → heart_at inner bytes names ts ≡ Some h → bare_full h ts ≡ Some x → FullRun bytes 0 inner names x.0 ts x.1
+bare_takes bytes inner names hearts.Nothing ts x f e =
+    subst (λ (y : Full × List Token). FullRun bytes 0 inner names y.0 ts y.1) (some_is e) (empty_run bytes 0 inner names ts (bare_inner bytes inner names ts f))
+bare_takes bytes inner names hearts.Suffixes ts x f e = absurd cc
+bare_takes bytes inner names hearts.Name ts x f e = absurd cc
+bare_takes bytes inner names hearts.Inside ts x f e = absurd cc
+
+mutual
+  unfolding body_at full_at
+
+  pub body_takes : (bytes : List ℕ) (n : ℕ) → BodyTakes bytes n (body_at bytes n)
+  body_takes bytes zero names ts x e = absurd cc
+  body_takes bytes (suc n) names ts x e = members_take bytes n (body_at bytes n) (full_at bytes n) (body_takes bytes n) (full_takes bytes n) names ts x e
+
+  pub full_takes : (bytes : List ℕ) (n : ℕ) → FullTakes bytes n (full_at bytes n)
+  full_takes bytes zero inner names ts x e =
+      let a = bind_some (heart_at inner bytes names ts) (λ h. bare_full h ts) x e in
+      bare_takes bytes inner names a.0 ts x a.1 a.2
+  full_takes bytes (suc n) inner names ts x e =
+      let a = bind_some (heart_at inner bytes names ts) (λ h. full_from bytes n (body_at bytes n) (full_at bytes n) inner names h ts) x e in
+      full_begun bytes n (body_at bytes n) (full_at bytes n) (body_takes bytes n) (full_takes bytes n) inner names a.0 ts x a.1 a.2

@@ -13,9 +13,8 @@ use Rattle.c_lexer.specs.declared.token.Mark.{Mark}
 use Rattle.c_lexer.specs.declared.token.Mark.TheVariants as marks
 use Rattle.c_lexer.specs.Spelling.{keyword_text, mark_text, keyword_of, mark_of}
 use Rattle.c_lexer.specs.Kinds.{text_of}
-use Rattle.c_tree.specs.Spelling.{Names}
 use Rattle.c_parse_expr.specs.Reading.{is_mark, is_identifier}
-use Rattle.c_parse_decl.specs.Reading.{Read, is_keyword, is_main, token_at, main_at}
+use Rattle.c_parse_decl.specs.Reading.{Read, is_keyword, token_at}
 use Rattle.c_parse_decl.proofs.Lists.{some_is}
 
 pub mark_back : (m : Mark) → mark_of (mark_text m) ≡ Some m
@@ -168,22 +167,6 @@ keyword_takes w ts x e = let f = token_takes (is_keyword w) ts x e in record { i
 pub identifier_takes : (ts : List Token) (x : Token × List Token) → token_at is_identifier ts ≡ Some x → Front (λ t. t.kind ≡ kinds.Identifier) ts x
 identifier_takes ts x e = let f = token_takes is_identifier ts x e in record { is = identifier_by x.0.kind f.is; whole = f.whole }
 
-and_true : (a b : Bool) → (a && b) ≡ true → (a ≡ true) × (b ≡ true)
-and_true true b e = (refl, e)
-and_true false b e = cc
-
-pub main_takes : (bytes : List ℕ) (ts : List Token) (x : Token × List Token) → main_at bytes ts ≡ Some x → Front (λ t. Names bytes t.line (codes "main") t) ts x
-unfolding main_at
-main_takes bytes [] x e = absurd cc
-main_takes bytes (t ∷ ts) x e =
-    let f = cond_some (is_main bytes t) (t, ts) x e in
-    let g = and_true (is_identifier t.kind) (bytes_eq (text_of bytes t) (codes "main")) f.0 in
-    subst (λ (y : Token × List Token). Front (λ t. Names bytes t.line (codes "main") t) (t ∷ ts) y) f.1
-    (record {
-      is = record { kind = identifier_by t.kind g.0; line = refl; text = (bytes_eq-Decides (text_of bytes t) (codes "main")).0 g.1 };
-      whole = refl;
-    })
-
 pub token_gives : (p : Kind → Bool) (t : Token) (ts : List Token) → p t.kind ≡ true → token_at p (t ∷ ts) ≡ Some (t, ts)
 unfolding token_at
 token_gives p t ts e = ap (λ (b : Bool). cond {A = Read Token} b (Some (t, ts)) None) e
@@ -200,14 +183,3 @@ keyword_gives w t ts e = token_gives (is_keyword w) t ts (keyword_so w t.kind e)
 
 pub identifier_gives : (t : Token) (ts : List Token) → t.kind ≡ kinds.Identifier → token_at is_identifier (t ∷ ts) ≡ Some (t, ts)
 identifier_gives t ts e = token_gives is_identifier t ts (ap is_identifier e)
-
-pub main_gives : (bytes : List ℕ) (line : ℕ) (t : Token) (ts : List Token) → Names bytes line (codes "main") t → main_at bytes (t ∷ ts) ≡ Some (t, ts)
-unfolding main_at
-main_gives bytes line t ts n =
-    ap (λ (b : Bool). cond {A = Read Token} b (Some (t, ts)) None)
-    (ap (λ (b : Bool). b && bytes_eq (text_of bytes t) (codes "main")) (ap is_identifier n.kind) ∙ (bytes_eq-Decides (text_of bytes t) (codes "main")).1 n.text)
-
-pub main_fails : (bytes : List ℕ) (t : Token) (ts : List Token) → is_identifier t.kind ≡ false → main_at bytes (t ∷ ts) ≡ None
-unfolding main_at
-main_fails bytes t ts e =
-    ap (λ (b : Bool). cond {A = Read Token} b (Some (t, ts)) None) (ap (λ (b : Bool). b && bytes_eq (text_of bytes t) (codes "main")) e)

@@ -1,49 +1,49 @@
 -- Where declarations and definitions stand among the tokens of a file (C11 6.9).
-use Rattle.std.specs.Prelude.{◌≡◌, ◌≤◌, ℕ, List, ◌∷◌, ◌++◌, max, true, false, codes}
+use Rattle.std.specs.Prelude.{◌≤◌, ℕ, List, ◌++◌, ◌≡◌, max}
 use Rattle.c_lexer.specs.declared.token.Token.{Token}
 use Rattle.c_tree.specs.declared.statement.External.{External}
 use Rattle.c_tree.specs.declared.statement.External.TheVariants as externals
 use Rattle.c_tree.specs.Names.{Scope, built_in_names}
-use Rattle.c_tree.specs.Declarations.{Parts, Declarators, parts_of, declarators_of, parts_depth, declarators_depth, with_declaration}
+use Rattle.c_tree.specs.Declarations.{Parts, Full, Declarators, parts_of, view_full, declarators_of, parts_depth, full_depth, declarators_depth, with_declaration, with_function}
 use Rattle.c_tree.specs.Statements.{Statement, Externals, no_more, declared, defines, view_statement, statement_depth, file_depth}
-use Rattle.c_tree.specs.Files.{SpellsDeclaration, SpellsDefinition, SpellsFile, IsWellDeclaration, IsWellStatement, AreWellExternals, is_block}
+use Rattle.c_tree.specs.Files.{SpellsDeclaration, SpellsDefinition, SpellsFile, IsWellDeclaration, IsWellDefinition, AreWellExternals}
 
--- An external declaration: a declaration, or the definition of `main` with the lines of its `int` and of its name.
+-- An external declaration: a declaration, or the definition of a function.
 pub data Outer : Type 0 where
   declaring : (specifiers : Parts) (declarators : Declarators) → Outer
-  defining : (line : ℕ) (name_line : ℕ) (body : Statement) → Outer
+  defining : (specifiers : Parts) (declarator : Full) (body : Statement) → Outer
 
 abbrev pub outer_of : External → Outer
 outer_of (externals.Declares d) = declaring (parts_of d.specifiers.items) (declarators_of d.declarators.items)
-outer_of (externals.Defines d) = defining d.line d.name_line (view_statement d.body)
+outer_of (externals.Defines d) = defining (parts_of d.specifiers.items) (view_full d.declarator) (view_statement d.body)
 
 -- in front of those that follow
 abbrev pub outermost : Outer → Externals → Externals
 outermost (declaring parts ds) rest = declared parts ds rest
-outermost (defining line name_line body) rest = defines line name_line body rest
+outermost (defining parts d body) rest = defines parts d body rest
 
 -- the names behind it
 abbrev pub with_outer : Scope → Outer → Scope
 with_outer names (declaring parts ds) = with_declaration names parts ds
-with_outer names (defining line name_line body) = (codes "main", false) ∷ names
+with_outer names (defining parts d body) = with_function names parts d
 
 -- the names behind all of a file
 abbrev pub with_externals : Scope → Externals → Scope
 with_externals names no_more = names
 with_externals names (declared parts ds rest) = with_externals (with_declaration names parts ds) rest
-with_externals names (defines line name_line body rest) = with_externals ((codes "main", false) ∷ names) rest
+with_externals names (defines parts d body rest) = with_externals (with_function names parts d) rest
 
 abbrev pub SpellsOuter : List ℕ → Outer → List Token → Type 0
 SpellsOuter bytes (declaring parts ds) = SpellsDeclaration bytes parts ds
-SpellsOuter bytes (defining line name_line body) = SpellsDefinition bytes line name_line body
+SpellsOuter bytes (defining parts d body) = SpellsDefinition bytes parts d body
 
 abbrev pub IsWellOuter : Scope → Outer → Type 0
 IsWellOuter names (declaring parts ds) = IsWellDeclaration names parts ds
-IsWellOuter names (defining line name_line body) = (is_block body ≡ true) × IsWellStatement ((codes "main", false) ∷ names) body
+IsWellOuter names (defining parts d body) = IsWellDefinition names parts d body
 
 abbrev pub outer_depth : Outer → ℕ
 outer_depth (declaring parts ds) = max (parts_depth parts) (declarators_depth ds)
-outer_depth (defining line name_line body) = max 1 (statement_depth body)
+outer_depth (defining parts d body) = max (parts_depth parts) (max (full_depth d) (statement_depth body))
 
 -- The tokens are the external declaration, with the names that are declared before it.
 pub record IsExternal (bytes : List ℕ) (names : Scope) (e : Outer) (tokens : List Token) : Type 0 where

@@ -1,16 +1,16 @@
 //! Reading initializers, declarators and declarations.
 
 ghost use Rattle.std.specs.Prelude.{◌<◌, ◌≤◌, ◌≡◌, ◌∷◌, length, option_map, IfOk};
-ghost use Rattle.c_tree.specs.Tree.{view_declarator};
-ghost use Rattle.c_tree.specs.Declarations.{view_initializer, initials_of, declarators_of, parts_of, name_of, with_declarators, with_declaration};
+ghost use Rattle.c_tree.specs.Declarations.{view_full, view_initializer, initials_of, declarators_of, parts_of, name_of, with_declarators, with_declaration};
 ghost use Rattle.c_parse_expr.specs.Reading.{Gives};
 ghost use Rattle.c_parse_decl.specs.Reading.{next_at, initial_at, initials_at, initializer_at, declarator_at, declarators_at, declaration_at};
 
+use crate::declared::declared_name;
 use crate::slices::{comma_at, mark_at, shut_at};
-use crate::specifying::{are_some, specifiers};
+use crate::specifying::{are_some, full, specifiers};
 use c_lexer::{Mark, Token};
-use c_parse_expr::{Refused, TypeNames, declarator, read};
-use c_tree::{Declaration, Declarator, DeclaratorCore, InitDeclarator, Initializer};
+use c_parse_expr::{Refused, TypeNames, read};
+use c_tree::{Declaration, InitDeclarator, Initializer};
 use std::alloc::Global;
 
 /// The initializer at the front (C11 6.7.9). Braces take a level.
@@ -93,7 +93,7 @@ fn initials<'a>(
 
 /// The initializer of a declarator, if a `=` stands at the front.
 #[tactic(auto, unfolding(crate::specs::Reading::initializer_at))]
-fn initializer<'a>(
+pub fn initializer<'a>(
     alloc: Global,
     bytes: &[u8],
     names: &TypeNames,
@@ -111,17 +111,6 @@ fn initializer<'a>(
     Ok((Some(initial), rest))
 }
 
-/// The name that a declarator declares; none has no bytes.
-fn declared_name(declarator: &Declarator) -> &[u8]
-    ensures { result.now ≡ name_of (view_declarator declarator.now) }
-{
-    match &declarator.core {
-        DeclaratorCore::Absent => &[],
-        DeclaratorCore::Named { line: _, name } => &name.bytes,
-        DeclaratorCore::Inside { line: _, inner } => declared_name(inner),
-    }
-}
-
 /// The declarator at the front with its initializer. Its name is declared between them, as a type or not.
 #[tactic(auto, unfolding(crate::specs::Reading::declarator_at))]
 fn initialized<'a>(
@@ -133,16 +122,16 @@ fn initialized<'a>(
     levels: u32,
 ) -> Result<(InitDeclarator, &'a [Token]), Refused>
     requires { levels ≤ 400 }
-    ensures exact { Gives (λ x. ((view_declarator x.0.declarator, option_map view_initializer x.0.initializer), x.1.now)) result (declarator_at bytes.now names.old types levels tokens.now) }
-    ensures names { IfOk result (λ x. names.new ≡ (name_of (view_declarator x.0.declarator), types) ∷ names.old) }
+    ensures exact { Gives (λ x. ((view_full x.0.declarator, option_map view_initializer x.0.initializer), x.1.now)) result (declarator_at bytes.now names.old types levels tokens.now) }
+    ensures names { IfOk result (λ x. names.new ≡ (name_of (view_full x.0.declarator), types) ∷ names.old) }
     ensures shorter { IfOk result (λ x. length x.1.now < length tokens.now) }
 {
-    let found = declarator(alloc, bytes, names, tokens, true, levels)?;
-    names.declare(alloc, declared_name(&found.declarator), types)?;
-    let (initializer, rest) = initializer(alloc, bytes, names, found.rest, levels)?;
+    let (declarator, rest) = full(alloc, bytes, names, false, tokens, levels)?;
+    names.declare(alloc, declared_name(&declarator), types)?;
+    let (initializer, rest) = initializer(alloc, bytes, names, rest, levels)?;
     Ok((
         InitDeclarator {
-            declarator: found.declarator,
+            declarator,
             initializer,
         },
         rest,
@@ -160,8 +149,8 @@ fn next_initialized<'a>(
     levels: u32,
 ) -> Result<(InitDeclarator, &'a [Token]), Refused>
     requires { levels ≤ 400 }
-    ensures exact { Gives (λ x. ((view_declarator x.0.declarator, option_map view_initializer x.0.initializer), x.1.now)) result (next_at first (declarator_at bytes.now names.old types levels) tokens.now) }
-    ensures names { IfOk result (λ x. names.new ≡ (name_of (view_declarator x.0.declarator), types) ∷ names.old) }
+    ensures exact { Gives (λ x. ((view_full x.0.declarator, option_map view_initializer x.0.initializer), x.1.now)) result (next_at first (declarator_at bytes.now names.old types levels) tokens.now) }
+    ensures names { IfOk result (λ x. names.new ≡ (name_of (view_full x.0.declarator), types) ∷ names.old) }
     ensures shorter { IfOk result (λ x. length x.1.now < length tokens.now) }
 {
     let Some(rest) = comma_at(tokens, first) else {
@@ -170,22 +159,24 @@ fn next_initialized<'a>(
     initialized(alloc, bytes, names, types, rest, levels)
 }
 
-/// The declarators behind specifiers, and the tokens behind their `;`. They are declared, as types or not.
-fn declarators<'a>(
+/// The declarators behind specifiers, or behind the first of them, and the tokens behind their `;`. They are declared, as
+/// types or not.
+pub fn declarators<'a>(
     alloc: Global,
     bytes: &[u8],
     names: &mut TypeNames,
     types: bool,
+    begins: bool,
     tokens: &'a [Token],
     levels: u32,
 ) -> Result<(Vec<InitDeclarator>, &'a [Token]), Refused>
     requires { levels ≤ 400 }
-    ensures exact { Gives (λ x. (declarators_of x.0.items, x.1.now)) result (declarators_at bytes.now names.old types levels tokens.now) }
+    ensures exact { Gives (λ x. (declarators_of x.0.items, x.1.now)) result (declarators_at bytes.now names.old types levels begins tokens.now) }
     ensures names { IfOk result (λ x. names.new ≡ with_declarators names.old types (declarators_of x.0.items)) }
     ensures shorter { IfOk result (λ x. length x.1.now < length tokens.now) }
 {
     let mut declarators = Vec::new(alloc);
-    let mut first = true;
+    let mut first = begins;
     let mut rest = tokens;
     'declarators: loop {
         if let Some((_, behind)) = mark_at(rest, Mark::Semicolon) {
@@ -216,7 +207,15 @@ pub fn declaration<'a>(
     if !are_some(&found.items) {
         return Err(Refused::Syntax);
     }
-    let (declarators, rest) = declarators(alloc, bytes, names, found.types, found.rest, levels)?;
+    let (declarators, rest) = declarators(
+        alloc,
+        bytes,
+        names,
+        found.types,
+        true,
+        found.rest,
+        levels,
+    )?;
     Ok((
         Declaration {
             specifiers: found.items,

@@ -1,92 +1,122 @@
 //! Reading an external declaration.
 
-ghost use Rattle.std.specs.Prelude.{◌<◌, ◌≤◌, ◌≡◌, ◌∷◌, codes, false, length, option_map, IfOk, IfSome};
+ghost use Rattle.std.specs.Prelude.{◌<◌, ◌≤◌, ◌≡◌, ◌∷◌, length, option_map, IfOk};
+ghost use Rattle.c_tree.specs.Names.{Scope};
 ghost use Rattle.c_tree.specs.Statements.{view_statement};
+ghost use Rattle.c_tree.specs.Declarations.{view_full, parts_of, declarators_of, name_of, have_typedef, with_parts, with_declarators};
 ghost use Rattle.c_parse_expr.specs.Reading.{Gives};
-ghost use Rattle.c_parse_decl.specs.Reading.{head_at, definition_at, main_body_at, outer_at};
+ghost use Rattle.c_parse_decl.specs.Reading.{definition_at, others_at, first_at, outer_at};
 ghost use Rattle.c_parse_decl.specs.Standing.{defining, outer_of, with_outer};
 
-use crate::declaring::declaration;
-use crate::slices::{keyword_at, main_at, mark_at};
+use crate::declared::{declare_body, declared_name, is_function};
+use crate::declaring::{declarators, initializer};
+use crate::slices::mark_at;
+use crate::specifying::{are_some, full, specifiers};
 use crate::stating::block;
-use c_lexer::{Keyword, Mark, Token};
+use c_lexer::{Mark, Token};
 use c_parse_expr::{Refused, TypeNames};
-use c_tree::{Definition, External, Stmt};
+use c_tree::{Declaration, Definition, External, FullDeclarator, InitDeclarator, Specifier};
 use std::alloc::Global;
 
 /// The most levels of an external declaration.
 const LEVELS: u32 = 400;
 
-/// The block at the front, as the body of a definition.
-#[tactic(auto, unfolding(crate::specs::Reading::main_body_at))]
-fn body<'a>(
-    alloc: Global,
-    bytes: &[u8],
-    names: &mut TypeNames,
-    tokens: &'a [Token],
-) -> Result<(Stmt, &'a [Token]), Refused>
-    ensures exact { Gives (λ x. (view_statement x.0, x.1.now)) result (main_body_at bytes.now names.old tokens.now) }
-    ensures names { IfOk result (λ _. names.new ≡ names.old) }
-    ensures shorter { IfOk result (λ x. length x.1.now < length tokens.now) }
-{
-    let Some((token, rest)) = mark_at(tokens, Mark::LeftBrace) else {
-        return Err(Refused::Syntax);
-    };
-    block(alloc, bytes, names, token.line, rest, LEVELS - 1)
-}
-
-/// The lines of an `int` and of the name `main` at the front, with a parenthesis behind them, and the tokens behind it.
-#[tactic(auto, unfolding(crate::specs::Reading::head_at))]
-fn head<'a>(bytes: &[u8], tokens: &'a [Token]) -> Option<(u32, u32, &'a [Token])>
-    ensures value { option_map (λ x. ((x.0, x.1), x.2.now)) result ≡ head_at bytes.now tokens.now }
-    ensures shorter { IfSome result (λ x. length x.2.now < length tokens.now) }
-{
-    let Some((int, rest)) = keyword_at(tokens, Keyword::Int) else {
-        return None;
-    };
-    let Some((name, rest)) = main_at(bytes, rest) else {
-        return None;
-    };
-    match mark_at(rest, Mark::LeftParenthesis) {
-        Some((_, rest)) => Some((int.line, name.line, rest)),
-        None => None,
-    }
-}
-
-/// The definition of `main` behind its parenthesis (C11 6.9.1): `void`, a parenthesis and the body.
+/// The definition of a function (C11 6.9.1) behind the brace of its body. Its name is declared; its parameters are declared
+/// in the body.
 #[tactic(auto, unfolding(crate::specs::Reading::definition_at))]
 fn definition<'a>(
     alloc: Global,
     bytes: &[u8],
     names: &mut TypeNames,
+    specifiers: Vec<Specifier>,
+    declarator: FullDeclarator,
     line: u32,
-    name_line: u32,
     tokens: &'a [Token],
 ) -> Result<(Definition, &'a [Token]), Refused>
-    ensures exact { Gives (λ x. (defining x.0.line x.0.name_line (view_statement x.0.body), x.1.now)) result (definition_at bytes.now names.old (line, name_line) tokens.now) }
-    ensures names { IfOk result (λ _. names.new ≡ (codes "main", false) ∷ names.old) }
+    ensures exact { Gives (λ x. (defining (parts_of x.0.specifiers.items) (view_full x.0.declarator) (view_statement x.0.body), x.1.now)) result (definition_at bytes.now names.old (parts_of specifiers.items) (view_full declarator) line tokens.now) }
+    ensures parts { IfOk result (λ x. parts_of x.0.specifiers.items ≡ parts_of specifiers.items) }
+    ensures same { IfOk result (λ x. view_full x.0.declarator ≡ view_full declarator) }
+    ensures names { IfOk result (λ x. names.new ≡ names.old) }
     ensures shorter { IfOk result (λ x. length x.1.now ≤ length tokens.now) }
 {
-    let Some((_, rest)) = keyword_at(tokens, Keyword::Void) else {
+    if !is_function(&declarator) {
         return Err(Refused::Syntax);
-    };
-    let Some((_, rest)) = mark_at(rest, Mark::RightParenthesis) else {
-        return Err(Refused::Syntax);
-    };
-    names.declare(alloc, b"main".as_slice(), false)?;
-    let (body, rest) = body(alloc, bytes, names, rest)?;
+    }
+    let mark = names.mark();
+    declare_body(alloc, names, &declarator)?;
+    let (body, rest) = block(alloc, bytes, names, line, tokens, LEVELS - 1)?;
+    names.leave(mark);
     Ok((
         Definition {
-            line,
-            name_line,
+            specifiers,
+            declarator,
             body,
         },
         rest,
     ))
 }
 
-/// The external declaration at the front (C11 6.9), and the tokens behind it: a definition where `int`, `main` and a
-/// parenthesis stand there, else a declaration. What it declares is declared behind it.
+/// The declarators of a declaration behind the first one, which is declared.
+#[tactic(auto, unfolding(crate::specs::Reading::others_at))]
+fn others<'a>(
+    alloc: Global,
+    bytes: &[u8],
+    names: &mut TypeNames,
+    types: bool,
+    declarator: FullDeclarator,
+    tokens: &'a [Token],
+) -> Result<(Vec<InitDeclarator>, &'a [Token]), Refused>
+    ensures exact { Gives (λ x. (declarators_of x.0.items, x.1.now)) result (others_at bytes.now names.old types (view_full declarator) tokens.now) }
+    ensures names { IfOk result (λ x. (before : Scope) → names.old ≡ (name_of (view_full declarator), types) ∷ before → names.new ≡ with_declarators before types (declarators_of x.0.items)) }
+    ensures shorter { IfOk result (λ x. length x.1.now < length tokens.now) }
+{
+    let (initializer, rest) = initializer(alloc, bytes, names, tokens, LEVELS)?;
+    let (mut others, rest) = declarators(alloc, bytes, names, types, false, rest, LEVELS)?;
+    others.insert(
+        0,
+        InitDeclarator {
+            declarator,
+            initializer,
+        },
+    )?;
+    Ok((others, rest))
+}
+
+/// A declaration or a definition behind its specifiers, with a declarator.
+#[tactic(auto, unfolding(crate::specs::Reading::first_at))]
+fn declared<'a>(
+    alloc: Global,
+    bytes: &[u8],
+    names: &mut TypeNames,
+    specifiers: Vec<Specifier>,
+    types: bool,
+    tokens: &'a [Token],
+) -> Result<(External, &'a [Token]), Refused>
+    requires { types ≡ have_typedef (parts_of specifiers.items) }
+    ensures exact { Gives (λ x. (outer_of x.0, x.1.now)) result (first_at bytes.now names.old (parts_of specifiers.items) tokens.now) }
+    ensures names { IfOk result (λ x. (before : Scope) → names.old ≡ with_parts before (parts_of specifiers.items) → names.new ≡ with_outer before (outer_of x.0)) }
+    ensures shorter { IfOk result (λ x. length x.1.now < length tokens.now) }
+{
+    let (declarator, rest) = full(alloc, bytes, names, false, tokens, LEVELS)?;
+    names.declare(alloc, declared_name(&declarator), types)?;
+    if let Some((token, rest)) = mark_at(rest, Mark::LeftBrace) {
+        let (definition, rest) = definition(
+            alloc, bytes, names, specifiers, declarator, token.line, rest,
+        )?;
+        return Ok((External::Defines(definition), rest));
+    }
+    let (declarators, rest) = others(alloc, bytes, names, types, declarator, rest)?;
+    Ok((
+        External::Declares(Declaration {
+            specifiers,
+            declarators,
+        }),
+        rest,
+    ))
+}
+
+/// The external declaration at the front (C11 6.9), and the tokens behind it: a definition where a brace stands behind the
+/// first declarator, else a declaration. What it declares is declared behind it.
 #[tactic(auto, unfolding(crate::specs::Reading::outer_at))]
 pub fn external<'a>(
     alloc: Global,
@@ -98,10 +128,18 @@ pub fn external<'a>(
     ensures names { IfOk result (λ x. names.new ≡ with_outer names.old (outer_of x.0)) }
     ensures shorter { IfOk result (λ x. length x.1.now < length tokens.now) }
 {
-    if let Some((line, name_line, rest)) = head(bytes, tokens) {
-        let (definition, rest) = definition(alloc, bytes, names, line, name_line, rest)?;
-        return Ok((External::Defines(definition), rest));
+    let found = specifiers(alloc, bytes, names, false, tokens, LEVELS)?;
+    if !are_some(&found.items) {
+        return Err(Refused::Syntax);
     }
-    let (declaration, rest) = declaration(alloc, bytes, names, tokens, LEVELS)?;
-    Ok((External::Declares(declaration), rest))
+    let Some((_, rest)) = mark_at(found.rest, Mark::Semicolon) else {
+        return declared(alloc, bytes, names, found.items, found.types, found.rest);
+    };
+    Ok((
+        External::Declares(Declaration {
+            specifiers: found.items,
+            declarators: Vec::new(alloc),
+        }),
+        rest,
+    ))
 }

@@ -1,6 +1,7 @@
 //! The tree of a C file (C11 6.9) among its tokens.
 #![tactic(auto)]
 
+mod declared;
 mod declaring;
 mod defining;
 mod enumerating;

@@ -1,20 +1,32 @@
 //! Taking tokens from the front of a slice.
 
 ghost use Rattle.std.specs.Prelude.{◌≡◌, ◌<◌, ◌≤◌, IfSome, length, option_map};
+ghost use Rattle.c_lexer.specs.declared.token.Mark.TheVariants as marks;
 ghost use Rattle.c_parse_expr.specs.Reading.{is_mark, is_identifier};
-ghost use Rattle.c_parse_decl.specs.Reading.{is_keyword, is_main, token_at, main_at, begin_of, comma_at, shut_at, tag_at, start_by, kept, start_of, start_at};
+ghost use Rattle.c_parse_decl.specs.Reading.{is_keyword, token_at, stands, begin_of, comma_at, shut_at, void_at, dots_at, last_at, tag_at, start_by, kept, start_of, start_at, opening_of, opening_at, takes, heart_of, heart_at, is_label, declares_at};
 
-use crate::table::{Start, start_of_keyword};
+use crate::table::{Begin, Start, begin_of_keyword, start_of_keyword};
 use c_lexer::{Keyword, Kind, Mark, Token};
 use c_parse_expr::{TypeNames, is_mark, split, token_text};
 
-/// What the first token of a statement begins.
+/// What begins a suffix of a declarator.
 #[derive(Clone, Copy, Debug, PartialEq, Eq)]
-pub enum Begin {
-    Block,
-    If,
-    Return,
-    Expression,
+pub enum Opening {
+    Bracket,
+    Parenthesis,
+}
+
+/// What a declarator begins with.
+#[derive(Clone, Copy, Debug, PartialEq, Eq)]
+pub enum Heart {
+    /// The name that it declares.
+    Name,
+    /// The parenthesis around a declarator.
+    Inside,
+    /// The suffixes of an abstract declarator.
+    Suffixes,
+    /// Nothing: the empty abstract declarator.
+    Nothing,
 }
 
 fn is_keyword(keyword: Keyword, kind: Kind) -> bool
@@ -97,42 +109,41 @@ pub fn identifier_at(tokens: &[Token]) -> Option<(Token, &[Token])>
     }
 }
 
-fn is_main(bytes: &[u8], token: Token) -> bool
-    ensures { result ≡ is_main bytes.now token }
+/// Whether a mark stands at the front.
+pub fn stands(tokens: &[Token], mark: Mark) -> bool
+    ensures { result ≡ stands mark tokens.now }
 {
-    is_identifier(token.kind) && token_text(bytes, token) == b"main".as_slice()
-}
-
-/// The name `main` at the front, and the tokens behind it.
-#[tactic(auto, unfolding(crate::specs::Reading::main_at))]
-pub fn main_at<'a>(bytes: &[u8], tokens: &'a [Token]) -> Option<(Token, &'a [Token])>
-    ensures value { option_map (λ x. (x.0, x.1.now)) result ≡ main_at bytes.now tokens.now }
-    ensures shorter { IfSome result (λ x. length x.1.now < length tokens.now) }
-{
-    match split(tokens) {
-        Some((token, rest)) => {
-            if is_main(bytes, token) {
-                Some((token, rest))
-            } else {
-                None
-            }
-        }
-        None => None,
+    match mark_at(tokens, mark) {
+        Some(_) => true,
+        None => false,
     }
 }
 
-/// What a token of a kind begins where a statement is due.
-pub fn begin_of(kind: Kind) -> Begin
-    ensures { result ≡ begin_of kind }
+/// What a token of a kind begins where a statement is due. A name begins a label where a colon is behind it.
+pub fn begin_of(colon: bool, kind: Kind) -> Begin
+    ensures { result ≡ begin_of colon kind }
 {
-    if is_mark(Mark::LeftBrace, kind) {
-        Begin::Block
-    } else if is_keyword(Keyword::If, kind) {
-        Begin::If
-    } else if is_keyword(Keyword::Return, kind) {
-        Begin::Return
-    } else {
-        Begin::Expression
+    match kind {
+        Kind::Identifier => {
+            if colon {
+                Begin::Label
+            } else {
+                Begin::Expression
+            }
+        }
+        Kind::Keyword(keyword) => begin_of_keyword(keyword),
+        Kind::Constant(_) => Begin::Expression,
+        Kind::Character(_) => Begin::Expression,
+        Kind::String => Begin::Expression,
+        Kind::Mark(_) => {
+            if is_mark(Mark::LeftBrace, kind) {
+                Begin::Block
+            } else if is_mark(Mark::Semicolon, kind) {
+                Begin::Empty
+            } else {
+                Begin::Expression
+            }
+        }
     }
 }
 
@@ -247,5 +258,151 @@ pub fn start_at<'a>(
     match start_of(inner, bytes, names, before, token) {
         Some(start) => Some((start, token, rest)),
         None => None,
+    }
+}
+
+fn is_label(tokens: &[Token]) -> bool
+    ensures { result ≡ is_label tokens.now }
+{
+    match split(tokens) {
+        Some((token, rest)) => is_identifier(token.kind) && stands(rest, Mark::Colon),
+        None => false,
+    }
+}
+
+/// What a declaration among statements begins with. A label begins none.
+#[tactic(auto, unfolding(crate::specs::Reading::declares_at))]
+pub fn declares_at<'a>(
+    bytes: &[u8],
+    names: &TypeNames,
+    tokens: &'a [Token],
+) -> Option<(Start, Token, &'a [Token])>
+    ensures { option_map (λ x. (x.0, x.1, x.2.now)) result ≡ declares_at bytes.now names.now tokens.now }
+{
+    if is_label(tokens) {
+        return None;
+    }
+    start_at(false, bytes, names, false, tokens)
+}
+
+fn opening_of(kind: Kind) -> Option<Opening>
+    ensures { result ≡ opening_of kind }
+{
+    if is_mark(Mark::LeftBracket, kind) {
+        Some(Opening::Bracket)
+    } else if is_mark(Mark::LeftParenthesis, kind) {
+        Some(Opening::Parenthesis)
+    } else {
+        None
+    }
+}
+
+/// What begins a suffix of a declarator, the token, and those behind it.
+#[tactic(auto, unfolding(crate::specs::Reading::opening_at))]
+pub fn opening_at(tokens: &[Token]) -> Option<(Opening, Token, &[Token])>
+    ensures value { option_map (λ x. (x.0, x.1, x.2.now)) result ≡ opening_at tokens.now }
+    ensures shorter { IfSome result (λ x. length x.2.now < length tokens.now) }
+{
+    let Some((token, rest)) = split(tokens) else {
+        return None;
+    };
+    match opening_of(token.kind) {
+        Some(opening) => Some((opening, token, rest)),
+        None => None,
+    }
+}
+
+/// The tokens behind `void` and a parenthesis.
+#[tactic(auto, unfolding(crate::specs::Reading::void_at))]
+pub fn void_at(tokens: &[Token]) -> Option<&[Token]>
+    ensures value { option_map (λ x. x.now) result ≡ void_at tokens.now }
+    ensures shorter { IfSome result (λ x. length x.now < length tokens.now) }
+{
+    let Some((_, rest)) = keyword_at(tokens, Keyword::Void) else {
+        return None;
+    };
+    match mark_at(rest, Mark::RightParenthesis) {
+        Some((_, rest)) => Some(rest),
+        None => None,
+    }
+}
+
+#[tactic(auto, unfolding(crate::specs::Reading::dots_at))]
+fn dots_at(tokens: &[Token]) -> Option<&[Token]>
+    ensures value { option_map (λ x. x.now) result ≡ dots_at tokens.now }
+    ensures shorter { IfSome result (λ x. length x.now < length tokens.now) }
+{
+    let Some((_, rest)) = mark_at(tokens, Mark::Comma) else {
+        return None;
+    };
+    let Some((_, rest)) = mark_at(rest, Mark::Ellipsis) else {
+        return None;
+    };
+    match mark_at(rest, Mark::RightParenthesis) {
+        Some((_, rest)) => Some(rest),
+        None => None,
+    }
+}
+
+/// Whether `...` stands before the parenthesis that closes a list of parameters, and the tokens behind it. A list has a
+/// parameter.
+#[tactic(auto, unfolding(crate::specs::Reading::last_at))]
+pub fn last_at(tokens: &[Token], first: bool) -> Option<(bool, &[Token])>
+    ensures value { option_map (λ x. (x.0, x.1.now)) result ≡ last_at first tokens.now }
+    ensures shorter { IfSome result (λ x. length x.1.now < length tokens.now) }
+{
+    if first {
+        return None;
+    }
+    if let Some((_, rest)) = mark_at(tokens, Mark::RightParenthesis) {
+        return Some((false, rest));
+    }
+    match dots_at(tokens) {
+        Some(rest) => Some((true, rest)),
+        None => None,
+    }
+}
+
+/// Whether parameters stand behind the parenthesis of a parameter's declarator: none, or a specifier begins.
+fn takes(bytes: &[u8], names: &TypeNames, tokens: &[Token]) -> bool
+    ensures { result ≡ takes bytes.now names.now tokens.now }
+{
+    let specifier = match start_at(false, bytes, names, false, tokens) {
+        Some(_) => true,
+        None => false,
+    };
+    stands(tokens, Mark::RightParenthesis) || specifier
+}
+
+fn heart_of(inner: bool, given: bool, kind: Kind) -> Option<Heart>
+    ensures { result ≡ heart_of inner given kind }
+{
+    if is_mark(Mark::LeftParenthesis, kind) {
+        if inner && given {
+            Some(Heart::Suffixes)
+        } else {
+            Some(Heart::Inside)
+        }
+    } else if is_identifier(kind) {
+        Some(Heart::Name)
+    } else if inner {
+        if is_mark(Mark::LeftBracket, kind) {
+            Some(Heart::Suffixes)
+        } else {
+            Some(Heart::Nothing)
+        }
+    } else {
+        None
+    }
+}
+
+/// What a declarator begins with, of a parameter or of another thing.
+#[tactic(auto, unfolding(crate::specs::Reading::heart_at))]
+pub fn heart_at(inner: bool, bytes: &[u8], names: &TypeNames, tokens: &[Token]) -> Option<Heart>
+    ensures { result ≡ heart_at inner bytes.now names.now tokens.now }
+{
+    match split(tokens) {
+        Some((token, rest)) => heart_of(inner, takes(bytes, names, rest), token.kind),
+        None => { if inner { Some(Heart::Nothing) } else { None } }
     }
 }

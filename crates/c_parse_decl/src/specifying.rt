@@ -1,19 +1,24 @@
-//! Reading specifiers.
+//! Reading specifiers and declarators.
 
-ghost use Rattle.std.specs.Prelude.{◌<◌, ◌≤◌, ◌≡◌, ◌||◌, true, length, map, option_map, IfOk};
-ghost use Rattle.c_tree.specs.Tree.{view_name, view_declarator};
-ghost use Rattle.c_tree.specs.Declarations.{view_part, parts_of, members_of, with_part, with_parts, with_members, specifies, is_typedef, have_typedef};
-ghost use Rattle.c_parse_expr.specs.Reading.{Gives, declared_at};
-ghost use Rattle.c_parse_decl.specs.Reading.{tagged_by, record_at, enumeration_at, part_from, parts_at, are_some, have_some, next_at, declareds_at, member_at, members_at, body_at};
+ghost use Rattle.std.specs.Prelude.{◌<◌, ◌≤◌, ◌≡◌, ◌||◌, ◌++◌, true, false, length, option_map, IfOk};
+ghost use Rattle.c_tree.specs.Tree.{view_name};
+ghost use Rattle.c_tree.specs.Names.{Scope};
+ghost use Rattle.c_tree.specs.Declarations.{view_part, parts_of, members_of, full_unnamed, full_end, view_full, fulls_of, full_suffixes_of, parameters_of, with_part, with_parts, with_members, with_named, specifies, is_typedef, have_typedef};
+ghost use Rattle.c_parse_expr.specs.Reading.{Gives};
+ghost use Rattle.c_parse_decl.specs.Reading.{tagged_by, record_at, enumeration_at, part_from, parts_at, are_some, have_some, next_at, fulls_at, member_at, members_at, bound_at, parameter_at, parameters_at, given_at, taken_at, one_from, suffixes_at, inside_at, full_from, bare_full, body_at, full_at};
+ghost use Rattle.c_parse_decl.specs.Pieces.{suffix_of, parameter_of};
 
+use crate::declared::{declare_named, either, is_typedef};
 use crate::enumerating::enumerators;
-use crate::slices::{comma_at, mark_at, start_at, tag_at};
+use crate::slices::{
+    Heart, Opening, comma_at, heart_at, last_at, mark_at, opening_at, start_at, tag_at, void_at,
+};
 use crate::table::{Start, record_tag};
 use c_lexer::{Mark, Token};
-use c_parse_expr::{Refused, TypeNames, declarator, name_of};
+use c_parse_expr::{Refused, TypeNames, name_of, read, split};
 use c_tree::{
-    Declarator, MemberDeclaration, Name, RecordKind, Specifier, StorageClass, TagKind,
-    TypeSpecifier,
+    DeclaratorSuffix, FullDeclarator, MemberDeclaration, Name, Parameter, RecordKind, Specifier,
+    TagKind, TypeSpecifier,
 };
 use std::alloc::{AllocError, Global};
 
@@ -60,42 +65,6 @@ fn specifies(specifier: &Specifier) -> bool
             enumerators: _,
         } => true,
     }
-}
-
-fn is_typedef(specifier: &Specifier) -> bool
-    ensures { result ≡ is_typedef (view_part specifier.now) }
-{
-    match specifier {
-        Specifier::Type(_) => false,
-        Specifier::Storage { line: _, class } => match class {
-            StorageClass::Typedef => true,
-            StorageClass::Extern => false,
-            StorageClass::Static => false,
-            StorageClass::Auto => false,
-            StorageClass::Register => false,
-        },
-        Specifier::Function {
-            line: _,
-            specifier: _,
-        } => false,
-        Specifier::Record {
-            line: _,
-            kind: _,
-            tag: _,
-            members: _,
-        } => false,
-        Specifier::Enumeration {
-            line: _,
-            tag: _,
-            enumerators: _,
-        } => false,
-    }
-}
-
-fn either(a: bool, b: bool) -> bool
-    ensures { result ≡ (a || b) }
-{
-    a || b
 }
 
 /// Whether there is a specifier.
@@ -275,36 +244,397 @@ pub fn specifiers<'a>(
     }
 }
 
-/// A declarator of members at the front, or behind a comma where it isn't the first.
-fn next_declarator<'a>(
+/// A bound behind its bracket, which stands on a line.
+#[tactic(auto, unfolding(crate::specs::Reading::bound_at))]
+fn bound<'a>(
     alloc: Global,
     bytes: &[u8],
     names: &TypeNames,
+    line: u32,
+    tokens: &'a [Token],
+    levels: u32,
+) -> Result<(DeclaratorSuffix, &'a [Token]), Refused>
+    requires { levels ≤ 400 }
+    ensures exact { Gives (λ x. (suffix_of x.0, x.1.now)) result (bound_at bytes.now names.now levels line tokens.now) }
+    ensures shorter { IfOk result (λ x. length x.1.now ≤ length tokens.now) }
+{
+    if let Some((_, rest)) = mark_at(tokens, Mark::RightBracket) {
+        return Ok((DeclaratorSuffix::Open { line }, rest));
+    }
+    let found = read(alloc, bytes, names, tokens, 3, levels)?;
+    let Some((_, rest)) = mark_at(found.rest, Mark::RightBracket) else {
+        return Err(Refused::Syntax);
+    };
+    Ok((
+        DeclaratorSuffix::Bounded {
+            line,
+            bound: found.tree,
+        },
+        rest,
+    ))
+}
+
+/// A parameter at the front: specifiers, one at least, and a declarator. Its name and the enumerators in its specifiers are
+/// declared.
+#[cycle(specifiers)]
+#[tactic(auto, unfolding(crate::specs::Reading::parameter_at))]
+fn parameter<'a>(
+    alloc: Global,
+    bytes: &[u8],
+    names: &mut TypeNames,
+    tokens: &'a [Token],
+    levels: u32,
+) -> Result<(Parameter, &'a [Token]), Refused>
+    requires { levels < 400 }
+    ensures exact { Gives (λ x. (parameter_of x.0, x.1.now)) result (parameter_at bytes.now levels (body_at bytes.now levels) (full_at bytes.now levels) names.old tokens.now) }
+    ensures names { IfOk result (λ x. names.new ≡ with_named (with_parts names.old (parts_of x.0.specifiers.items)) (have_typedef (parts_of x.0.specifiers.items)) (view_full x.0.declarator)) }
+    ensures shorter { IfOk result (λ x. length x.1.now < length tokens.now) }
+{
+    let found = specifiers(alloc, bytes, names, false, tokens, levels)?;
+    if !are_some(&found.items) {
+        return Err(Refused::Syntax);
+    }
+    let (declarator, rest) = full(alloc, bytes, names, true, found.rest, levels)?;
+    declare_named(alloc, names, found.types, &declarator)?;
+    Ok((
+        Parameter {
+            specifiers: found.items,
+            declarator,
+        },
+        rest,
+    ))
+}
+
+/// A parameter at the front, or behind a comma where it isn't the first.
+#[cycle(specifiers)]
+fn next_parameter<'a>(
+    alloc: Global,
+    bytes: &[u8],
+    names: &mut TypeNames,
     first: bool,
     tokens: &'a [Token],
     levels: u32,
-) -> Result<(Declarator, &'a [Token]), Refused>
-    requires { levels ≤ 400 }
-    ensures exact { Gives (λ x. (view_declarator x.0, x.1.now)) result (next_at first (declared_at bytes.now names.now levels true) tokens.now) }
+) -> Result<(Parameter, &'a [Token]), Refused>
+    requires { levels < 400 }
+    ensures exact { Gives (λ x. (parameter_of x.0, x.1.now)) result (next_at first (parameter_at bytes.now levels (body_at bytes.now levels) (full_at bytes.now levels) names.old) tokens.now) }
+    ensures names { IfOk result (λ x. names.new ≡ with_named (with_parts names.old (parts_of x.0.specifiers.items)) (have_typedef (parts_of x.0.specifiers.items)) (view_full x.0.declarator)) }
     ensures shorter { IfOk result (λ x. length x.1.now < length tokens.now) }
 {
     let Some(rest) = comma_at(tokens, first) else {
         return Err(Refused::Syntax);
     };
-    let found = declarator(alloc, bytes, names, rest, true, levels)?;
-    Ok((found.declarator, found.rest))
+    parameter(alloc, bytes, names, rest, levels)
+}
+
+/// Parameters, one at least, whether `...` stands behind them, and the tokens behind the parenthesis that closes them.
+#[derive(Drop)]
+struct FoundParameters<'a> {
+    items: Vec<Parameter>,
+    variadic: bool,
+    rest: &'a [Token],
+}
+
+/// Parameters behind their parenthesis. Their names are declared.
+#[cycle(specifiers)]
+fn parameters<'a>(
+    alloc: Global,
+    bytes: &[u8],
+    names: &mut TypeNames,
+    tokens: &'a [Token],
+    levels: u32,
+) -> Result<FoundParameters<'a>, Refused>
+    requires { levels < 400 }
+    ensures exact { Gives (λ x. ((parameters_of x.items.items, x.variadic), x.rest.now)) result (parameters_at bytes.now levels (body_at bytes.now levels) (full_at bytes.now levels) names.old tokens.now) }
+    ensures names { IfOk result (λ x. (front : Scope) × (names.new ≡ front ++ names.old)) }
+    ensures shorter { IfOk result (λ x. length x.rest.now ≤ length tokens.now) }
+{
+    let mut items = Vec::new(alloc);
+    let mut first = true;
+    let mut rest = tokens;
+    'parameters: loop {
+        if let Some((variadic, behind)) = last_at(rest, first) {
+            return Ok(FoundParameters {
+                items,
+                variadic,
+                rest: behind,
+            });
+        }
+        let (next, behind) = next_parameter(alloc, bytes, names, first, rest, levels)?;
+        items.push(next)?;
+        first = false;
+        rest = behind;
+    }
+}
+
+/// Parameters behind their parenthesis, which stands on a line, or `void`. Names of parameters are gone behind them.
+#[cycle(specifiers)]
+#[tactic(auto, unfolding(crate::specs::Reading::given_at))]
+fn given<'a>(
+    alloc: Global,
+    bytes: &[u8],
+    names: &mut TypeNames,
+    line: u32,
+    tokens: &'a [Token],
+    levels: u32,
+) -> Result<(DeclaratorSuffix, &'a [Token]), Refused>
+    requires { levels < 400 }
+    ensures exact { Gives (λ x. (suffix_of x.0, x.1.now)) result (given_at bytes.now levels (body_at bytes.now levels) (full_at bytes.now levels) names.old line tokens.now) }
+    ensures names { IfOk result (λ _. names.new ≡ names.old) }
+    ensures shorter { IfOk result (λ x. length x.1.now ≤ length tokens.now) }
+{
+    if let Some(rest) = void_at(tokens) {
+        return Ok((DeclaratorSuffix::Void { line }, rest));
+    }
+    let mark = names.mark();
+    let found = parameters(alloc, bytes, names, tokens, levels)?;
+    names.leave(mark);
+    Ok((
+        DeclaratorSuffix::Parameters {
+            line,
+            parameters: found.items,
+            variadic: found.variadic,
+        },
+        found.rest,
+    ))
+}
+
+/// A function's suffix behind its parenthesis, which stands on a line.
+#[cycle(specifiers)]
+#[tactic(auto, unfolding(crate::specs::Reading::taken_at))]
+fn taken<'a>(
+    alloc: Global,
+    bytes: &[u8],
+    names: &mut TypeNames,
+    line: u32,
+    tokens: &'a [Token],
+    levels: u32,
+) -> Result<(DeclaratorSuffix, &'a [Token]), Refused>
+    requires { levels < 400 }
+    ensures exact { Gives (λ x. (suffix_of x.0, x.1.now)) result (taken_at bytes.now levels (body_at bytes.now levels) (full_at bytes.now levels) names.old line tokens.now) }
+    ensures names { IfOk result (λ _. names.new ≡ names.old) }
+    ensures shorter { IfOk result (λ x. length x.1.now ≤ length tokens.now) }
+{
+    match mark_at(tokens, Mark::RightParenthesis) {
+        Some((_, rest)) => Ok((DeclaratorSuffix::Empty { line }, rest)),
+        None => given(alloc, bytes, names, line, tokens, levels),
+    }
+}
+
+/// The suffix that a token begins so, and the tokens behind it.
+#[cycle(specifiers)]
+#[tactic(auto, unfolding(crate::specs::Reading::one_from))]
+fn suffix<'a>(
+    alloc: Global,
+    bytes: &[u8],
+    names: &mut TypeNames,
+    opening: Opening,
+    token: Token,
+    tokens: &'a [Token],
+    levels: u32,
+) -> Result<(DeclaratorSuffix, &'a [Token]), Refused>
+    requires { levels < 400 }
+    ensures exact { Gives (λ x. (suffix_of x.0, x.1.now)) result (one_from bytes.now levels (body_at bytes.now levels) (full_at bytes.now levels) names.old opening token tokens.now) }
+    ensures names { IfOk result (λ _. names.new ≡ names.old) }
+    ensures shorter { IfOk result (λ x. length x.1.now ≤ length tokens.now) }
+{
+    match opening {
+        Opening::Bracket => bound(alloc, bytes, names, token.line, tokens, levels),
+        Opening::Parenthesis => taken(alloc, bytes, names, token.line, tokens, levels),
+    }
+}
+
+/// The suffixes at the front (C11 6.7.6), and the tokens behind them.
+#[cycle(specifiers)]
+fn suffixes<'a>(
+    alloc: Global,
+    bytes: &[u8],
+    names: &mut TypeNames,
+    tokens: &'a [Token],
+    levels: u32,
+) -> Result<(Vec<DeclaratorSuffix>, &'a [Token]), Refused>
+    requires { levels < 400 }
+    ensures exact { Gives (λ x. (full_suffixes_of x.0.items, x.1.now)) result (suffixes_at bytes.now levels (body_at bytes.now levels) (full_at bytes.now levels) names.old tokens.now) }
+    ensures names { IfOk result (λ _. names.new ≡ names.old) }
+    ensures shorter { IfOk result (λ x. length x.1.now ≤ length tokens.now) }
+{
+    let mut items = Vec::new(alloc);
+    let mut rest = tokens;
+    'suffixes: loop {
+        let Some((opening, token, behind)) = opening_at(rest) else {
+            return Ok((items, rest));
+        };
+        let (next, behind) = suffix(alloc, bytes, names, opening, token, behind, levels)?;
+        items.push(next)?;
+        rest = behind;
+    }
+}
+
+/// A declarator in parentheses behind its parenthesis, which stands on a line, and its suffixes.
+#[cycle(specifiers)]
+#[tactic(auto, unfolding(crate::specs::Reading::inside_at))]
+fn inside<'a>(
+    alloc: Global,
+    bytes: &[u8],
+    names: &mut TypeNames,
+    inner: bool,
+    line: u32,
+    tokens: &'a [Token],
+    levels: u32,
+) -> Result<(FullDeclarator, &'a [Token]), Refused>
+    requires { levels < 400 }
+    ensures exact { Gives (λ x. (view_full x.0, x.1.now)) result (inside_at bytes.now levels (body_at bytes.now levels) (full_at bytes.now levels) inner names.old line tokens.now) }
+    ensures names { IfOk result (λ _. names.new ≡ names.old) }
+    ensures shorter { IfOk result (λ x. length x.1.now < length tokens.now) }
+{
+    let (declarator, rest) = full(alloc, bytes, names, inner, tokens, levels)?;
+    let Some((_, rest)) = mark_at(rest, Mark::RightParenthesis) else {
+        return Err(Refused::Syntax);
+    };
+    let (suffixes, rest) = suffixes(alloc, bytes, names, rest, levels)?;
+    let inner = Box::new(alloc, declarator)?;
+    Ok((
+        FullDeclarator::Inside {
+            line,
+            inner,
+            suffixes,
+        },
+        rest,
+    ))
+}
+
+/// The empty declarator.
+fn nothing(alloc: Global) -> FullDeclarator
+    ensures { view_full result ≡ full_unnamed full_end }
+{
+    FullDeclarator::Unnamed {
+        suffixes: Vec::new(alloc),
+    }
+}
+
+/// A declarator without levels, which is the empty one.
+fn bare_full(
+    alloc: Global,
+    heart: Heart,
+    tokens: &[Token],
+) -> Result<(FullDeclarator, &[Token]), Refused>
+    ensures exact { Gives (λ x. (view_full x.0, x.1.now)) result (bare_full heart tokens.now) }
+    ensures shorter { IfOk result (λ x. length x.1.now ≤ length tokens.now) }
+{
+    match heart {
+        Heart::Nothing => Ok((nothing(alloc), tokens)),
+        Heart::Suffixes => Err(Refused::Syntax),
+        Heart::Name => Err(Refused::Syntax),
+        Heart::Inside => Err(Refused::Syntax),
+    }
+}
+
+/// A declarator that begins so, of a parameter or of another thing.
+#[cycle(specifiers)]
+#[tactic(auto, unfolding(crate::specs::Reading::full_from))]
+fn full_behind<'a>(
+    alloc: Global,
+    bytes: &[u8],
+    names: &mut TypeNames,
+    inner: bool,
+    heart: Heart,
+    tokens: &'a [Token],
+    levels: u32,
+) -> Result<(FullDeclarator, &'a [Token]), Refused>
+    requires { levels < 400 }
+    ensures exact { Gives (λ x. (view_full x.0, x.1.now)) result (full_from bytes.now levels (body_at bytes.now levels) (full_at bytes.now levels) inner names.old heart tokens.now) }
+    ensures names { IfOk result (λ _. names.new ≡ names.old) }
+    ensures shorter { IfOk result (λ x. length x.1.now ≤ length tokens.now) }
+{
+    match heart {
+        Heart::Nothing => Ok((nothing(alloc), tokens)),
+        Heart::Suffixes => {
+            let (suffixes, rest) = suffixes(alloc, bytes, names, tokens, levels)?;
+            Ok((FullDeclarator::Unnamed { suffixes }, rest))
+        }
+        Heart::Name => {
+            let Some((token, rest)) = split(tokens) else {
+                return Err(Refused::Syntax);
+            };
+            let name = name_of(alloc, bytes, token)?;
+            let line = token.line;
+            let (suffixes, rest) = suffixes(alloc, bytes, names, rest, levels)?;
+            Ok((
+                FullDeclarator::Named {
+                    line,
+                    name,
+                    suffixes,
+                },
+                rest,
+            ))
+        }
+        Heart::Inside => {
+            let Some((token, rest)) = split(tokens) else {
+                return Err(Refused::Syntax);
+            };
+            inside(alloc, bytes, names, inner, token.line, rest, levels)
+        }
+    }
+}
+
+/// The declarator with at most so many levels at the front, and the tokens behind it. That of a parameter may be abstract.
+#[cycle(specifiers)]
+#[tactic(auto, unfolding(crate::specs::Reading::full_at))]
+pub fn full<'a>(
+    alloc: Global,
+    bytes: &[u8],
+    names: &mut TypeNames,
+    inner: bool,
+    tokens: &'a [Token],
+    levels: u32,
+) -> Result<(FullDeclarator, &'a [Token]), Refused>
+    requires { levels ≤ 400 }
+    ensures exact { Gives (λ x. (view_full x.0, x.1.now)) result (full_at bytes.now levels inner names.old tokens.now) }
+    ensures names { IfOk result (λ _. names.new ≡ names.old) }
+    ensures shorter { IfOk result (λ x. length x.1.now ≤ length tokens.now) }
+{
+    let Some(heart) = heart_at(inner, bytes, names, tokens) else {
+        return Err(Refused::Syntax);
+    };
+    if levels == 0 {
+        return bare_full(alloc, heart, tokens);
+    }
+    full_behind(alloc, bytes, names, inner, heart, tokens, levels - 1)
+}
+
+/// A declarator of members at the front, or behind a comma where it isn't the first.
+#[cycle(specifiers)]
+fn next_declarator<'a>(
+    alloc: Global,
+    bytes: &[u8],
+    names: &mut TypeNames,
+    first: bool,
+    tokens: &'a [Token],
+    levels: u32,
+) -> Result<(FullDeclarator, &'a [Token]), Refused>
+    requires { levels < 400 }
+    ensures exact { Gives (λ x. (view_full x.0, x.1.now)) result (next_at first (full_at bytes.now levels false names.old) tokens.now) }
+    ensures names { IfOk result (λ _. names.new ≡ names.old) }
+    ensures shorter { IfOk result (λ x. length x.1.now < length tokens.now) }
+{
+    let Some(rest) = comma_at(tokens, first) else {
+        return Err(Refused::Syntax);
+    };
+    let (declarator, rest) = full(alloc, bytes, names, false, rest, levels)?;
+    Ok((declarator, rest))
 }
 
 /// The declarators of members, and the tokens behind their `;`.
+#[cycle(specifiers)]
 fn declarators<'a>(
     alloc: Global,
     bytes: &[u8],
-    names: &TypeNames,
+    names: &mut TypeNames,
     tokens: &'a [Token],
     levels: u32,
-) -> Result<(Vec<Declarator>, &'a [Token]), Refused>
-    requires { levels ≤ 400 }
-    ensures exact { Gives (λ x. (map view_declarator x.0.items, x.1.now)) result (declareds_at bytes.now names.now levels tokens.now) }
+) -> Result<(Vec<FullDeclarator>, &'a [Token]), Refused>
+    requires { levels < 400 }
+    ensures exact { Gives (λ x. (fulls_of x.0.items, x.1.now)) result (fulls_at (full_at bytes.now levels false) names.old tokens.now) }
+    ensures names { IfOk result (λ _. names.new ≡ names.old) }
     ensures shorter { IfOk result (λ x. length x.1.now < length tokens.now) }
 {
     let mut declarators = Vec::new(alloc);
@@ -332,7 +662,7 @@ fn member<'a>(
     levels: u32,
 ) -> Result<(MemberDeclaration, &'a [Token]), Refused>
     requires { levels < 400 }
-    ensures exact { Gives (λ x. ((parts_of x.0.specifiers.items, map view_declarator x.0.declarators.items), x.1.now)) result (member_at bytes.now levels (body_at bytes.now levels) names.old tokens.now) }
+    ensures exact { Gives (λ x. ((parts_of x.0.specifiers.items, fulls_of x.0.declarators.items), x.1.now)) result (member_at bytes.now levels (body_at bytes.now levels) (full_at bytes.now levels) names.old tokens.now) }
     ensures names { IfOk result (λ x. names.new ≡ with_parts names.old (parts_of x.0.specifiers.items)) }
     ensures shorter { IfOk result (λ x. length x.1.now < length tokens.now) }
 {
@@ -360,7 +690,7 @@ fn members<'a>(
     levels: u32,
 ) -> Result<(Vec<MemberDeclaration>, &'a [Token]), Refused>
     requires { levels < 400 }
-    ensures exact { Gives (λ x. (members_of x.0.items, x.1.now)) result (members_at bytes.now levels (body_at bytes.now levels) names.old tokens.now) }
+    ensures exact { Gives (λ x. (members_of x.0.items, x.1.now)) result (members_at bytes.now levels (body_at bytes.now levels) (full_at bytes.now levels) names.old tokens.now) }
     ensures names { IfOk result (λ x. names.new ≡ with_members names.old (members_of x.0.items)) }
     ensures shorter { IfOk result (λ x. length x.1.now ≤ length tokens.now) }
 {

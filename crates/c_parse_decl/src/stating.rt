@@ -1,17 +1,19 @@
 //! Reading statements.
 
-ghost use Rattle.std.specs.Prelude.{◌<◌, ◌≤◌, ◌≡◌, ◌++◌, length, IfOk};
+ghost use Rattle.std.specs.Prelude.{◌<◌, ◌≤◌, ◌≡◌, ◌∷◌, ◌++◌, length, option_map, IfOk};
+ghost use Rattle.c_lexer.specs.declared.token.Mark.TheVariants as marks;
 ghost use Rattle.c_tree.specs.Tree.{view};
 ghost use Rattle.c_tree.specs.Statements.{view_statement, items_of};
 ghost use Rattle.c_parse_expr.specs.Reading.{Gives};
 ghost use Rattle.c_tree.specs.Names.{Scope};
-ghost use Rattle.c_parse_decl.specs.Reading.{statement_at, started_at, block_at, tested_at, branched_at, closed_at, valued_at, returned_at, evaluated_at, items_at, item_at, with_piece};
+ghost use Rattle.c_parse_decl.specs.Reading.{statement_at, started_at, begun, ended_at, block_at, tested_at, branched_at, closed_at, valued_at, returned_at, evaluated_at, test_at, while_at, switch_at, do_at, maybe_at, header_at, declared_for_at, plain_for_at, for_at, case_at, default_at, label_at, goto_at, items_at, item_at, with_piece};
 ghost use Rattle.c_parse_decl.specs.Pieces.{piece_of};
 
 use crate::declaring::declaration;
-use crate::slices::{Begin, begin_of, keyword_at, mark_at, start_at};
+use crate::slices::{begin_of, declares_at, identifier_at, keyword_at, mark_at, stands, start_at};
+use crate::table::Begin;
 use c_lexer::{Keyword, Mark, Token};
-use c_parse_expr::{Refused, TypeNames, read, split};
+use c_parse_expr::{Refused, TypeNames, name_of, read, split};
 use c_tree::{Expr, Item, Stmt};
 use std::alloc::Global;
 
@@ -54,11 +56,80 @@ fn started<'a>(
     let Some((token, rest)) = split(tokens) else {
         return Err(Refused::Syntax);
     };
-    match begin_of(token.kind) {
-        Begin::Block => block(alloc, bytes, names, token.line, rest, levels),
-        Begin::If => conditional(alloc, bytes, names, token.line, rest, levels),
-        Begin::Return => returned(alloc, bytes, names, token.line, rest, levels),
+    let begin = begin_of(stands(rest, Mark::Colon), token.kind);
+    begun(alloc, bytes, names, begin, token, tokens, rest, levels)
+}
+
+/// The statement that a token begins so, whose parts have at most so many levels.
+#[cycle(statements)]
+fn begun<'a>(
+    alloc: Global,
+    bytes: &[u8],
+    names: &mut TypeNames,
+    begin: Begin,
+    token: Token,
+    tokens: &'a [Token],
+    rest: &'a [Token],
+    levels: u32,
+) -> Result<(Stmt, &'a [Token]), Refused>
+    requires levels { levels < 400 }
+    requires whole { tokens.now ≡ token ∷ rest.now }
+    ensures exact { Gives (λ x. (view_statement x.0, x.1.now)) result (begun bytes.now levels (statement_at bytes.now levels) names.old begin token rest.now) }
+    ensures names { IfOk result (λ _. names.new ≡ names.old) }
+    ensures shorter { IfOk result (λ x. length x.1.now < length tokens.now) }
+{
+    let line = token.line;
+    match begin {
+        Begin::Block => block(alloc, bytes, names, line, rest, levels),
+        Begin::If => conditional(alloc, bytes, names, line, rest, levels),
+        Begin::Return => returned(alloc, bytes, names, line, rest, levels),
         Begin::Expression => evaluation(alloc, bytes, names, tokens, levels),
+        Begin::Empty => Ok((Stmt::Empty { line }, rest)),
+        Begin::While => looped(alloc, bytes, names, line, rest, levels),
+        Begin::Do => repeated(alloc, bytes, names, line, rest, levels),
+        Begin::For => counted(alloc, bytes, names, line, rest, levels),
+        Begin::Switch => switched(alloc, bytes, names, line, rest, levels),
+        Begin::Case => cased(alloc, bytes, names, line, rest, levels),
+        Begin::Default => defaulted(alloc, bytes, names, line, rest, levels),
+        Begin::Label => labelled(alloc, bytes, names, token, rest, levels),
+        Begin::Goto => gone(alloc, bytes, line, rest),
+        Begin::Break => closed(Stmt::Break { line }, rest),
+        Begin::Continue => closed(Stmt::Continue { line }, rest),
+    }
+}
+
+/// A statement with the `;` at the front.
+#[tactic(auto, unfolding(crate::specs::Reading::ended_at))]
+fn closed(statement: Stmt, tokens: &[Token]) -> Result<(Stmt, &[Token]), Refused>
+    ensures exact { Gives (λ x. (view_statement x.0, x.1.now)) result (ended_at marks.Semicolon (view_statement statement) tokens.now) }
+    ensures shorter { IfOk result (λ x. length x.1.now < length tokens.now) }
+{
+    match mark_at(tokens, Mark::Semicolon) {
+        Some((_, rest)) => Ok((statement, rest)),
+        None => Err(Refused::Syntax),
+    }
+}
+
+/// An expression in parentheses at the front.
+#[tactic(auto, unfolding(crate::specs::Reading::test_at))]
+fn test<'a>(
+    alloc: Global,
+    bytes: &[u8],
+    names: &TypeNames,
+    tokens: &'a [Token],
+    levels: u32,
+) -> Result<(Expr, &'a [Token]), Refused>
+    requires { levels < 400 }
+    ensures exact { Gives (λ x. (view x.0, x.1.now)) result (test_at bytes.now names.now levels tokens.now) }
+    ensures shorter { IfOk result (λ x. length x.1.now < length tokens.now) }
+{
+    let Some((_, rest)) = mark_at(tokens, Mark::LeftParenthesis) else {
+        return Err(Refused::Syntax);
+    };
+    let found = read(alloc, bytes, names, rest, 1, levels)?;
+    match mark_at(found.rest, Mark::RightParenthesis) {
+        Some((_, rest)) => Ok((found.tree, rest)),
+        None => Err(Refused::Syntax),
     }
 }
 
@@ -221,6 +292,329 @@ fn evaluation<'a>(
     Ok((Stmt::Evaluate { expression }, rest))
 }
 
+/// The `while` statement behind its keyword (C11 6.8.5.1).
+#[cycle(statements)]
+#[tactic(auto, unfolding(crate::specs::Reading::while_at))]
+fn looped<'a>(
+    alloc: Global,
+    bytes: &[u8],
+    names: &mut TypeNames,
+    line: u32,
+    tokens: &'a [Token],
+    levels: u32,
+) -> Result<(Stmt, &'a [Token]), Refused>
+    requires { levels < 400 }
+    ensures exact { Gives (λ x. (view_statement x.0, x.1.now)) result (while_at bytes.now levels (statement_at bytes.now levels) names.old line tokens.now) }
+    ensures names { IfOk result (λ _. names.new ≡ names.old) }
+    ensures shorter { IfOk result (λ x. length x.1.now ≤ length tokens.now) }
+{
+    let (test, rest) = test(alloc, bytes, names, tokens, levels)?;
+    let (body, rest) = statement(alloc, bytes, names, rest, levels)?;
+    let body = Box::new(alloc, body)?;
+    Ok((Stmt::While { line, test, body }, rest))
+}
+
+/// The `switch` statement behind its keyword (C11 6.8.4.2).
+#[cycle(statements)]
+#[tactic(auto, unfolding(crate::specs::Reading::switch_at))]
+fn switched<'a>(
+    alloc: Global,
+    bytes: &[u8],
+    names: &mut TypeNames,
+    line: u32,
+    tokens: &'a [Token],
+    levels: u32,
+) -> Result<(Stmt, &'a [Token]), Refused>
+    requires { levels < 400 }
+    ensures exact { Gives (λ x. (view_statement x.0, x.1.now)) result (switch_at bytes.now levels (statement_at bytes.now levels) names.old line tokens.now) }
+    ensures names { IfOk result (λ _. names.new ≡ names.old) }
+    ensures shorter { IfOk result (λ x. length x.1.now ≤ length tokens.now) }
+{
+    let (value, rest) = test(alloc, bytes, names, tokens, levels)?;
+    let (body, rest) = statement(alloc, bytes, names, rest, levels)?;
+    let body = Box::new(alloc, body)?;
+    Ok((Stmt::Switch { line, value, body }, rest))
+}
+
+/// The `do` statement behind its keyword (C11 6.8.5.2).
+#[cycle(statements)]
+#[tactic(auto, unfolding(crate::specs::Reading::do_at))]
+fn repeated<'a>(
+    alloc: Global,
+    bytes: &[u8],
+    names: &mut TypeNames,
+    line: u32,
+    tokens: &'a [Token],
+    levels: u32,
+) -> Result<(Stmt, &'a [Token]), Refused>
+    requires { levels < 400 }
+    ensures exact { Gives (λ x. (view_statement x.0, x.1.now)) result (do_at bytes.now levels (statement_at bytes.now levels) names.old line tokens.now) }
+    ensures names { IfOk result (λ _. names.new ≡ names.old) }
+    ensures shorter { IfOk result (λ x. length x.1.now ≤ length tokens.now) }
+{
+    let (body, rest) = statement(alloc, bytes, names, tokens, levels)?;
+    let Some((_, rest)) = keyword_at(rest, Keyword::While) else {
+        return Err(Refused::Syntax);
+    };
+    let (test, rest) = test(alloc, bytes, names, rest, levels)?;
+    let Some((_, rest)) = mark_at(rest, Mark::Semicolon) else {
+        return Err(Refused::Syntax);
+    };
+    let body = Box::new(alloc, body)?;
+    Ok((Stmt::Do { line, body, test }, rest))
+}
+
+/// An expression, or none, and the tokens behind the mark that ends it.
+#[tactic(auto, unfolding(crate::specs::Reading::maybe_at))]
+fn maybe<'a>(
+    alloc: Global,
+    bytes: &[u8],
+    names: &TypeNames,
+    mark: Mark,
+    tokens: &'a [Token],
+    levels: u32,
+) -> Result<(Option<Expr>, &'a [Token]), Refused>
+    requires { levels < 400 }
+    ensures exact { Gives (λ x. (option_map view x.0, x.1.now)) result (maybe_at bytes.now names.now levels mark tokens.now) }
+    ensures shorter { IfOk result (λ x. length x.1.now < length tokens.now) }
+{
+    if let Some((_, rest)) = mark_at(tokens, mark) {
+        return Ok((None, rest));
+    }
+    let found = read(alloc, bytes, names, tokens, 1, levels)?;
+    match mark_at(found.rest, mark) {
+        Some((_, rest)) => Ok((Some(found.tree), rest)),
+        None => Err(Refused::Syntax),
+    }
+}
+
+/// The test, the last part and the body of a `for`, and the tokens behind them.
+#[derive(Drop)]
+struct Heading<'a> {
+    test: Option<Expr>,
+    last: Option<Expr>,
+    body: Stmt,
+    rest: &'a [Token],
+}
+
+/// A `for` behind its first part.
+#[cycle(statements)]
+#[tactic(auto, unfolding(crate::specs::Reading::header_at))]
+fn header<'a>(
+    alloc: Global,
+    bytes: &[u8],
+    names: &mut TypeNames,
+    tokens: &'a [Token],
+    levels: u32,
+) -> Result<Heading<'a>, Refused>
+    requires { levels < 400 }
+    ensures exact { Gives (λ x. (((option_map view x.test, option_map view x.last), view_statement x.body), x.rest.now)) result (header_at bytes.now levels (statement_at bytes.now levels) names.old tokens.now) }
+    ensures names { IfOk result (λ _. names.new ≡ names.old) }
+    ensures shorter { IfOk result (λ x. length x.rest.now ≤ length tokens.now) }
+{
+    let (test, rest) = maybe(alloc, bytes, names, Mark::Semicolon, tokens, levels)?;
+    let (last, rest) = maybe(alloc, bytes, names, Mark::RightParenthesis, rest, levels)?;
+    let (body, rest) = statement(alloc, bytes, names, rest, levels)?;
+    Ok(Heading {
+        test,
+        last,
+        body,
+        rest,
+    })
+}
+
+/// A `for` that declares something, behind its parenthesis. What it declares is gone behind it.
+#[cycle(statements)]
+#[tactic(auto, unfolding(crate::specs::Reading::declared_for_at))]
+fn declared_for<'a>(
+    alloc: Global,
+    bytes: &[u8],
+    names: &mut TypeNames,
+    line: u32,
+    tokens: &'a [Token],
+    levels: u32,
+) -> Result<(Stmt, &'a [Token]), Refused>
+    requires { levels < 400 }
+    ensures exact { Gives (λ x. (view_statement x.0, x.1.now)) result (declared_for_at bytes.now levels (statement_at bytes.now levels) names.old line tokens.now) }
+    ensures names { IfOk result (λ _. names.new ≡ names.old) }
+    ensures shorter { IfOk result (λ x. length x.1.now ≤ length tokens.now) }
+{
+    let mark = names.mark();
+    let (declaration, rest) = declaration(alloc, bytes, names, tokens, levels)?;
+    let found = header(alloc, bytes, names, rest, levels)?;
+    names.leave(mark);
+    let body = Box::new(alloc, found.body)?;
+    Ok((
+        Stmt::ForDeclared {
+            line,
+            declaration,
+            test: found.test,
+            last: found.last,
+            body,
+        },
+        found.rest,
+    ))
+}
+
+/// A `for` that declares nothing, behind its parenthesis.
+#[cycle(statements)]
+#[tactic(auto, unfolding(crate::specs::Reading::plain_for_at))]
+fn plain_for<'a>(
+    alloc: Global,
+    bytes: &[u8],
+    names: &mut TypeNames,
+    line: u32,
+    tokens: &'a [Token],
+    levels: u32,
+) -> Result<(Stmt, &'a [Token]), Refused>
+    requires { levels < 400 }
+    ensures exact { Gives (λ x. (view_statement x.0, x.1.now)) result (plain_for_at bytes.now levels (statement_at bytes.now levels) names.old line tokens.now) }
+    ensures names { IfOk result (λ _. names.new ≡ names.old) }
+    ensures shorter { IfOk result (λ x. length x.1.now ≤ length tokens.now) }
+{
+    let (first, rest) = maybe(alloc, bytes, names, Mark::Semicolon, tokens, levels)?;
+    let found = header(alloc, bytes, names, rest, levels)?;
+    let body = Box::new(alloc, found.body)?;
+    Ok((
+        Stmt::For {
+            line,
+            first,
+            test: found.test,
+            last: found.last,
+            body,
+        },
+        found.rest,
+    ))
+}
+
+/// The `for` statement behind its keyword (C11 6.8.5.3).
+#[cycle(statements)]
+#[tactic(auto, unfolding(crate::specs::Reading::for_at))]
+fn counted<'a>(
+    alloc: Global,
+    bytes: &[u8],
+    names: &mut TypeNames,
+    line: u32,
+    tokens: &'a [Token],
+    levels: u32,
+) -> Result<(Stmt, &'a [Token]), Refused>
+    requires { levels < 400 }
+    ensures exact { Gives (λ x. (view_statement x.0, x.1.now)) result (for_at bytes.now levels (statement_at bytes.now levels) names.old line tokens.now) }
+    ensures names { IfOk result (λ _. names.new ≡ names.old) }
+    ensures shorter { IfOk result (λ x. length x.1.now ≤ length tokens.now) }
+{
+    let Some((_, rest)) = mark_at(tokens, Mark::LeftParenthesis) else {
+        return Err(Refused::Syntax);
+    };
+    match start_at(false, bytes, names, false, rest) {
+        Some(_) => declared_for(alloc, bytes, names, line, rest, levels),
+        None => plain_for(alloc, bytes, names, line, rest, levels),
+    }
+}
+
+/// A `case` label with its statement, behind the keyword (C11 6.8.1).
+#[cycle(statements)]
+#[tactic(auto, unfolding(crate::specs::Reading::case_at))]
+fn cased<'a>(
+    alloc: Global,
+    bytes: &[u8],
+    names: &mut TypeNames,
+    line: u32,
+    tokens: &'a [Token],
+    levels: u32,
+) -> Result<(Stmt, &'a [Token]), Refused>
+    requires { levels < 400 }
+    ensures exact { Gives (λ x. (view_statement x.0, x.1.now)) result (case_at bytes.now levels (statement_at bytes.now levels) names.old line tokens.now) }
+    ensures names { IfOk result (λ _. names.new ≡ names.old) }
+    ensures shorter { IfOk result (λ x. length x.1.now ≤ length tokens.now) }
+{
+    let found = read(alloc, bytes, names, tokens, 3, levels)?;
+    let Some((_, rest)) = mark_at(found.rest, Mark::Colon) else {
+        return Err(Refused::Syntax);
+    };
+    let (body, rest) = statement(alloc, bytes, names, rest, levels)?;
+    let body = Box::new(alloc, body)?;
+    Ok((
+        Stmt::Case {
+            line,
+            value: found.tree,
+            body,
+        },
+        rest,
+    ))
+}
+
+/// A `default` label with its statement, behind the keyword (C11 6.8.1).
+#[cycle(statements)]
+#[tactic(auto, unfolding(crate::specs::Reading::default_at))]
+fn defaulted<'a>(
+    alloc: Global,
+    bytes: &[u8],
+    names: &mut TypeNames,
+    line: u32,
+    tokens: &'a [Token],
+    levels: u32,
+) -> Result<(Stmt, &'a [Token]), Refused>
+    requires { levels < 400 }
+    ensures exact { Gives (λ x. (view_statement x.0, x.1.now)) result (default_at (statement_at bytes.now levels) names.old line tokens.now) }
+    ensures names { IfOk result (λ _. names.new ≡ names.old) }
+    ensures shorter { IfOk result (λ x. length x.1.now ≤ length tokens.now) }
+{
+    let Some((_, rest)) = mark_at(tokens, Mark::Colon) else {
+        return Err(Refused::Syntax);
+    };
+    let (body, rest) = statement(alloc, bytes, names, rest, levels)?;
+    let body = Box::new(alloc, body)?;
+    Ok((Stmt::Default { line, body }, rest))
+}
+
+/// A label with its statement, behind the name (C11 6.8.1).
+#[cycle(statements)]
+#[tactic(auto, unfolding(crate::specs::Reading::label_at))]
+fn labelled<'a>(
+    alloc: Global,
+    bytes: &[u8],
+    names: &mut TypeNames,
+    token: Token,
+    tokens: &'a [Token],
+    levels: u32,
+) -> Result<(Stmt, &'a [Token]), Refused>
+    requires { levels < 400 }
+    ensures exact { Gives (λ x. (view_statement x.0, x.1.now)) result (label_at bytes.now (statement_at bytes.now levels) names.old token tokens.now) }
+    ensures names { IfOk result (λ _. names.new ≡ names.old) }
+    ensures shorter { IfOk result (λ x. length x.1.now ≤ length tokens.now) }
+{
+    let Some((_, rest)) = mark_at(tokens, Mark::Colon) else {
+        return Err(Refused::Syntax);
+    };
+    let (body, rest) = statement(alloc, bytes, names, rest, levels)?;
+    let body = Box::new(alloc, body)?;
+    let name = name_of(alloc, bytes, token)?;
+    let line = token.line;
+    Ok((Stmt::Label { line, name, body }, rest))
+}
+
+/// The `goto` statement behind its keyword (C11 6.8.6.1).
+#[tactic(auto, unfolding(crate::specs::Reading::goto_at))]
+fn gone<'a>(
+    alloc: Global,
+    bytes: &[u8],
+    line: u32,
+    tokens: &'a [Token],
+) -> Result<(Stmt, &'a [Token]), Refused>
+    ensures exact { Gives (λ x. (view_statement x.0, x.1.now)) result (goto_at bytes.now line tokens.now) }
+    ensures shorter { IfOk result (λ x. length x.1.now ≤ length tokens.now) }
+{
+    let Some((token, rest)) = identifier_at(tokens) else {
+        return Err(Refused::Syntax);
+    };
+    let Some((_, rest)) = mark_at(rest, Mark::Semicolon) else {
+        return Err(Refused::Syntax);
+    };
+    let name = name_of(alloc, bytes, token)?;
+    Ok((Stmt::Goto { line, name }, rest))
+}
+
 /// The items of a block with at most so many levels, and the tokens behind the brace that closes it.
 #[cycle(statements)]
 fn items<'a>(
@@ -262,7 +656,7 @@ fn item<'a>(
     ensures names { IfOk result (λ x. names.new ≡ with_piece names.old (piece_of x.0)) }
     ensures shorter { IfOk result (λ x. length x.1.now < length tokens.now) }
 {
-    if let Some(_) = start_at(false, bytes, names, false, tokens) {
+    if let Some(_) = declares_at(bytes, names, tokens) {
         let (declaration, rest) = declaration(alloc, bytes, names, tokens, levels)?;
         return Ok((Item::Declares(declaration), rest));
     }

@@ -1,9 +1,9 @@
 use super::*;
 use c_lexer::{LexError, Tokens, lex};
 use c_tree::{
-    ArraySuffix, Declaration, Declarator, DeclaratorCore, Enumerator, Expr, External, File,
-    FunctionSpecifier, Initializer, Item, MemberDeclaration, Qualifier, RecordKind, Specifier,
-    Stmt, StorageClass, TagKind, TypeSpecifier, TypeWord, depth,
+    Declaration, DeclaratorSuffix, Enumerator, Expr, External, File, FullDeclarator,
+    FunctionSpecifier, Initializer, Item, MemberDeclaration, Parameter, Qualifier, RecordKind,
+    Specifier, Stmt, StorageClass, TagKind, TypeSpecifier, TypeWord, depth,
 };
 use std::alloc::{AllocError, Global};
 use std::test::*;
@@ -34,40 +34,6 @@ fn show_expression(out: &mut Vec<u8>, expr: &Expr) -> Result<(), AllocError> {
             operand: _,
         } => put(out, b"@"),
         _ => put(out, b"#"),
-    }
-}
-
-/// Writes a declarator, and `.` below so many levels.
-#[cycle(declarators)]
-fn show_declarator(
-    out: &mut Vec<u8>,
-    declarator: &Declarator,
-    levels: u32,
-) -> Result<(), AllocError> {
-    show_core(out, &declarator.core, levels)?;
-    for suffix in &declarator.suffixes {
-        put(out, b"[")?;
-        if let ArraySuffix::Bounded { line: _, bound } = suffix {
-            show_expression(out, bound)?;
-        }
-        put(out, b"]")?;
-    }
-    Ok(())
-}
-
-#[cycle(declarators)]
-fn show_core(out: &mut Vec<u8>, core: &DeclaratorCore, levels: u32) -> Result<(), AllocError> {
-    if levels == 0 {
-        return put(out, b".");
-    }
-    match core {
-        DeclaratorCore::Absent => Ok(()),
-        DeclaratorCore::Named { line: _, name } => put(out, &name.bytes),
-        DeclaratorCore::Inside { line: _, inner } => {
-            put(out, b"(")?;
-            show_declarator(out, inner, levels - 1)?;
-            put(out, b")")
-        }
     }
 }
 
@@ -188,7 +154,7 @@ fn show_members(
         show_specifiers(out, &member.specifiers, levels - 1)?;
         for declarator in &member.declarators {
             put(out, b" ")?;
-            show_declarator(out, declarator, levels)?;
+            show_declarator(out, declarator, levels - 1)?;
         }
         put(out, b";")?;
     }
@@ -208,6 +174,97 @@ fn show_specifiers(
         }
         first = false;
         show_specifier(out, specifier, levels)?;
+    }
+    Ok(())
+}
+
+/// Writes a declarator, and `.` below so many levels.
+#[cycle(specifiers)]
+fn show_declarator(
+    out: &mut Vec<u8>,
+    declarator: &FullDeclarator,
+    levels: u32,
+) -> Result<(), AllocError> {
+    if levels == 0 {
+        return put(out, b".");
+    }
+    match declarator {
+        FullDeclarator::Unnamed { suffixes } => show_suffixes(out, suffixes, levels - 1),
+        FullDeclarator::Named {
+            line: _,
+            name,
+            suffixes,
+        } => {
+            put(out, &name.bytes)?;
+            show_suffixes(out, suffixes, levels - 1)
+        }
+        FullDeclarator::Inside {
+            line: _,
+            inner,
+            suffixes,
+        } => {
+            put(out, b"(")?;
+            show_declarator(out, inner, levels - 1)?;
+            put(out, b")")?;
+            show_suffixes(out, suffixes, levels - 1)
+        }
+    }
+}
+
+#[cycle(specifiers)]
+fn show_suffixes(
+    out: &mut Vec<u8>,
+    suffixes: &[DeclaratorSuffix],
+    levels: u32,
+) -> Result<(), AllocError> {
+    for suffix in suffixes {
+        show_suffix(out, suffix, levels)?;
+    }
+    Ok(())
+}
+
+#[cycle(specifiers)]
+fn show_suffix(
+    out: &mut Vec<u8>,
+    suffix: &DeclaratorSuffix,
+    levels: u32,
+) -> Result<(), AllocError> {
+    match suffix {
+        DeclaratorSuffix::Bounded { line: _, bound } => {
+            put(out, b"[")?;
+            show_expression(out, bound)?;
+            put(out, b"]")
+        }
+        DeclaratorSuffix::Open { line: _ } => put(out, b"[]"),
+        DeclaratorSuffix::Empty { line: _ } => put(out, b"()"),
+        DeclaratorSuffix::Void { line: _ } => put(out, b"(void)"),
+        DeclaratorSuffix::Parameters {
+            line: _,
+            parameters,
+            variadic,
+        } => {
+            put(out, b"(")?;
+            show_parameters(out, parameters, levels)?;
+            if *variadic {
+                put(out, b"...")?;
+            }
+            put(out, b")")
+        }
+    }
+}
+
+/// Writes parameters, each with a comma behind it.
+#[cycle(specifiers)]
+fn show_parameters(
+    out: &mut Vec<u8>,
+    parameters: &[Parameter],
+    levels: u32,
+) -> Result<(), AllocError> {
+    for parameter in parameters {
+        show_specifiers(out, &parameter.specifiers, levels)?;
+        put(out, b" ")?;
+        show_declarator(out, &parameter.declarator, levels)?;
+        put(out, b",")?;
     }
     Ok(())
 }
@@ -246,6 +303,13 @@ fn show_declaration(out: &mut Vec<u8>, declaration: &Declaration) -> Result<(), 
         }
     }
     put(out, b";")
+}
+
+fn show_maybe(out: &mut Vec<u8>, expr: &Option<Expr>) -> Result<(), AllocError> {
+    match expr {
+        Some(expr) => show_expression(out, expr),
+        None => Ok(()),
+    }
 }
 
 #[cycle(showing)]
@@ -302,15 +366,118 @@ fn show(out: &mut Vec<u8>, statement: &Stmt, levels: u32) -> Result<(), AllocErr
             show_expression(out, value)?;
             put(out, b";")
         }
+        Stmt::Empty { line: _ } => put(out, b";"),
+        Stmt::While {
+            line: _,
+            test,
+            body,
+        } => {
+            put(out, b"while ")?;
+            show_expression(out, test)?;
+            show_body(out, body, below)
+        }
+        Stmt::Do {
+            line: _,
+            body,
+            test,
+        } => {
+            put(out, b"do")?;
+            show_body(out, body, below)?;
+            show_expression(out, test)?;
+            put(out, b";")
+        }
+        Stmt::For {
+            line: _,
+            first,
+            test,
+            last,
+            body,
+        } => {
+            put(out, b"for(")?;
+            show_maybe(out, first)?;
+            put(out, b";")?;
+            show_maybe(out, test)?;
+            put(out, b";")?;
+            show_maybe(out, last)?;
+            put(out, b")")?;
+            show_body(out, body, below)
+        }
+        Stmt::ForDeclared {
+            line: _,
+            declaration,
+            test,
+            last,
+            body,
+        } => {
+            put(out, b"for(")?;
+            show_declaration(out, declaration)?;
+            show_maybe(out, test)?;
+            put(out, b";")?;
+            show_maybe(out, last)?;
+            put(out, b")")?;
+            show_body(out, body, below)
+        }
+        Stmt::Switch {
+            line: _,
+            value,
+            body,
+        } => {
+            put(out, b"switch ")?;
+            show_expression(out, value)?;
+            show_body(out, body, below)
+        }
+        Stmt::Case {
+            line: _,
+            value,
+            body,
+        } => {
+            put(out, b"case ")?;
+            show_expression(out, value)?;
+            put(out, b":")?;
+            show(out, body, below)
+        }
+        Stmt::Default { line: _, body } => {
+            put(out, b"default:")?;
+            show(out, body, below)
+        }
+        Stmt::Label {
+            line: _,
+            name,
+            body,
+        } => {
+            put(out, &name.bytes)?;
+            put(out, b":")?;
+            show(out, body, below)
+        }
+        Stmt::Goto { line: _, name } => {
+            put(out, b"goto ")?;
+            put(out, &name.bytes)?;
+            put(out, b";")
+        }
+        Stmt::Break { line: _ } => put(out, b"break;"),
+        Stmt::Continue { line: _ } => put(out, b"continue;"),
     }
 }
 
-/// Writes the declarations of a file, and the bodies of its definitions.
+/// Writes the body of a loop or a `switch` in square brackets.
+#[cycle(showing)]
+fn show_body(out: &mut Vec<u8>, statement: &Stmt, levels: u32) -> Result<(), AllocError> {
+    put(out, b"[")?;
+    show(out, statement, levels)?;
+    put(out, b"]")
+}
+
+/// Writes the declarations and definitions of a file.
 fn show_file(out: &mut Vec<u8>, file: &File) -> Result<(), AllocError> {
     for external in &file.externals {
         match external {
             External::Declares(declaration) => show_declaration(out, declaration)?,
-            External::Defines(definition) => show(out, &definition.body, 10)?,
+            External::Defines(definition) => {
+                show_specifiers(out, &definition.specifiers, 10)?;
+                put(out, b" ")?;
+                show_declarator(out, &definition.declarator, 10)?;
+                show(out, &definition.body, 10)?;
+            }
         }
     }
     Ok(())
@@ -333,7 +500,7 @@ fn shown(alloc: Global, text: &[u8]) -> Result<(Vec<u8>, u32), AllocError> {
 }
 
 /// Bodies of `int main(void)`.
-const BODIES: [(&[u8], &[u8]); 14] = [
+const BODIES: [(&[u8], &[u8]); 20] = [
     (b"{}", b"{}"),
     (b"{int main;}", b"{int main;}"),
     (b"{int;}", b"{int;}"),
@@ -350,11 +517,32 @@ const BODIES: [(&[u8], &[u8]); 14] = [
     (b"{if(a)b;else if(c)d;else e;}", b"{?a[b;][?c[d;][e;]]}"),
     (b"{if(a,b)c,d;}", b"{?#[#;]}"),
     (b"{return a,b;}", b"{return #;}"),
-    (b"{a+b;a+b=c;}", b""),
+    (b"{;while(a)b;do c;while(d);}", b"{;while a[b;]do[c;]d;}"),
+    (
+        b"{for(;;);for(a;b;c)for(int i=0;i;i)i;}",
+        b"{for(;;)[;]for(a;b;c)[for(int i=#;i;i)[i;]]}",
+    ),
+    (
+        b"{switch(a){case 1?2:3:b;default:c:d;break;}}",
+        b"{switch a[{case #:b;default:c:d;break;}]}",
+    ),
+    (b"{a:b:goto a;continue;a?b:c;}", b"{a:b:goto a;continue;#;}"),
+    (
+        b"{if(a)while(b)if(c)d;else e;}",
+        b"{?a[while b[?c[d;][e;]]]}",
+    ),
+    (
+        b"{if(a)do if(b)c;while(d);else e;}",
+        b"{?a[do[?b[c;]]d;][e;]}",
+    ),
+    (
+        b"{if(a)x:for(;;)switch(b)if(c)d;else e;}",
+        b"{?a[x:for(;;)[switch b[?c[d;][e;]]]]}",
+    ),
 ];
 
 /// Declarations at the level of the file.
-const DECLARATIONS: [(&[u8], &[u8]); 24] = [
+const DECLARATIONS: [(&[u8], &[u8]); 32] = [
     (b"int a;", b"int a;"),
     (b"int main;", b"int main;"),
     (b"int main[2];", b"int main[#];"),
@@ -415,10 +603,39 @@ const DECLARATIONS: [(&[u8], &[u8]); 24] = [
         b"typedef struct{int a;}T,(U);U b;",
         b"typedef struct {int a;} T (U);:U b;",
     ),
+    (
+        b"int f(),g(void),h(int,int a),k(const void,...);",
+        b"int f() g(void) h(int ,int a,) k(const void ,...);",
+    ),
+    (
+        b"typedef int T;int f(int (T)),g(T),h(int (T)(T x),T T);",
+        b"typedef int T;int f(int (:T ,),) g(:T ,) h(int (:T ,)(:T x,),:T T,);",
+    ),
+    (
+        b"int f(int (),int (a),int ([2]),int (()));",
+        b"int f(int (),int (a),int ([#]),int (()),);",
+    ),
+    (
+        b"typedef int T;int f(int T,int a[T]);T x;",
+        b"typedef int T;int f(int T,int a[T],);:T x;",
+    ),
+    (
+        b"int (f)(void){}static void g(){g();}",
+        b"int (f)(void){}static void g(){#;}",
+    ),
+    (
+        b"typedef int T;T f(T T){T;}T x;",
+        b"typedef int T;:T f(:T T,){T;}:T x;",
+    ),
+    (
+        b"typedef int T;int f(struct{enum{T}a;}b){T;}T x;",
+        b"typedef int T;int f(struct {enum {T,} a;} b,){T;}:T x;",
+    ),
+    (b"int f(int a)(void)[2];", b"int f(int a,)(void)[#];"),
 ];
 
 /// Names that hide types.
-const HIDING: [(&[u8], &[u8]); 9] = [
+const HIDING: [(&[u8], &[u8]); 11] = [
     (b"{T x;int T;T=x;{T;}}", b"{:T x;int T;#;{T;}}"),
     (b"{T T=T;}", b"{:T T=T;}"),
     (b"{{int T;T;}T y;}", b"{{int T;T;}:T y;}"),
@@ -434,6 +651,8 @@ const HIDING: [(&[u8], &[u8]); 9] = [
         b"{int T;{typedef int T;T x;}T;}",
         b"{int T;{typedef int T;:T x;}T;}",
     ),
+    (b"{T:;T x;}", b"{T:;:T x;}"),
+    (b"{for(int T=1;T;T)T;T y;}", b"{for(int T=#;T;T)[T;]:T y;}"),
 ];
 
 /// A text, and behind it another.
@@ -452,21 +671,39 @@ fn trees(rt: HostRuntime) -> Result<(), Fail> {
     }
     for (text, expected) in BODIES {
         let text = joined(alloc, b"int main(void)", text)?;
-        assert_eq!(rt; shown(alloc, &text)?.0.as_slice(), expected);
+        let expected = joined(alloc, b"int main(void)", expected)?;
+        assert_eq!(rt; shown(alloc, &text)?.0.as_slice(), expected.as_slice());
     }
     for (text, expected) in HIDING {
         let text = joined(alloc, b"typedef int T;int main(void)", text)?;
-        let expected = joined(alloc, b"typedef int T;", expected)?;
+        let expected = joined(alloc, b"typedef int T;int main(void)", expected)?;
         assert_eq!(rt; shown(alloc, &text)?.0.as_slice(), expected.as_slice());
     }
     Ok(())
 }
 
-const LINES: [(&[u8], u32); 42] = [
+const LINES: [(&[u8], u32); 54] = [
     (b"", 1),
     (b"\n\n", 3),
     (b"\nint main(void){\nint a=b,c\n}", 2),
-    (b"int main(void){}\nint main(void){\n;}", 2),
+    (b"int main(void){}\nint main(void){\n:}", 2),
+    (b"int main(void){a+b;\na+b=c;}", 1),
+    (b"int f(...);", 1),
+    (b"int f(int a...);", 1),
+    (b"int f(int a,);", 1),
+    (b"int f(a);", 1),
+    (b"int f(int);\n{}", 2),
+    (b"typedef int F(void);\nF f{}", 2),
+    (b"int f[2](void){}", 1),
+    (b"int f(void),g(void){}", 1),
+    (b"int main(void){a:}", 1),
+    (b"int main(void){case 1:int a;}", 1),
+    (b"int main(void){case a,b:;}", 1),
+    (b"int main(void){for(;;;);}", 1),
+    (b"int main(void){do;while(1)}", 1),
+    (b"int main(void){while()a;}", 1),
+    (b"int main(void){goto 1;}", 1),
+    (b"typedef int T;\nint main(void){T:T x;}", 2),
     (b"int main(void){}\n\nmain", 3),
     (b"int main(void){\nint a=1,2;}", 1),
     (b"int main(void){\nint a,;}", 1),
@@ -476,11 +713,6 @@ const LINES: [(&[u8], u32); 42] = [
     (b"int main(void){\nelse b;}", 1),
     (b"int main(void){\nif(a)int b;}", 1),
     (b"int main(void){\nint a", 1),
-    (b"int main(){}", 1),
-    (b"int main(void);", 1),
-    (b"int f(void){}", 1),
-    (b"int f(void);", 1),
-    (b"void main(void){}", 1),
     (b"int main(void){}\n}", 2),
     (b"int a;\n;", 2),
     (b"int a;\nb;", 2),
@@ -549,7 +781,7 @@ const BARE: (&[u8], &[u8]) = (b"", b"");
 
 /// A nesting: the greatest count that stays within 400 levels and the next one, what stands around it, what is repeated before
 /// the middle, the middle, and what is repeated behind it.
-const NESTINGS: [(u32, u32, (&[u8], &[u8]), &[u8], &[u8], &[u8]); 12] = [
+const NESTINGS: [(u32, u32, (&[u8], &[u8]), &[u8], &[u8], &[u8]); 16] = [
     (399, 400, MAIN, b"{", b"", b"}"),
     (398, 399, MAIN, b"{", b"int a;", b"}"),
     (397, 398, MAIN, b"if(a)", b"b;", b""),
@@ -562,6 +794,10 @@ const NESTINGS: [(u32, u32, (&[u8], &[u8]), &[u8], &[u8], &[u8]); 12] = [
     (399, 400, VALUE, b"{", b"1", b"}"),
     (399, 400, BARE, b"struct{", b"int a;", b"}a;"),
     (400, 401, BARE, b"union{", b"int;", b"};"),
+    (397, 398, MAIN, b"while(a)", b"b;", b""),
+    (398, 399, MAIN, b"for(;;)", b";", b""),
+    (398, 399, MAIN, b"a:", b";", b""),
+    (399, 400, INT, b"f(int ", b"a", b")"),
 ];
 
 /// The number of levels of a text's tree, or 0 where it has none.
@@ -602,10 +838,14 @@ size_t (v)[3];
 int main(void) {
 if (a) if (b) c; else d; { } return a ? b : c;
 }
-T w;";
+T w;
+T g(int (T), ...);
+static T h(T T, int n) {
+for (int i = 0; i < n; i++) switch (T) { case 1: goto T; default: do ; while (n); } T: return 0;
+}";
 
 /// Where each external declaration of the page begins and ends, and its first line.
-const PLACES: [(usize, usize, u32); 7] = [
+const PLACES: [(usize, usize, u32); 9] = [
     (0, 30, 1),
     (31, 123, 2),
     (124, 149, 3),
@@ -613,6 +853,8 @@ const PLACES: [(usize, usize, u32); 7] = [
     (285, 299, 7),
     (300, 365, 8),
     (366, 370, 11),
+    (371, 389, 12),
+    (390, 513, 13),
 ];
 
 /// The line that has no tree where the page is cut, or 0 where it is cut behind an external declaration.

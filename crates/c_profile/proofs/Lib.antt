@@ -1,1 +1,3 @@
 pub mod Mains
+pub mod Switches
+pub mod Scopes

@@ -1,8 +1,10 @@
-//! The profile: which typed files are checked.
+//! The profile: which typed files are checked, and the rule that another file breaks.
 #![tactic(auto)]
 
 mod admitted;
+mod breach;
+mod breaches;
 #[cfg(test)]
 mod tests;
 
-pub use admitted::{Admitted, Outside, admit};
+pub use admitted::{Admitted, Refusal, admit};

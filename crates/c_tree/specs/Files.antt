@@ -1,5 +1,5 @@
 -- Which tokens spell declarations, statements and a file, and what is well formed (C11 6.7, 6.8, 6.9).
-use Rattle.std.specs.Prelude.{◌≡◌, ◌≢◌, ◌≤◌, ℕ, List, [], ◌∷◌, Bool, true, false, ◌||◌, Option, Some, None, codes}
+use Rattle.std.specs.Prelude.{◌≡◌, ◌≢◌, ◌≤◌, ℕ, List, [], ◌∷◌, Bool, true, false, ◌||◌, ◌&&◌, Option, Some, None}
 use Rattle.std.specs.Prelude.{◌⊎◌}
 use Rattle.c_lexer.specs.declared.token.Token.{Token}
 use Rattle.c_lexer.specs.declared.token.Kind.TheVariants as kinds
@@ -7,12 +7,14 @@ use Rattle.c_lexer.specs.declared.token.Keyword.{Keyword}
 use Rattle.c_lexer.specs.declared.token.Keyword.TheVariants as keywords
 use Rattle.c_lexer.specs.declared.token.Mark.{Mark}
 use Rattle.c_lexer.specs.declared.token.Mark.TheVariants as marks
-use Rattle.c_tree.specs.Tree.{Tree, Declared, unnamed, named, inside}
+use Rattle.c_tree.specs.declared.specifier.TypeWord.{TypeWord}
+use Rattle.c_tree.specs.declared.specifier.TypeWord.TheVariants as type_words
+use Rattle.c_tree.specs.Tree.{Tree, TypePart, qualified, word, tagged, typedef_name}
 use Rattle.c_tree.specs.Tables.{level_of, storage_keyword, function_keyword, record_keyword}
 use Rattle.c_tree.specs.Names.{Scope, is_type, built_in_names}
-use Rattle.c_tree.specs.Spelling.{Single, Behind, Then, Nothing, IsMark, IsKeyword, On, Names, Reads, SpellsTypePart, Spells, SpellsDeclared, IsWellTypePart, has_name, IsWell, IsWellDeclared}
-use Rattle.c_tree.specs.Declarations.{Enumerated, Part, type_part, storage, function, structure, enumeration, Parts, no_part, part, Members, no_member, members, Initial, initial, braces, Initials, no_initial, initials, Declarators, none_declared, declarator, name_of, with_enumerators, with_part, with_parts, with_members, with_declaration, have_typedef, specifies, specify}
-use Rattle.c_tree.specs.Statements.{Statement, block, if_then, if_else, evaluate, return_nothing, return_value, Items, done, declares, does, Externals, no_more, declared, defines, file_depth}
+use Rattle.c_tree.specs.Spelling.{Single, Behind, Then, Nothing, IsMark, IsKeyword, On, Names, Reads, SpellsTypePart, Spells, IsWellTypePart, IsWell}
+use Rattle.c_tree.specs.Declarations.{Enumerated, Part, type_part, storage, function, structure, enumeration, Parts, no_part, part, Members, no_member, members, Full, full_unnamed, full_named, full_inside, Fulls, no_full, full, FullSuffixes, full_end, full_bounded, full_open, full_empty, full_void, full_parameters, Parameters, no_parameter, parameter, Initial, initial, braces, Initials, no_initial, initials, Declarators, none_declared, declarator, name_of, full_has_name, is_function, with_part, with_parts, with_named, with_function, with_body, with_declaration, have_typedef, specifies, specify}
+use Rattle.c_tree.specs.Statements.{Statement, block, if_then, if_else, evaluate, return_nothing, return_value, empty, while_loop, do_loop, for_loop, for_declared, switch_on, case_of, default_of, labelled, goto_label, break_off, continue_on, Items, done, declares, does, Externals, no_more, declared, defines, file_depth}
 
 -- a mark that closes a list, with a comma before it or not
 abbrev pub Closes : Mark → List Token → Type 0
@@ -36,27 +38,17 @@ abbrev pub SpellsEnumerators : List ℕ → List Enumerated → List Token → T
 SpellsEnumerators bytes [] = λ xs. ⊥
 SpellsEnumerators bytes (e ∷ es) = Then (SpellsEnumerator bytes e) (SpellsOtherEnumerators bytes es)
 
--- the declarators behind the first, with a comma before each, and the `;`
-abbrev pub SpellsOtherMembers : List ℕ → List Declared → List Token → Type 0
-SpellsOtherMembers bytes [] = Single (IsMark marks.Semicolon)
-SpellsOtherMembers bytes (d ∷ ds) = Behind (IsMark marks.Comma) (Then (SpellsDeclared bytes d) (SpellsOtherMembers bytes ds))
-
--- the declarators of members with commas between them, and the `;` (C11 6.7.2.1)
-abbrev pub SpellsMembers : List ℕ → List Declared → List Token → Type 0
-SpellsMembers bytes [] = Single (IsMark marks.Semicolon)
-SpellsMembers bytes (d ∷ ds) = Then (SpellsDeclared bytes d) (SpellsOtherMembers bytes ds)
-
 -- a tag, or nothing
 abbrev pub SpellsTag : List ℕ → Option (List ℕ) → List Token → Type 0
 SpellsTag bytes None = Nothing
 SpellsTag bytes (Some n) = Single (Reads bytes kinds.Identifier n)
 
--- specifiers (C11 6.7)
+-- specifiers (C11 6.7) and declarators (C11 6.7.6)
 abbrev mutual
   pub SpellsPart : List ℕ → Part → List Token → Type 0
   SpellsPart bytes (type_part p) = SpellsTypePart bytes p
   SpellsPart bytes (storage line class) = Single (On line (kinds.Keyword (storage_keyword class)))
-  SpellsPart bytes (function line word) = Single (On line (kinds.Keyword (function_keyword word)))
+  SpellsPart bytes (function line w) = Single (On line (kinds.Keyword (function_keyword w)))
   SpellsPart bytes (structure line kind tag ms) =
       Behind (On line (kinds.Keyword (record_keyword kind))) (Then (SpellsTag bytes tag)
       (Behind (IsMark marks.LeftBrace) (SpellsMemberDeclarations bytes ms)))
@@ -73,6 +65,51 @@ abbrev mutual
   SpellsMemberDeclarations bytes no_member = Single (IsMark marks.RightBrace)
   SpellsMemberDeclarations bytes (members parts ds rest) =
       Then (SpellsParts bytes parts) (Then (SpellsMembers bytes ds) (SpellsMemberDeclarations bytes rest))
+
+  -- the declarators of members with commas between them, and the `;` (C11 6.7.2.1)
+  pub SpellsMembers : List ℕ → Fulls → List Token → Type 0
+  SpellsMembers bytes no_full = Single (IsMark marks.Semicolon)
+  SpellsMembers bytes (full d ds) = Then (SpellsFull bytes d) (SpellsOtherMembers bytes ds)
+
+  -- the declarators behind the first, with a comma before each, and the `;`
+  pub SpellsOtherMembers : List ℕ → Fulls → List Token → Type 0
+  SpellsOtherMembers bytes no_full = Single (IsMark marks.Semicolon)
+  SpellsOtherMembers bytes (full d ds) = Behind (IsMark marks.Comma) (Then (SpellsFull bytes d) (SpellsOtherMembers bytes ds))
+
+  pub SpellsFull : List ℕ → Full → List Token → Type 0
+  SpellsFull bytes (full_unnamed suffixes) = SpellsFullSuffixes bytes suffixes
+  SpellsFull bytes (full_named line n suffixes) = Behind (Names bytes line n) (SpellsFullSuffixes bytes suffixes)
+  SpellsFull bytes (full_inside line d suffixes) =
+      Behind (On line (kinds.Mark marks.LeftParenthesis))
+      (Then (SpellsFull bytes d) (Behind (IsMark marks.RightParenthesis) (SpellsFullSuffixes bytes suffixes)))
+
+  pub SpellsFullSuffixes : List ℕ → FullSuffixes → List Token → Type 0
+  SpellsFullSuffixes bytes full_end = Nothing
+  SpellsFullSuffixes bytes (full_bounded line e rest) =
+      Behind (On line (kinds.Mark marks.LeftBracket)) (Then (Spells bytes e) (Behind (IsMark marks.RightBracket) (SpellsFullSuffixes bytes rest)))
+  SpellsFullSuffixes bytes (full_open line rest) =
+      Behind (On line (kinds.Mark marks.LeftBracket)) (Behind (IsMark marks.RightBracket) (SpellsFullSuffixes bytes rest))
+  SpellsFullSuffixes bytes (full_empty line rest) =
+      Behind (On line (kinds.Mark marks.LeftParenthesis)) (Behind (IsMark marks.RightParenthesis) (SpellsFullSuffixes bytes rest))
+  SpellsFullSuffixes bytes (full_void line rest) =
+      Behind (On line (kinds.Mark marks.LeftParenthesis)) (Behind (IsKeyword keywords.Void)
+      (Behind (IsMark marks.RightParenthesis) (SpellsFullSuffixes bytes rest)))
+  SpellsFullSuffixes bytes (full_parameters line ps variadic rest) =
+      Behind (On line (kinds.Mark marks.LeftParenthesis)) (Then (SpellsParameters bytes ps variadic) (SpellsFullSuffixes bytes rest))
+
+  -- parameters with commas between them, and the parenthesis that closes them
+  pub SpellsParameters : List ℕ → Parameters → Bool → List Token → Type 0
+  SpellsParameters bytes no_parameter variadic = λ xs. ⊥
+  SpellsParameters bytes (parameter parts d rest) variadic =
+      Then (SpellsParts bytes parts) (Then (SpellsFull bytes d) (SpellsOtherParameters bytes rest variadic))
+
+  -- the parameters behind the first, and `...` behind the last
+  pub SpellsOtherParameters : List ℕ → Parameters → Bool → List Token → Type 0
+  SpellsOtherParameters bytes no_parameter false = Single (IsMark marks.RightParenthesis)
+  SpellsOtherParameters bytes no_parameter true =
+      Behind (IsMark marks.Comma) (Behind (IsMark marks.Ellipsis) (Single (IsMark marks.RightParenthesis)))
+  SpellsOtherParameters bytes (parameter parts d rest) variadic =
+      Behind (IsMark marks.Comma) (Then (SpellsParts bytes parts) (Then (SpellsFull bytes d) (SpellsOtherParameters bytes rest variadic)))
 
 -- an initializer (C11 6.7.9)
 abbrev mutual
@@ -99,16 +136,30 @@ SpellsInitializer bytes (Some i) = Behind (IsMark marks.Equal) (SpellsInitial by
 abbrev pub SpellsOthers : List ℕ → Declarators → List Token → Type 0
 SpellsOthers bytes none_declared = Single (IsMark marks.Semicolon)
 SpellsOthers bytes (declarator d i rest) =
-    Behind (IsMark marks.Comma) (Then (SpellsDeclared bytes d) (Then (SpellsInitializer bytes i) (SpellsOthers bytes rest)))
+    Behind (IsMark marks.Comma) (Then (SpellsFull bytes d) (Then (SpellsInitializer bytes i) (SpellsOthers bytes rest)))
 
 -- declarators with commas between them, and the `;` (C11 6.7)
 abbrev pub SpellsDeclarators : List ℕ → Declarators → List Token → Type 0
 SpellsDeclarators bytes none_declared = Single (IsMark marks.Semicolon)
 SpellsDeclarators bytes (declarator d i rest) =
-    Then (SpellsDeclared bytes d) (Then (SpellsInitializer bytes i) (SpellsOthers bytes rest))
+    Then (SpellsFull bytes d) (Then (SpellsInitializer bytes i) (SpellsOthers bytes rest))
 
 abbrev pub SpellsDeclaration : List ℕ → Parts → Declarators → List Token → Type 0
 SpellsDeclaration bytes parts ds = Then (SpellsParts bytes parts) (SpellsDeclarators bytes ds)
+
+-- no expression, or one
+abbrev pub SpellsMaybe : List ℕ → Option Tree → List Token → Type 0
+SpellsMaybe bytes None = Nothing
+SpellsMaybe bytes (Some e) = Spells bytes e
+
+-- `test; last)` of a `for`, and what follows it
+abbrev pub SpellsHeader : List ℕ → Option Tree → Option Tree → (List Token → Type 0) → List Token → Type 0
+SpellsHeader bytes test last P =
+    Then (SpellsMaybe bytes test) (Behind (IsMark marks.Semicolon) (Then (SpellsMaybe bytes last) (Behind (IsMark marks.RightParenthesis) P)))
+
+-- `(test)` and what follows it
+abbrev pub SpellsTest : List ℕ → Tree → (List Token → Type 0) → List Token → Type 0
+SpellsTest bytes test P = Behind (IsMark marks.LeftParenthesis) (Then (Spells bytes test) (Behind (IsMark marks.RightParenthesis) P))
 
 abbrev mutual
   pub SpellsStatement : List ℕ → Statement → List Token → Type 0
@@ -123,6 +174,26 @@ abbrev mutual
   SpellsStatement bytes (return_nothing line) = Behind (On line (kinds.Keyword keywords.Return)) (Single (IsMark marks.Semicolon))
   SpellsStatement bytes (return_value line e) =
       Behind (On line (kinds.Keyword keywords.Return)) (Then (Spells bytes e) (Single (IsMark marks.Semicolon)))
+  SpellsStatement bytes (empty line) = Single (On line (kinds.Mark marks.Semicolon))
+  SpellsStatement bytes (while_loop line test s) = Behind (On line (kinds.Keyword keywords.While)) (SpellsTest bytes test (SpellsStatement bytes s))
+  SpellsStatement bytes (do_loop line s test) =
+      Behind (On line (kinds.Keyword keywords.Do)) (Then (SpellsStatement bytes s)
+      (Behind (IsKeyword keywords.While) (SpellsTest bytes test (Single (IsMark marks.Semicolon)))))
+  SpellsStatement bytes (for_loop line first test last s) =
+      Behind (On line (kinds.Keyword keywords.For)) (Behind (IsMark marks.LeftParenthesis) (Then (SpellsMaybe bytes first)
+      (Behind (IsMark marks.Semicolon) (SpellsHeader bytes test last (SpellsStatement bytes s)))))
+  SpellsStatement bytes (for_declared line parts ds test last s) =
+      Behind (On line (kinds.Keyword keywords.For)) (Behind (IsMark marks.LeftParenthesis) (Then (SpellsDeclaration bytes parts ds)
+      (SpellsHeader bytes test last (SpellsStatement bytes s))))
+  SpellsStatement bytes (switch_on line value s) = Behind (On line (kinds.Keyword keywords.Switch)) (SpellsTest bytes value (SpellsStatement bytes s))
+  SpellsStatement bytes (case_of line value s) =
+      Behind (On line (kinds.Keyword keywords.Case)) (Then (Spells bytes value) (Behind (IsMark marks.Colon) (SpellsStatement bytes s)))
+  SpellsStatement bytes (default_of line s) = Behind (On line (kinds.Keyword keywords.Default)) (Behind (IsMark marks.Colon) (SpellsStatement bytes s))
+  SpellsStatement bytes (labelled line n s) = Behind (Names bytes line n) (Behind (IsMark marks.Colon) (SpellsStatement bytes s))
+  SpellsStatement bytes (goto_label line n) =
+      Behind (On line (kinds.Keyword keywords.Goto)) (Behind (Reads bytes kinds.Identifier n) (Single (IsMark marks.Semicolon)))
+  SpellsStatement bytes (break_off line) = Behind (On line (kinds.Keyword keywords.Break)) (Single (IsMark marks.Semicolon))
+  SpellsStatement bytes (continue_on line) = Behind (On line (kinds.Keyword keywords.Continue)) (Single (IsMark marks.Semicolon))
 
   -- the items of a block, and the brace that closes it
   pub SpellsItems : List ℕ → Items → List Token → Type 0
@@ -130,16 +201,14 @@ abbrev mutual
   SpellsItems bytes (declares parts ds rest) = Then (SpellsDeclaration bytes parts ds) (SpellsItems bytes rest)
   SpellsItems bytes (does s rest) = Then (SpellsStatement bytes s) (SpellsItems bytes rest)
 
--- `int main ( void )` and the body
-abbrev pub SpellsDefinition : List ℕ → ℕ → ℕ → Statement → List Token → Type 0
-SpellsDefinition bytes line name_line body =
-    Behind (On line (kinds.Keyword keywords.Int)) (Behind (Names bytes name_line (codes "main")) (Behind (IsMark marks.LeftParenthesis)
-    (Behind (IsKeyword keywords.Void) (Behind (IsMark marks.RightParenthesis) (SpellsStatement bytes body)))))
+-- specifiers, a declarator and the body
+abbrev pub SpellsDefinition : List ℕ → Parts → Full → Statement → List Token → Type 0
+SpellsDefinition bytes parts d body = Then (SpellsParts bytes parts) (Then (SpellsFull bytes d) (SpellsStatement bytes body))
 
 abbrev pub SpellsFile : List ℕ → Externals → List Token → Type 0
 SpellsFile bytes no_more = Nothing
 SpellsFile bytes (declared parts ds rest) = Then (SpellsDeclaration bytes parts ds) (SpellsFile bytes rest)
-SpellsFile bytes (defines line name_line body rest) = Then (SpellsDefinition bytes line name_line body) (SpellsFile bytes rest)
+SpellsFile bytes (defines parts d body rest) = Then (SpellsDefinition bytes parts d body) (SpellsFile bytes rest)
 
 abbrev pub IsWellValue : Scope → Option Tree → Type 0
 IsWellValue names None = Unit {0}
@@ -152,24 +221,67 @@ AreWellEnumerators names (e ∷ es) = IsWellValue names e.value × AreWellEnumer
 
 -- A name at the front of the first declarator isn't that of a type, where no type is specified before it: it would be a
 -- specifier.
-abbrev pub FrontIsNoType : Scope → Bool → Declared → Type 0
-FrontIsNoType names before (unnamed suffixes) = Unit {0}
-FrontIsNoType names before (named line n suffixes) = before ≡ false → is_type names n ≡ false
-FrontIsNoType names before (inside line d suffixes) = Unit {0}
+abbrev pub FrontIsNoType : Scope → Bool → Full → Type 0
+FrontIsNoType names before (full_unnamed suffixes) = Unit {0}
+FrontIsNoType names before (full_named line n suffixes) = before ≡ false → is_type names n ≡ false
+FrontIsNoType names before (full_inside line d suffixes) = Unit {0}
 
-abbrev pub AreWellMembers : Scope → List Declared → Type 0
-AreWellMembers names [] = Unit {0}
-AreWellMembers names (d ∷ ds) = (has_name d ≡ true) × IsWellDeclared names d × AreWellMembers names ds
+abbrev pub FrontIsNoTypeOfMembers : Scope → Bool → Fulls → Type 0
+FrontIsNoTypeOfMembers names before no_full = Unit {0}
+FrontIsNoTypeOfMembers names before (full d ds) = FrontIsNoType names before d
 
-abbrev pub FrontIsNoTypeOfMembers : Scope → Bool → List Declared → Type 0
-FrontIsNoTypeOfMembers names before [] = Unit {0}
-FrontIsNoTypeOfMembers names before (d ∷ ds) = FrontIsNoType names before d
+-- In the declarator of a parameter a typedef's name directly behind a parenthesis is a type: that of a parameter.
+abbrev pub OpensNoType : Scope → Bool → Full → Type 0
+OpensNoType names false d = Unit {0}
+OpensNoType names true d = FrontIsNoType names false d
+
+abbrev pub full_is_empty : Full → Bool
+full_is_empty (full_unnamed full_end) = true
+full_is_empty (full_unnamed (full_bounded line e rest)) = false
+full_is_empty (full_unnamed (full_open line rest)) = false
+full_is_empty (full_unnamed (full_empty line rest)) = false
+full_is_empty (full_unnamed (full_void line rest)) = false
+full_is_empty (full_unnamed (full_parameters line ps variadic rest)) = false
+full_is_empty (full_named line n suffixes) = false
+full_is_empty (full_inside line d suffixes) = false
+
+abbrev pub is_void : TypeWord → Bool
+is_void type_words.«Void» = true
+is_void type_words.Char = false
+is_void type_words.Short = false
+is_void type_words.Int = false
+is_void type_words.Long = false
+is_void type_words.Signed = false
+is_void type_words.Unsigned = false
+is_void type_words.«Bool» = false
+
+abbrev pub is_void_part : Part → Bool
+is_void_part (type_part (qualified line q)) = false
+is_void_part (type_part (word line w)) = is_void w
+is_void_part (type_part (tagged line kind n)) = false
+is_void_part (type_part (typedef_name line n)) = false
+is_void_part (storage line class) = false
+is_void_part (function line w) = false
+is_void_part (structure line kind tag ms) = false
+is_void_part (enumeration line tag es) = false
+
+abbrev pub are_void : Parts → Bool
+are_void no_part = false
+are_void (part first no_part) = is_void_part first
+are_void (part first (part second rest)) = false
+
+-- one parameter, spelled `void`
+abbrev pub is_void_alone : Parameters → Bool → Bool
+is_void_alone no_parameter variadic = false
+is_void_alone (parameter parts d no_parameter) false = are_void parts && full_is_empty d
+is_void_alone (parameter parts d no_parameter) true = false
+is_void_alone (parameter parts d (parameter others e rest)) variadic = false
 
 -- members have no storage class and no function specifier
 abbrev pub is_of_member : Part → Bool
 is_of_member (type_part p) = true
 is_of_member (storage line class) = false
-is_of_member (function line word) = false
+is_of_member (function line w) = false
 is_of_member (structure line kind tag ms) = true
 is_of_member (enumeration line tag es) = true
 
@@ -178,12 +290,13 @@ are_of_member no_part = Unit {0}
 are_of_member (part first rest) = (is_of_member first ≡ true) × are_of_member rest
 
 -- Specifiers from left to right: a typedef name stands only where no type is specified before it, and names that are
--- declared within one hold in those behind it.
+-- declared within one hold in those behind it. A declarator in parentheses isn't empty, and a bound is of the level of `?:`.
+-- Names of parameters hold in the later parameters, to the parenthesis that closes them; `(void)` is no parameter.
 abbrev mutual
   pub IsWellPart : Scope → Bool → Part → Type 0
   IsWellPart names before (type_part p) = IsWellTypePart names before p
   IsWellPart names before (storage line class) = Unit {0}
-  IsWellPart names before (function line word) = Unit {0}
+  IsWellPart names before (function line w) = Unit {0}
   IsWellPart names before (structure line kind tag ms) = (ms ≢ no_member) × AreWellMemberDeclarations names ms
   IsWellPart names before (enumeration line tag es) = AreWellEnumerators names es
 
@@ -197,6 +310,32 @@ abbrev mutual
       (parts ≢ no_part) × are_of_member parts × AreWellParts names false parts
       × FrontIsNoTypeOfMembers (with_parts names parts) (specify parts) ds × AreWellMembers (with_parts names parts) ds
       × AreWellMemberDeclarations (with_parts names parts) rest
+
+  pub AreWellMembers : Scope → Fulls → Type 0
+  AreWellMembers names no_full = Unit {0}
+  AreWellMembers names (full d ds) = (full_has_name d ≡ true) × IsWellFull names false d × AreWellMembers names ds
+
+  -- a declarator of a parameter or of another thing
+  pub IsWellFull : Scope → Bool → Full → Type 0
+  IsWellFull names parameters (full_unnamed suffixes) = AreWellFullSuffixes names suffixes
+  IsWellFull names parameters (full_named line n suffixes) = AreWellFullSuffixes names suffixes
+  IsWellFull names parameters (full_inside line d suffixes) =
+      (full_is_empty d ≡ false) × OpensNoType names parameters d × IsWellFull names parameters d × AreWellFullSuffixes names suffixes
+
+  pub AreWellFullSuffixes : Scope → FullSuffixes → Type 0
+  AreWellFullSuffixes names full_end = Unit {0}
+  AreWellFullSuffixes names (full_bounded line e rest) = (3 ≤ level_of e) × IsWell names e × AreWellFullSuffixes names rest
+  AreWellFullSuffixes names (full_open line rest) = AreWellFullSuffixes names rest
+  AreWellFullSuffixes names (full_empty line rest) = AreWellFullSuffixes names rest
+  AreWellFullSuffixes names (full_void line rest) = AreWellFullSuffixes names rest
+  AreWellFullSuffixes names (full_parameters line ps variadic rest) =
+      (is_void_alone ps variadic ≡ false) × AreWellParameters names ps × AreWellFullSuffixes names rest
+
+  pub AreWellParameters : Scope → Parameters → Type 0
+  AreWellParameters names no_parameter = Unit {0}
+  AreWellParameters names (parameter parts d rest) =
+      (parts ≢ no_part) × AreWellParts names false parts × FrontIsNoType (with_parts names parts) (specify parts) d
+      × IsWellFull (with_parts names parts) true d × AreWellParameters (with_named (with_parts names parts) (have_typedef parts) d) rest
 
 abbrev mutual
   pub IsWellInitial : Scope → Initial → Type 0
@@ -215,7 +354,7 @@ IsWellInitializer names (Some i) = IsWellInitial names i
 abbrev pub AreWellDeclarators : Scope → Bool → Declarators → Type 0
 AreWellDeclarators names types none_declared = Unit {0}
 AreWellDeclarators names types (declarator d i rest) =
-    (has_name d ≡ true) × IsWellDeclared names d × IsWellInitializer ((name_of d, types) ∷ names) i
+    (full_has_name d ≡ true) × IsWellFull names false d × IsWellInitializer ((name_of d, types) ∷ names) i
     × AreWellDeclarators ((name_of d, types) ∷ names) types rest
 
 abbrev pub FrontIsNoTypeOfDeclarators : Scope → Bool → Declarators → Type 0
@@ -237,9 +376,25 @@ is_open (if_else line test s u) = is_open u
 is_open (evaluate e) = false
 is_open (return_nothing line) = false
 is_open (return_value line e) = false
+is_open (empty line) = false
+is_open (while_loop line e s) = is_open s
+is_open (do_loop line s e) = false
+is_open (for_loop line a b c s) = is_open s
+is_open (for_declared line parts ds b c s) = is_open s
+is_open (switch_on line e s) = is_open s
+is_open (case_of line e s) = is_open s
+is_open (default_of line s) = is_open s
+is_open (labelled line n s) = is_open s
+is_open (goto_label line n) = false
+is_open (break_off line) = false
+is_open (continue_on line) = false
+
+abbrev pub IsWellMaybe : Scope → Option Tree → Type 0
+IsWellMaybe names None = Unit {0}
+IsWellMaybe names (Some e) = (1 ≤ level_of e) × IsWell names e
 
 -- Each expression is of a level that its place permits, and an `else` belongs to the nearest `if` before it that has none.
--- A declaration's names hold in the items behind it, to the end of the block.
+-- A declaration's names hold in the items behind it, to the end of the block, or within its `for`.
 abbrev mutual
   pub IsWellStatement : Scope → Statement → Type 0
   IsWellStatement names (block line is) = AreWellItems names is
@@ -248,6 +403,20 @@ abbrev mutual
   IsWellStatement names (evaluate e) = (1 ≤ level_of e) × IsWell names e
   IsWellStatement names (return_nothing line) = Unit {0}
   IsWellStatement names (return_value line e) = (1 ≤ level_of e) × IsWell names e
+  IsWellStatement names (empty line) = Unit {0}
+  IsWellStatement names (while_loop line e s) = (1 ≤ level_of e) × IsWell names e × IsWellStatement names s
+  IsWellStatement names (do_loop line s e) = IsWellStatement names s × (1 ≤ level_of e) × IsWell names e
+  IsWellStatement names (for_loop line a b c s) = IsWellMaybe names a × IsWellMaybe names b × IsWellMaybe names c × IsWellStatement names s
+  IsWellStatement names (for_declared line parts ds b c s) =
+      IsWellDeclaration names parts ds × IsWellMaybe (with_declaration names parts ds) b × IsWellMaybe (with_declaration names parts ds) c
+      × IsWellStatement (with_declaration names parts ds) s
+  IsWellStatement names (switch_on line e s) = (1 ≤ level_of e) × IsWell names e × IsWellStatement names s
+  IsWellStatement names (case_of line e s) = (3 ≤ level_of e) × IsWell names e × IsWellStatement names s
+  IsWellStatement names (default_of line s) = IsWellStatement names s
+  IsWellStatement names (labelled line n s) = IsWellStatement names s
+  IsWellStatement names (goto_label line n) = Unit {0}
+  IsWellStatement names (break_off line) = Unit {0}
+  IsWellStatement names (continue_on line) = Unit {0}
 
   pub AreWellItems : Scope → Items → Type 0
   AreWellItems names done = Unit {0}
@@ -261,13 +430,30 @@ is_block (if_else line test s u) = false
 is_block (evaluate e) = false
 is_block (return_nothing line) = false
 is_block (return_value line e) = false
+is_block (empty line) = false
+is_block (while_loop line e s) = false
+is_block (do_loop line s e) = false
+is_block (for_loop line a b c s) = false
+is_block (for_declared line parts ds b c s) = false
+is_block (switch_on line e s) = false
+is_block (case_of line e s) = false
+is_block (default_of line s) = false
+is_block (labelled line n s) = false
+is_block (goto_label line n) = false
+is_block (break_off line) = false
+is_block (continue_on line) = false
 
--- The body of a definition is a block, and its name is declared before the body.
+-- A definition declares a function; its body is a block, where its name and those of its parameters are declared.
+abbrev pub IsWellDefinition : Scope → Parts → Full → Statement → Type 0
+IsWellDefinition names parts d body =
+    (parts ≢ no_part) × AreWellParts names false parts × FrontIsNoType (with_parts names parts) (specify parts) d
+    × (full_has_name d ≡ true) × (is_function d ≡ true) × IsWellFull (with_parts names parts) false d
+    × (is_block body ≡ true) × IsWellStatement (with_body names parts d) body
+
 abbrev pub AreWellExternals : Scope → Externals → Type 0
 AreWellExternals names no_more = Unit {0}
 AreWellExternals names (declared parts ds rest) = IsWellDeclaration names parts ds × AreWellExternals (with_declaration names parts ds) rest
-AreWellExternals names (defines line name_line body rest) =
-    (is_block body ≡ true) × IsWellStatement ((codes "main", false) ∷ names) body × AreWellExternals ((codes "main", false) ∷ names) rest
+AreWellExternals names (defines parts d body rest) = IsWellDefinition names parts d body × AreWellExternals (with_function names parts d) rest
 
 -- The tree is the file's: its tokens spell it whole, something stands in it, and it has at most 400 levels.
 pub record IsFile (bytes : List ℕ) (tokens : List Token) (tree : Externals) : Type 0 where

@@ -175,3 +175,9 @@ first_line (choice line a b c) = first_line a
 first_line (assign line op a b) = first_line a
 first_line (comma line a b) = first_line a
 first_line (call f args) = first_line f
+
+abbrev pub type_part_line : TypePart → ℕ
+type_part_line (qualified line q) = line
+type_part_line (word line w) = line
+type_part_line (tagged line kind n) = line
+type_part_line (typedef_name line n) = line

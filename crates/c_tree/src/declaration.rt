@@ -1,6 +1,6 @@
 //! Declarations.
 
-use crate::expr::{Declarator, Expr, Name};
+use crate::expr::{Expr, Name};
 use crate::specifier::TypeSpecifier;
 
 /// A storage class (C11 6.7.1).
@@ -60,7 +60,65 @@ pub enum Specifier {
 #[cycle(specifier)]
 pub struct MemberDeclaration {
     pub specifiers: Vec<Specifier>,
-    pub declarators: Vec<Declarator>,
+    pub declarators: Vec<FullDeclarator>,
+}
+
+/// A declarator of a declaration, of a member or of a parameter (C11 6.7.6), or the abstract one of a parameter, which has no
+/// name (C11 6.7.7) and is empty without suffixes.
+#[derive(Debug, Drop)]
+#[cycle(specifier)]
+pub enum FullDeclarator {
+    Unnamed {
+        suffixes: Vec<DeclaratorSuffix>,
+    },
+    Named {
+        line: u32,
+        name: Name,
+        suffixes: Vec<DeclaratorSuffix>,
+    },
+    /// `(inner)` and suffixes, with the line of the parenthesis.
+    Inside {
+        line: u32,
+        inner: Box<FullDeclarator>,
+        suffixes: Vec<DeclaratorSuffix>,
+    },
+}
+
+/// A suffix of an array's or a function's declarator, with the line of its bracket or parenthesis.
+#[derive(Debug, Drop)]
+#[cycle(specifier)]
+pub enum DeclaratorSuffix {
+    /// `[bound]`
+    Bounded {
+        line: u32,
+        bound: Expr,
+    },
+    /// `[]`
+    Open {
+        line: u32,
+    },
+    /// `()`
+    Empty {
+        line: u32,
+    },
+    /// `(void)`
+    Void {
+        line: u32,
+    },
+    /// `(parameters)`, with one parameter at least, or `(parameters, ...)`, which is variadic.
+    Parameters {
+        line: u32,
+        parameters: Vec<Parameter>,
+        variadic: bool,
+    },
+}
+
+/// A parameter (C11 6.7.6): specifiers, one at least, and a declarator, which may have no name and may be empty.
+#[derive(Debug, Drop)]
+#[cycle(specifier)]
+pub struct Parameter {
+    pub specifiers: Vec<Specifier>,
+    pub declarator: FullDeclarator,
 }
 
 /// `name` or `name = value` among enumerators (C11 6.7.2.2), with the line of the name.
@@ -83,7 +141,7 @@ pub enum Initializer {
 /// A declarator with its initializer (C11 6.7).
 #[derive(Debug, Drop)]
 pub struct InitDeclarator {
-    pub declarator: Declarator,
+    pub declarator: FullDeclarator,
     pub initializer: Option<Initializer>,
 }
 

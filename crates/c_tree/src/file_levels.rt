@@ -1,15 +1,16 @@
 //! How many levels declarations, statements and files have.
 
-ghost use Rattle.std.specs.Prelude.{◌≡◌, ◌<◌, ◌^◌, max, map, option_map};
-ghost use Rattle.c_tree.specs.Tree.{view, view_declarator};
-ghost use Rattle.c_tree.specs.Declarations.{view_enumerator, view_part, parts_of, members_of, view_initializer, initials_of, declarators_of, value_depth, enumerators_depth, declareds_depth, part_depth, parts_depth, members_depth, initial_depth, initials_depth, initializer_depth, declarators_depth};
+ghost use Rattle.std.specs.Prelude.{◌≡◌, ◌==◌, ◌<◌, ◌^◌, length, max, map, option_map};
+ghost use Rattle.c_tree.specs.Tree.{view};
+ghost use Rattle.c_tree.specs.Declarations.{view_enumerator, view_part, parts_of, members_of, view_full, fulls_of, view_full_suffix, full_suffixes_of, full_end, parameters_of, view_initializer, initials_of, declarators_of, value_depth, enumerators_depth, part_depth, parts_depth, members_depth, full_depth, fulls_depth, full_suffixes_depth, parameters_depth, initial_depth, initials_depth, initializer_depth, declarators_depth};
 ghost use Rattle.c_tree.specs.Statements.{statement_depth, view_statement, items_depth, items_of, view_item, done, externals_of, view_external, no_more, file_depth, view_file};
 
 use crate::declaration::{
-    Declaration, Enumerator, InitDeclarator, Initializer, MemberDeclaration, Specifier,
+    Declaration, DeclaratorSuffix, Enumerator, FullDeclarator, InitDeclarator, Initializer,
+    MemberDeclaration, Parameter, Specifier,
 };
-use crate::expr::{Declarator, Expr};
-use crate::levels::{declarator_depth, expression_depth, larger};
+use crate::expr::Expr;
+use crate::levels::{expression_depth, larger};
 use crate::statement::{External, File, Item, Stmt};
 
 fn value_depth(value: &Option<Expr>) -> u32
@@ -33,15 +34,10 @@ fn enumerators_depth(enumerators: &[Enumerator]) -> u32
     levels
 }
 
-fn declareds_depth(declarators: &[Declarator]) -> u32
-    requires { declareds_depth (map view_declarator declarators.now) < 2 ^ 32 }
-    ensures { result ≡ declareds_depth (map view_declarator declarators.now) }
+fn are_none(suffixes: &[DeclaratorSuffix]) -> bool
+    ensures { result ≡ (length suffixes.now == 0) }
 {
-    let mut levels = 0;
-    for declarator in declarators {
-        levels = larger(levels, declarator_depth(declarator));
-    }
-    levels
+    suffixes.is_empty()
 }
 
 #[cycle(specifiers)]
@@ -91,7 +87,91 @@ fn members_depth(members: &[MemberDeclaration]) -> u32
     for member in members {
         let own = larger(
             parts_depth(&member.specifiers),
-            declareds_depth(&member.declarators),
+            fulls_depth(&member.declarators),
+        );
+        levels = larger(levels, own);
+    }
+    levels
+}
+
+#[cycle(specifiers)]
+fn fulls_depth(declarators: &[FullDeclarator]) -> u32
+    requires { fulls_depth (fulls_of declarators.now) < 2 ^ 32 }
+    ensures { result ≡ fulls_depth (fulls_of declarators.now) }
+{
+    let mut levels = 0;
+    for declarator in declarators {
+        levels = larger(levels, full_depth(declarator));
+    }
+    levels
+}
+
+#[cycle(specifiers)]
+fn full_depth(declarator: &FullDeclarator) -> u32
+    requires { full_depth (view_full declarator.now) < 2 ^ 32 }
+    ensures { result ≡ full_depth (view_full declarator.now) }
+{
+    match declarator {
+        FullDeclarator::Unnamed { suffixes } => {
+            if are_none(suffixes) {
+                0
+            } else {
+                full_suffixes_depth(suffixes) + 1
+            }
+        }
+        FullDeclarator::Named {
+            line: _,
+            name: _,
+            suffixes,
+        } => full_suffixes_depth(suffixes) + 1,
+        FullDeclarator::Inside {
+            line: _,
+            inner,
+            suffixes,
+        } => larger(full_depth(inner), full_suffixes_depth(suffixes)) + 1,
+    }
+}
+
+#[cycle(specifiers)]
+fn full_suffixes_depth(suffixes: &[DeclaratorSuffix]) -> u32
+    requires { full_suffixes_depth (full_suffixes_of suffixes.now) < 2 ^ 32 }
+    ensures { result ≡ full_suffixes_depth (full_suffixes_of suffixes.now) }
+{
+    let mut levels = 0;
+    for suffix in suffixes {
+        levels = larger(levels, full_suffix_depth(suffix));
+    }
+    levels
+}
+
+#[cycle(specifiers)]
+fn full_suffix_depth(suffix: &DeclaratorSuffix) -> u32
+    requires { full_suffixes_depth (view_full_suffix suffix.now full_end) < 2 ^ 32 }
+    ensures { result ≡ full_suffixes_depth (view_full_suffix suffix.now full_end) }
+{
+    match suffix {
+        DeclaratorSuffix::Bounded { line: _, bound } => expression_depth(bound),
+        DeclaratorSuffix::Open { line: _ } => 0,
+        DeclaratorSuffix::Empty { line: _ } => 0,
+        DeclaratorSuffix::Void { line: _ } => 0,
+        DeclaratorSuffix::Parameters {
+            line: _,
+            parameters,
+            variadic: _,
+        } => parameters_depth(parameters),
+    }
+}
+
+#[cycle(specifiers)]
+fn parameters_depth(parameters: &[Parameter]) -> u32
+    requires { parameters_depth (parameters_of parameters.now) < 2 ^ 32 }
+    ensures { result ≡ parameters_depth (parameters_of parameters.now) }
+{
+    let mut levels = 0;
+    for parameter in parameters {
+        let own = larger(
+            parts_depth(&parameter.specifiers),
+            full_depth(&parameter.declarator),
         );
         levels = larger(levels, own);
     }
@@ -138,7 +218,7 @@ fn declarators_depth(declarators: &[InitDeclarator]) -> u32
     let mut levels = 0;
     for declarator in declarators {
         let own = larger(
-            declarator_depth(&declarator.declarator),
+            full_depth(&declarator.declarator),
             initializer_depth(&declarator.initializer),
         );
         levels = larger(levels, own);
@@ -202,6 +282,62 @@ fn statement_depth(statement: &Stmt) -> u32
         Stmt::Evaluate { expression } => expression_depth(expression) + 1,
         Stmt::ReturnNothing { line: _ } => 1,
         Stmt::ReturnValue { line: _, value } => expression_depth(value) + 1,
+        Stmt::Empty { line: _ } => 1,
+        Stmt::While {
+            line: _,
+            test,
+            body,
+        } => larger(expression_depth(test), statement_depth(body)) + 1,
+        Stmt::Do {
+            line: _,
+            body,
+            test,
+        } => larger(statement_depth(body), expression_depth(test)) + 1,
+        Stmt::For {
+            line: _,
+            first,
+            test,
+            last,
+            body,
+        } => larger(
+            value_depth(first),
+            larger(
+                value_depth(test),
+                larger(value_depth(last), statement_depth(body)),
+            ),
+        ) + 1,
+        Stmt::ForDeclared {
+            line: _,
+            declaration,
+            test,
+            last,
+            body,
+        } => larger(
+            declaration_depth(declaration),
+            larger(
+                value_depth(test),
+                larger(value_depth(last), statement_depth(body)),
+            ),
+        ) + 1,
+        Stmt::Switch {
+            line: _,
+            value,
+            body,
+        } => larger(expression_depth(value), statement_depth(body)) + 1,
+        Stmt::Case {
+            line: _,
+            value,
+            body,
+        } => larger(expression_depth(value), statement_depth(body)) + 1,
+        Stmt::Default { line: _, body } => statement_depth(body) + 1,
+        Stmt::Label {
+            line: _,
+            name: _,
+            body,
+        } => statement_depth(body) + 1,
+        Stmt::Goto { line: _, name: _ } => 1,
+        Stmt::Break { line: _ } => 1,
+        Stmt::Continue { line: _ } => 1,
     }
 }
 
@@ -211,7 +347,13 @@ fn external_depth(external: &External) -> u32
 {
     match external {
         External::Declares(declaration) => declaration_depth(declaration),
-        External::Defines(definition) => larger(1, statement_depth(&definition.body)),
+        External::Defines(definition) => larger(
+            parts_depth(&definition.specifiers),
+            larger(
+                full_depth(&definition.declarator),
+                statement_depth(&definition.body),
+            ),
+        ),
     }
 }
 
@@ -227,7 +369,7 @@ fn externals_depth(externals: &[External]) -> u32
 }
 
 /// The number of the file's levels: each expression, statement and declarator is one, as are the braces of a structure and of
-/// an initializer; an initializer lies beside its declarator.
+/// an initializer; bounds and parameters lie below their declarator, an initializer beside it.
 pub fn depth(file: &File) -> u32
     requires { file_depth (view_file file.now) < 2 ^ 32 }
     ensures { result ≡ file_depth (view_file file.now) }

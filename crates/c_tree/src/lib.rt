@@ -11,8 +11,8 @@ mod statement;
 mod tests;
 
 pub use declaration::{
-    Declaration, Enumerator, FunctionSpecifier, InitDeclarator, Initializer, MemberDeclaration,
-    RecordKind, Specifier, StorageClass,
+    Declaration, DeclaratorSuffix, Enumerator, FullDeclarator, FunctionSpecifier, InitDeclarator,
+    Initializer, MemberDeclaration, Parameter, RecordKind, Specifier, StorageClass,
 };
 pub use expr::{
     ArraySuffix, BinaryOp, Declarator, DeclaratorCore, Expr, Name, StepOp, TypeName, UnaryOp,

@@ -1,7 +1,7 @@
 //! Statements and the file.
 
-use crate::declaration::Declaration;
-use crate::expr::Expr;
+use crate::declaration::{Declaration, FullDeclarator, Specifier};
+use crate::expr::{Expr, Name};
 
 /// A statement (C11 6.8). Each has the line of its first token, but for an expression statement, whose expression has one.
 #[derive(Debug, Drop)]
@@ -36,6 +36,74 @@ pub enum Stmt {
         line: u32,
         value: Expr,
     },
+    /// `;`
+    Empty {
+        line: u32,
+    },
+    /// `while (test) body`
+    While {
+        line: u32,
+        test: Expr,
+        body: Box<Stmt>,
+    },
+    /// `do body while (test);`
+    Do {
+        line: u32,
+        body: Box<Stmt>,
+        test: Expr,
+    },
+    /// `for (first; test; last) body`
+    For {
+        line: u32,
+        first: Option<Expr>,
+        test: Option<Expr>,
+        last: Option<Expr>,
+        body: Box<Stmt>,
+    },
+    /// `for (declaration test; last) body`
+    ForDeclared {
+        line: u32,
+        declaration: Declaration,
+        test: Option<Expr>,
+        last: Option<Expr>,
+        body: Box<Stmt>,
+    },
+    /// `switch (value) body`
+    Switch {
+        line: u32,
+        value: Expr,
+        body: Box<Stmt>,
+    },
+    /// `case value: body`
+    Case {
+        line: u32,
+        value: Expr,
+        body: Box<Stmt>,
+    },
+    /// `default: body`
+    Default {
+        line: u32,
+        body: Box<Stmt>,
+    },
+    /// `name: body`
+    Label {
+        line: u32,
+        name: Name,
+        body: Box<Stmt>,
+    },
+    /// `goto name;`
+    Goto {
+        line: u32,
+        name: Name,
+    },
+    /// `break;`
+    Break {
+        line: u32,
+    },
+    /// `continue;`
+    Continue {
+        line: u32,
+    },
 }
 
 /// What stands in a block (C11 6.8.2).
@@ -46,11 +114,11 @@ pub enum Item {
     Does(Stmt),
 }
 
-/// The definition of a function `int main(void)` (C11 6.9.1): the lines of the `int` and of the name, and the body, a block.
+/// The definition of a function (C11 6.9.1): specifiers, one at least, a declarator of a function, and the body, a block.
 #[derive(Debug, Drop)]
 pub struct Definition {
-    pub line: u32,
-    pub name_line: u32,
+    pub specifiers: Vec<Specifier>,
+    pub declarator: FullDeclarator,
     pub body: Stmt,
 }
 

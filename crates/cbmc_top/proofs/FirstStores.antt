@@ -14,7 +14,8 @@ use Rattle.core_tree.specs.Typed.{is_static, sizes_of_objects, is_typed_function
 use Rattle.actions.specs.ByteList.{are_bytes}
 use Rattle.actions.specs.StoredObject.{StoredObject}
 use Rattle.c_interp.specs.Source.{first_object, objects_from, first_objects, are_storable}
-use Rattle.goto_unwind.specs.Counts.{places, largest, object_bytes, passed}
+use Rattle.goto_unwind.specs.Places.{places}
+use Rattle.goto_unwind.specs.Counts.{largest, object_bytes, passed}
 use Rattle.mem_seq.specs.Accesses.{HoldsBytes, AreObjects}
 use Rattle.cbmc_top.proofs.Both.{and_both}
 
@@ -47,7 +48,7 @@ objects_hold (o ∷ objects) k h =
     All-cons Holds (k, first_object o) (objects_from (k + 1) objects) (object_holds o parts.0) (objects_hold objects (k + 1) parts.1)
 
 pub file_holds : (core : TypedFile) → are_typed core ≡ true → AreObjects (first_objects core.objects)
-file_holds core h = objects_hold core.objects 1 (and_both (list_all is_static core.objects) (list_all (is_typed_function core.objects) core.functions) h).0
+file_holds core h = objects_hold core.objects 1 (and_both (list_all is_static core.objects) (list_all (is_typed_function core) core.functions) h).0
 
 -- ---- where no count passes its limit they can be stored
 
@@ -70,7 +71,7 @@ all_small (o ∷ objects) most h =
 
 pub storable : (core : TypedFile) (limits : Limits) → passed core limits ≡ None → are_storable core.objects ≡ true
 storable core limits h =
-    let places_fit = not_passed (nat_lt 2000000 (places core.functions)) Places _ h in
+    let places_fit = not_passed (nat_lt 2000000 (places core.functions limits)) Places _ h in
     let objects_fit = not_passed (nat_lt 8192 (length core.objects)) Objects _ places_fit.1 in
     let bytes_fit = not_passed (nat_lt 65536 (object_bytes core)) ObjectBytes None objects_fit.1 in
     let few = most_true (length core.objects) 8192 (at_most (length core.objects) 8192 objects_fit.0) in

@@ -12,6 +12,9 @@ pub mod Stages
 pub mod Answering
 pub mod Spent
 pub mod Causes
+pub mod FunctionNames
+pub mod TokenNames
+pub mod StartsNone
 pub mod Named
 pub mod Describing
 pub mod Formulas

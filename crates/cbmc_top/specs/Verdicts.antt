@@ -12,9 +12,8 @@ use Rattle.cdcl_core.specs.Answers.{unit_count}
 use Rattle.core_tree.specs.Trees.{TypedFile}
 use Rattle.core_tree.specs.Ranges.{Limits}
 use Rattle.interleave.specs.Inputs.{InputLists}
-use Rattle.interleave.specs.Replay.{IsSafe, Replays}
+use Rattle.interleave.specs.Replay.{Replays}
 use Rattle.interleave.specs.declared.inputs.Trace.{Trace}
-use Rattle.c_interp.specs.Source.{source_world}
 use Rattle.cbmc_top.specs.Programs.{IsFileOf}
 use Rattle.cbmc_top.specs.Executions.{bounded_world, IsVerified}
 use Rattle.cbmc_top.specs.Report.{Failure}
@@ -83,8 +82,8 @@ IsSolved nodes goal budget (solutions.Budget used) = HasForm nodes goal used.for
 -- what a search of a program's runs found: none that breaks a check, with the refutation of its clauses; a run that breaks
 -- one; or a log that has spent the budget
 abbrev pub IsSearched : Limits → ℕ → TypedFile → Searched → Type 0
-IsSearched limits budget core (searches.Refuted used) = IsSafe (source_world core) × IsRefuted limits budget core used
-IsSearched limits budget core (searches.Broken t) = Replays (source_world core) t.inputs t.schedule t.check
+IsSearched limits budget core (searches.Refuted used) = IsVerified limits core × IsRefuted limits budget core used
+IsSearched limits budget core (searches.Broken t) = Replays (bounded_world limits core) t.inputs t.schedule t.check
 IsSearched limits budget core (searches.Budget used) = IsUsedUp limits budget core used
 
 -- the run of a trace breaks its check

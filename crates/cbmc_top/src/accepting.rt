@@ -138,13 +138,20 @@ fn typed_file(alloc: Global, file: &File) -> Result<Core, Stop>
 }
 
 /// The typed file, if it is in the profile.
-fn in_profile(core: Core) -> Result<Admitted, Stop>
+fn in_profile(alloc: Global, core: Core) -> Result<Admitted, Stop>
     ensures found { IfOk result (λ f. (f ≡ core) × (first_breach (view_core core) ≡ None)) }
     ensures stop { IfErr result (λ s. StopsWith s (IsOutside (view_core core))) }
 {
-    match admit(core) {
+    match admit(alloc, core) {
         Ok(file) => Ok(file),
-        Err(outside) => Err(Stop::Refused(Refusal::new(12, outside.line, Some(outside.rule)))),
+        Err(
+            c_profile::Refusal::Outside {
+                core: _,
+                line,
+                rule,
+            },
+        ) => { Err(Stop::Refused(Refusal::new(12, line, Some(rule)))) }
+        Err(c_profile::Refusal::Memory { core: _ }) => Err(Stop::Memory),
     }
 }
 
@@ -159,5 +166,5 @@ pub fn accept(alloc: Global, file: &[u8]) -> Result<Admitted, Stop>
     let tokens = tokens_of(alloc, file)?;
     let tree = tree_of(alloc, &tokens)?;
     let core = typed_file(alloc, &tree)?;
-    in_profile(core)
+    in_profile(alloc, core)
 }

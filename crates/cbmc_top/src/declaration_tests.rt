@@ -5,7 +5,10 @@ use c_elab_expr::TypingError;
 use c_lexer::{LexError, Tokens, lex};
 use c_parse_decl::parse;
 use c_types::IntegerType;
-use core_tree::{CoreExpr, CoreItem, CorePart, CoreStatement, CoreStructure, Place};
+use core_tree::{
+    CoreArgument, CoreExpr, CoreItem, CorePart, CoreStatement, CoreStructure, Function, PassedType,
+    Place,
+};
 use std::alloc::{AllocError, Global};
 use std::test::*;
 
@@ -50,6 +53,7 @@ fn show_place(alloc: Global, place: &Place) -> Result<String, AllocError> {
 }
 
 /// A constant, a place, an assignment, a draw, or a conversion of one; `#` for any other expression.
+#[cycle(structures)]
 fn show_expression(alloc: Global, expr: &CoreExpr) -> Result<String, AllocError> {
     match expr {
         CoreExpr::Constant {
@@ -70,8 +74,75 @@ fn show_expression(alloc: Global, expr: &CoreExpr) -> Result<String, AllocError>
             format!(in alloc; "{to:?}({})", show_expression(alloc, operand)?)
         }
         CoreExpr::Draw { line: _, type_: _ } => format!(in alloc; "draw"),
+        CoreExpr::Call {
+            line: _,
+            function,
+            used,
+            type_: _,
+            arguments,
+        } => show_call(alloc, *function, *used, arguments),
+        CoreExpr::FunctionName { line: _, function } => format!(in alloc; "f{function}"),
+        CoreExpr::Comma {
+            line: _,
+            left,
+            right,
+        } => {
+            let left = show_expression(alloc, left)?;
+            format!(in alloc; "({left},{})", show_expression(alloc, right)?)
+        }
+        CoreExpr::Choice {
+            line: _,
+            test: _,
+            yes,
+            no,
+        } => {
+            let yes = show_expression(alloc, yes)?;
+            format!(in alloc; "(?{yes}:{})", show_expression(alloc, no)?)
+        }
+        CoreExpr::Discard { line: _, operand } => {
+            format!(in alloc; "void {}", show_expression(alloc, operand)?)
+        }
+        CoreExpr::DiscardStructure { value } => match &**value {
+            CoreStructure::Call {
+                line: _,
+                function: _,
+                used: _,
+                size: _,
+                arguments: _,
+            } => format!(in alloc; "void {}", show_structure(alloc, value)?),
+            _ => format!(in alloc; "#"),
+        },
+        CoreExpr::Member {
+            line: _,
+            type_: _,
+            offset,
+            value,
+        } => format!(in alloc; "{}.{offset}", show_structure(alloc, value)?),
         _ => format!(in alloc; "#"),
     }
+}
+
+/// A call by its function's number, with `!` where its value is used.
+#[cycle(structures)]
+fn show_call(
+    alloc: Global,
+    function: u32,
+    used: bool,
+    arguments: &[CoreArgument],
+) -> Result<String, AllocError> {
+    let mut text = String::new(alloc);
+    for argument in arguments {
+        if !text.is_empty() {
+            text.push_str(",")?;
+        }
+        let one = match argument {
+            CoreArgument::Number { value } => show_expression(alloc, value)?,
+            CoreArgument::Structure { value } => show_structure(alloc, value)?,
+        };
+        text.push_str(one.as_str())?;
+    }
+    let mark = if used { "!" } else { "" };
+    format!(in alloc; "f{function}{mark}({text})")
 }
 
 /// A part of a list behind its offset.
@@ -132,6 +203,24 @@ fn show_structure(alloc: Global, value: &CoreStructure) -> Result<String, AllocE
             }
             format!(in alloc; "{size}'{text} '")
         }
+        CoreStructure::Call {
+            line: _,
+            function,
+            used,
+            size,
+            arguments,
+        } => {
+            let call = show_call(alloc, *function, *used, arguments)?;
+            format!(in alloc; "{size}{call}")
+        }
+        CoreStructure::Comma {
+            line: _,
+            left,
+            right,
+        } => {
+            let left = show_expression(alloc, left)?;
+            format!(in alloc; "({left},{})", show_structure(alloc, right)?)
+        }
         _ => format!(in alloc; "#"),
     }
 }
@@ -160,19 +249,23 @@ fn show_item(alloc: Global, item: &CoreItem) -> Result<String, AllocError> {
             format!(in alloc; "v{variable}{mark}{};", show_structure(alloc, value)?)
         }
         CoreItem::Statement { statement } => show(alloc, statement),
+        CoreItem::Label { label } => format!(in alloc; "L{label}:"),
+        CoreItem::Case {
+            line: _,
+            type_,
+            bits,
+        } => match type_ {
+            IntegerType::Int => format!(in alloc; "case {bits}:"),
+            other => format!(in alloc; "case {other:?} {bits}:"),
+        },
+        CoreItem::Default { line: _ } => format!(in alloc; "default:"),
     }
 }
 
 #[cycle(showing)]
 fn show(alloc: Global, statement: &CoreStatement) -> Result<String, AllocError> {
     match statement {
-        CoreStatement::Block { items } => {
-            let mut text = String::new(alloc);
-            for item in items {
-                text.push_str(show_item(alloc, item)?.as_str())?;
-            }
-            format!(in alloc; "{{{text}}}")
-        }
+        CoreStatement::Block { items } => show_items(alloc, items),
         CoreStatement::If { line: _, test, yes } => {
             let test = show_expression(alloc, test)?;
             format!(in alloc; "if({test}){}", show(alloc, yes)?)
@@ -193,6 +286,119 @@ fn show(alloc: Global, statement: &CoreStatement) -> Result<String, AllocError> 
         CoreStatement::Return { line: _, value } => {
             format!(in alloc; "return {};", show_expression(alloc, value)?)
         }
+        CoreStatement::ReturnStructure { line: _, value } => {
+            format!(in alloc; "return {};", show_structure(alloc, value)?)
+        }
+        CoreStatement::ReturnNothing { line: _ } => format!(in alloc; "return;"),
+        CoreStatement::For {
+            line: _,
+            number,
+            first,
+            test,
+            last,
+            body,
+        } => {
+            let first = show_maybe(alloc, first)?;
+            let test = show_maybe(alloc, test)?;
+            let last = show_maybe(alloc, last)?;
+            format!(in alloc; "for{number}({first};{test};{last}){}", show(alloc, body)?)
+        }
+        CoreStatement::Do {
+            line: _,
+            number,
+            body,
+            test,
+        } => {
+            let body = show(alloc, body)?;
+            format!(in alloc; "do{number}{body}while({});", show_expression(alloc, test)?)
+        }
+        CoreStatement::Switch {
+            line: _,
+            value,
+            items,
+        } => {
+            let value = show_expression(alloc, value)?;
+            format!(in alloc; "switch({value}){}", show_items(alloc, items)?)
+        }
+        CoreStatement::Break { line: _ } => format!(in alloc; "break;"),
+        CoreStatement::Continue { line: _ } => format!(in alloc; "continue;"),
+        CoreStatement::Goto { line: _, label } => format!(in alloc; "goto L{label};"),
+        CoreStatement::Stray { line: _, statement } => {
+            format!(in alloc; "stray {}", show(alloc, statement)?)
+        }
+    }
+}
+
+#[cycle(showing)]
+fn show_items(alloc: Global, items: &[CoreItem]) -> Result<String, AllocError> {
+    let mut text = String::new(alloc);
+    for item in items {
+        text.push_str(show_item(alloc, item)?.as_str())?;
+    }
+    format!(in alloc; "{{{text}}}")
+}
+
+fn show_maybe(alloc: Global, expr: &Option<CoreExpr>) -> Result<String, AllocError> {
+    match expr {
+        Some(expr) => show_expression(alloc, expr),
+        None => Ok(String::new(alloc)),
+    }
+}
+
+/// `s` and the bytes of a structure, or a number's type.
+fn show_passed(alloc: Global, passed: &PassedType) -> Result<String, AllocError> {
+    match passed {
+        PassedType::Integer(type_) => format!(in alloc; "{type_:?}"),
+        PassedType::Structure(size) => format!(in alloc; "s{size}"),
+    }
+}
+
+/// A function: its line and name, the types of its parameters with its ellipsis, what it gives, and where it is defined the sizes
+/// of its variables and its body.
+fn show_function(alloc: Global, function: &Function) -> Result<String, AllocError> {
+    let mut text = format!(in alloc; "{}", function.line)?;
+    for byte in &function.name.bytes {
+        text.push(*byte as char)?;
+    }
+    text.push_str("(")?;
+    for parameter in &function.parameters {
+        text.push_str(format!(in alloc; "{} ", show_passed(alloc, parameter)?)?.as_str())?;
+    }
+    if let Some(line) = function.ellipsis {
+        text.push_str(format!(in alloc; "...{line}")?.as_str())?;
+    }
+    text.push_str(")")?;
+    if let Some(gives) = &function.gives {
+        text.push_str(show_passed(alloc, gives)?.as_str())?;
+    }
+    if let Some(body) = &function.body {
+        for size in &function.variables {
+            text.push_str(format!(in alloc; " {size}")?.as_str())?;
+        }
+        text.push_str(show(alloc, body)?.as_str())?;
+    }
+    Ok(text)
+}
+
+/// The functions of a file, or the broken rule.
+fn functions(alloc: Global, text: &[u8]) -> Result<String, Fail> {
+    let tokens = lexed(alloc, text)?;
+    let Ok(file) = parse(alloc, &tokens) else {
+        return Ok(format!(in alloc; "syntax")?);
+    };
+    match elaborate(alloc, &file) {
+        Ok(core) => {
+            let mut shown = String::new(alloc);
+            for function in core.functions() {
+                shown.push_str(show_function(alloc, function)?.as_str())?;
+                shown.push_str(" ")?;
+            }
+            Ok(shown)
+        }
+        Err(TypingError::Typing { line, rule }) => {
+            Ok(format!(in alloc; "line {line} rule {rule}")?)
+        }
+        Err(TypingError::Memory) => Err(Fail::from("memory")),
     }
 }
 
@@ -207,7 +413,10 @@ fn outcome(alloc: Global, text: &[u8]) -> Result<String, Fail> {
                 for size in &function.variables {
                     sizes.push_str(format!(in alloc; "{size} ")?.as_str())?;
                 }
-                Ok(format!(in alloc; "{sizes}{}", show(alloc, &function.body)?)?)
+                match &function.body {
+                    Some(body) => Ok(format!(in alloc; "{sizes}{}", show(alloc, body)?)?),
+                    None => Err(Fail::from("no body")),
+                }
             }
             None => Err(Fail::from("no function")),
         },
@@ -710,7 +919,7 @@ fn lists_initialize_structs_unions_and_arrays(rt: HostRuntime) -> Result<(), Fai
             "line 2 rule 12",
         ),
         (b"int main(void){int\na[]=5;}", "line 2 rule 12"),
-        (b"int main(void){int a[]={\nsizeof a};}", "line 2 rule 7"),
+        (b"int main(void){int a[]={\nsizeof a};}", "line 2 rule 3"),
     ];
     for (text, typing) in rows {
         assert_eq!(rt; outcome(rt.alloc(), text)?.as_str(), typing);
@@ -919,6 +1128,367 @@ fn names_of_objects(rt: HostRuntime) -> Result<(), Fail> {
             "8 {v0=8[o1+0];}",
         ),
         (b"const int x;int main(void){\nx=1;}", "line 2 rule 9"),
+    ];
+    for (text, typing) in rows {
+        assert_eq!(rt; outcome(rt.alloc(), text)?.as_str(), typing);
+    }
+    Ok(())
+}
+
+#[test]
+fn functions_and_calls(rt: HostRuntime) -> Result<(), Fail> {
+    let rows: [(&[u8], &str); 69] = [
+        (
+            b"int f(int a,char b){return a+b;}int main(void){return f(1,2);}",
+            "1f(Int Char )Int 4 1{return #;} 1main()Int{return f0!(1,Char(2));} ",
+        ),
+        (
+            b"void f();void f(void){}int main(void){f();}",
+            "1f(){} 1main()Int{f0();} ",
+        ),
+        (
+            b"int f(int);int main(void){f(1);f(3L);}",
+            "1f(Int )Int 1main()Int{f0(1);f0(Int(3));} ",
+        ),
+        (
+            b"int f(void);int main(void){f(),f();(void)f();(int)f();int x=f();}",
+            "1f()Int 1main()Int 4{(f0(),f0());void f0();Int(f0!());v0=f0!();} ",
+        ),
+        (
+            b"int f(void);char g(void);int main(void){1?f():g();(f());int x=(f(),g());}",
+            "1f()Int 1g()Char 1main()Int 4{(?f0():Int(f1()));f0();v0=Int((f0(),f1!()));} ",
+        ),
+        (
+            b"struct S{int a,b;};struct S f(struct S s){return s;}int main(void){struct S t;t=f(t);f(t);return f(t).b;}",
+            "1f(s8 )s8 8{return 8[v0+0];} 1main()Int 8{v0;#;void 8f0(8[v0+0]);return 8f0!(8[v0+0]).4;} ",
+        ),
+        (
+            b"int f(int a,...);int main(void){f(1,2,3L);}",
+            "1f(Int ...1)Int 1main()Int{(2,(3,f0(1)));} ",
+        ),
+        (
+            b"int nondet_x(void);int main(void){return nondet_x();}",
+            "1nondet_x()Int 1main()Int{return draw;} ",
+        ),
+        (
+            b"int nondet_x(void);int main(void){return nondet_x();}int nondet_x(void){return 1;}",
+            "1nondet_x()Int{return 1;} 1main()Int{return f0!();} ",
+        ),
+        (
+            b"int nondet_x(int);int main(void){nondet_x(1);}",
+            "1nondet_x(Int )Int 1main()Int{f0(1);} ",
+        ),
+        (
+            b"void nondet_x(void);int main(void){nondet_x();}",
+            "1nondet_x() 1main()Int{f0();} ",
+        ),
+        (
+            b"int nondet_int(void);void assert(char);void __CPROVER_assume(long x);int main(void){return nondet_int();}",
+            "1main()Int{return draw;} ",
+        ),
+        (b"\nint\nnondet_int(int);int main(void){}", "line 3 rule 2"),
+        (b"long nondet_int(void);int main(void){}", "line 1 rule 2"),
+        (
+            b"int nondet_int(void){return 1;}int main(void){}",
+            "line 1 rule 2",
+        ),
+        (b"void assert(void);int main(void){}", "line 1 rule 2"),
+        (
+            b"int f(int);\nint f(char);int main(void){}",
+            "line 2 rule 2",
+        ),
+        (
+            b"int f(const int);int f(int a);int f(int b){return b;}int f(int);int main(void){}",
+            "1f(Int )Int 4{return v0;} 1main()Int{} ",
+        ),
+        (
+            b"int f(int a){return a;}\nint f(int a){return a;}int main(void){}",
+            "line 2 rule 2",
+        ),
+        (b"int f;\nint f(void);int main(void){}", "line 2 rule 2"),
+        (b"int f(void);\nint f;int main(void){}", "line 2 rule 2"),
+        (b"int main(void){int f;\nint f(void);}", "line 2 rule 2"),
+        (b"int main(void){int f(void);\nint f;}", "line 2 rule 2"),
+        (
+            b"int main(void){int f(void);return f();}int f(void){return 2;}",
+            "1main()Int{return f1!();} 1f()Int{return 2;} ",
+        ),
+        (
+            b"int main(void){int f(void);}\nlong f(void);",
+            "line 2 rule 2",
+        ),
+        (
+            b"int main(void){extern int f;}\nint f(void);",
+            "line 2 rule 2",
+        ),
+        (
+            b"int f(void);int main(void){\nextern int f;}",
+            "line 2 rule 2",
+        ),
+        (
+            b"typedef int F(int);F f;int f(int a){return a;}int main(void){F g;return f(1)+g(2);}",
+            "1f(Int )Int 4{return v0;} 1main()Int{return #;} 1g(Int )Int ",
+        ),
+        (
+            b"typedef int F(int);typedef int F(int);typedef F G;G f;int main(void){}",
+            "1f(Int )Int 1main()Int{} ",
+        ),
+        (
+            b"typedef int F(int);\ntypedef int F(char);int main(void){}",
+            "line 2 rule 2",
+        ),
+        (
+            b"typedef int F(int);int main(void){return sizeof(F);}",
+            "line 1 rule 3",
+        ),
+        (b"typedef int F(int);int main(void){(F)1;}", "line 1 rule 7"),
+        (
+            b"typedef int F(int);struct S{F f;};int main(void){}",
+            "line 1 rule 3",
+        ),
+        (
+            b"typedef int F(int);F a[3];int main(void){}",
+            "line 1 rule 3",
+        ),
+        (
+            b"typedef int F(int);F f(void);int main(void){}",
+            "line 1 rule 6",
+        ),
+        (
+            b"typedef int A[3];A f(void);int main(void){}",
+            "line 1 rule 6",
+        ),
+        (b"int f(void)[3];int main(void){}", "line 1 rule 6"),
+        (b"int f(void)(void);int main(void){}", "line 1 rule 6"),
+        (b"int f[3](void);int main(void){}", "line 1 rule 3"),
+        (b"int f(int,void);int main(void){}", "line 1 rule 6"),
+        (b"int f(void x);int main(void){}", "line 1 rule 3"),
+        (b"int f(struct S s);int main(void){}", "line 1 rule 3"),
+        (b"int f(int a,\nint a);int main(void){}", "line 2 rule 2"),
+        (b"int f(int a[3]);int main(void){}", "line 1 rule 7"),
+        (b"int f(int a[]);int main(void){}", "line 1 rule 7"),
+        (b"int f(int a[0]);int main(void){}", "line 1 rule 4"),
+        (b"int f(int a(void));int main(void){}", "line 1 rule 7"),
+        (b"\nint f(int){return 1;}int main(void){}", "line 2 rule 6"),
+        (b"int f(int a){\nint a;}int main(void){}", "line 2 rule 2"),
+        (
+            b"int f(int f){return f;}int main(void){return f(1);}",
+            "1f(Int )Int 4{return v0;} 1main()Int{return f0!(1);} ",
+        ),
+        (
+            b"struct S;struct S f(void);int main(void){\nf();}",
+            "line 2 rule 3",
+        ),
+        (
+            b"struct S;struct S f(void){}int main(void){}",
+            "line 1 rule 3",
+        ),
+        (b"int f(int);int main(void){\nf();}", "line 2 rule 10"),
+        (b"int f(int);int main(void){f(1,2);}", "line 1 rule 10"),
+        (
+            b"struct S{int a;}s;int f(int);int main(void){f(s);}",
+            "line 1 rule 8",
+        ),
+        (b"int f(int);int x;int main(void){x(1);}", "line 1 rule 10"),
+        (b"int f(int);int main(void){f(f);}", "line 1 rule 8"),
+        (
+            b"int f(int);int main(void){f;1,f;(void)f;return 0;}",
+            "1f(Int )Int 1main()Int{f0;(1,f0);f0;return 0;} ",
+        ),
+        (b"int f(int);int main(void){return -f;}", "line 1 rule 7"),
+        (b"int f(int);int main(void){if(f);}", "line 1 rule 17"),
+        (
+            b"int f(int);int main(void){return sizeof f;}",
+            "line 1 rule 3",
+        ),
+        (b"int f(int);int main(void){int x=f;}", "line 1 rule 8"),
+        (
+            b"int f(void);int main(void){for(f();f();f());}",
+            "1f()Int 1main()Int{for0(f0();f0!();f0()){}} ",
+        ),
+        (
+            b"int f(int a,char b);int main(void){return f(1,\nf(2,3));}",
+            "1f(Int Char )Int 1main()Int{return f0!(1,Char(f0!(2,Char(3))));} ",
+        ),
+        (
+            b"static int f(void),x,g(int a);int main(void){return x;}",
+            "1f()Int 1g(Int )Int 1main()Int{return o1+0;} ",
+        ),
+        (
+            b"int f(enum{A=7}x){return A;}int main(void){}",
+            "1f(Int )Int 4{return 7;} 1main()Int{} ",
+        ),
+        (
+            b"int f(enum{A=7}x);int main(void){return A;}",
+            "line 1 rule 1",
+        ),
+        (
+            b"int f(int a,enum{A=sizeof a}x){return A;}int main(void){}",
+            "1f(Int Int )Int 4 4{return 4;} 1main()Int{} ",
+        ),
+        (
+            b"int (f)(int a){return a;}int\n(\ng)(int a){return a;}int main(void){}",
+            "1f(Int )Int 4{return v0;} 3g(Int )Int 4{return v0;} 3main()Int{} ",
+        ),
+    ];
+    for (text, typing) in rows {
+        assert_eq!(rt; functions(rt.alloc(), text)?.as_str(), typing);
+    }
+    Ok(())
+}
+
+#[test]
+fn loops_switches_and_jumps(rt: HostRuntime) -> Result<(), Fail> {
+    let rows: [(&[u8], &str); 47] = [
+        (
+            b"int main(void){while(1)do;while(2);for(;;)continue;}",
+            "{for0(;1;)do1{}while(2);for2(;;)continue;}",
+        ),
+        (
+            b"int main(void){for(int i=0;i;i=2){int i;break;}}",
+            "4 4 {{v0=0;for0(;v0;v0=2){v1;break;}}}",
+        ),
+        (
+            b"int main(void){for(int i=0;;){for(;;);}while(0);}",
+            "4 {{v0=0;for0(;;){for1(;;){}}}for2(;0;){}}",
+        ),
+        (b"int main(void){break;}", "line 1 rule 14"),
+        (b"int main(void){continue;}", "line 1 rule 14"),
+        (b"int main(void){switch(1)continue;}", "line 1 rule 14"),
+        (
+            b"int main(void){while(1)switch(1)continue;}",
+            "{for0(;1;)switch(1){continue;}}",
+        ),
+        (b"int main(void){case 1:;}", "line 1 rule 14"),
+        (b"int main(void){default:;}", "line 1 rule 14"),
+        (
+            b"int main(void){int x;switch(x){case 1:x=1;case 2:case 3:x=2;break;default:x=3;}}",
+            "4 {v0;switch(v0){case 1:v0=1;case 2:case 3:v0=2;break;default:v0=3;}}",
+        ),
+        (
+            b"int main(void){char c;switch(c){case 257:;case 1:;}}",
+            "1 {v0;switch(Int(v0:Char)){case 257:{}case 1:{}}}",
+        ),
+        (
+            b"int main(void){unsigned char c;long x;switch(x){case -1:;}}",
+            "1 8 {v0;v1;switch(v1:Long){case Long 18446744073709551615:{}}}",
+        ),
+        (
+            b"int main(void){unsigned x;switch(x){case -1:;case\n4294967295:;}}",
+            "line 1 rule 14",
+        ),
+        (
+            b"int main(void){switch(1){case 1:;\ncase 1:;}}",
+            "line 2 rule 14",
+        ),
+        (
+            b"int main(void){switch(1){default:;\ndefault:;}}",
+            "line 2 rule 14",
+        ),
+        (
+            b"int main(void){switch(1){case 1:switch(2){case 1:;default:;}default:;}}",
+            "{switch(1){case 1:switch(2){case 1:{}default:{}}default:{}}}",
+        ),
+        (
+            b"int main(void){int x;switch(1){case x:;}}",
+            "line 1 rule 13",
+        ),
+        (
+            b"struct S{int a;}s;int main(void){\nswitch(s);}",
+            "line 2 rule 17",
+        ),
+        (
+            b"struct S{int a;}s;int main(void){switch(s){\ncase 1/0:;}}",
+            "line 2 rule 13",
+        ),
+        (
+            b"struct S{int a;}s;int main(void){\nwhile(s)x;}",
+            "line 2 rule 1",
+        ),
+        (
+            b"struct S{int a;}s;int main(void){while(s);}",
+            "line 1 rule 17",
+        ),
+        (
+            b"struct S{int a;}s;int main(void){do;while(s);}",
+            "line 1 rule 17",
+        ),
+        (
+            b"struct S{int a;}s;int main(void){for(;s;);}",
+            "line 1 rule 17",
+        ),
+        (
+            b"struct S{int a;}s;int main(void){for(s;;s);}",
+            "{for0(#;;#){}}",
+        ),
+        (
+            b"int main(void){switch(1)case 1:;}",
+            "{switch(1){stray {}}}",
+        ),
+        (
+            b"int main(void){switch(1){if(1)case 1:;{default:;}}}",
+            "{switch(1){if(1)stray {}{stray {}}}}",
+        ),
+        (b"int main(void){goto L;L:;}", "{goto L0;L0:{}}"),
+        (b"int main(void){L:M:;goto M;}", "{L0:L1:{}goto L1;}"),
+        (
+            b"int main(void){if(1)L:;else M:;goto M;}",
+            "{if(1){} else {}goto L1;}",
+        ),
+        (b"int main(void){goto L;}", "line 1 rule 15"),
+        (b"int main(void){L:;\nL:;}", "line 2 rule 15"),
+        (b"int main(void){L:;{\nL:;}}", "line 2 rule 15"),
+        (
+            b"int main(void){int L;typedef int T;T:L:L=1;}",
+            "4 {v0;L0:L1:v0=1;}",
+        ),
+        (
+            b"int main(void){switch(1){L:case 1:M:default:;}}",
+            "{switch(1){L0:case 1:L1:default:{}}}",
+        ),
+        (
+            b"int main(void){goto L;int x=1;L:;int y=2;}",
+            "4 4 {goto L0;v0~=1;L0:{}v1=2;}",
+        ),
+        (
+            b"int main(void){{goto L;}int x=1,z=3;{int w=1;L:;}int y=2;M:;}",
+            "4 4 4 4 {{goto L0;}v0=1;v1=3;{v2=1;L0:{}}v3=2;L1:{}}",
+        ),
+        (
+            b"int main(void){L:;int x=1;goto L;}",
+            "4 {L0:{}v0=1;goto L0;}",
+        ),
+        (
+            b"int main(void){if(1)goto M;int x=1;L:;int y=2;M:;}",
+            "4 4 {if(1)goto L1;v0~=1;L0:{}v1~=2;L1:{}}",
+        ),
+        (
+            b"int main(void){switch(1){case 1:;int x=1;case 2:;int y=1;}}",
+            "4 4 {switch(1){case 1:{}v0~=1;case 2:{}v1=1;}}",
+        ),
+        (
+            b"int main(void){switch(1){int x=1;default:;}}",
+            "4 {switch(1){v0~=1;default:{}}}",
+        ),
+        (
+            b"int main(void){switch(1){{int x=1;}case 2:;}}",
+            "4 {switch(1){{v0=1;}case 2:{}}}",
+        ),
+        (b"void f(void){return;}int main(void){}", "{return;}"),
+        (b"void f(void){return 1;}int main(void){}", "line 1 rule 16"),
+        (b"int main(void){return;}", "line 1 rule 16"),
+        (
+            b"struct S{int a;}s;struct S f(void){return s;}int main(void){}",
+            "{return 4[o1+0];}",
+        ),
+        (
+            b"struct S{int a;}s;struct S f(void){return 1;}int main(void){}",
+            "line 1 rule 8",
+        ),
+        (
+            b"char f(void){return 300;}int main(void){}",
+            "{return Char(300);}",
+        ),
     ];
     for (text, typing) in rows {
         assert_eq!(rt; outcome(rt.alloc(), text)?.as_str(), typing);

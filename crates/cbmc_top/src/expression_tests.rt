@@ -160,6 +160,14 @@ fn show(alloc: Global, expr: &CoreExpr) -> Result<String, AllocError> {
         CoreExpr::DiscardStructure { value } => {
             format!(in alloc; "Discard({})", show_structure(alloc, value)?)
         }
+        CoreExpr::Call {
+            line: _,
+            function,
+            used: _,
+            type_: _,
+            arguments: _,
+        } => format!(in alloc; "call f{function}"),
+        CoreExpr::FunctionName { line: _, function } => format!(in alloc; "f{function}"),
     }
 }
 
@@ -231,6 +239,13 @@ fn show_structure(alloc: Global, value: &CoreStructure) -> Result<String, AllocE
             size: _,
             bytes: _,
         } => format!(in alloc; "string"),
+        CoreStructure::Call {
+            line: _,
+            function,
+            used: _,
+            size: _,
+            arguments: _,
+        } => format!(in alloc; "call f{function}"),
     }
 }
 
@@ -319,10 +334,9 @@ fn three_ints(alloc: Global, scope: &Scope) -> Result<Ty, Fail> {
     Ok(array_type(alloc, int, &[Some(3)], scope.layouts(), 1)?)
 }
 
-/// `x`, `u`, `l`, `c` are v0 to v3, of types int, unsigned, long and char; `b` is a _Bool, and `main` a function.
+/// `x`, `u`, `l`, `c` are v0 to v3, of types int, unsigned, long and char, and `b` is a _Bool.
 fn test_scope(alloc: Global) -> Result<Scope, Fail> {
     let mut scope = Scope::new(alloc)?;
-    scope.declare(alloc, b"main", Meaning::Function)?;
     let variables: [(&[u8], IntegerType); 5] = [
         (b"x", IntegerType::Int),
         (b"u", IntegerType::UnsignedInt),
@@ -486,7 +500,6 @@ y(z)@line 1 rule 1;\
 assert(\ny)@line 2 rule 1;\
 x(\ny)@line 2 rule 1;\
 x(1)@line 1 rule 10;\
-main@line 1 rule 7;\
 \nassert(x)\n+1@line 2 rule 7;\
 assert(x)+\ny@line 2 rule 1;\
 1,\n-assert(x)@line 2 rule 7;\
@@ -518,15 +531,21 @@ fn expressions_have_their_typing(rt: HostRuntime) -> Result<(), Fail> {
 fn inner_names_hide_outer_ones(rt: HostRuntime) -> Result<(), Fail> {
     let alloc = rt.alloc();
     let mut scope = Scope::new(alloc)?;
-    scope.declare(alloc, b"x", Meaning::Function)?;
-    scope.declare(alloc, b"assert", Meaning::Function)?;
+    scope.declare(alloc, b"x", Meaning::Function { function: 0 })?;
+    scope.declare(alloc, b"assert", Meaning::Function { function: 0 })?;
     let outer = scope.len();
     scope.declare(alloc, b"x", Meaning::Assume)?;
     assert_eq!(rt; scope.meaning(b"x"), Some(Meaning::Assume));
-    assert_eq!(rt; scope.meaning(b"assert"), Some(Meaning::Function));
+    assert_eq!(rt;
+        scope.meaning(b"assert"),
+        Some(Meaning::Function { function: 0 })
+    );
     assert!(rt; scope.is_declared(b"x", outer) && !scope.is_declared(b"assert", outer));
     scope.leave(outer);
-    assert_eq!(rt; scope.meaning(b"x"), Some(Meaning::Function));
+    assert_eq!(rt;
+        scope.meaning(b"x"),
+        Some(Meaning::Function { function: 0 })
+    );
     scope.leave(0);
     assert_eq!(rt; scope.meaning(b"x"), None);
     assert_eq!(rt; scope.meaning(b"assert"), Some(Meaning::Assert));
@@ -796,10 +815,13 @@ fn tags_have_their_own_names(rt: HostRuntime) -> Result<(), Fail> {
     let alloc = rt.alloc();
     let mut scope = Scope::new(alloc)?;
     scope.declare(alloc, b"x", Meaning::Enumeration)?;
-    scope.declare(alloc, b"x", Meaning::Function)?;
+    scope.declare(alloc, b"x", Meaning::Function { function: 0 })?;
     assert_eq!(rt;
         (scope.tag(b"x"), scope.meaning(b"x")),
-        (Some(Meaning::Enumeration), Some(Meaning::Function))
+        (
+            Some(Meaning::Enumeration),
+            Some(Meaning::Function { function: 0 })
+        )
     );
     Ok(())
 }

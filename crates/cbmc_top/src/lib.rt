@@ -19,6 +19,8 @@ mod laws;
 #[cfg(test)]
 mod machines;
 mod options;
+#[cfg(test)]
+mod program_tests;
 mod report;
 #[cfg(test)]
 mod run_tests;

@@ -23,9 +23,9 @@ fn admitted(alloc: Global, text: &[u8]) -> Result<Admitted, Fail> {
     let tokens = lex(alloc, text)?;
     let file = parse(alloc, &tokens)?;
     let core = elaborate(alloc, &file)?;
-    match admit(core) {
+    match admit(alloc, core) {
         Ok(file) => Ok(file),
-        Err(_) => Err(Fail::from("no main")),
+        Err(_) => Err(Fail::from("outside of the profile")),
     }
 }
 
@@ -58,14 +58,23 @@ fn words_of(alloc: Global, ints: &[i32]) -> Result<Words, AllocError> {
     Ok(Words::new(words))
 }
 
-// How the runs of a text end that draw these ints, in 24 turns of thread 0: the source's, and those of
-// its strict, its checked and its unrolled code.
-pub fn outcomes(alloc: Global, text: &[u8], ints: &[i32]) -> Result<[Outcome; 4], Fail> {
+// How the runs of a text end that draw these ints, in 24 turns of thread 0, where each loop's test may be
+// evaluated so many times at an arrival and each function may have so many activations: the source's, and
+// those of its strict, its checked and its unrolled code.
+pub fn outcomes_within(
+    alloc: Global,
+    text: &[u8],
+    ints: &[i32],
+    bound: u32,
+) -> Result<[Outcome; 4], Fail> {
+    if bound == 0 || bound > 1_000 {
+        return Err(Fail::from("no bound"));
+    }
     let file = admitted(alloc, text)?;
     if !are_storable(&file) {
         return Err(Fail::from("too large objects"));
     }
-    let bounds = Bounds::new(1, Vec::new(alloc), true, 1, false);
+    let bounds = Bounds::new(bound, Vec::new(alloc), true, 1, false);
     let mut inputs = Inputs::new(alloc);
     inputs.insert(0, words_of(alloc, ints)?)?;
     let schedule = Schedule::new(vec![in alloc; 0; 24]?);
@@ -98,4 +107,9 @@ pub fn outcomes(alloc: Global, text: &[u8], ints: &[i32]) -> Result<[Outcome; 4]
         }
         Err(_) => Err(Fail::from("too many places")),
     }
+}
+
+// The same, where each loop's test may be evaluated once and each function has one activation.
+pub fn outcomes(alloc: Global, text: &[u8], ints: &[i32]) -> Result<[Outcome; 4], Fail> {
+    outcomes_within(alloc, text, ints, 1)
 }

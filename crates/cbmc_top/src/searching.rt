@@ -17,6 +17,7 @@ ghost use Rattle.cbmc_top.specs.Verdicts.{IsSolved, IsSearched};
 use crate::stop::Stop;
 use crate::used::Used;
 use bit_blast::{blast, lift};
+use c_interp::safe_at_all;
 use c_profile::Admitted;
 use cdcl_core::{Answer, solve};
 use core_tree::Bounds;
@@ -65,13 +66,13 @@ fn prove_objects(file: &Admitted)
 /// The code of a program with explicit checks and without loops and calls, or the count that passes its limit.
 fn unrolled_code(alloc: Global, file: &Admitted, bounds: &Bounds) -> Result<Unrolled, Stop>
     ensures counts { IfOk result (λ u. passed (view_core file.now) bounds.now ≡ None) }
-    ensures same { IfOk result (λ u. (plain_thread u).behaves ≡ (source_thread (view_core file.now)).behaves) }
+    ensures same { IfOk result (λ u. (plain_thread u).behaves ≡ (source_thread (view_core file.now) bounds.now).behaves) }
     ensures store { IfOk result (λ u. u.store ≡ first_objects (view_core file.now).objects) }
     ensures objects { IfOk result (λ u. AreObjects u.store) }
     ensures stop { IfErr result (λ s. StopsWith s (IsPassed bounds.now (view_core file.now))) }
 {
     prove_objects(file);
-    if let Some(limit) = passed_limit(file, bounds) {
+    if let Some(limit) = passed_limit(alloc, file, bounds)? {
         return Err(Stop::Limited(limit));
     }
     let lowered = lower(alloc, file)?;
@@ -135,6 +136,7 @@ pub fn search(
     ensures found { IfOk result (IsSearched bounds.now budget (view_core file.now)) }
     ensures stop { IfErr result (λ s. StopsWith s (IsPassed bounds.now (view_core file.now))) }
 {
+    safe_at_all();
     let unrolled = unrolled_code(alloc, file, bounds)?;
     let mut dag = Dag::new(alloc);
     let formula = formula_of(alloc, &mut dag, &unrolled)?;

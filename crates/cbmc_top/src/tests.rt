@@ -102,6 +102,61 @@ static OBJECTS: [(&str, u8, &str); 5] = [
     ),
 ];
 
+/// Files with functions, loops, switches and jumps, with their answers.
+static PROGRAMS: [(&str, u8, &str); 11] = [
+    (
+        "int f(int n){if(n==0)return 0;\nreturn f(n-1);}\nint main(void){return f(8);}",
+        10,
+        "file a.c unwind 8\nviolated recursion line 2 function f thread 0\nschedule 0x1\nVERIFICATION FAILED\n",
+    ),
+    (
+        "int f(void){}\nint main(void){int x=f();return x;}",
+        10,
+        "file a.c unwind 8\nviolated return line 2 function main thread 0\nschedule 0x1\nVERIFICATION FAILED\n",
+    ),
+    ("int f(void){}\nint main(void){f();return 0;}", 0, SAFE),
+    (
+        "int main(void){a:;goto a;}",
+        6,
+        "refused 12 Outside line 1 rule 6\n",
+    ),
+    (
+        "int f(void){return 1;}",
+        6,
+        "refused 12 Outside line 1 rule 1\n",
+    ),
+    (
+        "int nondet_two(void);int main(void){\nassert(nondet_two()!=7);return 0;}",
+        10,
+        "file a.c unwind 8\nviolated assertion line 2 function main thread 0\ninputs 0: 7\nschedule 0x2\nVERIFICATION FAILED\n",
+    ),
+    (
+        "int f(void);int main(void){\nreturn f();}",
+        6,
+        "refused 12 Outside line 2 rule 2\n",
+    ),
+    (
+        "int main(void){int x=nondet_int();if(x==3)goto out;\nassert(x!=3);out:return 0;}",
+        0,
+        SAFE,
+    ),
+    (
+        "/* The sum of the numbers up to n: the loop stops one too early. */\nint main(void) {\n  unsigned char n = nondet_uchar();\n  __CPROVER_assume(n == 6);\n  int sum = 0;\n  for (int i = 0; i < n; i++)\n    sum += i;\n  assert(sum == n * (n + 1) / 2);\n  return 0;\n}\n",
+        10,
+        "file a.c unwind 8\nviolated assertion line 8 function main thread 0\ninputs 0: 6\nschedule 0x2\nVERIFICATION FAILED\n",
+    ),
+    (
+        "/* A factorial without a case that ends it: it passes each bound. */\nint factorial(int n) { return n * factorial(n - 1); }\n\nint main(void) { return factorial(3); }\n",
+        10,
+        "file a.c unwind 8\nviolated recursion line 2 function factorial thread 0\nschedule 0x1\nVERIFICATION FAILED\n",
+    ),
+    (
+        "/* A door with a lock. In each of five steps the key is turned or the door is pushed, as the environment likes: it opens\n   only where the key was turned before. */\nenum state { LOCKED, UNLOCKED, OPEN };\n\nint step(int state, int pushed) {\n  switch (state) {\n  case LOCKED:\n    return pushed ? LOCKED : UNLOCKED;\n  case UNLOCKED:\n    return pushed ? OPEN : LOCKED;\n  default:\n    return LOCKED;\n  }\n}\n\nint main(void) {\n  int state = LOCKED;\n  int turned = 0;\n  for (int i = 0; i < 5; i++) {\n    int pushed = nondet_bool();\n    if (!pushed)\n      turned = 1;\n    state = step(state, pushed);\n    assert(state != OPEN || turned);\n  }\n  return 0;\n}\n",
+        0,
+        SAFE,
+    ),
+];
+
 /// Files with their answers.
 static FILES: [(&str, u8, &str); 57] = [
     (SEVEN, 10, SEVEN_BREAKS),
@@ -326,6 +381,17 @@ fn files_with_objects_are_answered(rt: HostRuntime) -> Result<(), Fail> {
         let (answer, sink) = outcome(alloc, &A, file.as_bytes(), WELL)?;
         assert_eq!(rt; answer, *status, "file {i}");
         assert_eq!(rt; sink.taken(), text.as_bytes(), "file {i}");
+    }
+    Ok(())
+}
+
+#[test]
+fn programs_are_answered(rt: HostRuntime) -> Result<(), Fail> {
+    let alloc = rt.alloc();
+    for (i, (file, status, text)) in PROGRAMS.iter().enumerate() {
+        let (answer, sink) = outcome(alloc, &A, file.as_bytes(), WELL)?;
+        assert_eq!(rt; answer, *status, "program {i}");
+        assert_eq!(rt; sink.taken(), text.as_bytes(), "program {i}");
     }
     Ok(())
 }

@@ -1,6 +1,7 @@
 -- Typed trees without where they lie in memory.
-use Rattle.std.specs.Prelude.{ℕ, Bool, Option, List, [], ◌∷◌, map}
+use Rattle.std.specs.Prelude.{ℕ, Bool, Option, option_map, List, [], ◌∷◌, map}
 use Rattle.c_types.specs.declared.integers.IntegerType.{IntegerType}
+use Rattle.c_types.specs.declared.types.ValueType.{ValueType}
 use Rattle.core_tree.specs.declared.operators.ArithmeticOperator.{ArithmeticOperator}
 use Rattle.core_tree.specs.declared.operators.Comparison.{Comparison}
 use Rattle.core_tree.specs.declared.operators.LogicalOperator.{LogicalOperator}
@@ -13,11 +14,15 @@ use Rattle.core_tree.specs.declared.expression.CoreStructure as structures
 use Rattle.core_tree.specs.declared.expression.CorePart.{CorePart}
 use Rattle.core_tree.specs.declared.expression.CoreStructure.{CoreStructure, Row_of-CorePart, end_of-CorePart, more_of-CorePart}
 use Rattle.core_tree.specs.declared.expression.CorePart as parts
+use Rattle.core_tree.specs.declared.expression.CoreArgument.{CoreArgument}
+use Rattle.core_tree.specs.declared.expression.CoreArgument as arguments
+use Rattle.core_tree.specs.declared.expression.CoreExpr.{Row_of-CoreArgument, end_of-CoreArgument, more_of-CoreArgument}
 use Rattle.core_tree.specs.declared.statement.CoreItem.{CoreItem}
 use Rattle.core_tree.specs.declared.statement.CoreItem.TheBlock.{Row_of-CoreItem, end_of-CoreItem, more_of-CoreItem}
 use Rattle.core_tree.specs.declared.statement.CoreItem as codes
 use Rattle.core_tree.specs.declared.statement.CoreStatement.{CoreStatement}
 use Rattle.core_tree.specs.declared.functions.Function.{Function}
+use Rattle.core_tree.specs.declared.functions.PassedType.{PassedType}
 use Rattle.core_tree.specs.declared.functions.StaticObject.{StaticObject}
 use Rattle.core_tree.specs.declared.statement.CoreStatement as statements
 
@@ -43,6 +48,8 @@ mutual
     part : (line : ℕ) (type : IntegerType) (offset : ℕ) (value : Structure) → Expression
     discard : (line : ℕ) (operand : Expression) → Expression
     discard_structure : (value : Structure) → Expression
+    call : (line function : ℕ) (used : Bool) (type : ValueType) (arguments : Arguments) → Expression
+    function_name : (line function : ℕ) → Expression
 
   -- with a value of a struct, union or array type
   pub data Structure : Type 0 where
@@ -55,12 +62,19 @@ mutual
     section : (line offset size : ℕ) (value : Structure) → Structure
     list : (line size : ℕ) (parts : Parts) → Structure
     string : (line size : ℕ) (bytes : List ℕ) → Structure
+    give : (line function : ℕ) (used : Bool) (size : ℕ) (arguments : Arguments) → Structure
 
   -- what a list writes at offsets
   pub data Parts : Type 0 where
     no_part : Parts
     number_part : (offset : ℕ) (value : Expression) (rest : Parts) → Parts
     structure_part : (offset : ℕ) (value : Structure) (rest : Parts) → Parts
+
+  -- the arguments of a call
+  pub data Arguments : Type 0 where
+    no_argument : Arguments
+    number_argument : (value : Expression) (rest : Arguments) → Arguments
+    structure_argument : (value : Structure) (rest : Arguments) → Arguments
 
 mutual
   pub data Statement : Type 0 where
@@ -69,6 +83,15 @@ mutual
     if_else : (line : ℕ) (test : Expression) (yes no : Statement) → Statement
     evaluate : (expression : Expression) → Statement
     returns : (line : ℕ) (value : Expression) → Statement
+    returns_structure : (line : ℕ) (value : Structure) → Statement
+    returns_nothing : (line : ℕ) → Statement
+    for_loop : (line number : ℕ) (first test last : Option Expression) (body : Statement) → Statement
+    do_loop : (line number : ℕ) (body : Statement) (test : Expression) → Statement
+    switch : (line : ℕ) (value : Expression) (items : Items) → Statement
+    breaks : (line : ℕ) → Statement
+    continues : (line : ℕ) → Statement
+    jumps : (line label : ℕ) → Statement
+    stray : (line : ℕ) (statement : Statement) → Statement
 
   pub data Items : Type 0 where
     done : Items
@@ -76,6 +99,9 @@ mutual
     initializes : (line variable : ℕ) (drawn : Bool) (value : Expression) (rest : Items) → Items
     initializes_structure : (line variable : ℕ) (drawn : Bool) (value : Structure) (rest : Items) → Items
     does : (first : Statement) (rest : Items) → Items
+    label : (number : ℕ) (rest : Items) → Items
+    case_at : (line : ℕ) (type : IntegerType) (bits : ℕ) (rest : Items) → Items
+    default_at : (line : ℕ) (rest : Items) → Items
 
 abbrev mutual
   pub view : CoreExpr → Expression
@@ -98,6 +124,8 @@ abbrev mutual
   view (exprs.Member' line t offset p a) = part line t offset (view_structure a)
   view (exprs.Discard' line p e) = discard line (view e)
   view (exprs.DiscardStructure' p a) = discard_structure (view_structure a)
+  view (exprs.Call' line f used t shape args) = call line f used t (view_arguments args)
+  view (exprs.FunctionName line f) = function_name line f
 
   pub view_structure : CoreStructure → Structure
   view_structure (structures.Read line v offset size) = copy line v offset size
@@ -109,6 +137,7 @@ abbrev mutual
   view_structure (structures.Member' line offset size p a) = section line offset size (view_structure a)
   view_structure (structures.List' line size shape ps) = list line size (view_parts ps)
   view_structure (structures.String line size bytes) = string line size bytes.items
+  view_structure (structures.Call' line f used size shape args) = give line f used size (view_arguments args)
 
   pub view_parts : {m : _} → Row_of-CorePart m → Parts
   view_parts end_of-CorePart = no_part
@@ -119,10 +148,24 @@ abbrev mutual
   with_part (parts.Number offset e) rest = number_part offset (view e) rest
   with_part (parts.Structure offset a) rest = structure_part offset (view_structure a) rest
 
+  pub view_arguments : {m : _} → Row_of-CoreArgument m → Arguments
+  view_arguments end_of-CoreArgument = no_argument
+  view_arguments (more_of-CoreArgument a rest) = with_argument a (view_arguments rest)
+
+  -- an argument and those behind it
+  pub with_argument : CoreArgument → Arguments → Arguments
+  with_argument (arguments.Number e) rest = number_argument (view e) rest
+  with_argument (arguments.Structure a) rest = structure_argument (view_structure a) rest
+
 -- the parts of a list
 abbrev pub parts_of : List CorePart → Parts
 parts_of [] = no_part
 parts_of (p ∷ ps) = with_part p (parts_of ps)
+
+-- the arguments of a list
+abbrev pub arguments_of : List CoreArgument → Arguments
+arguments_of [] = no_argument
+arguments_of (a ∷ as_) = with_argument a (arguments_of as_)
 
 abbrev mutual
   pub view_statement : CoreStatement → Statement
@@ -131,6 +174,16 @@ abbrev mutual
   view_statement (statements.IfElse' line test p s q t) = if_else line (view test) (view_statement s) (view_statement t)
   view_statement (statements.Evaluate e) = evaluate (view e)
   view_statement (statements.Return line e) = returns line (view e)
+  view_statement (statements.ReturnStructure line a) = returns_structure line (view_structure a)
+  view_statement (statements.ReturnNothing line) = returns_nothing line
+  view_statement (statements.For' line number first test last p s) =
+      for_loop line number (option_map view first) (option_map view test) (option_map view last) (view_statement s)
+  view_statement (statements.Do' line number p s test) = do_loop line number (view_statement s) (view test)
+  view_statement (statements.Switch' line e shape items) = switch line (view e) (view_items items)
+  view_statement (statements.Break line) = breaks line
+  view_statement (statements.Continue line) = continues line
+  view_statement (statements.Goto line n) = jumps line n
+  view_statement (statements.Stray' line p s) = stray line (view_statement s)
 
   pub view_items : {m : _} → Row_of-CoreItem m → Items
   view_items end_of-CoreItem = done
@@ -142,21 +195,35 @@ abbrev mutual
   with_item (codes.Initialize line v drawn e) rest = initializes line v drawn (view e) rest
   with_item (codes.InitializeStructure line v drawn a) rest = initializes_structure line v drawn (view_structure a) rest
   with_item (codes.Statement s) rest = does (view_statement s) rest
+  with_item (codes.Label n) rest = label n rest
+  with_item (codes.Case line t bits) rest = case_at line t bits rest
+  with_item (codes.Default line) rest = default_at line rest
 
 -- the items of a list
 abbrev pub items_of : List CoreItem → Items
 items_of [] = done
 items_of (i ∷ is) = with_item i (items_of is)
 
--- a function: its name, the line of that, the sizes of its variables in bytes by number, and its body
+-- a function: its name, the line of that, what it gives, none where that is void, the types of its parameters, and the line of its first declarator with an ellipsis, where there is one; the sizes of its variables in bytes by number, of which the parameters are the first, and its body, where it is defined
 pub record Procedure : Type 0 where
   pub name : List ℕ
   pub line : ℕ
+  pub gives : Option PassedType
+  pub parameters : List PassedType
+  pub ellipsis : Option ℕ
   pub variables : List ℕ
-  pub body : Statement
+  pub body : Option Statement
 
 abbrev pub view_function : Function → Procedure
-view_function f = record { name = f.name.bytes.items; line = f.line; variables = f.variables.items; body = view_statement f.body }
+view_function f = record {
+  name = f.name.bytes.items;
+  line = f.line;
+  gives = f.gives;
+  parameters = f.parameters.items;
+  ellipsis = f.ellipsis;
+  variables = f.variables.items;
+  body = option_map view_statement f.body;
+}
 
 -- a static object: its size in bytes, whether it is defined const, and its first bytes, as many as its initializer says; the others are 0. Where the file has no definition of it, the line of its first declarator
 pub record Static : Type 0 where

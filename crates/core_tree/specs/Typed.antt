@@ -1,5 +1,5 @@
 -- What is true of each typed tree: its parts have the types that their places ask for, and the variables that it names are there (C11 6.5, 6.8).
-use Rattle.std.specs.Prelude.{ℕ, ◌+◌, ◌-◌, ◌^◌, ◌==◌, Bool, true, false, ◌&&◌, ◌||◌, List, nat_lt, nat_le, length, map, slice_index}
+use Rattle.std.specs.Prelude.{ℕ, ◌+◌, ◌-◌, ◌^◌, ◌==◌, Bool, true, false, not, ◌&&◌, ◌||◌, Option, Some, None, is_some, List, [], ◌∷◌, nat_lt, nat_le, length, map, slice_get, slice_index}
 use Rattle.std.specs.List.{list_all}
 use Rattle.c_types.specs.declared.integers.IntegerType.{IntegerType}
 use Rattle.c_types.specs.declared.integers.IntegerType.TheVariants as types
@@ -10,7 +10,9 @@ use Rattle.core_tree.specs.declared.operators.ArithmeticOperator.{ArithmeticOper
 use Rattle.core_tree.specs.declared.operators.ArithmeticOperator.TheVariants as arithmetics
 use Rattle.core_tree.specs.declared.expression.Place.{Place}
 use Rattle.core_tree.specs.declared.expression.Place.TheVariants as places
-use Rattle.core_tree.specs.Trees.{Expression, constant, read, convert, sign, is_zero, arithmetic, compare, logical, choice, assign, update, step, comma, assertion, assumption, draw, part, discard, discard_structure, Structure, copy, load, choose, put, store, follow, section, list, string, Parts, no_part, number_part, structure_part, Statement, block, if_then, if_else, evaluate, returns, Items, done, declares, initializes, initializes_structure, does, Procedure, Static, TypedFile}
+use Rattle.core_tree.specs.Trees.{Expression, constant, read, convert, sign, is_zero, arithmetic, compare, logical, choice, assign, update, step, comma, assertion, assumption, draw, part, discard, discard_structure, call, function_name, Structure, copy, load, choose, put, store, follow, section, list, string, give, Parts, no_part, number_part, structure_part, Arguments, no_argument, number_argument, structure_argument, Statement, block, if_then, if_else, evaluate, returns, returns_structure, returns_nothing, for_loop, do_loop, switch, breaks, continues, jumps, stray, Items, done, declares, initializes, initializes_structure, does, label, case_at, default_at, Procedure, Static, TypedFile}
+use Rattle.core_tree.specs.declared.functions.PassedType.{PassedType}
+use Rattle.core_tree.specs.declared.functions.PassedType.TheVariants as passed
 
 -- ---- the type of a tree
 
@@ -38,6 +40,8 @@ type_of (draw line t) = Integer t
 type_of (part line t offset a) = Integer t
 type_of (discard line e) = Void
 type_of (discard_structure a) = Void
+type_of (call line f used t args) = t
+type_of (function_name line f) = Void
 
 -- how many bytes a structure value has
 abbrev pub size_of : Structure → ℕ
@@ -50,6 +54,7 @@ size_of (follow line e a) = size_of a
 size_of (section line offset size a) = size
 size_of (list line size ps) = size
 size_of (string line size bytes) = size
+size_of (give line f used size args) = size
 
 -- ---- tests of types
 
@@ -78,12 +83,19 @@ is_shift arithmetics.Or = false
 abbrev pub are_operands : ArithmeticOperator → ValueType → ValueType → Bool
 are_operands op a b = is_promoted a && is_promoted b && (is_shift op || same_type a b)
 
--- ---- trees, over the sizes of the objects that they name
+-- ---- trees, over the sizes of the objects and the types of the functions that they name
 
--- how many bytes the variables of a function have by their numbers, and the static objects, the first of which has the number 1
+-- what a function gives, none where that is void, and the types of its parameters
+pub record Signature : Type 0 where
+  pub gives : Option PassedType
+  pub parameters : List PassedType
+
+-- how many bytes the variables of a function have by their numbers, and the static objects, the first of which has the number 1; the functions by their numbers; and what the function itself gives
 pub record Sizes : Type 0 where
   pub variables : List ℕ
   pub objects : List ℕ
+  pub functions : List Signature
+  pub gives : Option PassedType
 
 -- so many bytes from an offset of a variable on lie in it
 abbrev pub is_within : List ℕ → ℕ → ℕ → ℕ → Bool
@@ -107,6 +119,32 @@ abbrev pub fills : List ℕ → ℕ → ValueType → Bool
 fills variables v Void = false
 fills variables v (Integer t) = nat_lt v (length variables) && bytes t == slice_index variables v
 
+abbrev pub same_passed : PassedType → PassedType → Bool
+same_passed (passed.Integer t) (passed.Integer u) = same_integer t u
+same_passed (passed.Integer t) (passed.Structure n) = false
+same_passed (passed.Structure m) (passed.Integer u) = false
+same_passed (passed.Structure m) (passed.Structure n) = m == n
+
+abbrev pub same_given : Option PassedType → Option PassedType → Bool
+same_given None None = true
+same_given None (Some q) = false
+same_given (Some p) None = false
+same_given (Some p) (Some q) = same_passed p q
+
+-- a function without value, or with one of this type
+abbrev pub given_as : ValueType → Option PassedType
+given_as Void = None
+given_as (Integer t) = Some (passed.Integer t)
+
+-- a function with this number gives that
+abbrev pub gives_this : Option PassedType → Option Signature → Bool
+gives_this gives None = false
+gives_this gives (Some f) = same_given f.gives gives
+
+abbrev pub parameters_of : Option Signature → List PassedType
+parameters_of None = []
+parameters_of (Some f) = f.parameters
+
 abbrev mutual
   pub is_typed : Sizes → Expression → Bool
   is_typed sizes (constant line t bits) = nat_lt bits (2 ^ width t)
@@ -128,6 +166,9 @@ abbrev mutual
   is_typed sizes (part line t offset a) = nat_le (offset + bytes t) (size_of a) && is_structure sizes a
   is_typed sizes (discard line e) = is_integer (type_of e) && is_typed sizes e
   is_typed sizes (discard_structure a) = is_structure sizes a
+  is_typed sizes (call line f used t args) =
+      (not used || is_integer t) && gives_this (given_as t) (slice_get sizes.functions f) && are_arguments sizes (parameters_of (slice_get sizes.functions f)) args
+  is_typed sizes (function_name line f) = nat_lt f (length sizes.functions)
 
   pub is_structure : Sizes → Structure → Bool
   is_structure sizes (copy line v offset size) = is_within sizes.variables v offset size
@@ -139,6 +180,8 @@ abbrev mutual
   is_structure sizes (section line offset size a) = nat_le (offset + size) (size_of a) && is_structure sizes a
   is_structure sizes (list line size ps) = nat_lt size (2 ^ 31) && are_parts sizes size ps
   is_structure sizes (string line size bytes) = nat_lt size (2 ^ 31) && nat_le (length bytes) size && list_all (λ b. nat_lt b 256) bytes
+  is_structure sizes (give line f used size args) =
+      nat_lt size (2 ^ 31) && gives_this (Some (passed.Structure size)) (slice_get sizes.functions f) && are_arguments sizes (parameters_of (slice_get sizes.functions f)) args
 
   -- parts of so many bytes
   pub are_parts : Sizes → ℕ → Parts → Bool
@@ -146,14 +189,54 @@ abbrev mutual
   are_parts sizes size (number_part offset e rest) = fits_at size offset (type_of e) && is_typed sizes e && are_parts sizes size rest
   are_parts sizes size (structure_part offset a rest) = nat_le (offset + size_of a) size && is_structure sizes a && are_parts sizes size rest
 
--- the value that a function gives is an int
+  -- as many arguments as parameters, each of its parameter's type
+  pub are_arguments : Sizes → List PassedType → Arguments → Bool
+  are_arguments sizes [] no_argument = true
+  are_arguments sizes (p ∷ ps) no_argument = false
+  are_arguments sizes [] (number_argument e rest) = false
+  are_arguments sizes (p ∷ ps) (number_argument e rest) = same_given (Some p) (given_as (type_of e)) && is_typed sizes e && are_arguments sizes ps rest
+  are_arguments sizes [] (structure_argument a rest) = false
+  are_arguments sizes (p ∷ ps) (structure_argument a rest) = same_passed p (passed.Structure (size_of a)) && is_structure sizes a && are_arguments sizes ps rest
+
+-- nothing, or a tree that is typed
+abbrev pub is_typed_part : Sizes → Option Expression → Bool
+is_typed_part sizes None = true
+is_typed_part sizes (Some e) = is_typed sizes e
+
+-- nothing, or a test
+abbrev pub is_test : Sizes → Option Expression → Bool
+is_test sizes None = true
+is_test sizes (Some e) = is_integer (type_of e) && is_typed sizes e
+
+-- each case among these items has this type
+abbrev pub are_cases : ValueType → Items → Bool
+are_cases t done = true
+are_cases t (declares line v rest) = are_cases t rest
+are_cases t (initializes line v drawn e rest) = are_cases t rest
+are_cases t (initializes_structure line v drawn a rest) = are_cases t rest
+are_cases t (does s rest) = are_cases t rest
+are_cases t (label n rest) = are_cases t rest
+are_cases t (case_at line u bits rest) = same_type t (Integer u) && are_cases t rest
+are_cases t (default_at line rest) = are_cases t rest
+
+-- what `return` hands over is what the function gives
 abbrev mutual
   pub is_typed_statement : Sizes → Statement → Bool
   is_typed_statement sizes (block items) = are_typed_items sizes items
   is_typed_statement sizes (if_then line test s) = is_integer (type_of test) && is_typed sizes test && is_typed_statement sizes s
   is_typed_statement sizes (if_else line test s t) = is_integer (type_of test) && is_typed sizes test && is_typed_statement sizes s && is_typed_statement sizes t
   is_typed_statement sizes (evaluate e) = is_typed sizes e
-  is_typed_statement sizes (returns line e) = same_type (type_of e) (Integer types.Int) && is_typed sizes e
+  is_typed_statement sizes (returns line e) = is_integer (type_of e) && same_given sizes.gives (given_as (type_of e)) && is_typed sizes e
+  is_typed_statement sizes (returns_structure line a) = same_given sizes.gives (Some (passed.Structure (size_of a))) && is_structure sizes a
+  is_typed_statement sizes (returns_nothing line) = same_given sizes.gives None
+  is_typed_statement sizes (for_loop line n first test last s) =
+      is_typed_part sizes first && is_test sizes test && is_typed_part sizes last && is_typed_statement sizes s
+  is_typed_statement sizes (do_loop line n s test) = is_typed_statement sizes s && is_integer (type_of test) && is_typed sizes test
+  is_typed_statement sizes (switch line e items) = is_promoted (type_of e) && is_typed sizes e && are_cases (type_of e) items && are_typed_items sizes items
+  is_typed_statement sizes (breaks line) = true
+  is_typed_statement sizes (continues line) = true
+  is_typed_statement sizes (jumps line n) = true
+  is_typed_statement sizes (stray line s) = is_typed_statement sizes s
 
   pub are_typed_items : Sizes → Items → Bool
   are_typed_items sizes done = true
@@ -163,6 +246,9 @@ abbrev mutual
   are_typed_items sizes (initializes_structure line v drawn a rest) =
       nat_lt v (length sizes.variables) && size_of a == slice_index sizes.variables v && is_structure sizes a && are_typed_items sizes rest
   are_typed_items sizes (does s rest) = is_typed_statement sizes s && are_typed_items sizes rest
+  are_typed_items sizes (label n rest) = are_typed_items sizes rest
+  are_typed_items sizes (case_at line t bits rest) = nat_lt bits (2 ^ width t) && are_typed_items sizes rest
+  are_typed_items sizes (default_at line rest) = are_typed_items sizes rest
 
 -- ---- files
 
@@ -173,15 +259,38 @@ is_static o = nat_lt o.size (2 ^ 31) && nat_le (length o.bytes) o.size && list_a
 abbrev pub sizes_of_objects : List Static → List ℕ
 sizes_of_objects objects = map (λ (o : Static). o.size) objects
 
--- what a function names: its variables, and the file's static objects
-abbrev pub sizes_in : List Static → Procedure → Sizes
-sizes_in objects f = record { variables = f.variables; objects = sizes_of_objects objects }
+abbrev pub signature : Procedure → Signature
+signature f = record { gives = f.gives; parameters = f.parameters }
 
-abbrev pub is_typed_function : List Static → Procedure → Bool
-is_typed_function objects f = is_typed_statement (sizes_in objects f) f.body
+-- what a function names: its variables, the file's static objects, and its functions
+abbrev pub sizes_in : TypedFile → Procedure → Sizes
+sizes_in file f = record {
+  variables = f.variables;
+  objects = sizes_of_objects file.objects;
+  functions = map signature file.functions;
+  gives = f.gives;
+}
+
+abbrev pub passed_size : PassedType → ℕ
+passed_size (passed.Integer t) = bytes t
+passed_size (passed.Structure size) = size
+
+-- the parameters are the first variables
+abbrev pub have_parameters : List ℕ → List PassedType → Bool
+have_parameters variables [] = true
+have_parameters [] (p ∷ ps) = false
+have_parameters (v ∷ vs) (p ∷ ps) = v == passed_size p && have_parameters vs ps
+
+abbrev pub is_typed_body : Sizes → Option Statement → Bool
+is_typed_body sizes None = true
+is_typed_body sizes (Some s) = is_typed_statement sizes s
+
+-- a function that is defined has its parameters among its variables
+abbrev pub is_typed_function : TypedFile → Procedure → Bool
+is_typed_function file f = (have_parameters f.variables f.parameters || not (is_some f.body)) && is_typed_body (sizes_in file f) f.body
 
 abbrev pub are_typed : TypedFile → Bool
-are_typed file = list_all is_static file.objects && list_all (is_typed_function file.objects) file.functions
+are_typed file = list_all is_static file.objects && list_all (is_typed_function file) file.functions
 
 -- ---- which variables an expression names
 
@@ -210,6 +319,8 @@ abbrev mutual
   names_variable v (part line t offset a) = structure_names v a
   names_variable v (discard line e) = names_variable v e
   names_variable v (discard_structure a) = structure_names v a
+  names_variable v (call line f used t args) = arguments_name v args
+  names_variable v (function_name line f) = false
 
   pub structure_names : ℕ → Structure → Bool
   structure_names v (copy line w offset size) = v == w
@@ -221,8 +332,14 @@ abbrev mutual
   structure_names v (section line offset size a) = structure_names v a
   structure_names v (list line size ps) = parts_name v ps
   structure_names v (string line size bytes) = false
+  structure_names v (give line f used size args) = arguments_name v args
 
   pub parts_name : ℕ → Parts → Bool
   parts_name v no_part = false
   parts_name v (number_part offset e rest) = names_variable v e || parts_name v rest
   parts_name v (structure_part offset a rest) = structure_names v a || parts_name v rest
+
+  pub arguments_name : ℕ → Arguments → Bool
+  arguments_name v no_argument = false
+  arguments_name v (number_argument e rest) = names_variable v e || arguments_name v rest
+  arguments_name v (structure_argument a rest) = structure_names v a || arguments_name v rest

@@ -1,7 +1,7 @@
 use crate::operators::{
     ArithmeticOperator, Comparison, LogicalOperator, SignOperator, StepOperator,
 };
-use c_types::IntegerType;
+use c_types::{IntegerType, ValueType};
 
 /// What can be read and written (C11 6.3.2.1p1).
 #[derive(Clone, Copy, Debug)]
@@ -139,6 +139,20 @@ pub enum CoreExpr {
     DiscardStructure {
         value: Box<CoreStructure>,
     },
+    /// A call of the function with this number, which gives nothing or a number of this type (C11 6.5.2.2).
+    /// Where `used` stands its value is used, so that the function has to end by a `return`.
+    Call {
+        line: u32,
+        function: u32,
+        used: bool,
+        type_: ValueType,
+        arguments: Vec<CoreArgument>,
+    },
+    /// The name of a function that isn't called and whose value isn't used.
+    FunctionName {
+        line: u32,
+        function: u32,
+    },
 }
 
 /// A typed expression with a value of a struct, union or array type: the value's bytes (C11 6.2.6.1).
@@ -207,6 +221,23 @@ pub enum CoreStructure {
         size: u32,
         bytes: Vec<u8>,
     },
+    /// A call of the function with this number, which gives a struct or union of `size` bytes (C11
+    /// 6.5.2.2). Where `used` stands its value is used.
+    Call {
+        line: u32,
+        function: u32,
+        used: bool,
+        size: u32,
+        arguments: Vec<CoreArgument>,
+    },
+}
+
+/// An argument of a call, of its parameter's type (C11 6.5.2.2p7).
+#[derive(Drop)]
+#[cycle(expression)]
+pub enum CoreArgument {
+    Number { value: CoreExpr },
+    Structure { value: CoreStructure },
 }
 
 /// What an initializer's list writes at an offset, in bytes.

@@ -3,6 +3,7 @@ ghost use Rattle.core_tree.specs.Trees.{core_file, view_core};
 ghost use Rattle.core_tree.specs.Typed.{are_typed};
 
 use crate::statement::CoreStatement;
+use c_types::IntegerType;
 use std::marker::Model;
 
 /// A name, by its bytes.
@@ -11,14 +12,26 @@ pub struct Name {
     pub bytes: Vec<u8>,
 }
 
-/// A function without parameters that gives an int: its name with its line, the sizes of its variables in
-/// bytes by their numbers, and its body.
+/// The type of what a call hands over: an integer type, or a struct or union of so many bytes.
+#[derive(Clone, Copy, Debug, PartialEq, Eq)]
+pub enum PassedType {
+    Integer(IntegerType),
+    Structure(u32),
+}
+
+/// A function: its name with its line, what it gives, none where that is void, the types of its parameters,
+/// and, where a declaration of it has an ellipsis, the line of the first of those. The sizes of its
+/// variables in bytes by their numbers, of which the parameters are the first, and its body, where it is
+/// defined.
 #[derive(Drop)]
 pub struct Function {
     pub name: Name,
     pub line: u32,
+    pub gives: Option<PassedType>,
+    pub parameters: Vec<PassedType>,
+    pub ellipsis: Option<u32>,
     pub variables: Vec<u32>,
-    pub body: CoreStatement,
+    pub body: Option<CoreStatement>,
 }
 
 /// An object that is there from the start to the end of a run (C11 6.2.4p3): its size in bytes, whether it
@@ -34,8 +47,8 @@ pub struct StaticObject {
 }
 
 /// The typed tree of a file: its functions by their numbers, and its static objects, whose numbers begin
-/// with 1. Each part has the type that its place asks for, each variable and each static object that is
-/// named is there, no object has 2 ^ 31 bytes or more, none has more bytes said than it has, and there are
+/// with 1. Each part has the type that its place asks for, each variable, each static object and each
+/// function that is named is there, no object has 2 ^ 31 bytes or more, none has more bytes said than it has, and there are
 /// fewer than 2 ^ 31 functions and fewer than 2 ^ 31 static objects.
 #[derive(Drop)]
 pub struct Core {

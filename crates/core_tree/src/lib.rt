@@ -13,8 +13,8 @@ mod tests;
 mod typing;
 
 pub use bounds::{Bounds, LoopBound};
-pub use expression::{CoreExpr, CorePart, CoreStructure, Place};
-pub use functions::{Core, Function, Name, StaticObject, function_name};
+pub use expression::{CoreArgument, CoreExpr, CorePart, CoreStructure, Place};
+pub use functions::{Core, Function, Name, PassedType, StaticObject, function_name};
 pub use operators::{ArithmeticOperator, Comparison, LogicalOperator, SignOperator, StepOperator};
 pub use refusal::{Limit, Refusal};
 pub use statement::{CoreItem, CoreStatement};

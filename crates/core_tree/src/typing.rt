@@ -1,10 +1,10 @@
 //! The types of typed trees, and the variables that they name.
 
 ghost use Rattle.std.specs.Prelude.{◌≡◌, ◌||◌};
-ghost use Rattle.core_tree.specs.Trees.{view, view_structure, Parts, parts_of, with_part};
-ghost use Rattle.core_tree.specs.Typed.{type_of, size_of, place_type, place_names, names_variable, structure_names, parts_name};
+ghost use Rattle.core_tree.specs.Trees.{view, view_structure, Parts, parts_of, with_part, Arguments, arguments_of, with_argument};
+ghost use Rattle.core_tree.specs.Typed.{type_of, size_of, place_type, place_names, names_variable, structure_names, parts_name, arguments_name};
 
-use crate::expression::{CoreExpr, CorePart, CoreStructure, Place};
+use crate::expression::{CoreArgument, CoreExpr, CorePart, CoreStructure, Place};
 use c_types::{IntegerType, ValueType};
 
 fn place_type(place: &Place) -> IntegerType
@@ -114,6 +114,17 @@ pub fn type_of(expr: &CoreExpr) -> ValueType
             operand: _,
         } => ValueType::Void,
         CoreExpr::DiscardStructure { value: _ } => ValueType::Void,
+        CoreExpr::Call {
+            line: _,
+            function: _,
+            used: _,
+            type_,
+            arguments: _,
+        } => *type_,
+        CoreExpr::FunctionName {
+            line: _,
+            function: _,
+        } => ValueType::Void,
     }
 }
 
@@ -173,6 +184,13 @@ pub fn structure_size(value: &CoreStructure) -> u32
             size,
             bytes: _,
         } => *size,
+        CoreStructure::Call {
+            line: _,
+            function: _,
+            used: _,
+            size,
+            arguments: _,
+        } => *size,
     }
 }
 
@@ -197,6 +215,7 @@ fn place_names(variable: u32, place: &Place) -> bool
 
 /// Whether an expression names the variable with this number.
 #[cycle(names)]
+#[tactic(auto, using(crate::proofs::Views::view_call))]
 pub fn names_variable(variable: u32, expr: &CoreExpr) -> bool
     ensures { result ≡ names_variable variable (view expr.now) }
 {
@@ -276,12 +295,23 @@ pub fn names_variable(variable: u32, expr: &CoreExpr) -> bool
         } => structure_names_variable(variable, value),
         CoreExpr::Discard { line: _, operand } => names_variable(variable, operand),
         CoreExpr::DiscardStructure { value } => structure_names_variable(variable, value),
+        CoreExpr::Call {
+            line: _,
+            function: _,
+            used: _,
+            type_: _,
+            arguments,
+        } => arguments_name(variable, arguments),
+        CoreExpr::FunctionName {
+            line: _,
+            function: _,
+        } => false,
     }
 }
 
 /// Whether a structure value names the variable with this number.
 #[cycle(names)]
-#[tactic(auto, using(crate::proofs::Views::view_list))]
+#[tactic(auto, using(crate::proofs::Views::view_list, crate::proofs::Views::view_give))]
 pub fn structure_names_variable(variable: u32, value: &CoreStructure) -> bool
     ensures { result ≡ structure_names variable (view_structure value.now) }
 {
@@ -341,6 +371,13 @@ pub fn structure_names_variable(variable: u32, value: &CoreStructure) -> bool
             size: _,
             bytes: _,
         } => false,
+        CoreStructure::Call {
+            line: _,
+            function: _,
+            used: _,
+            size: _,
+            arguments,
+        } => arguments_name(variable, arguments),
     }
 }
 
@@ -363,5 +400,27 @@ fn part_names(variable: u32, part: &CorePart) -> bool
     match part {
         CorePart::Number { offset: _, value } => names_variable(variable, value),
         CorePart::Structure { offset: _, value } => structure_names_variable(variable, value),
+    }
+}
+
+#[cycle(names)]
+fn arguments_name(variable: u32, arguments: &[CoreArgument]) -> bool
+    ensures { result ≡ arguments_name variable (arguments_of arguments.now) }
+{
+    for argument in arguments {
+        if argument_names(variable, argument) {
+            return true;
+        }
+    }
+    false
+}
+
+#[cycle(names)]
+fn argument_names(variable: u32, argument: &CoreArgument) -> bool
+    ensures { (rest : Arguments) → (result || arguments_name variable rest) ≡ arguments_name variable (with_argument argument.now rest) }
+{
+    match argument {
+        CoreArgument::Number { value } => names_variable(variable, value),
+        CoreArgument::Structure { value } => structure_names_variable(variable, value),
     }
 }

@@ -1,5 +1,5 @@
 -- Checked code fits where the code does.
-use Rattle.std.proofs.Common.{◌≡◌, ℕ, ◌≤◌, Bool, true, false, ◌&&◌, nat_lt, List, [], ◌∷◌, length, refl, sym, ◌∙◌, arith}
+use Rattle.std.proofs.Common.{◌≡◌, ℕ, zero, suc, ◌+◌, ◌≤◌, map, ap, Bool, true, false, ◌&&◌, nat_lt, List, [], ◌∷◌, length, refl, sym, ◌∙◌, arith}
 use Rattle.std.specs.Prelude.{◌==◌, nat_le, slice_index_or, if◌then◌else◌}
 use Rattle.std.proofs.lemmas.Bool.Decides.{nat_tests}
 use Rattle.c_types.specs.declared.integers.IntegerType.{IntegerType}
@@ -15,10 +15,10 @@ use Rattle.goto_prog.specs.declared.code.Condition.TheVariants as checks
 use Rattle.goto_prog.specs.declared.code.Operation.{Operation}
 use Rattle.goto_prog.specs.declared.code.Operation.TheVariants as operations
 use Rattle.goto_prog.specs.declared.code.Instruction.{Instruction}
-use Rattle.goto_prog.specs.Fitting.{is_there, is_register, is_wide, check_fits, operation_fits, code_fits}
+use Rattle.goto_prog.specs.Fitting.{is_there, is_register, is_wide, check_fits, operation_fits}
+use Rattle.goto_prog.specs.Nodes.{Nodes, done, plain, repeats, node_count, nodes_fit, Routine, routine_fits, routines_fit}
 use Rattle.goto_prog.proofs.Registers.{both, same_widths}
-use Rattle.goto_checks.specs.Inserted.{if_signed, arithmetic_checks, sign_checks, checks_of, with_checks, with_count, count_of, extent, jumping, inserted}
-use Rattle.goto_checks.proofs.Extents.{extent_within}
+use Rattle.goto_checks.specs.Inserted.{if_signed, arithmetic_checks, sign_checks, checks_of, with_checks, with_count, count_of, widths, extent, jumping, inserted, with_inserted}
 
 both_true : (a b : Bool) → a ≡ true → b ≡ true → (a && b) ≡ true
 both_true a b first second = λ i. first i && second i
@@ -108,37 +108,89 @@ module _ (rs : List IntegerType) where
     checks_fit n (operations.ReadObject b to k offset count) h = tt
     checks_fit n (operations.WriteObject k offset b from count) h = tt
     checks_fit n operations.Exit h = tt
+    checks_fit n (operations.Fail class) h = tt
+    checks_fit n (operations.Use a) h = (h, tt)
+    checks_fit n (operations.Call f first count into r) h = tt
+    checks_fit n (operations.Return v) h = tt
 
-    with_checks_fit : (i : Instruction) (cs : List Condition) (code : List Instruction) → AllFit cs → code_fits rs bs code ≡ true → code_fits rs bs (with_checks i cs code) ≡ true
-    with_checks_fit i [] code fit h = h
-    with_checks_fit i (c ∷ cs) code fit h = both_true _ _ fit.0 (with_checks_fit i cs code fit.1 h)
+    with_checks_fit : (i : Instruction) (cs : List Condition) (code : Nodes) (later : ℕ) → AllFit cs → nodes_fit rs bs later code ≡ true → nodes_fit rs bs later (with_checks i cs code) ≡ true
+    with_checks_fit i [] code later fit h = h
+    with_checks_fit i (c ∷ cs) code later fit h = both_true _ _ fit.0 (with_checks_fit i cs code later fit.1 h)
+
+    count_checks : (i : Instruction) (cs : List Condition) (code : Nodes) → node_count (with_checks i cs code) ≡ length cs + node_count code
+    count_checks i [] code = omega arith
+    count_checks i (c ∷ cs) code = omega (arith, count_checks i cs code)
+
+    -- the first n places, of those that are there, become no more than are there
+    abbrev Within : (n m : ℕ) → List ℕ → Type 0
+    Within n m ws = (k : ℕ) → k ≤ n → extent k ws ≤ m
+
+    at_least : (k n : ℕ) → nat_le k n ≡ true → k ≤ n
+    at_least k n h = grind (arith, nat_tests)
 
     -- a jump over the same code
-    jump_fits : (n : ℕ) (o : Operation) (code : List Instruction) → operation_fits rs bs n o ≡ true → operation_fits rs bs (length (inserted code)) (with_count o (extent (count_of o) code)) ≡ true
-    jump_fits n (operations.Constant r bits) code h = h
-    jump_fits n (operations.Copy r a) code h = h
-    jump_fits n (operations.Load r t b offset) code h = h
-    jump_fits n (operations.Store b offset count a) code h = h
-    jump_fits n (operations.Clear b size) code h = h
-    jump_fits n (operations.CopyBytes into to from offset count) code h = h
-    jump_fits n (operations.Convert r from to a) code h = h
-    jump_fits n (operations.Sign r op t a) code h = h
-    jump_fits n (operations.Arithmetic r op t u a b) code h = h
-    jump_fits n (operations.Compare r op t a b) code h = h
-    jump_fits n (operations.IsZero r a) code h = h
-    jump_fits n (operations.Skip k) code h = at_most _ _ (extent_within k code)
-    jump_fits n (operations.SkipIfZero a k) code h = both_true _ _ (both (is_there rs a) (nat_le k n) h).0 (at_most _ _ (extent_within k code))
-    jump_fits n (operations.Check c) code h = h
-    jump_fits n (operations.Assert a) code h = h
-    jump_fits n (operations.Assume a) code h = h
-    jump_fits n (operations.Draw r bits) code h = h
-    jump_fits n (operations.ReadObject b to k offset count) code h = h
-    jump_fits n (operations.WriteObject k offset b from count) code h = h
-    jump_fits n operations.Exit code h = h
+    jump_fits : (n m : ℕ) (o : Operation) (ws : List ℕ) → Within n m ws → operation_fits rs bs n o ≡ true → operation_fits rs bs m (with_count o (extent (count_of o) ws)) ≡ true
+    jump_fits n m (operations.Skip k) ws within h = at_most _ _ (within k (at_least k n h))
+    jump_fits n m (operations.SkipIfZero a k) ws within h =
+        let parts = both (is_there rs a) (nat_le k n) h in both_true _ _ parts.0 (at_most _ _ (within k (at_least k n parts.1)))
+    jump_fits n m (operations.Constant r bits) ws within h = h
+    jump_fits n m (operations.Copy r a) ws within h = h
+    jump_fits n m (operations.Load r t b offset) ws within h = h
+    jump_fits n m (operations.Store b offset count a) ws within h = h
+    jump_fits n m (operations.Clear b size) ws within h = h
+    jump_fits n m (operations.CopyBytes into to from offset count) ws within h = h
+    jump_fits n m (operations.Convert r from to a) ws within h = h
+    jump_fits n m (operations.Sign r op t a) ws within h = h
+    jump_fits n m (operations.Arithmetic r op t u a b) ws within h = h
+    jump_fits n m (operations.Compare r op t a b) ws within h = h
+    jump_fits n m (operations.IsZero r a) ws within h = h
+    jump_fits n m (operations.Check c) ws within h = h
+    jump_fits n m (operations.Assert a) ws within h = h
+    jump_fits n m (operations.Assume a) ws within h = h
+    jump_fits n m (operations.Draw r bits) ws within h = h
+    jump_fits n m (operations.ReadObject b to k offset count) ws within h = h
+    jump_fits n m (operations.WriteObject k offset b from count) ws within h = h
+    jump_fits n m (operations.Fail class) ws within h = h
+    jump_fits n m (operations.Use a) ws within h = h
+    jump_fits n m (operations.Call f first count into r) ws within h = h
+    jump_fits n m (operations.Return v) ws within h = h
+    jump_fits n m operations.Exit ws within h = h
 
-    pub inserted_fits : (code : List Instruction) → code_fits rs bs code ≡ true → code_fits rs bs (inserted code) ≡ true
-    inserted_fits [] h = refl
-    inserted_fits (i ∷ code) h =
-        let parts = both (operation_fits rs bs (length code) i.operation) (code_fits rs bs code) h in
-        with_checks_fit i (checks_of i.operation) (jumping i code ∷ inserted code) (checks_fit (length code) i.operation parts.0)
-        (both_true _ _ (jump_fits (length code) i.operation code parts.0) (inserted_fits code parts.1))
+    more_within : (w n m : ℕ) (ws : List ℕ) → Within n m ws → Within (n + 1) (m + w) (w ∷ ws)
+    more_within w n m ws within zero few = omega arith
+    more_within w n m ws within (suc k) few = omega (arith, within k (omega (arith, few)))
+
+    widths_within : (code : Nodes) (n m : ℕ) (ws : List ℕ) → Within n m ws → Within (node_count code + n) (node_count (inserted code ws) + m) (widths code ws)
+    widths_within done n m ws within k few = omega (arith, within k (omega (arith, few)))
+    widths_within (plain i rest) n m ws within k few =
+        let more = more_within (length (checks_of i.operation) + 1) (node_count rest + n) (node_count (inserted rest ws) + m) (widths rest ws) (widths_within rest n m ws within) k (omega (arith, few)) in
+        omega (arith, more, count_checks i (checks_of i.operation) (plain (jumping i (widths rest ws)) (inserted rest ws)))
+    widths_within (repeats line f l rotated body rest) n m ws within k few =
+        let more = more_within 1 (node_count rest + n) (node_count (inserted rest ws) + m) (widths rest ws) (widths_within rest n m ws within) k (omega (arith, few)) in
+        omega (arith, more)
+
+    pub inserted_fits : (code : Nodes) (n m : ℕ) (ws : List ℕ) → Within n m ws → nodes_fit rs bs n code ≡ true → nodes_fit rs bs m (inserted code ws) ≡ true
+    inserted_fits done n m ws within h = refl
+    inserted_fits (plain i rest) n m ws within h =
+        let parts = both (operation_fits rs bs (node_count rest + n) i.operation) (nodes_fit rs bs n rest) h in
+        with_checks_fit i (checks_of i.operation) (plain (jumping i (widths rest ws)) (inserted rest ws)) m (checks_fit (node_count rest + n) i.operation parts.0)
+        (both_true _ _ (jump_fits (node_count rest + n) (node_count (inserted rest ws) + m) i.operation (widths rest ws) (widths_within rest n m ws within) parts.0) (inserted_fits rest n m ws within parts.1))
+    inserted_fits (repeats line f k rotated body rest) n m ws within h =
+        let parts = both (nodes_fit rs bs (node_count rest + n + 1) body) (nodes_fit rs bs n rest) h in
+        both_true _ _
+        (inserted_fits body (node_count rest + n + 1) (node_count (inserted rest ws) + m + 1) (1 ∷ widths rest ws) (more_within 1 (node_count rest + n) (node_count (inserted rest ws) + m) (widths rest ws) (widths_within rest n m ws within)) parts.0)
+        (inserted_fits rest n m ws within parts.1)
+
+end_within : (k : ℕ) → k ≤ 0 → extent k (1 ∷ []) ≤ 0
+end_within zero few = omega arith
+end_within (suc k) few = absurd (omega (arith, few))
+
+one_fits : (p : Routine) → routine_fits p ≡ true → routine_fits (with_inserted p) ≡ true
+one_fits p h = inserted_fits p.registers p.blocks p.nodes 0 0 (1 ∷ []) end_within h
+
+pub routines_kept : (ps : List Routine) → routines_fit ps ≡ true → routines_fit (map with_inserted ps) ≡ true
+routines_kept [] h = refl
+routines_kept (p ∷ ps) h = let parts = both (routine_fits p) (routines_fit ps) h in both_true _ _ (one_fits p parts.0) (routines_kept ps parts.1)
+
+pub all_fit : (ps qs : List Routine) → qs ≡ map with_inserted ps → routines_fit ps ≡ true → routines_fit qs ≡ true
+all_fit ps qs are h = ap routines_fit are ∙ routines_kept ps h

@@ -1,4 +1,5 @@
 pub mod SameCode
 pub mod Extents
+pub mod Making
 pub mod Fitted
 pub mod Threads

@@ -144,6 +144,7 @@ pub fn checks_of(operation: Operation) -> Checks
             left,
             right,
         } => arithmetic_checks(operator, type_, right_type, left, right),
+        Operation::Use { returned } => one_check(Condition::Returned { returned }),
         _ => no_check(),
     }
 }

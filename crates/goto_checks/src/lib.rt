@@ -1,10 +1,8 @@
-//! Explicit checks before the operations of flat code that may be undefined.
+//! Explicit checks before the operations of code that may be undefined.
 #![tactic(auto)]
 
 mod checks;
 mod inserting;
-mod partly_checked;
-#[cfg(test)]
-mod tests;
+mod totals;
 
 pub use inserting::insert;

@@ -1,6 +1,6 @@
 -- The code of typed trees fits their registers and variables.
-use Rattle.std.proofs.Common.{◌≡◌, ℕ, zero, suc, ◌+◌, ◌-◌, ◌*◌, ◌<◌, ◌≤◌, Bool, true, false, nat_lt, List, [], ◌∷◌, ◌++◌, length, refl, sym, ap, subst, arith, length-append}
-use Rattle.std.specs.Prelude.{nat_le, slice_index, replicate, if◌then◌else◌}
+use Rattle.std.proofs.Common.{◌≡◌, ◌∙◌, ℕ, zero, suc, ◌+◌, ◌-◌, ◌*◌, ◌<◌, ◌≤◌, Bool, true, false, nat_lt, List, [], ◌∷◌, ◌++◌, length, refl, sym, ap, subst, arith, length-append}
+use Rattle.std.specs.Prelude.{◌==◌, ◌&&◌, nat_le, slice_index, slice_get, replicate, Option, Some, None, if◌then◌else◌}
 use Rattle.c_types.specs.declared.integers.IntegerType.{IntegerType}
 use Rattle.c_types.specs.declared.integers.IntegerType.TheVariants.{Int, UnsignedChar, UnsignedLong}
 use Rattle.c_types.specs.declared.types.ValueType.TheVariants.{Void, Integer}
@@ -10,34 +10,38 @@ use Rattle.std.proofs.lemmas.Bool.{false≢true}
 use Rattle.std.proofs.lemmas.List.{get_or_append_left}
 use Rattle.c_types.specs.Integers.{bytes, promoted}
 use Rattle.core_tree.specs.declared.operators.ArithmeticOperator.{ArithmeticOperator}
+use Rattle.core_tree.specs.declared.operators.ArithmeticOperator.TheVariants as arithmetics
+use Rattle.core_tree.specs.declared.operators.Comparison.TheVariants as comparisons
 use Rattle.core_tree.specs.declared.operators.LogicalOperator.{LogicalOperator}
 use Rattle.core_tree.specs.declared.operators.LogicalOperator.TheVariants as logicals
 use Rattle.core_tree.specs.declared.expression.Place.{Place}
 use Rattle.core_tree.specs.declared.expression.Place.TheVariants.{Variable, Object}
-use Rattle.core_tree.specs.Trees.{Expression, constant, read, convert, sign, is_zero, arithmetic, compare, logical, choice, assign, update, step, comma, assertion, assumption, draw, part, discard, discard_structure, Structure, copy, load, choose, put, store, follow, section, list, string, Parts, no_part, number_part, structure_part, Statement, block, if_then, if_else, evaluate, returns, Items, done, declares, initializes, initializes_structure, does, Procedure, Static}
-use Rattle.core_tree.specs.Typed.{Sizes, place_type, type_of, size_of, is_within, is_place, fits_at, is_typed, is_structure, are_parts, is_typed_statement, are_typed_items, sizes_of_objects, is_typed_function}
+use Rattle.core_tree.specs.Trees.{Expression, constant, read, convert, sign, is_zero, arithmetic, compare, logical, choice, assign, update, step, comma, assertion, assumption, draw, part, discard, discard_structure, call, function_name, Structure, copy, load, choose, put, store, follow, section, list, string, give, Parts, no_part, number_part, structure_part, Arguments, no_argument, number_argument, structure_argument, Statement, block, if_then, if_else, evaluate, returns, returns_structure, returns_nothing, for_loop, do_loop, switch, breaks, continues, jumps, stray, Items, done, declares, initializes, initializes_structure, does, label, case_at, default_at, Procedure, TypedFile}
+use Rattle.core_tree.specs.declared.functions.PassedType.{PassedType}
+use Rattle.core_tree.specs.declared.functions.PassedType.TheVariants as passed
+use Rattle.core_tree.specs.Typed.{Signature, Sizes, sizes_in, place_type, type_of, size_of, is_integer, is_within, is_place, fits_at, same_given, given_as, parameters_of, is_typed, is_structure, are_parts, are_arguments, is_typed_part, is_test, are_cases, is_typed_statement, are_typed_items, is_typed_body, is_typed_function, is_static, are_typed}
 use Rattle.core_tree.specs.Operations.{drawn_width, step_operation}
 use Rattle.c_values.specs.Numbers.{are_operands_of}
 use Rattle.c_values.specs.Variables.{word_count, drawn_count}
-use Rattle.c_interp.specs.Meaning.{integer_of, number_type}
+use Rattle.c_interp.specs.Meaning.{integer_of, number_type, has_default}
 use Rattle.c_interp.proofs.TypeWidths.{operand_widths}
 use Rattle.goto_prog.specs.declared.code.Instruction.{Instruction}
 use Rattle.goto_prog.specs.declared.code.Operation.TheVariants as operations
-use Rattle.goto_prog.specs.Fitting.{operation_fits, code_fits}
-use Rattle.goto_lower.specs.Lowering.{Frame, top, structure_registers, structure_line, structure_code, parts_code, text_code, initial_code, at_line, read_code, write_code, update_code, logical_code, code, size_of as size_of_variable, first_registers, words_code, first_code, initial_store, entry_registers, statement_registers, entry_code, statement_code, items_code, body_code}
-use Rattle.goto_lower.specs.Registers.{types, structure_types, parts_types, update_types, first_types, entry_types, statement_types, items_types}
-use Rattle.goto_lower.specs.Rooms.{Rooms, no_rooms, both, under, place_rooms, rooms, structure_rooms, parts_rooms, statement_rooms, items_rooms}
-use Rattle.goto_lower.specs.Lowered.{blocks_of, first_frame}
-use Rattle.goto_lower.proofs.Housing.{Room, Housed, housed_left, housed_right, housed_under, housed_room, housed_behind, housed_zeros, housed_function}
+use Rattle.goto_prog.specs.Fitting.{operation_fits}
+use Rattle.goto_prog.specs.Nodes.{Nodes, plain, node_count, nodes_fit, routine_fits, routines_fit}
+use Rattle.goto_lower.specs.Lowering.{Frame, Ways, no_ways, within_loop, within_switch, top, structure_registers, arguments_registers, argument_count, structure_line, line_of, value_size, structure_code, parts_code, arguments_code, text_code, use_code, call_code, taken_code, initial_code, at_line, read_code, write_code, update_code, logical_code, code, size_of as size_of_variable, first_registers, words_code, first_code, entry_registers, part_registers, case_registers, statement_registers, items_registers, entry_code, part_code, test_code, to_place, plains, ends, case_tests, last_case, statement_code, items_code, labels_of, case_jumps, default_place}
+use Rattle.goto_lower.specs.Registers.{types, structure_types, parts_types, arguments_types, part_types, case_types, update_types, first_types, entry_types, statement_types, items_types}
+use Rattle.goto_lower.specs.Rooms.{Rooms, no_rooms, both, under, under_all, place_rooms, argument_sizes, rooms, structure_rooms, parts_rooms, arguments_rooms, part_rooms, statement_rooms, items_rooms}
+use Rattle.goto_lower.specs.Lowered.{given_size, first_frame, code_by, function_codes}
+use Rattle.goto_lower.proofs.Housing.{Room, HasRooms, Housed, housed_left, housed_right, housed_under, housed_room, housed_front, housed_back, housed_behind, housed_zeros, housed_body}
 use Rattle.goto_lower.proofs.ExpressionCode.{test_less, test_most, test_equal}
-use Rattle.goto_lower.proofs.Drafting.{types_length, structure_length}
-use Rattle.goto_lower.proofs.DraftingStatements.{first_length, entry_length, statement_length}
-use Rattle.goto_lower.proofs.RegisterTypes.{left_of, right_of, same_types, own_operands, Register, Has, register_at, register_of, has_at, has_left, has_right, has_itself, Fit, fit-append, fit_all, there_is, constant_fits, copy_fits, load_fits, store_fits, word_fits, within_is, clear_fits, filled_there, filled_within, at_most_true, less_true, copy_bytes_fits, convert_fits, sign_fits, arithmetic_fits, compare_fits, is_zero_fits, skip_fits, skip_if_fits, draw_fits, one_fits, some_drawn, few_drawn}
+use Rattle.goto_lower.proofs.RegisterCounts.{types_length, structure_length, arguments_length, part_length, case_length, first_length, entry_length, statement_length, items_length}
+use Rattle.goto_lower.proofs.RegisterTypes.{both as both_true, left_of, right_of, same_types, own_operands, Register, Has, register_at, register_of, register_is, has_at, has_left, has_right, has_itself, Fit, fit-append, there_is, constant_fits, copy_fits, load_fits, store_fits, word_fits, within_is, clear_fits, filled_there, filled_within, at_most_true, less_true, copy_bytes_fits, convert_fits, sign_fits, arithmetic_fits, compare_fits, is_zero_fits, skip_fits, skip_if_fits, draw_fits, one_fits, zero_fits, some_drawn, few_drawn}
 
--- over the sizes of the variables, of the blocks behind them, and of the static objects
-module _ (registers : List IntegerType) (variables others objects : List ℕ) (function : ℕ) (some : 1 ≤ length others) where
+-- over the sizes of the variables, of the blocks behind them, and of the static objects, the functions that are called, and what the function gives
+module _ (registers : List IntegerType) (variables others objects : List ℕ) (functions : List Signature) (gives : Option PassedType) (function : ℕ) (some : 2 ≤ length others) where
   abbrev known : Sizes
-  known = record { variables = variables; objects = objects }
+  known = record { variables = variables; objects = objects; functions = functions; gives = gives }
 
   abbrev blocks : List ℕ
   blocks = variables ++ others
@@ -46,7 +50,7 @@ module _ (registers : List IntegerType) (variables others objects : List ℕ) (f
   edge = length variables
 
   abbrev frame : ℕ → Frame
-  frame d = record { function = function; zeros = edge; free = d }
+  frame d = record { function = function; zeros = edge; result = edge + 1; free = d }
 
   abbrev Houses : ℕ → Rooms → Type 0
   Houses d r = Housed blocks edge d r
@@ -179,6 +183,50 @@ module _ (registers : List IntegerType) (variables others objects : List ℕ) (f
         constant_fits registers blocks n c UnsignedChar h (left_of _ _ typed),
         (store_fits registers blocks n into place UnsignedChar h at, text_fits cs f line n into to (offset + 1) (place + 1) size (omega (arith, where_at)) (right_of _ _ typed) there (omega (arith, inner)) h k),
       )
+
+  -- a call of a function that hands over so many bytes, with its arguments in the blocks from d on, and the block that it hands over to behind them
+  called_fits : (d line callee : ℕ) (used : Bool) (size count r : ℕ) → size ≤ slice_index blocks edge → Room blocks (d + count) size → Holds r Int → (k : ℕ) → Fits k (call_code (frame d) line callee used size count r)
+  called_fits d line callee used size count r zeros room h k =
+      let into : is_within blocks (d + count) 0 size ≡ true = free_within (d + count) 0 size size room (omega arith) in
+      let there = room.there in
+      let arguments : nat_le (d + count) (length blocks) ≡ true = at_most_true (d + count) (length blocks) (omega (arith, there)) in
+      let last : nat_lt (d + count) (length blocks) ≡ true = less_true (d + count) (length blocks) there in (
+        copy_bytes_fits registers blocks (d + count) 0 edge 0 size into (zeros_within size zeros),
+        (both_true _ _ (both_true _ _ arguments last) (register_is registers blocks r Int h), by_use used k),
+      )
+    where
+      by_use : (used : Bool) (k : ℕ) → Fits k (use_code (frame d) line used r)
+      by_use true k = (there_is registers blocks r Int h, tt)
+      by_use false k = tt
+
+  taken_fits : (d line : ℕ) (t : ValueType) (b r : ℕ) → Room blocks b (value_size t) → Holds r (integer_of t) → (k : ℕ) → operation_fits registers blocks k (taken_code (frame d) line t b r).operation ≡ true
+  taken_fits d line Void b r room h k = constant_fits registers blocks r 0 (integer_of Void) h (zero_fits (integer_of Void))
+  taken_fits d line (Integer t) b r room h k = load_fits registers blocks r b 0 t h (free_within b 0 (bytes t) (bytes t) room (omega arith))
+
+  argument_sizes_length : (args : Arguments) → length (argument_sizes args) ≡ argument_count args
+  argument_sizes_length no_argument = refl
+  argument_sizes_length (number_argument e rest) = omega (arith, argument_sizes_length rest)
+  argument_sizes_length (structure_argument a rest) = omega (arith, argument_sizes_length rest)
+
+  -- the blocks of a call: those of its arguments, the one that is handed over to, and those behind
+  pub record Passed (d size : ℕ) (args : Arguments) : Type 0 where
+    pub arguments : HasRooms blocks d (argument_sizes args)
+    pub handed : Room blocks (d + argument_count args) size
+    pub behind : Housed blocks edge (d + (argument_count args + 1)) (arguments_rooms args)
+
+  passed_rooms : (d size : ℕ) (args : Arguments) → Houses d (under_all (argument_sizes args) (under size (arguments_rooms args))) → Passed d size args
+  passed_rooms d size args housed =
+      let last = housed_back blocks edge d (argument_sizes args) (under size (arguments_rooms args)) housed in
+      let many = argument_sizes_length args in
+      let deep : d + length (argument_sizes args) + 1 ≡ d + (argument_count args + 1) = omega (arith, many) in
+      record {
+        arguments = housed_front blocks edge d (argument_sizes args) (under size (arguments_rooms args)) housed;
+        handed = subst (λ (c : ℕ). Room blocks (d + c) size) many (housed_room blocks edge (d + length (argument_sizes args)) size (arguments_rooms args) last);
+        behind = subst (λ (c : ℕ). Housed blocks edge c (arguments_rooms args)) deep (housed_under blocks edge (d + length (argument_sizes args)) size (arguments_rooms args) last);
+      }
+
+  beyond_arguments : (args : Arguments) (n : ℕ) (ts : List IntegerType) → Has registers n (arguments_types args ++ ts) → Has registers (n + arguments_registers args) ts
+  beyond_arguments args n ts h = has_at registers (n + length (arguments_types args)) (n + arguments_registers args) ts (ap (λ m. n + m) (arguments_length args)) (has_right registers n (arguments_types args) ts h)
 
   mutual
     pub expression_fits : (e : Expression) (d n : ℕ) → edge < d → is_typed known e ≡ true → Houses d (rooms e) → Has registers n (types e) → Fine e d n
@@ -331,6 +379,23 @@ module _ (registers : List IntegerType) (variables others objects : List ℕ) (f
               (structure_fits a (d + 1) n d 0 (omega (arith, deep)) typed (housed_under blocks edge d (size_of a) (structure_rooms a) housed) (free_within d 0 (size_of a) (size_of a) free (omega arith)) (has_left registers n (structure_types a) (Int ∷ []) h) _)
               (constant_fits registers blocks (n + structure_registers a) 0 Int last refl, tt);
         }
+    expression_fits (call line callee used t args) d n deep typed housed h =
+        let count = argument_count args in
+        let r = n + arguments_registers args in
+        let size = value_size t in
+        let all = passed_rooms d size args (housed_behind blocks edge d size (under_all (argument_sizes args) (under size (arguments_rooms args))) housed) in
+        let behind = beyond_arguments args n (Int ∷ integer_of t ∷ []) h in
+        let value : Holds (n + (arguments_registers args + 1)) (integer_of t) = register_at registers (r + 1) (n + (arguments_registers args + 1)) (integer_of t) (omega arith) behind.1.0 in
+        record {
+          value = value;
+          fits = λ k. fit-append registers blocks k (arguments_code (frame (d + (count + 1))) args n d) (call_code (frame d) line callee used size count r ++ taken_code (frame d) line t (d + count) (r + 1) ∷ [])
+              (arguments_fit args (parameters_of (slice_get functions callee)) (d + (count + 1)) n d (omega (arith, deep)) (right_of _ _ typed) all.behind all.arguments (has_left registers n (arguments_types args) (Int ∷ integer_of t ∷ []) h) _)
+              (fit-append registers blocks k (call_code (frame d) line callee used size count r) (taken_code (frame d) line t (d + count) (r + 1) ∷ [])
+              (called_fits d line callee used size count r (housed_zeros blocks edge d size (under_all (argument_sizes args) (under size (arguments_rooms args))) housed) all.handed behind.0 _)
+              (taken_fits d line t (d + count) (r + 1) all.handed behind.1.0 _, tt));
+        }
+    expression_fits (function_name line callee) d n deep typed housed h =
+        record { value = register_at registers n (n + 0) Int (omega arith) h.0; fits = λ k. (constant_fits registers blocks n 0 Int h.0 refl, tt) }
 
     pub structure_fits : (a : Structure) (d n into to : ℕ) → edge < d → is_structure known a ≡ true → Houses d (structure_rooms a) → is_within blocks into to (size_of a) ≡ true → Has registers n (structure_types a) → (k : ℕ) → Fits k (structure_code (frame d) a n into to)
     structure_fits (copy line v offset size) d n into to deep typed housed there h k = (copy_bytes_fits registers blocks into to v offset size there (wide v offset size typed), tt)
@@ -380,6 +445,16 @@ module _ (registers : List IntegerType) (variables others objects : List ℕ) (f
           copy_bytes_fits registers blocks into to edge 0 size there (zeros_within size (housed_zeros blocks edge d size no_rooms housed)),
           text_fits text (frame d) line n into to 0 to size (omega arith) (right_of _ _ typed) there whole h.0 k,
         )
+    structure_fits (give line callee used size args) d n into to deep typed housed there h k =
+        let count = argument_count args in
+        let r = n + arguments_registers args in
+        let all = passed_rooms d size args (housed_behind blocks edge d size (under_all (argument_sizes args) (under size (arguments_rooms args))) housed) in
+        let behind = beyond_arguments args n (Int ∷ []) h in
+        fit-append registers blocks k (arguments_code (frame (d + (count + 1))) args n d) (call_code (frame d) line callee used size count r ++ at_line (frame d) line (operations.CopyBytes into to (d + count) 0 size) ∷ [])
+        (arguments_fit args (parameters_of (slice_get functions callee)) (d + (count + 1)) n d (omega (arith, deep)) (right_of _ _ typed) all.behind all.arguments (has_left registers n (arguments_types args) (Int ∷ []) h) _)
+        (fit-append registers blocks k (call_code (frame d) line callee used size count r) (at_line (frame d) line (operations.CopyBytes into to (d + count) 0 size) ∷ [])
+        (called_fits d line callee used size count r (housed_zeros blocks edge d size (under_all (argument_sizes args) (under size (arguments_rooms args))) housed) all.handed behind.0 _)
+        (copy_bytes_fits registers blocks into to (d + count) 0 size there (free_within (d + count) 0 size size all.handed (omega arith)), tt))
 
     pub parts_fit : (ps : Parts) (line d n into to size : ℕ) → edge < d → are_parts known size ps ≡ true → Houses d (parts_rooms ps) → is_within blocks into to size ≡ true → Has registers n (parts_types ps) → (k : ℕ) → Fits k (parts_code (frame d) line ps n into to)
     parts_fit no_part line d n into to size deep typed housed there h k = tt
@@ -396,10 +471,42 @@ module _ (registers : List IntegerType) (variables others objects : List ℕ) (f
         (structure_fits a d n into (to + offset) deep (right_of _ _ (left_of _ _ typed)) (housed_left blocks edge d (structure_rooms a) (parts_rooms rest) housed) (part_within into to size offset (size_of a) there inner) (has_left registers n (structure_types a) (parts_types rest) h) _)
         (parts_fit rest line d (n + structure_registers a) into to size deep (right_of _ _ typed) (housed_right blocks edge d (structure_rooms a) (parts_rooms rest) housed) there (beyond_structure a n (parts_types rest) h) k)
 
+    -- arguments, the first into the block b
+    pub arguments_fit : (args : Arguments) (ps : List PassedType) (d n b : ℕ) → edge < d → are_arguments known ps args ≡ true → Houses d (arguments_rooms args) → HasRooms blocks b (argument_sizes args) → Has registers n (arguments_types args)
+        → (k : ℕ) → Fits k (arguments_code (frame d) args n b)
+    arguments_fit no_argument ps d n b deep typed housed there h k = tt
+    arguments_fit (number_argument e rest) [] d n b deep typed housed there h k = absurd (false≢true typed)
+    arguments_fit (number_argument e rest) (p ∷ ps) d n b deep typed housed there h k =
+        let fine = expression_fits e d n deep (right_of _ _ (left_of _ _ typed)) (housed_left blocks edge d (rooms e) (arguments_rooms rest) housed) (within e n (arguments_types rest) h) in
+        joined e d n (at_line (frame d) (line_of e) (operations.Store b 0 (bytes (number_type e)) (n + top e)) ∷ arguments_code (frame d) rest (n + (top e + 1)) (b + 1)) fine (λ j. (
+          store_fits registers blocks (n + top e) b 0 (number_type e) fine.value (free_within b 0 (bytes (number_type e)) (bytes (number_type e)) there.0 (omega arith)),
+          arguments_fit rest ps d (n + (top e + 1)) (b + 1) deep (right_of _ _ typed) (housed_right blocks edge d (rooms e) (arguments_rooms rest) housed) there.1 (beyond e n (arguments_types rest) h) j,
+        )) k
+    arguments_fit (structure_argument a rest) [] d n b deep typed housed there h k = absurd (false≢true typed)
+    arguments_fit (structure_argument a rest) (p ∷ ps) d n b deep typed housed there h k =
+        fit-append registers blocks k (structure_code (frame d) a n b 0) (arguments_code (frame d) rest (n + structure_registers a) (b + 1))
+        (structure_fits a d n b 0 deep (right_of _ _ (left_of _ _ typed)) (housed_left blocks edge d (structure_rooms a) (arguments_rooms rest) housed) (free_within b 0 (size_of a) (size_of a) there.0 (omega arith)) (has_left registers n (structure_types a) (arguments_types rest) h) _)
+        (arguments_fit rest ps d (n + structure_registers a) (b + 1) deep (right_of _ _ typed) (housed_right blocks edge d (structure_rooms a) (arguments_rooms rest) housed) there.1 (beyond_structure a n (arguments_types rest) h) k)
+
+  -- ---- nodes
+
+  abbrev NodesFit : ℕ → Nodes → Type 0
+  NodesFit behind nodes = nodes_fit registers blocks behind nodes ≡ true
+
+  plains_fit : (xs : List Instruction) (rest : Nodes) (behind : ℕ) → Fits (node_count rest + behind) xs → NodesFit behind rest → NodesFit behind (plains xs rest)
+  plains_fit [] rest behind fits fit = fit
+  plains_fit (i ∷ xs) rest behind fits fit =
+      let same : length xs + (node_count rest + behind) ≡ node_count (plains xs rest) + behind = omega (arith, counted xs) in
+      both_true _ _ (subst (λ (n : ℕ). operation_fits registers blocks n i.operation ≡ true) same fits.0) (plains_fit xs rest behind fits.1 fit)
+    where
+      counted : (xs : List Instruction) → node_count (plains xs rest) ≡ length xs + node_count rest
+      counted [] = omega arith
+      counted (x ∷ xs) = omega (arith, counted xs)
+
   -- ---- statements
 
   abbrev first : ℕ
-  first = edge + 1
+  first = edge + 2
 
   deep : edge < first
   deep = omega arith
@@ -451,80 +558,335 @@ module _ (registers : List IntegerType) (variables others objects : List ℕ) (f
   entry_fits (initializes_structure line v drawn a rest) n typed h k =
       behind_first line v drawn rest n (left_of _ _ (left_of _ _ (left_of _ _ typed))) (λ m. entry_fits rest m (right_of _ _ typed)) h k
   entry_fits (does s rest) n typed h k = entry_fits rest n (right_of _ _ typed) h k
+  entry_fits (label l rest) n typed h k = entry_fits rest n typed h k
+  entry_fits (case_at line t bits rest) n typed h k = entry_fits rest n (right_of _ _ typed) h k
+  entry_fits (default_at line rest) n typed h k = entry_fits rest n typed h k
 
-  mutual
-    pub statement_fits : (s : Statement) (n : ℕ) → is_typed_statement known s ≡ true → Houses first (statement_rooms s) → Has registers n (statement_types variables s) → (k : ℕ) → Fits k (statement_code here variables s n)
-    statement_fits (block items) n typed housed h k =
-        let m = n + entry_registers variables items in
-        let behind = has_at registers (n + length (entry_types variables items)) m (items_types variables items) (ap (λ r. n + r) (entry_length variables items)) (has_right registers n (entry_types variables items) (items_types variables items) h) in
-        fit-append registers blocks k (entry_code here variables items n) (items_code here variables items m)
-        (entry_fits items n typed (has_left registers n (entry_types variables items) (items_types variables items) h) _)
-        (items_fit items m typed housed behind k)
-    statement_fits (if_then line test s) n typed housed h k =
-        let tested = expression_fits test first n deep (right_of _ _ (left_of _ _ typed)) (housed_left blocks edge first (rooms test) (statement_rooms s) housed) (within test n (statement_types variables s) h) in
-        let yes = statement_code here variables s (n + (top test + 1)) in
-        joined test first n (at_line here line (operations.SkipIfZero (n + top test) (length yes)) ∷ yes) tested (λ j. (
-          skip_if_fits registers blocks _ (n + top test) (length yes) (number_type test) tested.value (omega arith),
-          statement_fits s (n + (top test + 1)) (right_of _ _ typed) (housed_right blocks edge first (rooms test) (statement_rooms s) housed) (beyond test n (statement_types variables s) h) j,
-        )) k
-    statement_fits (if_else line test s t) n typed housed h k =
-        let start = n + (top test + 1) in
-        let second = start + statement_registers variables s in
-        let some_typed = left_of _ _ typed in
-        let ways = housed_right blocks edge first (rooms test) (both (statement_rooms s) (statement_rooms t)) housed in
-        let tested = expression_fits test first n deep (right_of _ _ (left_of _ _ some_typed)) (housed_left blocks edge first (rooms test) (both (statement_rooms s) (statement_rooms t)) housed) (within test n (statement_types variables s ++ statement_types variables t) h) in
-        let behind = beyond test n (statement_types variables s ++ statement_types variables t) h in
-        let last = has_at registers (start + length (statement_types variables s)) second (statement_types variables t) (ap (λ r. start + r) (statement_length variables s)) (has_right registers start (statement_types variables s) (statement_types variables t) behind) in
-        let yes = statement_code here variables s start in
-        let no = statement_code here variables t second in
-        let over = at_line here line (operations.Skip (length no)) in
-        let long : length (yes ++ over ∷ no) ≡ length yes + length (over ∷ no) = length-append yes (over ∷ no) in
-        joined test first n (at_line here line (operations.SkipIfZero (n + top test) (length yes + 1)) ∷ (yes ++ over ∷ no)) tested (λ j. (
-          skip_if_fits registers blocks _ (n + top test) (length yes + 1) (number_type test) tested.value (omega (arith, long)),
-          fit-append registers blocks j yes (over ∷ no) (statement_fits s start (right_of _ _ some_typed) (housed_left blocks edge first (statement_rooms s) (statement_rooms t) ways) (has_left registers start (statement_types variables s) (statement_types variables t) behind) _)
-              (skip_fits registers blocks _ (length no) (omega arith), statement_fits t second (right_of _ _ typed) (housed_right blocks edge first (statement_rooms s) (statement_rooms t) ways) last j),
-        )) k
-    statement_fits (evaluate e) n typed housed h k = (expression_fits e first n deep typed housed h).fits k
-    statement_fits (returns line e) n typed housed h k = joined e first n (at_line here line operations.Exit ∷ []) (expression_fits e first n deep (right_of _ _ typed) housed h) (λ j. (refl, tt)) k
+  -- a way leads to a place of the function
+  pub record WaysFit (ways : Ways) : Type 0 where
+    pub breaks : 1 ≤ ways.break_at
+    pub continues : 1 ≤ ways.continue_at
+    pub labels : (l : ℕ) → 1 ≤ ways.label_at l
 
-    pub items_fit : (items : Items) (n : ℕ) → are_typed_items known items ≡ true → Houses first (items_rooms items) → Has registers n (items_types variables items) → (k : ℕ) → Fits k (items_code here variables items n)
-    items_fit done n typed housed h k = tt
-    items_fit (declares line v rest) n typed housed h k = items_fit rest n (right_of _ _ typed) housed h k
-    items_fit (initializes line v drawn e rest) n typed housed h k =
-        let some_typed = left_of _ _ typed in
-        let fine = expression_fits e first n deep (right_of _ _ some_typed) (housed_left blocks edge first (rooms e) (items_rooms rest) housed) (within e n (items_types variables rest) h) in
-        joined e first n (initial_store here variables line v (number_type e) (n + top e) ∷ items_code here variables rest (n + (top e + 1))) fine (λ j. (
-          store_fits registers blocks (n + top e) v 0 (number_type e) fine.value (wide v 0 (bytes (number_type e)) (filled_within registers variables v (type_of e) (left_of _ _ some_typed))),
-          items_fit rest (n + (top e + 1)) (right_of _ _ typed) (housed_right blocks edge first (rooms e) (items_rooms rest) housed) (beyond e n (items_types variables rest) h) j,
-        )) k
-    items_fit (initializes_structure line v drawn a rest) n typed housed h k =
-        let needs = under (size_of a) (structure_rooms a) in
-        let own = housed_left blocks edge first needs (items_rooms rest) housed in
-        let free = housed_room blocks edge first (size_of a) (structure_rooms a) own in
-        let tests = left_of _ _ (left_of _ _ typed) in
-        let whole = test_equal (size_of a) (slice_index variables v) (right_of _ _ tests) in
-        let copy = at_line here line (operations.CopyBytes v 0 first 0 (size_of a)) in
-        fit-append registers blocks k (initial_code here variables line v a n) (items_code here variables rest (n + structure_registers a))
-        (fit-append registers blocks _ (structure_code (frame (first + 1)) a n first 0) (copy ∷ [])
-        (structure_fits a (first + 1) n first 0 (omega (arith, deep)) (right_of _ _ (left_of _ _ typed)) (housed_under blocks edge first (size_of a) (structure_rooms a) own) (free_within first 0 (size_of a) (size_of a) free (omega arith)) (has_left registers n (structure_types a) (items_types variables rest) h) _)
-        (copy_bytes_fits registers blocks v 0 first 0 (size_of a) (wide v 0 (size_of a) (within_is registers variables v 0 (size_of a) (left_of _ _ tests) (omega (arith, whole)))) (free_within first 0 (size_of a) (size_of a) free (omega arith)), tt))
-        (items_fit rest (n + structure_registers a) (right_of _ _ typed) (housed_right blocks edge first needs (items_rooms rest) housed) (beyond_structure a n (items_types variables rest) h) k)
-    items_fit (does s rest) n typed housed h k =
-        let m = n + statement_registers variables s in
-        let behind = has_at registers (n + length (statement_types variables s)) m (items_types variables rest) (ap (λ r. n + r) (statement_length variables s)) (has_right registers n (statement_types variables s) (items_types variables rest) h) in
-        fit-append registers blocks k (statement_code here variables s n) (items_code here variables rest m)
-        (statement_fits s n (left_of _ _ typed) (housed_left blocks edge first (statement_rooms s) (items_rooms rest) housed) (has_left registers n (statement_types variables s) (items_types variables rest) h) _)
-        (items_fit rest m (right_of _ _ typed) (housed_right blocks edge first (statement_rooms s) (items_rooms rest) housed) behind k)
+  to_place_fits : (line behind place : ℕ) (rest : Nodes) → 1 ≤ place → NodesFit behind rest → NodesFit behind (to_place here variables line (behind + 1) place rest)
+  to_place_fits line behind place rest some fit = both_true _ _ (skip_fits registers blocks (node_count rest + behind) (behind + 1 + node_count rest - place) (omega (arith, some))) fit
 
--- the code of a typed function
-pub function_fits : (objects : List Static) (number : ℕ) (p : Procedure) → is_typed_function objects p ≡ true
-    → code_fits (statement_types p.variables p.body) (blocks_of p.variables (statement_rooms p.body)) (body_code (first_frame number p.variables) p.variables p.body p.line) ≡ true
-function_fits objects number p typed =
-    let registers = statement_types p.variables p.body in
-    let needed = statement_rooms p.body in
-    let others = needed.zeros ∷ needed.sizes in
+  part_fits : (e : Option Expression) (n : ℕ) → is_typed_part known e ≡ true → Houses first (part_rooms e) → Has registers n (part_types e) → (k : ℕ) → Fits k (part_code here variables e n)
+  part_fits None n typed housed h k = tt
+  part_fits (Some e) n typed housed h k = (expression_fits e first n deep typed housed h).fits k
+
+  -- a test behind which there is a place
+  test_fits : (line : ℕ) (e : Option Expression) (n : ℕ) → is_test known e ≡ true → Houses first (part_rooms e) → Has registers n (part_types e) → (k : ℕ) → 1 ≤ k → Fits k (test_code here variables line e n)
+  test_fits line None n typed housed h k place = tt
+  test_fits line (Some e) n typed housed h k place =
+      let fine = expression_fits e first n deep (right_of _ _ typed) housed h in
+      fit-append registers blocks k (code here e n) (at_line here line (operations.SkipIfZero (n + top e) 1) ∷ []) (fine.fits _)
+      (skip_if_fits registers blocks _ (n + top e) 1 (number_type e) fine.value (omega (arith, place)), tt)
+
+  beyond_part : (e : Option Expression) (n : ℕ) (ts : List IntegerType) → Has registers n (part_types e ++ ts) → Has registers (n + part_registers variables e) ts
+  beyond_part e n ts h = has_at registers (n + length (part_types e)) (n + part_registers variables e) ts (ap (λ m. n + m) (part_length variables e)) (has_right registers n (part_types e) ts h)
+
+  beyond_statement : (s : Statement) (n : ℕ) (ts : List IntegerType) → Has registers n (statement_types variables s ++ ts) → Has registers (n + statement_registers variables s) ts
+  beyond_statement s n ts h = has_at registers (n + length (statement_types variables s)) (n + statement_registers variables s) ts (ap (λ m. n + m) (statement_length variables s)) (has_right registers n (statement_types variables s) ts h)
+
+  beyond_items : (items : Items) (n : ℕ) (ts : List IntegerType) → Has registers n (items_types variables items ++ ts) → Has registers (n + items_registers variables items) ts
+  beyond_items items n ts h = has_at registers (n + length (items_types variables items)) (n + items_registers variables items) ts (ap (λ m. n + m) (items_length variables items)) (has_right registers n (items_types variables items) ts h)
+
+  beyond_cases : (items : Items) (n : ℕ) (ts : List IntegerType) → Has registers n (case_types items ++ ts) → Has registers (n + case_registers variables items) ts
+  beyond_cases items n ts h = has_at registers (n + length (case_types items)) (n + case_registers variables items) ts (ap (λ m. n + m) (case_length variables items)) (has_right registers n (case_types items) ts h)
+
+  beyond_entry : (items : Items) (n : ℕ) (ts : List IntegerType) → Has registers n (entry_types variables items ++ ts) → Has registers (n + entry_registers variables items) ts
+  beyond_entry items n ts h = has_at registers (n + length (entry_types variables items)) (n + entry_registers variables items) ts (ap (λ m. n + m) (entry_length variables items)) (has_right registers n (entry_types variables items) ts h)
+
+  -- the tests of cases
+  cases_fit : (line x before : ℕ) (items : Items) (n : ℕ) (t : ValueType) → are_cases t items ≡ true → are_typed_items known items ≡ true → Holds x (integer_of t) → Holds before Int → Has registers n (case_types items)
+      → (k : ℕ) → Fits k (case_tests here variables line x before items n)
+  cases_fit line x before done n t cases typed hx hb h k = tt
+  cases_fit line x before (declares at v rest) n t cases typed hx hb h k = cases_fit line x before rest n t cases (right_of _ _ typed) hx hb h k
+  cases_fit line x before (initializes at v drawn e rest) n t cases typed hx hb h k = cases_fit line x before rest n t cases (right_of _ _ typed) hx hb h k
+  cases_fit line x before (initializes_structure at v drawn a rest) n t cases typed hx hb h k = cases_fit line x before rest n t cases (right_of _ _ typed) hx hb h k
+  cases_fit line x before (does s rest) n t cases typed hx hb h k = cases_fit line x before rest n t cases (right_of _ _ typed) hx hb h k
+  cases_fit line x before (label l rest) n t cases typed hx hb h k = cases_fit line x before rest n t cases typed hx hb h k
+  cases_fit line x before (case_at at u bits rest) n t cases typed hx hb h k =
+      let same = same_types t (Integer u) (left_of _ _ cases) in
+      let value : Holds x u = register_of registers x (integer_of t) u same hx in
+      let two : Holds (n + 2) Int = register_at registers (n + 1 + 1) (n + 2) Int (omega arith) h.1.1.0 in
+      let behind : Has registers (n + 3) (case_types rest) = has_at registers (n + 1 + 1 + 1) (n + 3) (case_types rest) (omega arith) h.1.1.1 in (
+        constant_fits registers blocks n bits u h.0 (left_of _ _ typed),
+        (
+          compare_fits registers blocks (n + 1) n x comparisons.Equal u h.1.0 h.0 value,
+          (
+            arithmetic_fits registers blocks (n + 2) before (n + 1) arithmetics.Or Int Int (own_operands arithmetics.Or Int) two hb h.1.0,
+            cases_fit line x (n + 2) rest (n + 3) t (right_of _ _ cases) (right_of _ _ typed) hx two behind k,
+          ),
+        ),
+      )
+  cases_fit line x before (default_at at rest) n t cases typed hx hb h k = cases_fit line x before rest n t cases typed hx hb h k
+
+  last_holds : (before : ℕ) (items : Items) (n : ℕ) → Holds before Int → Has registers n (case_types items) → Holds (last_case here variables before items n) Int
+  last_holds before done n hb h = hb
+  last_holds before (declares at v rest) n hb h = last_holds before rest n hb h
+  last_holds before (initializes at v drawn e rest) n hb h = last_holds before rest n hb h
+  last_holds before (initializes_structure at v drawn a rest) n hb h = last_holds before rest n hb h
+  last_holds before (does s rest) n hb h = last_holds before rest n hb h
+  last_holds before (label l rest) n hb h = last_holds before rest n hb h
+  last_holds before (case_at at u bits rest) n hb h =
+      last_holds (n + 2) rest (n + 3) (register_at registers (n + 1 + 1) (n + 2) Int (omega arith) h.1.1.0) (has_at registers (n + 1 + 1 + 1) (n + 3) (case_types rest) (omega arith) h.1.1.1)
+  last_holds before (default_at at rest) n hb h = last_holds before rest n hb h
+
+  jumps_fit : (behind : ℕ) (ways : Ways) (line : ℕ) (items : Items) (k n : ℕ) (rest others : Nodes) → Has registers k (case_types items) → NodesFit behind others
+      → NodesFit behind (case_jumps here variables (behind + 1) ways line items k n rest others)
+  jumps_fit behind ways line done k n rest others h fit = fit
+  jumps_fit behind ways line (declares at v more) k n rest others h fit = jumps_fit behind ways line more k n rest others h fit
+  jumps_fit behind ways line (initializes at v drawn e more) k n rest others h fit = jumps_fit behind ways line more k n rest others h fit
+  jumps_fit behind ways line (initializes_structure at v drawn a more) k n rest others h fit = jumps_fit behind ways line more k n rest others h fit
+  jumps_fit behind ways line (does s more) k n rest others h fit = jumps_fit behind ways line more k n rest others h fit
+  jumps_fit behind ways line (label l more) k n rest others h fit = jumps_fit behind ways line more k n rest others h fit
+  jumps_fit behind ways line (case_at at u bits more) k n rest others h fit =
+      let others' = case_jumps here variables (behind + 1) ways line more (k + 3) n rest others in
+      let place = behind + 1 + node_count (items_code here variables (behind + 1) ways more n rest) in
+      both_true _ _ (skip_if_fits registers blocks (node_count (to_place here variables at (behind + 1) place others') + behind) (k + 1) 1 Int h.1.0 (omega arith))
+      (to_place_fits at behind place others' (omega arith) (jumps_fit behind ways line more (k + 3) n rest others (has_at registers (k + 1 + 1 + 1) (k + 3) (case_types more) (omega arith) h.1.1.1) fit))
+  jumps_fit behind ways line (default_at at more) k n rest others h fit = jumps_fit behind ways line more k n rest others h fit
+
+  default_some : (behind : ℕ) (ways : Ways) (items : Items) (n : ℕ) (rest : Nodes) → 1 ≤ default_place here variables (behind + 1) ways items n rest
+  default_some behind ways done n rest = omega arith
+  default_some behind ways (declares line v more) n rest = default_some behind ways more n rest
+  default_some behind ways (initializes line v drawn e more) n rest = default_some behind ways more n rest
+  default_some behind ways (initializes_structure line v drawn a more) n rest = default_some behind ways more n rest
+  default_some behind ways (does s more) n rest = default_some behind ways more n rest
+  default_some behind ways (label l more) n rest = default_some behind ways more n rest
+  default_some behind ways (case_at line t bits more) n rest = default_some behind ways more n rest
+  default_some behind ways (default_at line more) n rest = omega arith
+
+  labels_fit : (behind : ℕ) (ways : Ways) (items : Items) (n : ℕ) (rest : Nodes) → WaysFit ways → WaysFit (labels_of here variables (behind + 1) ways items n rest)
+  labels_fit behind ways done n rest fit = fit
+  labels_fit behind ways (declares line v more) n rest fit = labels_fit behind ways more n rest fit
+  labels_fit behind ways (initializes line v drawn e more) n rest fit = labels_fit behind ways more n rest fit
+  labels_fit behind ways (initializes_structure line v drawn a more) n rest fit = labels_fit behind ways more n rest fit
+  labels_fit behind ways (does s more) n rest fit = labels_fit behind ways more n rest fit
+  labels_fit behind ways (label l more) n rest fit =
+      let inner = labels_fit behind ways more n rest fit in
+      record { breaks = inner.breaks; continues = inner.continues; labels = λ m. chosen (l == m) _ _ (omega arith) (inner.labels m) }
+    where
+      chosen : (z : Bool) (a b : ℕ) → 1 ≤ a → 1 ≤ b → 1 ≤ (if z then a else b)
+      chosen true a b h g = h
+      chosen false a b h g = g
+  labels_fit behind ways (case_at line t bits more) n rest fit = labels_fit behind ways more n rest fit
+  labels_fit behind ways (default_at line more) n rest fit = labels_fit behind ways more n rest fit
+
+  -- what is handed over has its block
+  module _ (result_size : slice_index blocks (edge + 1) ≡ given_size gives) where
+    result_there : nat_lt (edge + 1) (length blocks) ≡ true
+    result_there = less_true (edge + 1) (length blocks) (omega (arith, length-append variables others, some))
+
+    number_room : (g : Option PassedType) (t : ValueType) → is_integer t ≡ true → same_given g (given_as t) ≡ true → given_size g ≡ bytes (integer_of t)
+    number_room g Void number h = absurd (false≢true number)
+    number_room None (Integer t) number h = absurd (false≢true h)
+    number_room (Some (passed.Integer u)) (Integer t) number h = ap bytes (same_types (Integer u) (Integer t) h)
+    number_room (Some (passed.Structure size)) (Integer t) number h = absurd (false≢true h)
+
+    structure_room : (g : Option PassedType) (size : ℕ) → same_given g (Some (passed.Structure size)) ≡ true → given_size g ≡ size
+    structure_room None size h = absurd (false≢true h)
+    structure_room (Some (passed.Integer u)) size h = absurd (false≢true h)
+    structure_room (Some (passed.Structure m)) size h = test_equal m size h
+
+    result_within : (size : ℕ) → given_size gives ≡ size → is_within blocks (edge + 1) 0 size ≡ true
+    result_within size same = within_is registers blocks (edge + 1) 0 size result_there (omega (arith, same, result_size))
+
+    mutual
+      pub statement_fits : (s : Statement) (behind : ℕ) (ways : Ways) (n : ℕ) (rest : Nodes) → is_typed_statement known s ≡ true → Houses first (statement_rooms s) → Has registers n (statement_types variables s) → WaysFit ways → NodesFit behind rest
+          → NodesFit behind (statement_code here variables (behind + 1) ways s n rest)
+      statement_fits (block items) behind ways n rest typed housed h ways_fit fit =
+          plains_fit (entry_code here variables items (n + items_registers variables items)) _ behind (entry_fits items (n + items_registers variables items) typed (beyond_items items n (entry_types variables items) h) _)
+          (items_fit items behind ways n rest typed housed (has_left registers n (items_types variables items) (entry_types variables items) h) ways_fit fit)
+      statement_fits (if_then line test s) behind ways n rest typed housed h ways_fit fit =
+          let m = n + statement_registers variables s in
+          let yes = statement_code here variables (behind + 1) ways s n rest in
+          let tested = expression_fits test first m deep (right_of _ _ (left_of _ _ typed)) (housed_left blocks edge first (rooms test) (statement_rooms s) housed) (beyond_statement s n (types test) h) in
+          plains_fit (code here test m) (plain (at_line here line (operations.SkipIfZero (m + top test) (node_count yes - node_count rest))) yes) behind (tested.fits _)
+          (both_true _ _ (skip_if_fits registers blocks (node_count yes + behind) (m + top test) (node_count yes - node_count rest) (number_type test) tested.value (omega arith))
+          (statement_fits s behind ways n rest (right_of _ _ typed) (housed_right blocks edge first (rooms test) (statement_rooms s) housed) (has_left registers n (statement_types variables s) (types test) h) ways_fit fit))
+      statement_fits (if_else line test s t) behind ways n rest typed housed h ways_fit fit =
+          let some_typed = left_of _ _ typed in
+          let second = n + statement_registers variables t in
+          let m = second + statement_registers variables s in
+          let other = housed_right blocks edge first (rooms test) (both (statement_rooms s) (statement_rooms t)) housed in
+          let last = beyond_statement t n (statement_types variables s ++ types test) h in
+          let no = statement_code here variables (behind + 1) ways t n rest in
+          let over = to_place here variables line (behind + 1) (behind + 1 + node_count rest) no in
+          let yes = statement_code here variables (behind + 1) ways s second over in
+          let tested = expression_fits test first m deep (right_of _ _ (left_of _ _ some_typed)) (housed_left blocks edge first (rooms test) (both (statement_rooms s) (statement_rooms t)) housed) (beyond_statement s second (types test) last) in
+          plains_fit (code here test m) (plain (at_line here line (operations.SkipIfZero (m + top test) (node_count yes - node_count no))) yes) behind (tested.fits _)
+          (both_true _ _ (skip_if_fits registers blocks (node_count yes + behind) (m + top test) (node_count yes - node_count no) (number_type test) tested.value (omega arith))
+          (statement_fits s behind ways second over (right_of _ _ some_typed) (housed_left blocks edge first (statement_rooms s) (statement_rooms t) other) (has_left registers second (statement_types variables s) (types test) last) ways_fit
+          (to_place_fits line behind (behind + 1 + node_count rest) no (omega arith)
+          (statement_fits t behind ways n rest (right_of _ _ typed) (housed_right blocks edge first (statement_rooms s) (statement_rooms t) other) (has_left registers n (statement_types variables t) (statement_types variables s ++ types test) h) ways_fit fit))))
+      statement_fits (evaluate e) behind ways n rest typed housed h ways_fit fit = plains_fit (code here e n) rest behind ((expression_fits e first n deep typed housed h).fits _) fit
+      statement_fits (returns line e) behind ways n rest typed housed h ways_fit fit =
+          let fine = expression_fits e first n deep (right_of _ _ typed) housed h in
+          let tests = left_of _ _ typed in
+          plains_fit (code here e n) _ behind (fine.fits _)
+          (both_true _ _ (store_fits registers blocks (n + top e) (edge + 1) 0 (number_type e) fine.value (result_within (bytes (number_type e)) (number_room gives (type_of e) (left_of _ _ tests) (right_of _ _ tests))))
+          (both_true _ _ result_there fit))
+      statement_fits (returns_structure line a) behind ways n rest typed housed h ways_fit fit =
+          plains_fit (structure_code here a n (edge + 1) 0) _ behind
+          (structure_fits a first n (edge + 1) 0 deep (right_of _ _ typed) housed (result_within (size_of a) (structure_room gives (size_of a) (left_of _ _ typed))) h _)
+          (both_true _ _ result_there fit)
+      statement_fits (returns_nothing line) behind ways n rest typed housed h ways_fit fit = fit
+      statement_fits (for_loop line l start test last s) behind ways n rest typed housed h ways_fit fit =
+          let place = behind + 1 + node_count rest in
+          let in_last = n + part_registers variables test in
+          let in_body = in_last + part_registers variables last in
+          let in_test = in_body + statement_registers variables s in
+          let end = plains (part_code here variables last in_last) (plains (test_code here variables line test n) ends) in
+          let body_behind = node_count rest + behind + 1 in
+          let inner = within_loop ways place (place + 1 + node_count end) in
+          let start_typed = left_of _ _ (left_of _ _ (left_of _ _ typed)) in
+          let test_typed = right_of _ _ (left_of _ _ (left_of _ _ typed)) in
+          let last_typed = right_of _ _ (left_of _ _ typed) in
+          let others1 = housed_right blocks edge first (part_rooms start) (both (part_rooms test) (both (part_rooms last) (statement_rooms s))) housed in
+          let others2 = housed_right blocks edge first (part_rooms test) (both (part_rooms last) (statement_rooms s)) others1 in
+          let test_housed = housed_left blocks edge first (part_rooms test) (both (part_rooms last) (statement_rooms s)) others1 in
+          let h1 = beyond_part test n (part_types last ++ (statement_types variables s ++ (part_types test ++ part_types start))) h in
+          let h2 = beyond_part last in_last (statement_types variables s ++ (part_types test ++ part_types start)) h1 in
+          let h3 = beyond_statement s in_body (part_types test ++ part_types start) h2 in
+          let h4 = beyond_part test in_test (part_types start) h3 in
+          let end_fits : NodesFit body_behind end =
+          plains_fit (part_code here variables last in_last) (plains (test_code here variables line test n) ends) body_behind
+          (part_fits last in_last last_typed (housed_left blocks edge first (part_rooms last) (statement_rooms s) others2) (has_left registers in_last (part_types last) (statement_types variables s ++ (part_types test ++ part_types start)) h1) _)
+          (plains_fit (test_code here variables line test n) ends body_behind (test_fits line test n test_typed test_housed (has_left registers n (part_types test) (part_types last ++ (statement_types variables s ++ (part_types test ++ part_types start))) h) _ (omega arith)) refl) in
+          let inner_fits : WaysFit inner = record { breaks = omega arith; continues = omega arith; labels = ways_fit.labels } in
+          let body_fits : NodesFit body_behind (statement_code here variables (body_behind + 1) inner s in_body end) =
+          statement_fits s body_behind inner in_body end (right_of _ _ typed) (housed_right blocks edge first (part_rooms last) (statement_rooms s) others2) (has_left registers in_body (statement_types variables s) (part_types test ++ part_types start) h2) inner_fits end_fits in
+          let same : body_behind + 1 ≡ place + 1 = omega arith in
+          let body_there : NodesFit body_behind (statement_code here variables (place + 1) inner s in_body end) =
+          subst (λ (base : ℕ). NodesFit body_behind (statement_code here variables base inner s in_body end)) same body_fits in
+          plains_fit (part_code here variables start (in_test + part_registers variables test)) _ behind
+          (part_fits start (in_test + part_registers variables test) start_typed (housed_left blocks edge first (part_rooms start) (both (part_rooms test) (both (part_rooms last) (statement_rooms s))) housed) h4 _)
+          (plains_fit (test_code here variables line test in_test) _ behind
+          (test_fits line test in_test test_typed test_housed (has_left registers in_test (part_types test) (part_types start) h3) _ (omega arith))
+          (both_true _ _ body_there fit))
+      statement_fits (do_loop line l s test) behind ways n rest typed housed h ways_fit fit =
+          let place = behind + 1 + node_count rest in
+          let end = plains (test_code here variables line (Some test) n) ends in
+          let body_behind = node_count rest + behind + 1 in
+          let inner = within_loop ways place (place + 1 + node_count end) in
+          let body_typed = is_typed_statement known s in
+          let number = is_integer (type_of test) in
+          let value_typed = is_typed known test in
+          let tests : is_test known (Some test) ≡ true = both_true number value_typed (right_of body_typed number (left_of (body_typed && number) value_typed typed)) (right_of (body_typed && number) value_typed typed) in
+          let end_fits : NodesFit body_behind end =
+          plains_fit (test_code here variables line (Some test) n) ends body_behind (test_fits line (Some test) n tests (housed_right blocks edge first (statement_rooms s) (rooms test) housed) (has_left registers n (types test) (statement_types variables s) h) _ (omega arith)) refl in
+          let inner_fits : WaysFit inner = record { breaks = omega arith; continues = omega arith; labels = ways_fit.labels } in
+          let body_fits : NodesFit body_behind (statement_code here variables (body_behind + 1) inner s (n + (top test + 1)) end) =
+          statement_fits s body_behind inner (n + (top test + 1)) end (left_of body_typed number (left_of (body_typed && number) value_typed typed)) (housed_left blocks edge first (statement_rooms s) (rooms test) housed) (beyond test n (statement_types variables s) h) inner_fits end_fits in
+          let same : body_behind + 1 ≡ place + 1 = omega arith in
+          both_true _ _ (subst (λ (base : ℕ). NodesFit body_behind (statement_code here variables base inner s (n + (top test + 1)) end)) same body_fits) fit
+      statement_fits (switch line e items) behind ways n rest typed housed h ways_fit fit =
+          let place = behind + 1 + node_count rest in
+          let inner = within_switch ways place in
+          let before = n + items_registers variables items in
+          let in_cases = before + 1 in
+          let in_entry = in_cases + case_registers variables items in
+          let x = in_entry + entry_registers variables items in
+          let body = items_code here variables (behind + 1) inner items n rest in
+          let otherwise = if has_default items then default_place here variables (behind + 1) inner items n rest else place in
+          let last = to_place here variables line (behind + 1) otherwise body in
+          let entered = plains (entry_code here variables items in_entry) (case_jumps here variables (behind + 1) inner line items in_cases n rest last) in
+          let items_typed = right_of _ _ typed in
+          let cases = right_of _ _ (left_of _ _ typed) in
+          let value_typed = right_of _ _ (left_of _ _ (left_of _ _ typed)) in
+          let h1 = beyond_items items n (Int ∷ (case_types items ++ (entry_types variables items ++ types e))) h in
+          let h2 = beyond_cases items in_cases (entry_types variables items ++ types e) h1.1 in
+          let h3 = beyond_entry items in_entry (types e) h2 in
+          let fine = expression_fits e first x deep value_typed (housed_left blocks edge first (rooms e) (items_rooms items) housed) h3 in
+          let tests = has_left registers in_cases (case_types items) (entry_types variables items ++ types e) h1.1 in
+          let inner_fits : WaysFit inner = record { breaks = omega arith; continues = ways_fit.continues; labels = ways_fit.labels } in
+          let body_fits = items_fit items behind inner n rest items_typed (housed_right blocks edge first (rooms e) (items_rooms items) housed) (has_left registers n (items_types variables items) (Int ∷ (case_types items ++ (entry_types variables items ++ types e))) h) inner_fits fit in
+          let last_fits = to_place_fits line behind otherwise body (chosen (has_default items) _ _ (default_some behind inner items n rest) (omega arith)) body_fits in
+          let entered_fits : NodesFit behind entered =
+          plains_fit (entry_code here variables items in_entry) _ behind (entry_fits items in_entry items_typed (has_left registers in_entry (entry_types variables items) (types e) h2) _)
+          (jumps_fit behind inner line items in_cases n rest last tests last_fits) in
+          plains_fit (code here e x) _ behind (fine.fits _)
+          (both_true _ _ (constant_fits registers blocks before 0 Int h1.0 refl)
+          (plains_fit (case_tests here variables line (x + top e) before items in_cases) _ behind (cases_fit line (x + top e) before items in_cases (type_of e) cases items_typed fine.value h1.0 tests _)
+          (by_default (has_default items) line (last_case here variables before items in_cases) (node_count entered - node_count rest) entered behind (last_holds before items in_cases h1.0 tests) (omega arith) entered_fits)))
+        where
+          chosen : (z : Bool) (a b : ℕ) → 1 ≤ a → 1 ≤ b → 1 ≤ (if z then a else b)
+          chosen true a b h g = h
+          chosen false a b h g = g
+
+          by_default : (z : Bool) (line r count : ℕ) (entered : Nodes) (behind : ℕ) → Holds r Int → count ≤ node_count entered + behind → NodesFit behind entered
+              → NodesFit behind (if z then entered else plain (at_line here line (operations.SkipIfZero r count)) entered)
+          by_default true line r count entered behind hr few fit = fit
+          by_default false line r count entered behind hr few fit = both_true _ _ (skip_if_fits registers blocks (node_count entered + behind) r count Int hr few) fit
+      statement_fits (breaks line) behind ways n rest typed housed h ways_fit fit = to_place_fits line behind ways.break_at rest ways_fit.breaks fit
+      statement_fits (continues line) behind ways n rest typed housed h ways_fit fit = to_place_fits line behind ways.continue_at rest ways_fit.continues fit
+      statement_fits (jumps line l) behind ways n rest typed housed h ways_fit fit = to_place_fits line behind (ways.label_at l) rest (ways_fit.labels l) fit
+      statement_fits (stray line s) behind ways n rest typed housed h ways_fit fit = statement_fits s behind ways n rest typed housed h ways_fit fit
+
+      pub items_fit : (items : Items) (behind : ℕ) (ways : Ways) (n : ℕ) (rest : Nodes) → are_typed_items known items ≡ true → Houses first (items_rooms items) → Has registers n (items_types variables items) → WaysFit ways → NodesFit behind rest
+          → NodesFit behind (items_code here variables (behind + 1) ways items n rest)
+      items_fit done behind ways n rest typed housed h ways_fit fit = fit
+      items_fit (declares line v more) behind ways n rest typed housed h ways_fit fit = items_fit more behind ways n rest (right_of _ _ typed) housed h ways_fit fit
+      items_fit (initializes line v drawn e more) behind ways n rest typed housed h ways_fit fit =
+          let m = n + items_registers variables more in
+          let some_typed = left_of _ _ typed in
+          let fine = expression_fits e first m deep (right_of _ _ some_typed) (housed_left blocks edge first (rooms e) (items_rooms more) housed) (beyond_items more n (types e) h) in
+          plains_fit (code here e m) _ behind (fine.fits _)
+          (both_true _ _ (store_fits registers blocks (m + top e) v 0 (number_type e) fine.value (wide v 0 (bytes (number_type e)) (filled_within registers variables v (type_of e) (left_of _ _ some_typed))))
+          (items_fit more behind ways n rest (right_of _ _ typed) (housed_right blocks edge first (rooms e) (items_rooms more) housed) (has_left registers n (items_types variables more) (types e) h) ways_fit fit))
+      items_fit (initializes_structure line v drawn a more) behind ways n rest typed housed h ways_fit fit =
+          let m = n + items_registers variables more in
+          let needs = under (size_of a) (structure_rooms a) in
+          let own = housed_left blocks edge first needs (items_rooms more) housed in
+          let free = housed_room blocks edge first (size_of a) (structure_rooms a) own in
+          let tests = left_of _ _ (left_of _ _ typed) in
+          let whole = test_equal (size_of a) (slice_index variables v) (right_of _ _ tests) in
+          let copied = at_line here line (operations.CopyBytes v 0 first 0 (size_of a)) in
+          plains_fit (initial_code here variables line v a m) _ behind
+          (fit-append registers blocks _ (structure_code (frame (first + 1)) a m first 0) (copied ∷ [])
+          (structure_fits a (first + 1) m first 0 (omega (arith, deep)) (right_of _ _ (left_of _ _ typed)) (housed_under blocks edge first (size_of a) (structure_rooms a) own) (free_within first 0 (size_of a) (size_of a) free (omega arith)) (beyond_items more n (structure_types a) h) _)
+          (copy_bytes_fits registers blocks v 0 first 0 (size_of a) (wide v 0 (size_of a) (within_is registers variables v 0 (size_of a) (left_of _ _ tests) (omega (arith, whole)))) (free_within first 0 (size_of a) (size_of a) free (omega arith)), tt))
+          (items_fit more behind ways n rest (right_of _ _ typed) (housed_right blocks edge first needs (items_rooms more) housed) (has_left registers n (items_types variables more) (structure_types a) h) ways_fit fit)
+      items_fit (does s more) behind ways n rest typed housed h ways_fit fit =
+          statement_fits s behind (labels_of here variables (behind + 1) ways more n rest) (n + items_registers variables more) (items_code here variables (behind + 1) ways more n rest) (left_of _ _ typed)
+          (housed_left blocks edge first (statement_rooms s) (items_rooms more) housed) (beyond_items more n (statement_types variables s) h) (labels_fit behind ways more n rest ways_fit)
+          (items_fit more behind ways n rest (right_of _ _ typed) (housed_right blocks edge first (statement_rooms s) (items_rooms more) housed) (has_left registers n (items_types variables more) (statement_types variables s) h) ways_fit fit)
+      items_fit (label l more) behind ways n rest typed housed h ways_fit fit = items_fit more behind ways n rest typed housed h ways_fit fit
+      items_fit (case_at line t bits more) behind ways n rest typed housed h ways_fit fit = items_fit more behind ways n rest (right_of _ _ typed) housed h ways_fit fit
+      items_fit (default_at line more) behind ways n rest typed housed h ways_fit fit = items_fit more behind ways n rest typed housed h ways_fit fit
+
+-- ---- functions
+
+-- the code of a function with a body
+body_fits : (file : TypedFile) (number : ℕ) (p : Procedure) (s : Statement) → is_typed_statement (sizes_in file p) s ≡ true → routine_fits (code_by number p (Some s)) ≡ true
+body_fits file number p s typed =
+    let registers = Int ∷ statement_types p.variables s in
+    let needed = statement_rooms s in
+    let others = needed.zeros ∷ given_size p.gives ∷ needed.sizes in
+    let blocks = p.variables ++ others in
     let f = first_frame number p.variables in
-    fit_all registers (p.variables ++ others) (body_code f p.variables p.body p.line)
-    (fit-append registers (p.variables ++ others) 0 (statement_code f p.variables p.body 0) (at_line f p.line operations.Exit ∷ [])
-    (statement_fits registers p.variables others (sizes_of_objects objects) number (omega arith) p.body 0 typed (housed_function p.variables needed) (has_itself registers) _)
-    (refl, tt))
+    let result : slice_index blocks (length p.variables + 1) ≡ given_size p.gives = second_behind p.variables needed.zeros (given_size p.gives) needed.sizes in
+    let rest = plain (at_line f p.line (operations.Return None)) (plain (at_line f p.line (operations.Assume 0)) ends) in
+    statement_fits registers p.variables others (sizes_in file p).objects (sizes_in file p).functions p.gives number (omega arith) result s 0 no_ways 1 rest typed (housed_body p.variables (given_size p.gives) needed)
+    (has_itself registers).1 (record { breaks = omega arith; continues = omega arith; labels = λ l. omega arith }) (both_true _ _ (less_true 0 (length registers) (omega arith)) refl)
+  where
+    second_behind : (xs : List ℕ) (a b : ℕ) (ys : List ℕ) → slice_index (xs ++ a ∷ b ∷ ys) (length xs + 1) ≡ b
+    second_behind [] a b ys = refl
+    second_behind (x ∷ xs) a b ys = let one : length (x ∷ xs) + 1 ≡ suc (length xs + 1) = omega arith in (λ i. slice_index (x ∷ (xs ++ a ∷ b ∷ ys)) (one i)) ∙ second_behind xs a b ys
+
+function_fits : (file : TypedFile) (number : ℕ) (p : Procedure) (body : Option Statement) → is_typed_body (sizes_in file p) body ≡ true → routine_fits (code_by number p body) ≡ true
+function_fits file number p None typed = refl
+function_fits file number p (Some s) typed = body_fits file number p s typed
+
+functions_fit : (file : TypedFile) (number : ℕ) (functions : List Procedure) → list_all (is_typed_function file) functions ≡ true → routines_fit (function_codes number functions) ≡ true
+functions_fit file number [] typed = refl
+functions_fit file number (p ∷ functions) typed =
+    both_true _ _ (function_fits file number p p.body (right_of _ _ (left_of (is_typed_function file p) (list_all (is_typed_function file) functions) typed)))
+    (functions_fit file (number + 1) functions (right_of (is_typed_function file p) (list_all (is_typed_function file) functions) typed))
+
+-- the codes of the functions of a typed file
+pub codes_fit : (file : TypedFile) → are_typed file ≡ true → routines_fit (function_codes 0 file.functions) ≡ true
+codes_fit file typed = functions_fit file 0 file.functions (right_of (list_all is_static file.objects) (list_all (is_typed_function file) file.functions) typed)

@@ -13,15 +13,16 @@ use Rattle.core_tree.specs.declared.operators.StepOperator.{StepOperator}
 use Rattle.core_tree.specs.declared.expression.Place.{Place}
 use Rattle.core_tree.specs.declared.expression.Place.TheVariants.{Object}
 use Rattle.core_tree.specs.Operations.{step_operation}
-use Rattle.core_tree.specs.Trees.{Expression, constant, read, convert, sign, is_zero, arithmetic, compare, logical, choice, assign, update, step, comma, assertion, assumption, draw, part, discard, discard_structure, Structure, copy, load, choose, put, store, follow, section, list, string, Parts, no_part, number_part, structure_part}
+use Rattle.core_tree.specs.Trees.{Expression, constant, read, convert, sign, is_zero, arithmetic, compare, logical, choice, assign, update, step, comma, assertion, assumption, discard}
 use Rattle.core_tree.specs.Typed.{place_type}
 use Rattle.c_interp.specs.Meaning.{number_type}
 use Rattle.goto_prog.specs.declared.code.Instruction.{Instruction}
 use Rattle.goto_prog.specs.declared.code.Operation.TheVariants as operations
 use Rattle.goto_lower.specs.declared.operand.Operand.{Operand}
 use Rattle.goto_lower.specs.declared.operand.Updated.{Updated}
-use Rattle.goto_lower.specs.Lowering.{Frame, top, structure_registers, parts_registers, line_of, at_line, read_code, write_code, update_code, logical_code, truth_code, code}
-use Rattle.goto_lower.specs.Registers.{types, structure_types, parts_types, update_types}
+use Rattle.goto_lower.specs.Lowering.{Frame, top, line_of, at_line, read_code, write_code, update_code, logical_code, truth_code, code}
+use Rattle.goto_lower.specs.Registers.{types, update_types}
+use Rattle.goto_lower.proofs.RegisterCounts.{types_length}
 use Rattle.goto_lower.specs.Drafts.{Listed, next, added, filled, jump, landed, operand, after, value_in, Lowers}
 
 -- ---- results
@@ -33,47 +34,6 @@ ok_both (Err e) p Q R h k f = k
 pub ok_maps : {T E : Type 0} (r : Result T E) (p q : Type 0) → (p → q) → OnOk r p → OnOk r q
 ok_maps (Ok x) p q f h = f h
 ok_maps (Err e) p q f h = h
-
--- ---- how many registers a tree has
-
-mutual
-  pub types_length : (e : Expression) → length (types e) ≡ top e + 1
-  types_length (constant line t bits) = refl
-  types_length (read p) = refl
-  types_length (convert to e) = omega (arith, length-append (types e) (to ∷ []), types_length e)
-  types_length (sign line op e) = omega (arith, length-append (types e) (number_type e ∷ []), types_length e)
-  types_length (is_zero line e) = omega (arith, length-append (types e) (Int ∷ []), types_length e)
-  types_length (arithmetic line op a b) = omega (arith, length-append (types a) (types b ++ number_type a ∷ []), length-append (types b) (number_type a ∷ []), types_length a, types_length b)
-  types_length (compare line op a b) = omega (arith, length-append (types a) (types b ++ Int ∷ []), length-append (types b) (Int ∷ []), types_length a, types_length b)
-  types_length (logical line op a b) = omega (arith, length-append (types a) (types b ++ Int ∷ Int ∷ []), length-append (types b) (Int ∷ Int ∷ []), types_length a, types_length b)
-  types_length (choice line test a b) =
-      omega (arith, length-append (types test) (types a ++ (types b ++ number_type a ∷ [])), length-append (types a) (types b ++ number_type a ∷ []), length-append (types b) (number_type a ∷ []), types_length test, types_length a, types_length b)
-  types_length (assign line p e) = types_length e
-  types_length (update line p op t e) = omega (arith, length-append (types e) (update_types p t), types_length e)
-  types_length (step line p op before) = refl
-  types_length (comma line a b) = omega (arith, length-append (types a) (types b), types_length a, types_length b)
-  types_length (assertion line e) = omega (arith, length-append (types e) (Int ∷ []), types_length e)
-  types_length (assumption line e) = omega (arith, length-append (types e) (Int ∷ []), types_length e)
-  types_length (draw line t) = refl
-  types_length (part line t offset a) = omega (arith, length-append (structure_types a) (t ∷ []), structure_length a)
-  types_length (discard line e) = omega (arith, length-append (types e) (Int ∷ []), types_length e)
-  types_length (discard_structure a) = omega (arith, length-append (structure_types a) (Int ∷ []), structure_length a)
-
-  pub structure_length : (a : Structure) → length (structure_types a) ≡ structure_registers a
-  structure_length (copy line v offset size) = refl
-  structure_length (load line k offset size) = refl
-  structure_length (choose line test a b) = omega (arith, length-append (types test) (structure_types a ++ structure_types b), length-append (structure_types a) (structure_types b), types_length test, structure_length a, structure_length b)
-  structure_length (put line v offset a) = structure_length a
-  structure_length (store line k offset a) = structure_length a
-  structure_length (follow line e a) = omega (arith, length-append (types e) (structure_types a), types_length e, structure_length a)
-  structure_length (section line offset size a) = structure_length a
-  structure_length (list line size ps) = parts_length ps
-  structure_length (string line size text) = refl
-
-  pub parts_length : (ps : Parts) → length (parts_types ps) ≡ parts_registers ps
-  parts_length no_part = refl
-  parts_length (number_part offset e rest) = omega (arith, length-append (types e) (parts_types rest), types_length e, parts_length rest)
-  parts_length (structure_part offset a rest) = omega (arith, length-append (structure_types a) (parts_types rest), structure_length a, parts_length rest)
 
 -- ---- one after the other
 

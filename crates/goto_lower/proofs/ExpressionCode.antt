@@ -1,15 +1,16 @@
 -- The code of an expression does what the expression means.
-use Rattle.std.proofs.Common.{◌≡◌, ℕ, ◌+◌, ◌<◌, ◌≤◌, Bool, true, false, List, [], ◌∷◌, ◌++◌, length, map, take, drop, refl, sym, ap, ◌∙◌, subst, arith}
-use Rattle.std.specs.Prelude.{not, ◌==◌, nat_lt, nat_le, slice_index, slice_set, if◌then◌else◌}
+use Rattle.std.proofs.Common.{◌≡◌, ℕ, ◌+◌, ◌<◌, ◌≤◌, Bool, true, false, List, [], ◌∷◌, ◌++◌, length, map, take, drop, Option, Some, None, suc, refl, sym, ap, ◌∙◌, subst, arith, append_assoc, append-nil, drop-cons}
+use Rattle.std.specs.Prelude.{not, ◌==◌, nat_lt, nat_le, slice_get, slice_index, slice_set, if◌then◌else◌}
 use Rattle.std.specs.List.{list_all}
 use Rattle.std.proofs.Math.ListN.{get_or-map}
 use Rattle.std.proofs.Math.Seq.{take-set-lt}
 use Rattle.std.proofs.lemmas.Bool.{false≢true}
 use Rattle.std.proofs.lemmas.Bool.Decides.{nat_tests}
-use Rattle.std.proofs.lemmas.List.{get_or-take, take-set-le, get_or_append_left, length-map, length-take-le, length-drop}
+use Rattle.std.proofs.lemmas.List.{get_or-take, take-set-le, get_or_append_left, length-map, length-set, length-take-le, length-drop, take_all}
 use Rattle.c_types.specs.declared.types.ValueType.{ValueType}
 use Rattle.c_types.specs.declared.types.ValueType.TheVariants.{Void, Integer}
 use Rattle.c_types.specs.declared.integers.IntegerType.{IntegerType}
+use Rattle.c_types.specs.declared.integers.IntegerType.TheVariants as types
 use Rattle.c_types.specs.Integers.{bytes, promoted}
 use Rattle.core_tree.specs.declared.operators.ArithmeticOperator.{ArithmeticOperator}
 use Rattle.core_tree.specs.declared.operators.LogicalOperator.{LogicalOperator}
@@ -17,28 +18,31 @@ use Rattle.core_tree.specs.declared.operators.LogicalOperator.TheVariants as log
 use Rattle.core_tree.specs.declared.expression.Place.{Place}
 use Rattle.core_tree.specs.declared.expression.Place.TheVariants.{Variable, Object}
 use Rattle.core_tree.specs.declared.operators.StepOperator.{StepOperator}
-use Rattle.core_tree.specs.Trees.{Expression, constant, read, convert, sign, is_zero, arithmetic, compare, logical, choice, assign, update, step, comma, assertion, assumption, draw, part, discard, discard_structure, Structure, copy, load, choose, put, store, follow, section, list, string, Parts, no_part, number_part, structure_part}
+use Rattle.core_tree.specs.Trees.{Expression, constant, read, convert, sign, is_zero, arithmetic, compare, logical, choice, assign, update, step, comma, assertion, assumption, draw, part, discard, discard_structure, call, function_name, Structure, copy, load, choose, put, store, follow, section, list, string, give, Parts, no_part, number_part, structure_part, Arguments, no_argument, number_argument, structure_argument}
 use Rattle.core_tree.specs.Operations.{drawn_width, is_true, truth_bits, converted, arithmetic_check, arithmetic_value, sign_check, sign_value, compared, step_operation}
-use Rattle.core_tree.specs.Typed.{Sizes, place_type, type_of, size_of, is_within, is_place, fits_at, is_typed, is_structure, are_parts}
+use Rattle.core_tree.specs.declared.functions.PassedType.{PassedType}
+use Rattle.core_tree.specs.declared.functions.PassedType.TheVariants as passed
+use Rattle.core_tree.specs.Typed.{Signature, Sizes, place_type, type_of, size_of, is_within, is_place, fits_at, same_passed, same_given, given_as, gives_this, parameters_of, passed_size, is_typed, is_structure, are_parts, are_arguments}
 use Rattle.c_values.specs.Variables.{Variables, pointer_to, low_bytes, put_at, zeros, number_of, number_at, block_of, put_bytes, cleared, read_variable}
 use Rattle.actions.specs.Behaviour.{Behaviour, shape_of, has_shape}
 use Rattle.actions.specs.declared.action.Action.TheVariants.{Read, Write, Draw}
 use Rattle.actions.specs.declared.action.Answer.{Answer}
 use Rattle.actions.specs.declared.action.Answer.TheVariants as answers
 use Rattle.actions.specs.declared.action.Next.TheVariants.{Broken, Blocked}
-use Rattle.words.specs.declared.check.Class.TheVariants.{Assertion}
+use Rattle.words.specs.declared.check.Class.TheVariants.{Assertion, Return}
 use Rattle.c_interp.specs.Meaning as source
-use Rattle.c_interp.specs.Meaning.{Running, integer_of, number_type, drawn, decides, eval, eval_structure, eval_parts, unless_broken, reads, writes, tells_bytes, combined, updated, stepped, operated}
+use Rattle.c_interp.specs.Meaning.{Running, integer_of, number_type, drawn, decides, eval, eval_structure, eval_parts, eval_arguments, unless_broken, unless_used, received, received_structure, reads, writes, tells_bytes, combined, updated, stepped, operated}
 use Rattle.goto_prog.specs.declared.code.Instruction.{Instruction}
 use Rattle.goto_prog.specs.declared.code.Operation.TheVariants as operations
-use Rattle.goto_prog.specs.Meaning.{word_of, bytes_in, bytes_of, Memory, register, with_register, with_blocks, at}
-use Rattle.goto_prog.specs.Threads.{behaving, ask}
-use Rattle.goto_lower.specs.Lowering.{Frame, top, structure_registers, parts_registers, at_line, read_code, write_code, code, structure_code, parts_code, text_code, update_code, logical_code}
-use Rattle.goto_lower.specs.Rooms.{Rooms, no_rooms, both, place_rooms, rooms, structure_rooms, parts_rooms}
-use Rattle.goto_lower.proofs.RegisterTypes.{left_of, right_of}
+use Rattle.goto_prog.specs.Meaning.{Given, Reading, word_of, bytes_in, bytes_of, Memory, register, with_register, with_blocks, at, or_else}
+use Rattle.goto_prog.specs.Meaning as flat
+use Rattle.goto_prog.specs.Threads.{Calls, acting, ask}
+use Rattle.goto_lower.specs.Lowering.{Frame, top, structure_registers, parts_registers, arguments_registers, argument_count, value_size, at_line, read_code, write_code, code, structure_code, parts_code, arguments_code, text_code, update_code, logical_code, use_code, call_code, taken_code}
+use Rattle.goto_lower.specs.Rooms.{Rooms, no_rooms, both, under, under_all, place_rooms, rooms, structure_rooms, parts_rooms, arguments_rooms, argument_sizes}
+use Rattle.goto_lower.proofs.RegisterTypes.{left_of, right_of, same_integers}
 use Rattle.goto_lower.proofs.BlockBytes.{put_size, low_count, few_bytes, put_more, put_none, taken_back, part_of_front, number_of_front, some_zeros, zeros_length, one_byte}
-use Rattle.goto_lower.proofs.Housing.{Housed, housed_left, housed_right, housed_under, housed_room, housed_behind, housed_zeros}
-use Rattle.goto_lower.proofs.Placing.{Places, begin, on, on-append, at-behind, written, Kept, Filled, kept-refl, kept-then, kept-set, kept-write, filled-write, filled-put, kept-filled, filled-kept, filled-within, set_same, set_other, set_room, same_final, same_ask, same_ask_when, same_check}
+use Rattle.goto_lower.proofs.Housing.{Housed, HasRooms, Room, housed_left, housed_right, housed_under, housed_room, housed_behind, housed_zeros, housed_front, housed_back}
+use Rattle.goto_lower.proofs.Placing.{Places, begin_in, on_in, on-append, at-behind, written, written_other, Kept, Filled, kept-refl, kept-then, kept-set, kept-write, filled-write, filled-put, kept-filled, filled-kept, filled-within, set_same, set_other, set_room, same_final, same_ask, same_ask_when, same_check}
 
 -- what follows a value and the variables
 abbrev pub Follows : Type 0
@@ -57,8 +61,50 @@ test_most a b h = grind (arith, nat_tests)
 pub test_equal : (a b : ℕ) → (a == b) ≡ true → a ≡ b
 test_equal a b h = grind (arith, nat_tests)
 
--- over the sizes of the blocks behind the variables
-module _ (running : Running) (others : List ℕ) where
+-- what calls do, by the source
+abbrev pub SourceCalls : Type 0
+SourceCalls = (function line : ℕ) → List (List ℕ) → (source.Given → Behaviour) → Behaviour
+
+-- ---- what functions hand over and take
+
+-- what the source hands over, as code does
+abbrev pub handed : Option PassedType → source.Given → Given
+handed gives source.nothing = None
+handed None (source.number x) = None
+handed (Some (passed.Integer t)) (source.number x) = Some (low_bytes (bytes t) x)
+handed (Some (passed.Structure size)) (source.number x) = None
+handed gives (source.structure value) = Some value
+
+-- it is nothing, or of the type that the function gives
+abbrev pub IsGiven : Option PassedType → source.Given → Type 0
+IsGiven gives source.nothing = Unit {0}
+IsGiven None (source.number x) = ⊥
+IsGiven (Some (passed.Integer t)) (source.number x) = Unit {0}
+IsGiven (Some (passed.Structure size)) (source.number x) = ⊥
+IsGiven None (source.structure value) = ⊥
+IsGiven (Some (passed.Integer t)) (source.structure value) = ⊥
+IsGiven (Some (passed.Structure size)) (source.structure value) = length value ≡ size
+
+-- blocks that begin with the arguments for parameters of these types
+abbrev pub AreArguments : List PassedType → (blocks values : List (List ℕ)) → Type 0
+AreArguments [] [] [] = Unit {0}
+AreArguments [] [] (v ∷ vs) = ⊥
+AreArguments [] (b ∷ bs) vs = ⊥
+AreArguments (p ∷ ps) [] vs = ⊥
+AreArguments (p ∷ ps) (b ∷ bs) [] = ⊥
+AreArguments (p ∷ ps) (b ∷ bs) (v ∷ vs) = (take (passed_size p) b ≡ v) × (length v ≡ passed_size p) × AreArguments ps bs vs
+
+-- over the sizes of the blocks behind the variables, what calls of code do, what becomes of what the function hands over, and what calls mean
+module _ (running : Running) (others : List ℕ) (calls : Calls) (hands : Given → Behaviour) (meant : SourceCalls) where
+  abbrev here : Reading Behaviour
+  here = acting calls hands
+
+  abbrev begin : Places → Memory → Behaviour
+  begin ps m = begin_in calls hands ps m
+
+  abbrev on : List Instruction → Places → Places
+  on code rest = on_in calls hands code rest
+
   abbrev edge : ℕ
   edge = length running.sizes
 
@@ -66,7 +112,7 @@ module _ (running : Running) (others : List ℕ) where
   sizes = running.sizes ++ others
 
   abbrev pub frame : ℕ → Frame
-  frame d = record { function = running.function; zeros = edge; free = d }
+  frame d = record { function = running.function; zeros = edge; result = edge + 1; free = d }
 
   -- the variables are the first blocks
   abbrev pub shown : Memory → Variables
@@ -74,7 +120,7 @@ module _ (running : Running) (others : List ℕ) where
 
   -- the blocks have their sizes, one behind the variables is 0, and those below d are there
   pub record Placed (d : ℕ) (m : Memory) : Type 0 where
-    pub deep : edge < d
+    pub deep : edge + 1 < d
     pub within : d ≤ length sizes
     pub sized : map length m.blocks ≡ sizes
     pub clean : block_of m.blocks edge ≡ zeros (slice_index sizes edge)
@@ -95,7 +141,7 @@ module _ (running : Running) (others : List ℕ) where
     deep = placed.deep;
     within = placed.within;
     sized = kept.sizes ∙ placed.sized;
-    clean = kept.held edge (omega arith) placed.deep ∙ placed.clean;
+    clean = kept.held edge (omega arith) (omega (arith, placed.deep)) ∙ placed.clean;
   }
 
   placed_filled : (d n into to : ℕ) (value : List ℕ) (m m' : Memory) → Placed d m → edge < into → Filled edge d n into to value m m' → Placed d m'
@@ -103,7 +149,7 @@ module _ (running : Running) (others : List ℕ) where
     deep = placed.deep;
     within = placed.within;
     sized = filled.sizes ∙ placed.sized;
-    clean = filled.held edge (omega arith) placed.deep (λ e. omega (arith, e, behind)) ∙ placed.clean;
+    clean = filled.held edge (omega arith) (omega (arith, placed.deep)) (λ e. omega (arith, e, behind)) ∙ placed.clean;
   }
 
   pub placed_deeper : (d : ℕ) (m : Memory) → d < length sizes → Placed d m → Placed (d + 1) m
@@ -112,7 +158,7 @@ module _ (running : Running) (others : List ℕ) where
   pub block_size : (d : ℕ) (m : Memory) → Placed d m → (i : ℕ) → length (block_of m.blocks i) ≡ slice_index sizes i
   block_size d m placed i = sym (get_or-map length m.blocks i []) ∙ ap (λ xs. slice_index xs i) placed.sized
 
-  block_there : (d : ℕ) (m : Memory) → Placed d m → (i : ℕ) → i < d → i < length m.blocks
+  pub block_there : (d : ℕ) (m : Memory) → Placed d m → (i : ℕ) → i < d → i < length m.blocks
   block_there d m placed i lt =
       let count : length m.blocks ≡ length sizes = sym (length-map m.blocks length) ∙ ap length placed.sized in
       omega (arith, lt, count, placed.within)
@@ -173,14 +219,14 @@ module _ (running : Running) (others : List ℕ) where
   goes-at d n m rest r s follows same goes = subst (λ (q : ℕ). Goes d n m rest q follows) same goes
 
   pub split : (xs ys : List Instruction) (rest : Places) (m : Memory) → begin (on (xs ++ ys) rest) m ≡ begin (on xs (on ys rest)) m
-  split xs ys rest m = ap (λ (ps : Places). begin ps m) (on-append xs ys rest)
+  split xs ys rest m = ap (λ (ps : Places). begin ps m) (on-append calls hands xs ys rest)
 
   -- past code, and k places more
-  pub past : (xs ys : List Instruction) (rest : Places) (k : ℕ) (m : Memory) → at behaving (on (xs ++ ys) rest) (length xs + k) m ≡ at behaving (on ys rest) k m
-  past xs ys rest k m = ap (λ (ps : Places). at behaving ps (length xs + k) m) (on-append xs ys rest) ∙ at-behind xs (on ys rest) k m
+  pub past : (xs ys : List Instruction) (rest : Places) (k : ℕ) (m : Memory) → at here (on (xs ++ ys) rest) (length xs + k) m ≡ at here (on ys rest) k m
+  past xs ys rest k m = ap (λ (ps : Places). at here ps (length xs + k) m) (on-append calls hands xs ys rest) ∙ at-behind calls hands xs (on ys rest) k m
 
-  pub past_all : (xs : List Instruction) (rest : Places) (m : Memory) → at behaving (on xs rest) (length xs) m ≡ begin rest m
-  past_all xs rest m = (let same : length xs ≡ length xs + 0 = omega arith in ap (λ n. at behaving (on xs rest) n m) same) ∙ at-behind xs rest 0 m
+  pub past_all : (xs : List Instruction) (rest : Places) (m : Memory) → at here (on xs rest) (length xs) m ≡ begin rest m
+  past_all xs rest m = (let same : length xs ≡ length xs + 0 = omega arith in ap (λ n. at here (on xs rest) n m) same) ∙ at-behind calls hands xs rest 0 m
 
   not_not : (b : Bool) → b ≡ not (not b)
   not_not true = refl
@@ -243,10 +289,94 @@ module _ (running : Running) (others : List ℕ) where
   read_size pointer count (answers.Number n) h = absurd (false≢true h)
   read_size pointer count (answers.Value v) h = absurd (false≢true h)
 
-  -- over the sizes of the static objects
-  module _ (objects : List ℕ) where
+  -- ---- calls
+
+  -- a call of code does what a call of the source means, where what follows does
+  abbrev pub Agree : List Signature → Type 0
+  Agree functions =
+      (f line : ℕ) (g : Signature) (blocks values : List (List ℕ)) (x : Given → Behaviour) (y : source.Given → Behaviour)
+      → slice_get functions f ≡ Some g → AreArguments g.parameters blocks values
+      → ((given : source.Given) → IsGiven g.gives given → x (handed g.gives given) ≡ y given)
+      → calls running.function f line blocks x ≡ meant f line values y
+
+  -- the blocks from b on begin with the arguments
+  abbrev pub AreThere : List PassedType → ℕ → List (List ℕ) → Memory → Type 0
+  AreThere [] b [] m = Unit {0}
+  AreThere [] b (v ∷ vs) m = ⊥
+  AreThere (p ∷ ps) b [] m = ⊥
+  AreThere (p ∷ ps) b (v ∷ vs) m = (take (passed_size p) (block_of m.blocks b) ≡ v) × (length v ≡ passed_size p) × AreThere ps (b + 1) vs m
+
+  there_still : (ps : List PassedType) (b : ℕ) (vs : List (List ℕ)) (m m' : Memory) → ((i : ℕ) → b ≤ i → i < b + length ps → block_of m'.blocks i ≡ block_of m.blocks i) → AreThere ps b vs m → AreThere ps b vs m'
+  there_still [] b [] m m' same there = tt
+  there_still [] b (v ∷ vs) m m' same there = absurd there
+  there_still (p ∷ ps) b [] m m' same there = absurd there
+  there_still (p ∷ ps) b (v ∷ vs) m m' same there =
+      ((λ i. take (passed_size p) (same b (omega arith) (omega arith) i)) ∙ there.0, there.1, there_still ps (b + 1) vs m m' (λ i from lt. same i (omega (arith, from)) (omega (arith, lt))) there.2)
+
+  arguments_there : (ps : List PassedType) (b : ℕ) (vs : List (List ℕ)) (m : Memory) → b + length ps ≤ length m.blocks → AreThere ps b vs m → AreArguments ps (take (length ps) (drop b m.blocks)) vs
+  arguments_there [] b [] m room there = tt
+  arguments_there [] b (v ∷ vs) m room there = absurd there
+  arguments_there (p ∷ ps) b [] m room there = absurd there
+  arguments_there (p ∷ ps) b (v ∷ vs) m room there =
+      let front : drop b m.blocks ≡ block_of m.blocks b ∷ drop (b + 1) m.blocks = drop-cons m.blocks b [] (omega (arith, room)) ∙ (let more : suc b ≡ b + 1 = omega arith in λ i. block_of m.blocks b ∷ drop (more i) m.blocks) in
+      subst (λ (bs : List (List ℕ)). AreArguments (p ∷ ps) (take (length (p ∷ ps)) bs) (v ∷ vs)) (sym front)
+      (there.0, there.1, arguments_there ps (b + 1) vs m (omega (arith, room)) there.2)
+
+  kept_lower : (d b n : ℕ) (m m' : Memory) → b ≤ d → Kept edge d n m m' → Kept edge b n m m'
+  kept_lower d b n m m' low kept = record { below = kept.below; room = kept.room; sizes = kept.sizes; held = λ i from lt. kept.held i from (omega (arith, lt, low)) }
+
+  -- a block that is filled is none of those below it
+  filled_lower : (d b n to : ℕ) (value : List ℕ) (m m' : Memory) → b ≤ d → Filled edge d n b to value m m' → Kept edge b n m m'
+  filled_lower d b n to value m m' low filled = record { below = filled.below; room = filled.room; sizes = filled.sizes; held = λ i from lt. filled.held i from (omega (arith, lt, low)) (λ e. omega (arith, lt, e)) }
+
+  number_passed : (p : PassedType) (t : ValueType) → same_given (Some p) (given_as t) ≡ true → p ≡ passed.Integer (integer_of t)
+  number_passed p Void h = absurd (false≢true h)
+  number_passed (passed.Integer u) (Integer t) h = ap passed.Integer (same_integers u t h)
+  number_passed (passed.Structure size) (Integer t) h = absurd (false≢true h)
+
+  structure_passed : (p : PassedType) (size : ℕ) → same_passed p (passed.Structure size) ≡ true → p ≡ passed.Structure size
+  structure_passed (passed.Integer u) size h = absurd (false≢true h)
+  structure_passed (passed.Structure other) size h = ap passed.Structure (test_equal other size h)
+
+  pub same_gives : (a b : Option PassedType) → same_given a b ≡ true → a ≡ b
+  same_gives None None h = refl
+  same_gives None (Some q) h = absurd (false≢true h)
+  same_gives (Some p) None h = absurd (false≢true h)
+  same_gives (Some (passed.Integer t)) (Some (passed.Integer u)) h = ap (λ v. Some (passed.Integer v)) (same_integers t u h)
+  same_gives (Some (passed.Integer t)) (Some (passed.Structure size)) h = absurd (false≢true h)
+  same_gives (Some (passed.Structure size)) (Some (passed.Integer u)) h = absurd (false≢true h)
+  same_gives (Some (passed.Structure size)) (Some (passed.Structure other)) h = ap (λ n. Some (passed.Structure n)) (test_equal size other h)
+
+  found_as : (gives : Option PassedType) (o : Option Signature) → gives_this gives o ≡ true → (g : Signature) × (o ≡ Some g) × (g.gives ≡ gives)
+  found_as gives None h = absurd (false≢true h)
+  found_as gives (Some g) h = (g, refl, same_gives g.gives gives h)
+
+  -- a number of bytes that are 0
+  no_number : (t : IntegerType) → number_at t 0 (zeros (bytes t)) ≡ 0
+  no_number types.Bool = refl
+  no_number types.Char = refl
+  no_number types.SignedChar = refl
+  no_number types.UnsignedChar = refl
+  no_number types.Short = refl
+  no_number types.UnsignedShort = refl
+  no_number types.Int = refl
+  no_number types.UnsignedInt = refl
+  no_number types.Long = refl
+  no_number types.UnsignedLong = refl
+  no_number types.LongLong = refl
+  no_number types.UnsignedLongLong = refl
+
+  -- the memory behind a call that hands bytes over
+  abbrev with_given : Memory → (b r : ℕ) → List ℕ → Memory
+  with_given m b r value = with_register (written m b 0 value) r 1
+
+  given_whole : (m : Memory) (b r : ℕ) (value : List ℕ) → length value ≤ length (block_of m.blocks b) → flat.received m b r (Some value) ≡ with_given m b r value
+  given_whole m b r value fits = λ i. with_register (written m b 0 (take_all (length (block_of m.blocks b)) value fits i)) r 1
+
+  -- over the sizes of the static objects, the types of the functions, and what the function gives
+  module _ (objects : List ℕ) (functions : List Signature) (gives : Option PassedType) (agree : Agree functions) where
     abbrev pub known : Sizes
-    known = record { variables = running.sizes; objects = objects }
+    known = record { variables = running.sizes; objects = objects; functions = functions; gives = gives }
 
     -- the code of a read of a place, into a register from n on
     reading : (d n r : ℕ) (p : Place) (m : Memory) (rest : Places) (follows : Follows)
@@ -319,7 +449,7 @@ module _ (running : Running) (others : List ℕ) where
         kept-then edge d k k m m1 m4 (omega arith) kept1
         (kept-then edge d k k m1 m2 m4 (omega arith) (kept-set edge d k (k + 1) m1 _ (omega arith))
         (kept-then edge d k k m2 m3 m4 (omega arith) (kept-set edge d k (k + 2) m2 _ (omega arith)) (kept-set edge d k (k + 3) m3 _ (omega arith)))) in
-        same_check running (arithmetic_check op t u (register m2 (k + 1)) (register m2 y)) line (begin (on (write_code (frame d) line p (k + 3)) rest) m4) (writes running p line new (shown m4) (follows old new))
+        same_check calls hands running (arithmetic_check op t u (register m2 (k + 1)) (register m2 y)) line (begin (on (write_code (frame d) line p (k + 3)) rest) m4) (writes running p line new (shown m4) (follows old new))
         (writing d k line (k + 3) p m m4 rest (follows old new) typed housed placed kept (λ m5 kept5 same.
         goes m5 kept5
         ∙ (λ i. follows (slice_index (same i) k) (slice_index (same i) (k + 3)) (shown m5))
@@ -396,10 +526,151 @@ module _ (running : Running) (others : List ℕ) where
         (put_size offset byte value (omega (arith, inner, long)) ∙ long) fits (omega (arith, inner)) (omega (arith, room, one.room)) now goes
         ∙ (λ i. follows (put_more offset c cs value (omega (arith, inner, long)) i) (shown_other m1 into (to + offset) byte (omega (arith, behind)) i))
 
+    -- a call whose arguments are in blocks from d on, and what comes behind it
+    call_does : (line f : ℕ) (used : Bool) (size count d r : ℕ) (g : Signature) (values : List (List ℕ)) (m : Memory) (xs : List Instruction) (rest : Places) (y : source.Given → Behaviour)
+        → slice_get functions f ≡ Some g → AreThere g.parameters d values m → count ≡ length g.parameters → edge + 1 < d → Placed (d + (count + 1)) m
+        → size ≤ slice_index sizes edge → size ≤ length (block_of m.blocks (d + count))
+        → ((given : source.Given) → IsGiven g.gives given → begin (on (use_code (frame d) line used r ++ xs) rest) (flat.received (written m (d + count) 0 (zeros size)) (d + count) r (handed g.gives given)) ≡ y given)
+        → begin (on (call_code (frame d) line f used size count r ++ xs) rest) m ≡ meant f line values y
+    call_does line f used size count d r g values m xs rest y found there many low placed zero_room room goes =
+        let into = d + count in
+        let behind : Given → Behaviour = λ given. begin (on (use_code (frame d) line used r ++ xs) rest) (flat.received (written m into 0 (zeros size)) into r given) in
+        let zero : take size (drop 0 (block_of m.blocks edge)) ≡ zeros size = (λ i. take size (placed.clean i)) ∙ some_zeros size (slice_index sizes edge) zero_room in
+        let m1 : Memory = written m into 0 (zeros size) in
+        let wide : length m1.blocks ≡ length m.blocks = length-set m.blocks into (put_at 0 (zeros size) (block_of m.blocks into)) in
+        let last : into < length m.blocks = block_there (d + (count + 1)) m placed into (omega arith) in
+        let still : AreThere g.parameters d values m1 = there_still g.parameters d values m m1 (λ i from lt. written_other m into 0 i (zeros size) (λ e. omega (arith, e, lt, many))) there in
+        let first : AreArguments g.parameters (take (length g.parameters) (drop d m1.blocks)) values = arguments_there g.parameters d values m1 (omega (arith, many, wide, last)) still in
+        let taken : AreArguments g.parameters (take count (drop d m1.blocks)) values = subst (λ (k : ℕ). AreArguments g.parameters (take k (drop d m1.blocks)) values) (sym many) first in
+        (λ i. calls running.function f line (take count (drop d (written m into 0 (zero i)).blocks)) (λ given. begin (on (use_code (frame d) line used r ++ xs) rest) (flat.received (written m into 0 (zero i)) into r given)))
+        ∙ agree f line g (take count (drop d m1.blocks)) values behind y found taken goes
+
+    -- what tells that a value was handed over lets its use pass
+    used_means : (line : ℕ) (used : Bool) (d r : ℕ) (xs : List Instruction) (m : Memory) (rest : Places) → register m r ≡ 1 → begin (on (use_code (frame d) line used r ++ xs) rest) m ≡ begin (on xs rest) m
+    used_means line true d r xs m rest one = λ i. or_else here (flat.return_check (one i)) line running.function (begin (on xs rest) m)
+    used_means line false d r xs m rest one = refl
+
+    -- nothing was handed over
+    unused_means : (line : ℕ) (used : Bool) (d r : ℕ) (xs : List Instruction) (m : Memory) (rest : Places) (b : Behaviour) → register m r ≡ 0 → begin (on xs rest) m ≡ b → begin (on (use_code (frame d) line used r ++ xs) rest) m ≡ unless_used running used line b
+    unused_means line true d r xs m rest b none same = (λ i. or_else here (flat.return_check (none i)) line running.function (begin (on xs rest) m)) ∙ same_final (Broken Return line running.function)
+    unused_means line false d r xs m rest b none same = same
+
+    none_means : (line : ℕ) (used : Bool) (t : ValueType) (d n into r : ℕ) (old : List ℕ) (m m1 m2 : Memory) (rest : Places) (follows : Follows)
+        → Kept edge d n m m2 → n ≤ r → r + 1 < length m.registers → block_of m1.blocks into ≡ put_at 0 (zeros (value_size t)) old → value_size t ≤ length old
+        → register m2 r ≡ 0 → m2.blocks ≡ m1.blocks → Goes d n m rest (r + 1) follows
+        → begin (on (use_code (frame d) line used r ++ taken_code (frame d) line t into (r + 1) ∷ []) rest) m2 ≡ unless_used running used line (follows 0 (shown m1))
+    none_means line used Void d n into r old m m1 m2 rest follows kept above room clear fits none blocks goes =
+        unused_means line used d r (at_line (frame d) line (operations.Constant (r + 1) 0) ∷ []) m2 rest (follows 0 (shown m1)) none
+        (sets d n (r + 1) 0 m m2 rest follows (omega (arith, above)) room kept goes ∙ (λ i. follows 0 (take edge (blocks i))))
+    none_means line used (Integer t) d n into r old m m1 m2 rest follows kept above room clear fits none blocks goes =
+        let last = number_at t 0 (block_of m2.blocks into) in
+        let is_zero_number : last ≡ 0 =
+        (λ i. number_at t 0 (block_of (blocks i) into)) ∙ ap (number_at t 0) clear ∙ number_of_front t 0 (zeros (bytes t)) old (omega (arith, zeros_length (bytes t))) ∙ no_number t in
+        unused_means line used d r (at_line (frame d) line (operations.Load (r + 1) t into 0) ∷ []) m2 rest (follows 0 (shown m1)) none
+        (sets d n (r + 1) last m m2 rest follows (omega (arith, above)) room kept goes ∙ (λ i. follows (is_zero_number i) (take edge (blocks i))))
+
+    -- the value of a call, in a register behind the one that tells whether it is handed over
+    taken_means : (line : ℕ) (used : Bool) (t : ValueType) (d n into r : ℕ) (old : List ℕ) (m m1 : Memory) (rest : Places) (follows : Follows) (given : source.Given)
+        → IsGiven (given_as t) given → Kept edge d n m m1 → n ≤ r → r + 1 < length m.registers → edge < into → d ≤ into → into < length m1.blocks
+        → block_of m1.blocks into ≡ put_at 0 (zeros (value_size t)) old → value_size t ≤ length old
+        → Goes d n m rest (r + 1) follows
+        → begin (on (use_code (frame d) line used r ++ taken_code (frame d) line t into (r + 1) ∷ []) rest) (flat.received m1 into r (handed (given_as t) given)) ≡ received running used line (integer_of t) (λ x. follows x (shown m1)) given
+    taken_means line used t d n into r old m m1 rest follows source.nothing is kept above room behind free there clear fits goes =
+        let m2 : Memory = with_register m1 r 0 in
+        let kept2 : Kept edge d n m m2 = kept-then edge d n n m m1 m2 (omega arith) kept (kept-set edge d n r m1 0 above) in
+        none_means line used t d n into r old m m1 m2 rest follows kept2 above room clear fits (set_same m1 r 0 (omega (arith, room, kept.room))) refl goes
+    taken_means line used Void d n into r old m m1 rest follows (source.number x) is kept above room behind free there clear fits goes = absurd is
+    taken_means line used (Integer t) d n into r old m m1 rest follows (source.number x) is kept above room behind free there clear fits goes =
+        let value = low_bytes (bytes t) x in
+        let count : length value ≡ bytes t = low_count (bytes t) x (few_bytes t) in
+        let long : length (block_of m1.blocks into) ≡ length old = ap length clear ∙ put_size 0 (zeros (bytes t)) old (omega (arith, zeros_length (bytes t), fits)) in
+        let m2 : Memory = written m1 into 0 value in
+        let m3 : Memory = with_register m2 r 1 in
+        let filled : Filled edge (into + 1) n into 0 value m1 m2 = filled-put edge (into + 1) n into 0 value m1 there (omega (arith, count, long, fits)) in
+        let kept2 : Kept edge d n m m2 = kept-then edge d n n m m1 m2 (omega arith) kept (kept_lower into d n m1 m2 free (filled-kept edge into n 0 value m1 m2 filled)) in
+        let kept3 : Kept edge d n m m3 = kept-then edge d n n m m2 m3 (omega arith) kept2 (kept-set edge d n r m2 1 above) in
+        let one : register m3 r ≡ 1 = set_same m2 r 1 (omega (arith, room, kept2.room)) in
+        let last = number_at t 0 (block_of m3.blocks into) in
+        let is_value : last ≡ number_of t value = ap (number_at t 0) filled.filled ∙ number_of_front t 0 value (block_of m1.blocks into) (omega (arith, count)) in
+        let same : shown m3 ≡ shown m1 = shown_other m1 into 0 value (omega (arith, behind)) in
+        (λ i. begin (on (use_code (frame d) line used r ++ taken_code (frame d) line (Integer t) into (r + 1) ∷ []) rest) (given_whole m1 into r value (omega (arith, count, long, fits)) i))
+        ∙ used_means line used d r (at_line (frame d) line (operations.Load (r + 1) t into 0) ∷ []) m3 rest one
+        ∙ sets d n (r + 1) last m m3 rest follows (omega (arith, above)) room kept3 goes
+        ∙ (λ i. follows (is_value i) (same i))
+    taken_means line used Void d n into r old m m1 rest follows (source.structure value) is kept above room behind free there clear fits goes = absurd is
+    taken_means line used (Integer t) d n into r old m m1 rest follows (source.structure value) is kept above room behind free there clear fits goes = absurd is
+
+    argument_total : (ps : List PassedType) (args : Arguments) → are_arguments known ps args ≡ true → argument_count args ≡ length ps
+    argument_total [] no_argument h = refl
+    argument_total (p ∷ ps) no_argument h = absurd (false≢true h)
+    argument_total [] (number_argument e args) h = absurd (false≢true h)
+    argument_total (p ∷ ps) (number_argument e args) h = omega (arith, argument_total ps args (right_of _ _ h))
+    argument_total [] (structure_argument a args) h = absurd (false≢true h)
+    argument_total (p ∷ ps) (structure_argument a args) h = omega (arith, argument_total ps args (right_of _ _ h))
+
+    size_total : (args : Arguments) → length (argument_sizes args) ≡ argument_count args
+    size_total no_argument = refl
+    size_total (number_argument e args) = omega (arith, size_total args)
+    size_total (structure_argument a args) = omega (arith, size_total args)
+
+    -- the blocks of the arguments, that of what is handed over, and those for values on the way to the arguments
+    call_rooms : (args : Arguments) (size d : ℕ) → Houses d (under_all (argument_sizes args) (under size (arguments_rooms args)))
+        → HasRooms sizes d (argument_sizes args) × Room sizes (d + argument_count args) size × Houses (d + (argument_count args + 1)) (arguments_rooms args)
+    call_rooms args size d housed =
+        let many = size_total args in
+        let back : Houses (d + argument_count args) (under size (arguments_rooms args)) =
+        subst (λ (k : ℕ). Houses (d + k) (under size (arguments_rooms args))) many (housed_back sizes edge d (argument_sizes args) (under size (arguments_rooms args)) housed) in
+        let more : d + argument_count args + 1 ≡ d + (argument_count args + 1) = omega arith in (
+          housed_front sizes edge d (argument_sizes args) (under size (arguments_rooms args)) housed,
+          housed_room sizes edge (d + argument_count args) size (arguments_rooms args) back,
+          subst (λ (k : ℕ). Houses k (arguments_rooms args)) more (housed_under sizes edge (d + argument_count args) size (arguments_rooms args) back),
+        )
+
+    placed_at : (d e : ℕ) (m : Memory) → edge + 1 < e → e ≤ length sizes → Placed d m → Placed e m
+    placed_at d e m deep within placed = record { deep = deep; within = within; sized = placed.sized; clean = placed.clean }
+
+    -- the structure value of a call goes where it is wanted
+    structure_taken : (line : ℕ) (used : Bool) (size d n into to b r : ℕ) (old : List ℕ) (m m1 : Memory) (rest : Places) (follows : FollowsBytes) (given : source.Given)
+        → IsGiven (Some (passed.Structure size)) given → Placed d m → Kept edge d n m m1 → n ≤ r → r < length m.registers → edge < into → into < d → d ≤ b → b < length m1.blocks
+        → block_of m1.blocks b ≡ put_at 0 (zeros size) old → size ≤ length old → to + size ≤ length (block_of m.blocks into)
+        → GoesInto d n m rest into to size follows
+        → begin (on (use_code (frame d) line used r ++ at_line (frame d) line (operations.CopyBytes into to b 0 size) ∷ []) rest) (flat.received m1 b r (handed (Some (passed.Structure size)) given)) ≡ received_structure running used size line (λ value. follows value (shown m1)) given
+    structure_taken line used size d n into to b r old m m1 rest follows source.nothing is placed kept above room behind inside free there clear fits wide goes =
+        let m2 : Memory = with_register m1 r 0 in
+        let kept2 : Kept edge d n m m2 = kept-then edge d n n m m1 m2 (omega arith) kept (kept-set edge d n r m1 0 above) in
+        let new = take size (drop 0 (block_of m2.blocks b)) in
+        let same : new ≡ zeros size = (λ i. take size (drop 0 (clear i))) ∙ taken_back 0 size (zeros size) old (zeros_length size) (omega arith) in
+        let placed2 = placed_kept d n m m2 placed kept2 in
+        let room2 : to + length (zeros size) ≤ length (block_of m2.blocks into) = omega (arith, wide, zeros_length size, kept_size d n m m2 placed kept2 into) in
+        let filled : Filled edge d n into to (zeros size) m (written m2 into to (zeros size)) = kept-filled edge d n n into to (zeros size) m m2 (written m2 into to (zeros size)) (omega arith) (omega (arith, behind)) inside kept2 (filled-put edge d n into to (zeros size) m2 (block_there d m2 placed2 into inside) room2) in
+        unused_means line used d r (at_line (frame d) line (operations.CopyBytes into to b 0 size) ∷ []) m2 rest (follows (zeros size) (shown m1)) (set_same m1 r 0 (omega (arith, room, kept.room)))
+        ((λ i. begin rest (written m2 into to (same i)))
+        ∙ goes (written m2 into to (zeros size)) (zeros size) (zeros_length size) filled
+        ∙ ap (follows (zeros size)) (shown_other m2 into to (zeros size) (omega (arith, behind))))
+    structure_taken line used size d n into to b r old m m1 rest follows (source.number x) is placed kept above room behind inside free there clear fits wide goes = absurd is
+    structure_taken line used size d n into to b r old m m1 rest follows (source.structure value) is placed kept above room behind inside free there clear fits wide goes =
+        let long : length (block_of m1.blocks b) ≡ length old = ap length clear ∙ put_size 0 (zeros size) old (omega (arith, zeros_length size, fits)) in
+        let m2 : Memory = written m1 b 0 value in
+        let m3 : Memory = with_register m2 r 1 in
+        let filled_b : Filled edge (b + 1) n b 0 value m1 m2 = filled-put edge (b + 1) n b 0 value m1 there (omega (arith, is, long, fits)) in
+        let kept2 : Kept edge d n m m2 = kept-then edge d n n m m1 m2 (omega arith) kept (kept_lower b d n m1 m2 free (filled-kept edge b n 0 value m1 m2 filled_b)) in
+        let kept3 : Kept edge d n m m3 = kept-then edge d n n m m2 m3 (omega arith) kept2 (kept-set edge d n r m2 1 above) in
+        let new = take size (drop 0 (block_of m3.blocks b)) in
+        let same : new ≡ value = (λ i. take size (drop 0 (filled_b.filled i))) ∙ taken_back 0 size value (block_of m1.blocks b) is (omega arith) in
+        let placed3 = placed_kept d n m m3 placed kept3 in
+        let room3 : to + length value ≤ length (block_of m3.blocks into) = omega (arith, wide, is, kept_size d n m m3 placed kept3 into) in
+        let filled : Filled edge d n into to value m (written m3 into to value) = kept-filled edge d n n into to value m m3 (written m3 into to value) (omega arith) (omega (arith, behind)) inside kept3 (filled-put edge d n into to value m3 (block_there d m3 placed3 into inside) room3) in
+        (λ i. begin (on (use_code (frame d) line used r ++ at_line (frame d) line (operations.CopyBytes into to b 0 size) ∷ []) rest) (given_whole m1 b r value (omega (arith, is, long, fits)) i))
+        ∙ used_means line used d r (at_line (frame d) line (operations.CopyBytes into to b 0 size) ∷ []) m3 rest (set_same m2 r 1 (omega (arith, room, kept2.room)))
+        ∙ (λ i. begin rest (written m3 into to (same i)))
+        ∙ goes (written m3 into to value) value is filled
+        ∙ (λ i. follows value (shown_other m3 into to value (omega (arith, behind)) i))
+        ∙ (λ i. follows value (shown_other m1 b 0 value (omega (arith, behind, inside, free)) i))
+
     mutual
       pub means : (e : Expression) (d n : ℕ) (m : Memory) (rest : Places) (follows : Follows)
           → is_typed known e ≡ true → Houses d (rooms e) → Placed d m → n + top e < length m.registers → Goes d n m rest (n + top e) follows
-          → begin (on (code (frame d) e n) rest) m ≡ eval running e (shown m) follows
+          → begin (on (code (frame d) e n) rest) m ≡ eval running meant e (shown m) follows
       means (constant line t bits) d n m rest follows typed housed placed room goes =
           sets d n n bits m m rest follows (omega arith) (omega (arith, room)) (kept-refl edge d n m) (goes-at d n m rest n (n + 0) follows (omega arith) goes)
       means (read p) d n m rest follows typed housed placed room goes = reading d n n p m rest follows typed housed placed (omega arith) (omega (arith, room)) (goes-at d n m rest n (n + 0) follows (omega arith) goes)
@@ -414,7 +685,7 @@ module _ (running : Running) (others : List ℕ) where
       means (sign line op e) d n m rest follows typed housed placed room goes =
           split (code (frame d) e n) _ rest m
           ∙ means e d n m _ (λ x after. unless_broken running (sign_check op (number_type e) x) line (follows (sign_value op (number_type e) x) after)) (right_of _ _ typed) housed placed (omega (arith, room)) (λ m' kept.
-          same_check running (sign_check op (number_type e) (register m' (n + top e))) line _ _
+          same_check calls hands running (sign_check op (number_type e) (register m' (n + top e))) line _ _
           (sets d n (n + (top e + 1)) (sign_value op (number_type e) (register m' (n + top e))) m m' rest follows (omega arith) room kept goes))
       means (is_zero line e) d n m rest follows typed housed placed room goes =
           split (code (frame d) e n) _ rest m
@@ -424,17 +695,17 @@ module _ (running : Running) (others : List ℕ) where
       means (arithmetic line op a b) d n m rest follows typed housed placed room goes =
           let second = n + (top a + 1) in
           split (code (frame d) a n) _ rest m
-          ∙ means a d n m _ (λ x after. eval running b after (λ y last. operated running op (number_type a) (number_type b) x y line (λ z. follows z last))) (right_of _ _ (left_of _ _ typed)) (housed_left sizes edge d (rooms a) (rooms b) housed) placed (omega (arith, room)) (λ m1 kept1.
+          ∙ means a d n m _ (λ x after. eval running meant b after (λ y last. operated running op (number_type a) (number_type b) x y line (λ z. follows z last))) (right_of _ _ (left_of _ _ typed)) (housed_left sizes edge d (rooms a) (rooms b) housed) placed (omega (arith, room)) (λ m1 kept1.
           split (code (frame d) b second) _ rest m1
           ∙ means b d second m1 _ (λ y last. operated running op (number_type a) (number_type b) (register m1 (n + top a)) y line (λ z. follows z last)) (right_of _ _ typed) (housed_right sizes edge d (rooms a) (rooms b) housed) (placed_kept d n m m1 placed kept1) (omega (arith, room, kept1.room)) (λ m2 kept2.
-          same_check running (arithmetic_check op (number_type a) (number_type b) (register m2 (n + top a)) (register m2 (second + top b))) line _ _
+          same_check calls hands running (arithmetic_check op (number_type a) (number_type b) (register m2 (n + top a)) (register m2 (second + top b))) line _ _
           (sets d n (n + (top a + (top b + 2))) (arithmetic_value op (number_type a) (register m2 (n + top a)) (register m2 (second + top b))) m m2 rest follows (omega arith) room
           (kept-then edge d n second m m1 m2 (omega arith) kept1 kept2) goes)
           ∙ ap (λ x. operated running op (number_type a) (number_type b) x (register m2 (second + top b)) line (λ z. follows z (shown m2))) (kept2.below (n + top a) (omega arith))))
       means (compare line op a b) d n m rest follows typed housed placed room goes =
           let second = n + (top a + 1) in
           split (code (frame d) a n) _ rest m
-          ∙ means a d n m _ (λ x after. eval running b after (λ y. follows (truth_bits (compared op (number_type a) x y)))) (right_of _ _ (left_of _ _ typed)) (housed_left sizes edge d (rooms a) (rooms b) housed) placed (omega (arith, room)) (λ m1 kept1.
+          ∙ means a d n m _ (λ x after. eval running meant b after (λ y. follows (truth_bits (compared op (number_type a) x y)))) (right_of _ _ (left_of _ _ typed)) (housed_left sizes edge d (rooms a) (rooms b) housed) placed (omega (arith, room)) (λ m1 kept1.
           split (code (frame d) b second) _ rest m1
           ∙ means b d second m1 _ (λ y. follows (truth_bits (compared op (number_type a) (register m1 (n + top a)) y))) (right_of _ _ typed) (housed_right sizes edge d (rooms a) (rooms b) housed) (placed_kept d n m m1 placed kept1) (omega (arith, room, kept1.room)) (λ m2 kept2.
           sets d n (n + (top a + (top b + 2))) (truth_bits (compared op (number_type a) (register m2 (n + top a)) (register m2 (second + top b)))) m m2 rest follows (omega arith) room
@@ -442,7 +713,7 @@ module _ (running : Running) (others : List ℕ) where
           ∙ ap (λ x. follows (truth_bits (compared op (number_type a) x (register m2 (second + top b)))) (shown m2)) (kept2.below (n + top a) (omega arith))))
       means (logical line op a b) d n m rest follows typed housed placed room goes =
           split (code (frame d) a n) _ rest m
-          ∙ means a d n m _ _ (right_of _ _ (left_of _ _ typed)) (housed_left sizes edge d (rooms a) (rooms b) housed) placed (omega (arith, room)) (λ m1 kept1. means_logical d line op (code (frame d) b (n + (top a + 1))) (top b) (eval running b) n (top a) (λ m2 rest2 follows2 placed2. means b d (n + (top a + 1)) m2 rest2 follows2 (right_of _ _ typed) (housed_right sizes edge d (rooms a) (rooms b) housed) placed2) m m1 rest follows (placed_kept d n m m1 placed kept1) room kept1 goes)
+          ∙ means a d n m _ _ (right_of _ _ (left_of _ _ typed)) (housed_left sizes edge d (rooms a) (rooms b) housed) placed (omega (arith, room)) (λ m1 kept1. means_logical d line op (code (frame d) b (n + (top a + 1))) (top b) (eval running meant b) n (top a) (λ m2 rest2 follows2 placed2. means b d (n + (top a + 1)) m2 rest2 follows2 (right_of _ _ typed) (housed_right sizes edge d (rooms a) (rooms b) housed) placed2) m m1 rest follows (placed_kept d n m m1 placed kept1) room kept1 goes)
       means (choice line test a b) d n m rest follows typed housed placed room goes =
           let first = n + (top test + 1) in
           let second = first + (top a + 1) in
@@ -451,7 +722,7 @@ module _ (running : Running) (others : List ℕ) where
           let no_code = code (frame d) b second in
           let goes' : Goes d n m rest result follows = goes-at d n m rest result (n + (top test + (top a + (top b + 3)))) follows (omega arith) goes in
           split (code (frame d) test n) _ rest m
-          ∙ means test d n m _ (λ x after. if is_true x then eval running a after follows else eval running b after follows) (right_of _ _ (left_of _ _ (left_of _ _ typed))) (housed_left sizes edge d (rooms test) (both (rooms a) (rooms b)) housed) placed (omega (arith, room)) (λ m1 kept1.
+          ∙ means test d n m _ (λ x after. if is_true x then eval running meant a after follows else eval running meant b after follows) (right_of _ _ (left_of _ _ (left_of _ _ typed))) (housed_left sizes edge d (rooms test) (both (rooms a) (rooms b)) housed) placed (omega (arith, room)) (λ m1 kept1.
           turned (register m1 (n + top test) == 0) _ _ _ _
           (past yes_code _ rest 2 m1
           ∙ split no_code _ rest m1
@@ -476,7 +747,7 @@ module _ (running : Running) (others : List ℕ) where
       means (comma line a b) d n m rest follows typed housed placed room goes =
           let second = n + (top a + 1) in
           split (code (frame d) a n) _ rest m
-          ∙ means a d n m _ (λ x after. eval running b after follows) (left_of _ _ typed) (housed_left sizes edge d (rooms a) (rooms b) housed) placed (omega (arith, room)) (λ m1 kept1.
+          ∙ means a d n m _ (λ x after. eval running meant b after follows) (left_of _ _ typed) (housed_left sizes edge d (rooms a) (rooms b) housed) placed (omega (arith, room)) (λ m1 kept1.
           means b d second m1 rest follows (right_of _ _ typed) (housed_right sizes edge d (rooms a) (rooms b) housed) (placed_kept d n m m1 placed kept1) (omega (arith, room, kept1.room)) (λ m2 kept2.
           goes m2 (kept-then edge d n second m m1 m2 (omega arith) kept1 kept2)
           ∙ (let same : n + (top a + (top b + 1)) ≡ second + top b = omega arith in ap (λ r. follows (register m2 r) (shown m2)) same)))
@@ -495,7 +766,7 @@ module _ (running : Running) (others : List ℕ) where
           let inner = test_most (offset + bytes t) (size_of a) (left_of _ _ typed) in
           split (structure_code (frame (d + 1)) a n d 0) _ rest m
           ∙ structure_means a (d + 1) n d 0 m _ (λ value. follows (number_at t offset value)) (right_of _ _ typed) (housed_under sizes edge d (size_of a) (structure_rooms a) housed) (placed_deeper d m free.there placed)
-          placed.deep (omega arith) (omega (arith, free.fits, block_size d m placed d)) (omega (arith, room)) (λ m1 value long filled.
+          (omega (arith, placed.deep)) (omega arith) (omega (arith, free.fits, block_size d m placed d)) (omega (arith, room)) (λ m1 value long filled.
           sets d n (n + structure_registers a) (read_variable m1.blocks d offset t) m m1 rest follows (omega arith) room (filled-kept edge d n 0 value m m1 filled) goes
           ∙ (λ i. follows (number_at t offset (filled.filled i)) (shown m1))
           ∙ ap (λ x. follows x (shown m1)) (number_of_front t offset value (block_of m.blocks d) (omega (arith, inner, long))))
@@ -507,14 +778,94 @@ module _ (running : Running) (others : List ℕ) where
           let free = housed_room sizes edge d (size_of a) (structure_rooms a) housed in
           split (structure_code (frame (d + 1)) a n d 0) _ rest m
           ∙ structure_means a (d + 1) n d 0 m _ (λ value. follows 0) typed (housed_under sizes edge d (size_of a) (structure_rooms a) housed) (placed_deeper d m free.there placed)
-          placed.deep (omega arith) (omega (arith, free.fits, block_size d m placed d)) (omega (arith, room)) (λ m1 value long filled.
+          (omega (arith, placed.deep)) (omega arith) (omega (arith, free.fits, block_size d m placed d)) (omega (arith, room)) (λ m1 value long filled.
           sets d n (n + structure_registers a) 0 m m1 rest follows (omega arith) room (filled-kept edge d n 0 value m m1 filled) goes)
+      means (call line f used t args) d n m rest follows typed housed placed room goes =
+          let count = argument_count args in
+          let size = value_size t in
+          let into = d + count in
+          let deep = d + (count + 1) in
+          let r = n + arguments_registers args in
+          let found = found_as (given_as t) (slice_get functions f) (right_of _ _ (left_of _ _ typed)) in
+          let g = found.0 in
+          let parameters : parameters_of (slice_get functions f) ≡ g.parameters = ap parameters_of found.1 in
+          let fitting : are_arguments known g.parameters args ≡ true = (λ i. are_arguments known (sym parameters i) args) ∙ right_of _ _ typed in
+          let many : count ≡ length g.parameters = argument_total g.parameters args fitting in
+          let inner = call_rooms args size d (housed_behind sizes edge d size (under_all (argument_sizes args) (under size (arguments_rooms args))) housed) in
+          let free = inner.1 in
+          let placed_in : Placed deep m = placed_at d deep m (omega (arith, placed.deep)) (omega (arith, free.there)) placed in
+          split (arguments_code (frame deep) args n d) (call_code (frame d) line f used size count r ++ taken_code (frame d) line t into (r + 1) ∷ []) rest m
+          ∙ arguments_mean args g.parameters deep n d [] m _ (λ blocks after. meant f line blocks (received running used line (integer_of t) (λ x. follows x after))) fitting inner.2 inner.0 placed_in placed.deep (omega arith) (omega (arith, room)) (λ m1 values kept1 there.
+          let placed1 = placed_kept d n m m1 placed kept1 in
+          let placed_deep : Placed deep m1 = placed_at d deep m1 (omega (arith, placed.deep)) (omega (arith, free.there)) placed1 in
+          let fits : size ≤ length (block_of m1.blocks into) = omega (arith, free.fits, block_size d m1 placed1 into) in
+          let zero_room = housed_zeros sizes edge d size (under_all (argument_sizes args) (under size (arguments_rooms args))) housed in
+          let m2 : Memory = written m1 into 0 (zeros size) in
+          let wide : into < length m1.blocks = block_there deep m1 placed_deep into (omega arith) in
+          let filled : Filled edge (into + 1) n into 0 (zeros size) m1 m2 = filled-put edge (into + 1) n into 0 (zeros size) m1 wide (omega (arith, zeros_length size, fits)) in
+          let kept2 : Kept edge d n m m2 = kept-then edge d n n m m1 m2 (omega arith) kept1 (kept_lower into d n m1 m2 (omega arith) (filled-kept edge into n 0 (zeros size) m1 m2 filled)) in
+          let same : shown m2 ≡ shown m1 = shown_other m1 into 0 (zeros size) (omega (arith, placed.deep)) in
+          call_does line f used size count d r g values m1 (taken_code (frame d) line t into (r + 1) ∷ []) rest (received running used line (integer_of t) (λ x. follows x (shown m1))) found.1 there many placed.deep placed_deep zero_room fits (λ given is.
+          (λ i. begin (on (use_code (frame d) line used r ++ taken_code (frame d) line t into (r + 1) ∷ []) rest) (flat.received m2 into r (handed (found.2 i) given)))
+          ∙ taken_means line used t d n into r (block_of m1.blocks into) m m2 rest follows given (subst (λ (gives : Option PassedType). IsGiven gives given) found.2 is) kept2 (omega arith) (omega (arith, room)) (omega (arith, placed.deep)) (omega arith)
+          (omega (arith, wide, length-set m1.blocks into (put_at 0 (zeros size) (block_of m1.blocks into)))) (filled.filled) fits (goes-at d n m rest (r + 1) (n + (arguments_registers args + 1)) follows (omega arith) goes)
+          ∙ (λ i. received running used line (integer_of t) (λ x. follows x (same i)) given)))
+      means (function_name line f) d n m rest follows typed housed placed room goes =
+          sets d n n 0 m m rest follows (omega arith) (omega (arith, room)) (kept-refl edge d n m) (goes-at d n m rest n (n + 0) follows (omega arith) goes)
+
+      -- the arguments of a call are put into blocks from b on
+      pub arguments_mean : (args : Arguments) (ps : List PassedType) (d n b : ℕ) (so_far : List (List ℕ)) (m : Memory) (rest : Places) (follows : List (List ℕ) → Variables → Behaviour)
+          → are_arguments known ps args ≡ true → Houses d (arguments_rooms args) → HasRooms sizes b (argument_sizes args) → Placed d m → edge + 1 < b → b + argument_count args ≤ d
+          → n + arguments_registers args ≤ length m.registers
+          → ((m' : Memory) (values : List (List ℕ)) → Kept edge b n m m' → AreThere ps b values m' → begin rest m' ≡ follows (so_far ++ values) (shown m'))
+          → begin (on (arguments_code (frame d) args n b) rest) m ≡ eval_arguments running meant args so_far (shown m) follows
+      arguments_mean no_argument [] d n b so_far m rest follows typed housed rooms_there placed behind free room goes =
+          goes m [] (kept-refl edge b n m) tt ∙ (λ i. follows (append-nil so_far i) (shown m))
+      arguments_mean no_argument (p ∷ ps) d n b so_far m rest follows typed housed rooms_there placed behind free room goes = absurd (false≢true typed)
+      arguments_mean (number_argument e args) [] d n b so_far m rest follows typed housed rooms_there placed behind free room goes = absurd (false≢true typed)
+      arguments_mean (number_argument e args) (p ∷ ps) d n b so_far m rest follows typed housed rooms_there placed behind free room goes =
+          let t = number_type e in
+          let is_passed : p ≡ passed.Integer t = number_passed p (type_of e) (left_of _ _ (left_of _ _ typed)) in
+          let place : b < d = omega (arith, free) in
+          split (code (frame d) e n) _ rest m
+          ∙ means e d n m _ (λ x after. eval_arguments running meant args (so_far ++ low_bytes (bytes t) x ∷ []) after follows) (right_of _ _ (left_of _ _ typed)) (housed_left sizes edge d (rooms e) (arguments_rooms args) housed) placed (omega (arith, room)) (λ m1 kept1.
+          let new = low_bytes (bytes t) (register m1 (n + top e)) in
+          let count : length new ≡ bytes t = low_count (bytes t) (register m1 (n + top e)) (few_bytes t) in
+          let placed1 = placed_kept d n m m1 placed kept1 in
+          let m2 : Memory = written m1 b 0 new in
+          let fits : 0 + length new ≤ length (block_of m1.blocks b) = omega (arith, count, rooms_there.0.fits, block_size d m1 placed1 b) in
+          let filled : Filled edge (b + 1) n b 0 new m1 m2 = filled-put edge (b + 1) n b 0 new m1 (block_there d m1 placed1 b place) fits in
+          let filled_in : Filled edge d n b 0 new m1 m2 = filled-put edge d n b 0 new m1 (block_there d m1 placed1 b place) fits in
+          let placed2 : Placed d m2 = placed_filled d n b 0 new m1 m2 placed1 (omega (arith, behind)) filled_in in
+          let kept2 : Kept edge b n m m2 = kept-then edge b n n m m1 m2 (omega arith) (kept_lower d b n m m1 (omega (arith, place)) kept1) (filled-kept edge b n 0 new m1 m2 filled) in
+          arguments_mean args ps d (n + (top e + 1)) (b + 1) (so_far ++ new ∷ []) m2 rest follows (right_of _ _ typed) (housed_right sizes edge d (rooms e) (arguments_rooms args) housed) rooms_there.1 placed2 (omega (arith, behind)) (omega (arith, free)) (omega (arith, room, kept2.room)) (λ m3 values kept3 there.
+          let kept : Kept edge b n m m3 = kept-then edge b n (n + (top e + 1)) m m2 m3 (omega arith) kept2 (kept_lower (b + 1) b (n + (top e + 1)) m2 m3 (omega arith) kept3) in
+          let held : block_of m3.blocks b ≡ put_at 0 new (block_of m1.blocks b) = kept3.held b (omega (arith, behind)) (omega arith) ∙ filled_in.filled in
+          let size : passed_size p ≡ bytes t = ap passed_size is_passed in
+          let first : take (passed_size p) (block_of m3.blocks b) ≡ new = (λ i. take (size i) (drop 0 (held i))) ∙ taken_back 0 (bytes t) new (block_of m1.blocks b) count (omega arith) in
+          goes m3 (new ∷ values) kept (first, count ∙ sym size, there) ∙ sym (λ i. follows (append_assoc so_far (new ∷ []) values i) (shown m3)))
+          ∙ (λ i. eval_arguments running meant args (so_far ++ new ∷ []) (shown_other m1 b 0 new (omega (arith, behind)) i) follows))
+      arguments_mean (structure_argument a args) [] d n b so_far m rest follows typed housed rooms_there placed behind free room goes = absurd (false≢true typed)
+      arguments_mean (structure_argument a args) (p ∷ ps) d n b so_far m rest follows typed housed rooms_there placed behind free room goes =
+          let is_passed : p ≡ passed.Structure (size_of a) = structure_passed p (size_of a) (left_of _ _ (left_of _ _ typed)) in
+          let place : b < d = omega (arith, free) in
+          split (structure_code (frame d) a n b 0) _ rest m
+          ∙ structure_means a d n b 0 m _ (λ value after. eval_arguments running meant args (so_far ++ value ∷ []) after follows) (right_of _ _ (left_of _ _ typed)) (housed_left sizes edge d (structure_rooms a) (arguments_rooms args) housed) placed (omega (arith, behind)) place
+          (omega (arith, rooms_there.0.fits, block_size d m placed b)) (omega (arith, room)) (λ m1 value long filled.
+          let placed1 : Placed d m1 = placed_filled d n b 0 value m m1 placed (omega (arith, behind)) filled in
+          let kept1 : Kept edge b n m m1 = filled_lower d b n 0 value m m1 (omega (arith, place)) filled in
+          arguments_mean args ps d (n + structure_registers a) (b + 1) (so_far ++ value ∷ []) m1 rest follows (right_of _ _ typed) (housed_right sizes edge d (structure_rooms a) (arguments_rooms args) housed) rooms_there.1 placed1 (omega (arith, behind)) (omega (arith, free)) (omega (arith, room, kept1.room)) (λ m2 values kept2 there.
+          let kept : Kept edge b n m m2 = kept-then edge b n (n + structure_registers a) m m1 m2 (omega arith) kept1 (kept_lower (b + 1) b (n + structure_registers a) m1 m2 (omega arith) kept2) in
+          let held : block_of m2.blocks b ≡ put_at 0 value (block_of m.blocks b) = kept2.held b (omega (arith, behind)) (omega arith) ∙ filled.filled in
+          let size : passed_size p ≡ size_of a = ap passed_size is_passed in
+          let first : take (passed_size p) (block_of m2.blocks b) ≡ value = (λ i. take (size i) (drop 0 (held i))) ∙ taken_back 0 (size_of a) value (block_of m.blocks b) long (omega arith) in
+          goes m2 (value ∷ values) kept (first, long ∙ sym size, there) ∙ sym (λ i. follows (append_assoc so_far (value ∷ []) values i) (shown m2))))
 
       -- the code of a structure value puts its bytes where they are wanted
       pub structure_means : (a : Structure) (d n into to : ℕ) (m : Memory) (rest : Places) (follows : FollowsBytes)
           → is_structure known a ≡ true → Houses d (structure_rooms a) → Placed d m → edge < into → into < d → to + size_of a ≤ length (block_of m.blocks into)
           → n + structure_registers a ≤ length m.registers → GoesInto d n m rest into to (size_of a) follows
-          → begin (on (structure_code (frame d) a n into to) rest) m ≡ eval_structure running a (shown m) follows
+          → begin (on (structure_code (frame d) a n into to) rest) m ≡ eval_structure running meant a (shown m) follows
       structure_means (copy line v offset size) d n into to m rest follows typed housed placed behind free fits room goes =
           let variable = variable_below v offset size typed in
           let value = take size (drop offset (block_of m.blocks v)) in
@@ -535,7 +886,7 @@ module _ (running : Running) (others : List ℕ) where
           let ways = housed_right sizes edge d (rooms test) (both (structure_rooms a) (structure_rooms b)) housed in
           let same = test_equal (size_of a) (size_of b) (right_of _ _ (left_of _ _ (left_of _ _ (left_of _ _ typed)))) in
           split (code (frame d) test n) _ rest m
-          ∙ means test d n m _ (λ x after. if is_true x then eval_structure running a after follows else eval_structure running b after follows) (right_of _ _ (left_of _ _ (left_of _ _ typed))) (housed_left sizes edge d (rooms test) (both (structure_rooms a) (structure_rooms b)) housed) placed (omega (arith, room)) (λ m1 kept1.
+          ∙ means test d n m _ (λ x after. if is_true x then eval_structure running meant a after follows else eval_structure running meant b after follows) (right_of _ _ (left_of _ _ (left_of _ _ typed))) (housed_left sizes edge d (rooms test) (both (structure_rooms a) (structure_rooms b)) housed) placed (omega (arith, room)) (λ m1 kept1.
           turned (register m1 (n + top test) == 0) _ _ _ _
           (past yes_code _ rest 1 m1
           ∙ structure_means b d second into to m1 rest follows (right_of _ _ typed) (housed_right sizes edge d (structure_rooms a) (structure_rooms b) ways) (placed_kept d n m m1 placed kept1) behind free (omega (arith, fits, same, kept_size d n m m1 placed kept1 into)) (omega (arith, room, kept1.room)) (λ m2 value long filled.
@@ -564,7 +915,7 @@ module _ (running : Running) (others : List ℕ) where
           ∙ same_ask running (Write (pointer_to k offset) value false) line _ _ (λ i done. goes m1 value long filled i))
       structure_means (follow line e a) d n into to m rest follows typed housed placed behind free fits room goes =
           split (code (frame d) e n) _ rest m
-          ∙ means e d n m _ (λ x after. eval_structure running a after follows) (left_of _ _ typed) (housed_left sizes edge d (rooms e) (structure_rooms a) housed) placed (omega (arith, room)) (λ m1 kept1.
+          ∙ means e d n m _ (λ x after. eval_structure running meant a after follows) (left_of _ _ typed) (housed_left sizes edge d (rooms e) (structure_rooms a) housed) placed (omega (arith, room)) (λ m1 kept1.
           structure_means a d (n + (top e + 1)) into to m1 rest follows (right_of _ _ typed) (housed_right sizes edge d (rooms e) (structure_rooms a) housed) (placed_kept d n m m1 placed kept1) behind free (omega (arith, fits, kept_size d n m m1 placed kept1 into)) (omega (arith, room, kept1.room)) (λ m2 value long filled.
           goes m2 value long (kept-filled edge d n (n + (top e + 1)) into to value m m1 m2 (omega arith) (omega (arith, behind)) free kept1 filled)))
       structure_means (section line offset size a) d n into to m rest follows typed housed placed behind free fits room goes =
@@ -572,7 +923,7 @@ module _ (running : Running) (others : List ℕ) where
           let inner = test_most (offset + size) (size_of a) (left_of _ _ typed) in
           split (structure_code (frame (d + 1)) a n d 0) _ rest m
           ∙ structure_means a (d + 1) n d 0 m _ (λ value. follows (take size (drop offset value))) (right_of _ _ typed) (housed_under sizes edge d (size_of a) (structure_rooms a) housed) (placed_deeper d m block.there placed)
-          placed.deep (omega arith) (omega (arith, block.fits, block_size d m placed d)) room (λ m1 value long filled.
+          (omega (arith, placed.deep)) (omega arith) (omega (arith, block.fits, block_size d m placed d)) room (λ m1 value long filled.
           let part_of = take size (drop offset value) in
           let new = take size (drop offset (block_of m1.blocks d)) in
           let same : new ≡ part_of = (λ i. take size (drop offset (filled.filled i))) ∙ part_of_front offset size value (block_of m.blocks d) (omega (arith, inner, long)) in
@@ -591,7 +942,7 @@ module _ (running : Running) (others : List ℕ) where
           let m1 : Memory = written m into to (zeros size) in
           (λ i. begin (on (parts_code (frame d) line ps n into to) rest) (written m into to (zero i)))
           ∙ parts_mean ps line d n into to size n (zeros size) m m1 rest follows (right_of _ _ typed) (housed_behind sizes edge d size (parts_rooms ps) housed) (placed_filled d n into to (zeros size) m m1 placed behind start) behind free (zeros_length size) fits (omega arith) room start goes
-          ∙ (λ i. eval_parts running ps (zeros size) (shown_other m into to (zeros size) (omega (arith, behind)) i) follows)
+          ∙ (λ i. eval_parts running meant ps (zeros size) (shown_other m into to (zeros size) (omega (arith, behind)) i) follows)
       structure_means (string line size text) d n into to m rest follows typed housed placed behind free fits room goes =
           let new = take size (drop 0 (block_of m.blocks edge)) in
           let zero : new ≡ zeros size = (λ i. take size (placed.clean i)) ∙ some_zeros size (slice_index sizes edge) (housed_zeros sizes edge d size no_rooms housed) in
@@ -601,19 +952,49 @@ module _ (running : Running) (others : List ℕ) where
           (λ i. begin (on (text_code (frame d) line text n into to) rest) (written m into to (zero i)))
           ∙ text_means text line d n into to size 0 to (zeros size) m m1 rest follows (right_of _ _ typed) (omega arith) (placed_filled d n into to (zeros size) m m1 placed behind start) behind free (zeros_length size) fits (omega (arith, few)) (omega (arith, room)) start goes
           ∙ (λ i. follows (put_at 0 text (zeros size)) (shown_other m into to (zeros size) (omega (arith, behind)) i))
+      structure_means (give line f used size args) d n into to m rest follows typed housed placed behind free fits room goes =
+          let count = argument_count args in
+          let b = d + count in
+          let deep = d + (count + 1) in
+          let r = n + arguments_registers args in
+          let found = found_as (Some (passed.Structure size)) (slice_get functions f) (right_of _ _ (left_of _ _ typed)) in
+          let g = found.0 in
+          let parameters : parameters_of (slice_get functions f) ≡ g.parameters = ap parameters_of found.1 in
+          let fitting : are_arguments known g.parameters args ≡ true = (λ i. are_arguments known (sym parameters i) args) ∙ right_of _ _ typed in
+          let many : count ≡ length g.parameters = argument_total g.parameters args fitting in
+          let inner = call_rooms args size d (housed_behind sizes edge d size (under_all (argument_sizes args) (under size (arguments_rooms args))) housed) in
+          let last = inner.1 in
+          let placed_in : Placed deep m = placed_at d deep m (omega (arith, placed.deep)) (omega (arith, last.there)) placed in
+          let copy_code : List Instruction = at_line (frame d) line (operations.CopyBytes into to b 0 size) ∷ [] in
+          split (arguments_code (frame deep) args n d) (call_code (frame d) line f used size count r ++ copy_code) rest m
+          ∙ arguments_mean args g.parameters deep n d [] m _ (λ blocks after. meant f line blocks (received_structure running used size line (λ value. follows value after))) fitting inner.2 inner.0 placed_in placed.deep (omega arith) (omega (arith, room)) (λ m1 values kept1 there.
+          let placed1 = placed_kept d n m m1 placed kept1 in
+          let placed_deep : Placed deep m1 = placed_at d deep m1 (omega (arith, placed.deep)) (omega (arith, last.there)) placed1 in
+          let room1 : size ≤ length (block_of m1.blocks b) = omega (arith, last.fits, block_size d m1 placed1 b) in
+          let zero_room = housed_zeros sizes edge d size (under_all (argument_sizes args) (under size (arguments_rooms args))) housed in
+          let m2 : Memory = written m1 b 0 (zeros size) in
+          let wide : b < length m1.blocks = block_there deep m1 placed_deep b (omega arith) in
+          let filled : Filled edge (b + 1) n b 0 (zeros size) m1 m2 = filled-put edge (b + 1) n b 0 (zeros size) m1 wide (omega (arith, zeros_length size, room1)) in
+          let kept2 : Kept edge d n m m2 = kept-then edge d n n m m1 m2 (omega arith) kept1 (kept_lower b d n m1 m2 (omega arith) (filled-kept edge b n 0 (zeros size) m1 m2 filled)) in
+          let same : shown m2 ≡ shown m1 = shown_other m1 b 0 (zeros size) (omega (arith, placed.deep)) in
+          call_does line f used size count d r g values m1 copy_code rest (received_structure running used size line (λ value. follows value (shown m1))) found.1 there many placed.deep placed_deep zero_room room1 (λ given is.
+          (λ i. begin (on (use_code (frame d) line used r ++ copy_code) rest) (flat.received m2 b r (handed (found.2 i) given)))
+          ∙ structure_taken line used size d n into to b r (block_of m1.blocks b) m m2 rest follows given (subst (λ (gives : Option PassedType). IsGiven gives given) found.2 is) placed kept2 (omega arith) (omega (arith, room)) behind free (omega arith)
+          (omega (arith, wide, length-set m1.blocks b (put_at 0 (zeros size) (block_of m1.blocks b)))) filled.filled room1 fits goes
+          ∙ (λ i. received_structure running used size line (λ value. follows value (same i)) given)))
 
       -- the parts of an initializer, over the bytes so far
       pub parts_mean : (ps : Parts) (line d n into to size from : ℕ) (value : List ℕ) (m0 m : Memory) (rest : Places) (follows : FollowsBytes)
           → are_parts known size ps ≡ true → Houses d (parts_rooms ps) → Placed d m → edge < into → into < d
           → length value ≡ size → to + size ≤ length (block_of m0.blocks into) → from ≤ n → n + parts_registers ps ≤ length m.registers
           → Filled edge d from into to value m0 m → GoesInto d from m0 rest into to size follows
-          → begin (on (parts_code (frame d) line ps n into to) rest) m ≡ eval_parts running ps value (shown m) follows
+          → begin (on (parts_code (frame d) line ps n into to) rest) m ≡ eval_parts running meant ps value (shown m) follows
       parts_mean no_part line d n into to size from value m0 m rest follows typed housed placed behind free long fits above room so_far goes = goes m value long so_far
       parts_mean (number_part offset e others) line d n into to size from value m0 m rest follows typed housed placed behind free long fits above room so_far goes =
           let t = number_type e in
           let inner = number_within size offset (type_of e) (left_of _ _ (left_of _ _ typed)) in
           split (code (frame d) e n) _ rest m
-          ∙ means e d n m _ (λ x after. eval_parts running others (put_at offset (low_bytes (bytes t) x) value) after follows) (right_of _ _ (left_of _ _ typed)) (housed_left sizes edge d (rooms e) (parts_rooms others) housed) placed (omega (arith, room)) (λ m1 kept1.
+          ∙ means e d n m _ (λ x after. eval_parts running meant others (put_at offset (low_bytes (bytes t) x) value) after follows) (right_of _ _ (left_of _ _ typed)) (housed_left sizes edge d (rooms e) (parts_rooms others) housed) placed (omega (arith, room)) (λ m1 kept1.
           let new = low_bytes (bytes t) (register m1 (n + top e)) in
           let count = low_count (bytes t) (register m1 (n + top e)) (few_bytes t) in
           let m2 : Memory = written m1 into (to + offset) new in
@@ -624,12 +1005,12 @@ module _ (running : Running) (others : List ℕ) where
           let now : Filled edge d from into to (put_at offset new value) m0 m2 = filled-within edge d from n into to offset value new m0 m m2 above (omega (arith, inner, count, long)) (omega (arith, long, fits)) so_far one in
           parts_mean others line d (n + (top e + 1)) into to size from (put_at offset new value) m0 m2 rest follows (right_of _ _ typed) (housed_right sizes edge d (rooms e) (parts_rooms others) housed) (placed_filled d n into (to + offset) new m m2 placed behind one) behind free
           (put_size offset new value (omega (arith, inner, count, long)) ∙ long) fits (omega (arith, above)) (omega (arith, room, kept1.room)) now goes
-          ∙ (λ i. eval_parts running others (put_at offset new value) (shown_other m1 into (to + offset) new (omega (arith, behind)) i) follows))
+          ∙ (λ i. eval_parts running meant others (put_at offset new value) (shown_other m1 into (to + offset) new (omega (arith, behind)) i) follows))
       parts_mean (structure_part offset a others) line d n into to size from value m0 m rest follows typed housed placed behind free long fits above room so_far goes =
           let inner = test_most (offset + size_of a) size (left_of _ _ (left_of _ _ typed)) in
           let size1 = block_kept d from into to value m0 m so_far in
           split (structure_code (frame d) a n into (to + offset)) _ rest m
-          ∙ structure_means a d n into (to + offset) m _ (λ part_of after. eval_parts running others (put_at offset part_of value) after follows) (right_of _ _ (left_of _ _ typed)) (housed_left sizes edge d (structure_rooms a) (parts_rooms others) housed) placed behind free (omega (arith, inner, fits, size1)) (omega (arith, room)) (λ m1 part_of part_size one.
+          ∙ structure_means a d n into (to + offset) m _ (λ part_of after. eval_parts running meant others (put_at offset part_of value) after follows) (right_of _ _ (left_of _ _ typed)) (housed_left sizes edge d (structure_rooms a) (parts_rooms others) housed) placed behind free (omega (arith, inner, fits, size1)) (omega (arith, room)) (λ m1 part_of part_size one.
           let now : Filled edge d from into to (put_at offset part_of value) m0 m1 = filled-within edge d from n into to offset value part_of m0 m m1 above (omega (arith, inner, part_size, long)) (omega (arith, long, fits)) so_far one in
           parts_mean others line d (n + structure_registers a) into to size from (put_at offset part_of value) m0 m1 rest follows (right_of _ _ typed) (housed_right sizes edge d (structure_rooms a) (parts_rooms others) housed) (placed_filled d n into (to + offset) part_of m m1 placed behind one) behind free
           (put_size offset part_of value (omega (arith, inner, part_size, long)) ∙ long) fits (omega (arith, above)) (omega (arith, room, one.room)) now goes)

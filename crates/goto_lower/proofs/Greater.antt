@@ -1,30 +1,33 @@
 -- The greater sizes at each place.
-use Rattle.std.proofs.Common.{◌≡◌, ℕ, zero, suc, ◌+◌, ◌<◌, ◌≤◌, List, [], ◌∷◌, ◌++◌, take, length, refl, sym, ◌∙◌, arith}
+use Rattle.std.proofs.Common.{◌≡◌, ℕ, zero, suc, ◌+◌, ◌<◌, ◌≤◌, List, [], ◌∷◌, take, set, length, refl, sym, ap, ◌∙◌, arith}
 use Rattle.std.specs.Prelude.{max, slice_index, Result, Ok, Err, IfOk}
-use Rattle.std.proofs.lemmas.List.{take_all, take_more}
+use Rattle.std.proofs.lemmas.List.{take_all}
 use Rattle.goto_lower.specs.Rooms.{Rooms, greater, no_rooms, both}
 
-greater_length : (xs ys : List ℕ) → length (greater xs ys) ≡ max (length xs) (length ys)
-greater_length [] ys = omega arith
-greater_length (x ∷ xs) [] = omega arith
-greater_length (x ∷ xs) (y ∷ ys) = omega (arith, greater_length xs ys)
-
-greater_at : (xs ys : List ℕ) (n : ℕ) → slice_index (greater xs ys) n ≡ max (slice_index xs n) (slice_index ys n)
-greater_at [] ys n = let least : max 0 (slice_index ys n) ≡ slice_index ys n = omega arith in sym least
-greater_at (x ∷ xs) [] n = let least : max (slice_index (x ∷ xs) n) 0 ≡ slice_index (x ∷ xs) n = omega arith in sym least
-greater_at (x ∷ xs) (y ∷ ys) zero = refl
-greater_at (x ∷ xs) (y ∷ ys) (suc n) = greater_at xs ys n
+pub greater_none : (xs : List ℕ) → greater xs [] ≡ xs
+greater_none [] = refl
+greater_none (x ∷ xs) = refl
 
 -- one size more
-pub greater_more : (xs ys : List ℕ) (n x y : ℕ) → n < max (length xs) (length ys) → x ≡ slice_index xs n → y ≡ slice_index ys n
-    → take (n + 1) (greater xs ys) ≡ take n (greater xs ys) ++ max x y ∷ []
-greater_more xs ys n x y lt is_x is_y =
-    take_more (greater xs ys) n 0 (omega (arith, lt, greater_length xs ys))
-    ∙ (λ i. take n (greater xs ys) ++ greater_at xs ys n i ∷ [])
-    ∙ (λ i. take n (greater xs ys) ++ max (sym is_x i) (sym is_y i) ∷ [])
+pub raised : (xs ys : List ℕ) (n : ℕ) → n < length ys → length ys ≤ length xs
+    → set (greater xs (take n ys)) n (max (slice_index (greater xs (take n ys)) n) (slice_index ys n)) ≡ greater xs (take (n + 1) ys)
+raised xs [] n lt few = absurd (omega (arith, lt))
+raised [] (y ∷ ys) n lt few = absurd (omega (arith, few))
+raised (x ∷ xs) (y ∷ ys) zero lt few = ap (λ zs. max x y ∷ zs) (sym (greater_none xs))
+raised (x ∷ xs) (y ∷ ys) (suc n) lt few =
+    ap (λ zs. max x y ∷ zs) (raised xs ys n (omega (arith, lt)) (omega (arith, few))) ∙ (λ i. greater (x ∷ xs) (take (more i) (y ∷ ys)))
+  where
+    more : suc (n + 1) ≡ suc n + 1
+    more = omega arith
 
-pub greater_all : (xs ys : List ℕ) (n : ℕ) → max (length xs) (length ys) ≤ n → take n (greater xs ys) ≡ greater xs ys
-greater_all xs ys n past = take_all n (greater xs ys) (omega (arith, past, greater_length xs ys))
+pub raised_all : (xs ys : List ℕ) (n : ℕ) → length ys ≤ n → greater xs (take n ys) ≡ greater xs ys
+raised_all xs ys n past = ap (greater xs) (take_all n ys past)
+
+pub greater_swapped : (xs ys : List ℕ) → greater xs ys ≡ greater ys xs
+greater_swapped [] [] = refl
+greater_swapped [] (y ∷ ys) = refl
+greater_swapped (x ∷ xs) [] = refl
+greater_swapped (x ∷ xs) (y ∷ ys) = let same : max x y ≡ max y x = omega arith in λ i. same i ∷ greater_swapped xs ys i
 
 -- nothing before others
 pub none_first : (a : Rooms) → both no_rooms a ≡ a

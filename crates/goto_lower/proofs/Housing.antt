@@ -2,7 +2,7 @@
 use Rattle.std.proofs.Common.{◌≡◌, ℕ, ◌+◌, ◌<◌, ◌≤◌, List, [], ◌∷◌, ◌++◌, length, subst, arith, append_assoc, length-append}
 use Rattle.std.specs.Prelude.{slice_index}
 use Rattle.std.proofs.Math.Seq.{get_or-append_seam}
-use Rattle.goto_lower.specs.Rooms.{Rooms, greater, both, under, clearing}
+use Rattle.goto_lower.specs.Rooms.{Rooms, greater, both, under, under_all, clearing}
 
 module _ (blocks : List ℕ) where
   pub record Room (d size : ℕ) : Type 0 where
@@ -41,6 +41,21 @@ module _ (blocks : List ℕ) where
     pub housed_room : (d size : ℕ) (a : Rooms) → Housed d (under size a) → Room d size
     housed_room d size a h = h.sizes.0
 
+    rooms_front : (d : ℕ) (xs ys : List ℕ) → HasRooms d (xs ++ ys) → HasRooms d xs
+    rooms_front d [] ys h = tt
+    rooms_front d (x ∷ xs) ys h = (h.0, rooms_front (d + 1) xs ys h.1)
+
+    rooms_back : (d : ℕ) (xs ys : List ℕ) → HasRooms d (xs ++ ys) → HasRooms (d + length xs) ys
+    rooms_back d [] ys h = let same : d ≡ d + 0 = omega arith in subst (λ (e : ℕ). HasRooms e ys) same h
+    rooms_back d (x ∷ xs) ys h = let same : d + 1 + length xs ≡ d + length (x ∷ xs) = omega arith in subst (λ (e : ℕ). HasRooms e ys) same (rooms_back (d + 1) xs ys h.1)
+
+    -- the first of these blocks, and those behind them
+    pub housed_front : (d : ℕ) (xs : List ℕ) (a : Rooms) → Housed d (under_all xs a) → HasRooms d xs
+    housed_front d xs a h = rooms_front d xs a.sizes h.sizes
+
+    pub housed_back : (d : ℕ) (xs : List ℕ) (a : Rooms) → Housed d (under_all xs a) → Housed (d + length xs) a
+    housed_back d xs a h = record { zeros = h.zeros; sizes = rooms_back d xs a.sizes h.sizes }
+
     pub housed_behind : (d size : ℕ) (a : Rooms) → Housed d (clearing size a) → Housed d a
     housed_behind d size a h = record { zeros = omega (arith, h.zeros); sizes = h.sizes }
 
@@ -59,12 +74,14 @@ rooms_behind front (size ∷ sizes) =
       subst (λ (d : ℕ). HasRooms (front ++ size ∷ sizes) d sizes) long (subst (λ (bs : List ℕ). HasRooms bs (length more) sizes) (append_assoc front (size ∷ []) sizes) (rooms_behind more sizes)),
     )
 
-pub housed_function : (variables : List ℕ) (r : Rooms) → Housed (variables ++ r.zeros ∷ r.sizes) (length variables) (length variables + 1) r
-housed_function variables r =
-    let is : slice_index (variables ++ r.zeros ∷ r.sizes) (length variables) ≡ r.zeros = get_or-append_seam variables r.zeros r.sizes 0 in
-    let front = variables ++ r.zeros ∷ [] in
-    let long : length front ≡ length variables + 1 = length-append variables (r.zeros ∷ []) in
+-- behind the variables a block whose bytes stay 0, and one for what the function hands over
+pub housed_body : (variables : List ℕ) (given : ℕ) (r : Rooms) → Housed (variables ++ r.zeros ∷ given ∷ r.sizes) (length variables) (length variables + 2) r
+housed_body variables given r =
+    let all = variables ++ r.zeros ∷ given ∷ r.sizes in
+    let is : slice_index all (length variables) ≡ r.zeros = get_or-append_seam variables r.zeros (given ∷ r.sizes) 0 in
+    let front = variables ++ r.zeros ∷ given ∷ [] in
+    let long : length front ≡ length variables + 2 = length-append variables (r.zeros ∷ given ∷ []) in
     record {
       zeros = omega (arith, is);
-      sizes = subst (λ (d : ℕ). HasRooms (variables ++ r.zeros ∷ r.sizes) d r.sizes) long (subst (λ (bs : List ℕ). HasRooms bs (length front) r.sizes) (append_assoc variables (r.zeros ∷ []) r.sizes) (rooms_behind front r.sizes));
+      sizes = subst (λ (d : ℕ). HasRooms all d r.sizes) long (subst (λ (bs : List ℕ). HasRooms bs (length front) r.sizes) (append_assoc variables (r.zeros ∷ given ∷ []) r.sizes) (rooms_behind front r.sizes));
     }

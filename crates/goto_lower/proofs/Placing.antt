@@ -13,32 +13,37 @@ use Rattle.c_interp.specs.Meaning as source
 use Rattle.c_interp.specs.Meaning.{Running}
 use Rattle.goto_prog.specs.declared.code.Instruction.{Instruction}
 use Rattle.c_values.specs.Variables.{block_of, put_at, put_bytes, zeros, cleared}
-use Rattle.goto_prog.specs.Meaning.{Memory, register, with_register, with_blocks, at, or_else, operates}
-use Rattle.goto_prog.specs.Threads.{behaving, final, ask}
+use Rattle.goto_prog.specs.Meaning.{Memory, Given, Reading, register, with_register, with_blocks, at, or_else, operates}
+use Rattle.goto_prog.specs.Threads.{Calls, acting, final, ask}
 use Rattle.goto_lower.proofs.BlockBytes.{put_size, put_within}
 
 abbrev pub Places : Type 0
 Places = List (Memory → Behaviour)
 
--- what is done from the first of these places
-abbrev pub begin : Places → Memory → Behaviour
-begin ps m = at behaving ps 0 m
+-- over what calls do, and what becomes of what the function hands over
+module _ (calls : Calls) (hands : Given → Behaviour) where
+  abbrev here : Reading Behaviour
+  here = acting calls hands
 
--- strict code with these places behind it
-abbrev pub on : List Instruction → Places → Places
-on [] rest = rest
-on (i ∷ code) rest = operates behaving true 0 i.line i.function i.operation (on code rest) ∷ on code rest
+  -- what is done from the first of these places
+  abbrev pub begin_in : Places → Memory → Behaviour
+  begin_in ps m = at here ps 0 m
 
-pub on-append : (xs ys : List Instruction) (rest : Places) → on (xs ++ ys) rest ≡ on xs (on ys rest)
-on-append [] ys rest = refl
-on-append (i ∷ xs) ys rest = λ k. operates behaving true 0 i.line i.function i.operation (on-append xs ys rest k) ∷ on-append xs ys rest k
+  -- strict code with these places behind it
+  abbrev pub on_in : List Instruction → Places → Places
+  on_in [] rest = rest
+  on_in (i ∷ code) rest = operates here true 0 i.line i.function i.operation (on_in code rest) ∷ on_in code rest
 
--- a jump over code
-pub at-behind : (xs : List Instruction) (rest : Places) (j : ℕ) (m : Memory) → at behaving (on xs rest) (length xs + j) m ≡ at behaving rest j m
-at-behind [] rest j m = let none : length {A = Instruction} [] + j ≡ j = omega arith in ap (λ n. at behaving rest n m) none
-at-behind (i ∷ xs) rest j m =
-    let one : length (i ∷ xs) + j ≡ suc (length xs + j) = omega arith in
-    ap (λ n. at behaving (on (i ∷ xs) rest) n m) one ∙ at-behind xs rest j m
+  pub on-append : (xs ys : List Instruction) (rest : Places) → on_in (xs ++ ys) rest ≡ on_in xs (on_in ys rest)
+  on-append [] ys rest = refl
+  on-append (i ∷ xs) ys rest = λ k. operates here true 0 i.line i.function i.operation (on-append xs ys rest k) ∷ on-append xs ys rest k
+
+  -- a jump over code
+  pub at-behind : (xs : List Instruction) (rest : Places) (j : ℕ) (m : Memory) → at here (on_in xs rest) (length xs + j) m ≡ at here rest j m
+  at-behind [] rest j m = let none : length {A = Instruction} [] + j ≡ j = omega arith in ap (λ n. at here rest n m) none
+  at-behind (i ∷ xs) rest j m =
+      let one : length (i ∷ xs) + j ≡ suc (length xs + j) = omega arith in
+      ap (λ n. at here (on_in (i ∷ xs) rest) n m) one ∙ at-behind xs rest j m
 
 -- ---- memories
 
@@ -58,7 +63,7 @@ written m b offset new = with_blocks m (put_bytes m.blocks b offset new)
 written_sizes : (m : Memory) (b offset : ℕ) (new : List ℕ) → offset + length new ≤ length (block_of m.blocks b) → map length (written m b offset new).blocks ≡ map length m.blocks
 written_sizes m b offset new fits = map-set_same length m.blocks b (put_at offset new (block_of m.blocks b)) [] (put_size offset new (block_of m.blocks b) fits)
 
-written_other : (m : Memory) (b offset i : ℕ) (new : List ℕ) → i ≢ b → block_of (written m b offset new).blocks i ≡ block_of m.blocks i
+pub written_other : (m : Memory) (b offset i : ℕ) (new : List ℕ) → i ≢ b → block_of (written m b offset new).blocks i ≡ block_of m.blocks i
 written_other m b offset i new other = get_or-set_other m.blocks b i (put_at offset new (block_of m.blocks b)) [] other
 
 written_same : (m : Memory) (b offset : ℕ) (new : List ℕ) → b < length m.blocks → block_of (written m b offset new).blocks b ≡ put_at offset new (block_of m.blocks b)
@@ -194,6 +199,6 @@ ask_when_at running action line x y same (a ∷ answers) = if_so (has_shape (sha
 pub same_ask_when : (running : Running) (action : Action) (line : ℕ) (x y : Answer → Behaviour) → ((a : Answer) → has_shape (shape_of action) a ≡ true → x a ≡ y a) → ask action line running.function x ≡ source.ask running action line y
 same_ask_when running action line x y same = λ i answers. ask_when_at running action line x y same answers i
 
-pub same_check : (running : Running) (c : Option Class) (line : ℕ) (x y : Behaviour) → x ≡ y → or_else behaving c line running.function x ≡ source.unless_broken running c line y
-same_check running None line x y same = same
-same_check running (Some c) line x y same = same_final _
+pub same_check : (calls : Calls) (hands : Given → Behaviour) (running : Running) (c : Option Class) (line : ℕ) (x y : Behaviour) → x ≡ y → or_else (acting calls hands) c line running.function x ≡ source.unless_broken running c line y
+same_check calls hands running None line x y same = same
+same_check calls hands running (Some c) line x y same = same_final _

@@ -1,34 +1,33 @@
--- The flat code of a file does what the file means.
-use Rattle.std.proofs.Common.{◌≡◌, ℕ, zero, suc, ◌+◌, ◌<◌, ◌≤◌, Bool, true, false, ◌||◌, nat_lt, List, [], ◌∷◌, ◌++◌, length, map, take, drop, Some, slice_get, refl, sym, ap, subst, ◌∙◌, arith, true≢false, append_assoc, append-nil, add-one, length-append}
-use Rattle.std.specs.Prelude.{slice_index_or, if◌then◌else◌}
+-- The code of a file does under the bounds of a command what the file means.
+use Rattle.std.proofs.Common.{◌≡◌, ℕ, zero, suc, ◌+◌, ◌*◌, ◌<◌, Bool, true, false, List, [], ◌∷◌, length, map, Option, Some, None, refl, sym, ap, subst, ◌∙◌, arith, true≢false, suc-mul, zero-mul}
+use Rattle.std.specs.Prelude.{◌==◌, ◌&&◌, nat_lt, is_some, is_none, replicate, slice_get, if◌then◌else◌}
 use Rattle.std.specs.List.{list_all}
-use Rattle.std.proofs.lemmas.Option.{get_or_from_slice_get, slice_get_within}
-use Rattle.std.proofs.lemmas.List.{length-map, length-replicate, drop_all}
-use Rattle.std.proofs.Math.ListN.{get_or-map}
-use Rattle.core_tree.specs.Typed.{is_static, sizes_of_objects, is_typed_function, are_typed}
-use Rattle.c_values.specs.Variables.{zeros}
-use Rattle.c_interp.specs.Meaning.{exec, leaves}
+use Rattle.std.specs.Str.{bytes_eq}
+use Rattle.std.proofs.lemmas.Option.{slice_get_within}
 use Rattle.std.proofs.lemmas.Bool.Decides.{nat_tests}
-use Rattle.std.proofs.Math.Seq.{drop-cons}
-use Rattle.core_tree.specs.declared.functions.Function.{Function}
-use Rattle.core_tree.specs.Trees.{Procedure, Static, TypedFile, view_function, view_functions}
-use Rattle.c_profile.specs.Rules.{is_main, has_main}
-use Rattle.c_interp.specs.Source.{running, runs_at, main_number, source_thread}
-use Rattle.goto_prog.specs.Meaning.{at}
-use Rattle.goto_prog.specs.Threads.{behaving}
-use Rattle.goto_prog.specs.CodeThread.{Listing, first_memory, runs, is_startable}
-use Rattle.goto_prog.specs.Flat.{no_code, main_code, strict_thread}
+use Rattle.c_types.specs.declared.integers.IntegerType.TheVariants.{Int}
+use Rattle.core_tree.specs.declared.functions.PassedType.{PassedType}
+use Rattle.core_tree.specs.declared.functions.PassedType.TheVariants as passed_types
+use Rattle.core_tree.specs.Ranges.{Limits, LoopLimit}
+use Rattle.core_tree.specs.Trees.{Statement, Procedure, TypedFile}
+use Rattle.core_tree.specs.Typed.{signature, same_given, is_static, is_typed_function, are_typed}
+use Rattle.actions.specs.Behaviour.{word_64, shape_of, has_shape}
+use Rattle.actions.specs.declared.action.Action.TheVariants.{Exit}
+use Rattle.actions.specs.declared.action.Answer.{Answer}
+use Rattle.actions.specs.declared.action.Next.TheVariants.{Ended, Blocked}
+use Rattle.c_profile.specs.Rules.{Breach, breach, earlier, is_main, is_int_without_parameters, definition_breach, main_breach, functions_breach, objects_breach, first_breach}
+use Rattle.c_interp.specs.Meaning as source
+use Rattle.c_interp.specs.Source as source_threads
+use Rattle.c_interp.specs.Source.{code_of, main_number, source_thread}
+use Rattle.goto_prog.specs.Meaning.{Given}
 use Rattle.goto_prog.specs.Same.{DoSame}
-use Rattle.goto_lower.specs.Lowering.{body_code}
-use Rattle.goto_lower.specs.Registers.{statement_types}
-use Rattle.goto_lower.specs.Rooms.{statement_rooms}
-use Rattle.goto_lower.proofs.Housing.{housed_function}
+use Rattle.goto_prog.specs.Structured as flat
+use Rattle.goto_prog.specs.Structured.{Bounded, can_start}
+use Rattle.goto_lower.specs.Lowered.{code_by, function_code, function_codes}
 use Rattle.goto_lower.proofs.RegisterTypes.{left_of, right_of}
-use Rattle.goto_lower.proofs.ExpressionCode.{Placed}
-use Rattle.goto_lower.specs.Lowered.{first_frame, function_code, function_codes, lowered}
-use Rattle.goto_lower.proofs.Placing.{Places}
-use Rattle.goto_lower.proofs.StatementCode.{body_means, places-on}
-use Rattle.goto_lower.proofs.DraftingStatements.{statement_length}
+use Rattle.goto_lower.proofs.Placing.{same_final}
+use Rattle.goto_lower.proofs.ExpressionCode.{handed, AreArguments}
+use Rattle.goto_lower.proofs.FunctionCode.{codes_at, calls_agree}
 
 -- ---- the codes of functions
 
@@ -36,115 +35,142 @@ pub codes_length : (number : ℕ) (functions : List Procedure) → length (funct
 codes_length number [] = refl
 codes_length number (f ∷ functions) = ap suc (codes_length (number + 1) functions)
 
-codes_at : (number : ℕ) (functions : List Procedure) (k : ℕ) (f : Procedure) → slice_get functions k ≡ Some f → slice_get (function_codes number functions) k ≡ Some (function_code (number + k) f)
-codes_at number [] k f h = absurd (cc)
-codes_at number (g ∷ functions) zero f h =
-    let same : g ≡ f = cc in
-    let here : number ≡ number + 0 = omega arith in
-    λ i. Some (function_code (here i) (same i))
-codes_at number (g ∷ functions) (suc k) f h =
-    let there : number + 1 + k ≡ number + suc k = omega arith in
-    codes_at (number + 1) functions k f h ∙ ap (λ n. Some (function_code n f)) there
+code_name : (number : ℕ) (f : Procedure) (body : Option Statement) → (code_by number f body).name ≡ f.name
+code_name number f None = refl
+code_name number f (Some s) = refl
 
-never_startable : (number : ℕ) (functions : List Procedure) (k : ℕ) → is_startable (slice_get (function_codes number functions) k) ≡ false
+code_line : (number : ℕ) (f : Procedure) (body : Option Statement) → (code_by number f body).line ≡ f.line
+code_line number f None = refl
+code_line number f (Some s) = refl
+
+code_starts : (number : ℕ) (f : Procedure) (body : Option Statement) → (code_by number f body).startable ≡ false
+code_starts number f None = refl
+code_starts number f (Some s) = refl
+
+names_same : (number : ℕ) (functions : List Procedure) (k : ℕ) → flat.name_of (slice_get (function_codes number functions) k) ≡ source_threads.name_of (slice_get functions k)
+names_same number [] k = refl
+names_same number (f ∷ functions) zero = code_name number f f.body
+names_same number (f ∷ functions) (suc k) = names_same (number + 1) functions k
+
+never_startable : (number : ℕ) (functions : List Procedure) (k : ℕ) → can_start (slice_get (function_codes number functions) k) ≡ false
 never_startable number [] k = refl
-never_startable number (f ∷ functions) zero = refl
+never_startable number (f ∷ functions) zero = code_starts number f f.body
 never_startable number (f ∷ functions) (suc k) = never_startable (number + 1) functions k
 
 never_less : (k : ℕ) → nat_lt k 0 ≡ false
 never_less k = grind (arith, nat_tests)
 
+signature_at : (functions : List Procedure) (k : ℕ) (p : Procedure) → slice_get functions k ≡ Some p → slice_get (map signature functions) k ≡ Some (signature p)
+signature_at [] k p found = absurd (cc)
+signature_at (f ∷ functions) zero p found = let same : f ≡ p = cc in ap (λ q. Some (signature q)) same
+signature_at (f ∷ functions) (suc k) p found = signature_at functions k p found
+
+-- ---- bounds
+
+bounds_same : (set : List LoopLimit) (others : ℕ) (name : List ℕ) (loop : ℕ) → flat.tests_in set others name loop ≡ source_threads.tests_in set others name loop
+bounds_same [] others name loop = refl
+bounds_same (b ∷ set) others name loop = ap (λ (n : ℕ). if bytes_eq b.function name && b.number == loop then b.unwind else n) (bounds_same set others name loop)
+
+total_is : (n k : ℕ) → source.total (replicate n k) ≡ n * k
+total_is zero k = sym (zero-mul k)
+total_is (suc n) k = ap (λ rest. k + rest) (total_is n k) ∙ sum
+  where
+    sum : k + n * k ≡ suc n * k
+    sum = let m : ℕ = n * k in omega (arith, suc-mul n k)
+
 -- ---- the function named main
 
--- by whether the first function is it
-main_by : (b : Bool) (f : Procedure) (functions : List Procedure) → (b || has_main functions) ≡ true
-    → (has_main functions ≡ true → (g : Procedure) × (slice_get functions (main_number functions) ≡ Some g))
-    → (g : Procedure) × (slice_get (f ∷ functions) (if b then 0 else main_number functions + 1) ≡ Some g)
-main_by true f functions h later = (f, refl)
-main_by false f functions h later =
+first_none : (a b : Option Breach) → earlier a b ≡ None → a ≡ None
+first_none None b h = refl
+first_none (Some a) None h = absurd (cc)
+first_none (Some a) (Some b) h = absurd (cc)
+
+pub record Main (functions : List Procedure) : Type 0 where
+  pub procedure : Procedure
+  pub there : slice_get functions (main_number functions) ≡ Some procedure
+  pub parameters : procedure.parameters ≡ []
+
+no_parameters : (ps : List PassedType) → (length ps == 0) ≡ true → ps ≡ []
+no_parameters [] h = refl
+no_parameters (p ∷ ps) h = absurd (omega (arith, none (length (p ∷ ps)) h))
+  where
+    none : (n : ℕ) → (n == 0) ≡ true → n ≡ 0
+    none n h = grind (arith, nat_tests)
+
+defined : (f : Procedure) → definition_breach f ≡ None → f.parameters ≡ []
+defined f h = by_body (is_some f.body) (is_int_without_parameters f) refl h
+  where
+    by_body : (z w : Bool) → w ≡ is_int_without_parameters f → (if z then (if w then None else Some (breach f.line 1)) else Some (breach 1 1)) ≡ None → f.parameters ≡ []
+    by_body true true same h = no_parameters f.parameters (right_of (same_given f.gives (Some (passed_types.Integer Int))) (length f.parameters == 0) (left_of (same_given f.gives (Some (passed_types.Integer Int)) && (length f.parameters == 0)) (is_none f.ellipsis) (sym same)))
+    by_body true false same h = absurd (cc)
+    by_body false w same h = absurd (cc)
+
+by_name : (f : Procedure) (functions : List Procedure) (z : Bool) → (if z then definition_breach f else main_breach functions) ≡ None
+    → (main_breach functions ≡ None → Main functions) → (p : Procedure) × (slice_get (f ∷ functions) (if z then 0 else main_number functions + 1) ≡ Some p) × (p.parameters ≡ [])
+by_name f functions true h later = (f, refl, defined f h)
+by_name f functions false h later =
     let found = later h in
     let next : main_number functions + 1 ≡ suc (main_number functions) = omega arith in
-    (found.0, ap (λ n. slice_get (f ∷ functions) n) next ∙ found.1)
+    (found.procedure, ap (λ n. slice_get (f ∷ functions) n) next ∙ found.there, found.parameters)
 
-pub main_is : (functions : List Procedure) → has_main functions ≡ true → (f : Procedure) × (slice_get functions (main_number functions) ≡ Some f)
-main_is [] h = absurd (true≢false (sym h))
-main_is (f ∷ functions) h = main_by (is_main f) f functions h (main_is functions)
+pub main_is : (functions : List Procedure) → main_breach functions ≡ None → Main functions
+main_is [] h = absurd (cc)
+main_is (f ∷ functions) h = let found = by_name f functions (is_main f) h (main_is functions) in record { procedure = found.0; there = found.1; parameters = found.2 }
 
-pub main_below : (functions : List Procedure) → has_main functions ≡ true → main_number functions < length (function_codes 0 functions)
-main_below functions h =
-    let found = main_is functions h in
-    omega (arith, slice_get_within functions (main_number functions) found.0 found.1, codes_length 0 functions)
+-- ---- threads
 
--- ---- what a function's code does
+module _ (file : TypedFile) (limits : Limits) (typed : are_typed file ≡ true) where
+  abbrev functions : List Procedure
+  functions = file.functions
 
--- the first of the blocks are the variables
-first_shown : (xs ys : List ℕ) → take (length xs) (map zeros (xs ++ ys)) ≡ map zeros xs
-first_shown [] ys = refl
-first_shown (x ∷ xs) ys = ap (λ (bs : List (List ℕ)). zeros x ∷ bs) (first_shown xs ys)
+  abbrev bounded : Bounded
+  bounded = record { strict = true; functions = function_codes 0 functions; limits = limits }
 
-sizes_of : (xs : List ℕ) → map length (map zeros xs) ≡ xs
-sizes_of [] = refl
-sizes_of (x ∷ xs) = λ i. length-replicate {A = ℕ} x 0 i ∷ sizes_of xs i
+  abbrev tests_of : ℕ → ℕ → ℕ
+  tests_of f n = source_threads.tests_in limits.set limits.unwind (source_threads.name_of (slice_get functions f)) n
 
-function_does : (objects : List Static) (number : ℕ) (f : Procedure) → is_typed_function objects f ≡ true → runs true (function_code number f) 0 (first_memory (function_code number f)) ≡ runs_at true number (Some f)
-function_does objects number f typed =
-    let vs = f.variables in
-    let needed = statement_rooms f.body in
-    let others = needed.zeros ∷ needed.sizes in
-    let code = body_code (first_frame number vs) vs f.body f.line in
-    let m = first_memory (function_code number f) in
-    let r = running true number f in
-    let room = length-map {B = ℕ} (statement_types vs f.body) (λ t. 0) ∙ statement_length vs f.body in
-    let long : length (vs ++ others) ≡ length vs + length others = length-append vs others in
-    let placed : Placed r others (length vs + 1) m = record {
-      deep = omega arith;
-      within = omega (arith, long);
-      sized = sizes_of (vs ++ others);
-      clean = get_or-map zeros (vs ++ others) (length vs) 0;
-    } in
-    ap (λ (ps : Places). at behaving ps 0 m) (places-on 0 code)
-    ∙ body_means r refl others (sizes_of_objects objects) (length vs + 1) f.body f.line m typed (housed_function vs needed) placed (omega (arith, room))
-    ∙ (λ i. exec r f.body (first_shown vs others i) (λ after. leaves r f.line 0))
+  tests_same : (f l : ℕ) → flat.tests bounded f l ≡ tests_of f l
+  tests_same f l = (λ i. flat.tests_in limits.set limits.unwind (names_same 0 functions f i) l) ∙ bounds_same limits.set limits.unwind (source_threads.name_of (slice_get functions f)) l
 
-typed_procedure : (objects : List Static) (functions : List Procedure) (k : ℕ) (f : Procedure) → list_all (is_typed_function objects) functions ≡ true → slice_get functions k ≡ Some f → is_typed_function objects f ≡ true
-typed_procedure objects [] k f h found = absurd (cc)
-typed_procedure objects (g ∷ functions) zero f h found =
-    let same : g ≡ f = cc in
-    subst (λ (p : Procedure). is_typed_function objects p ≡ true) same (left_of (is_typed_function objects g) (list_all (is_typed_function objects) functions) h)
-typed_procedure objects (g ∷ functions) (suc k) f h found = typed_procedure objects functions k f (right_of (is_typed_function objects g) (list_all (is_typed_function objects) functions) h) found
+  all_typed : list_all (is_typed_function file) functions ≡ true
+  all_typed = right_of (list_all is_static file.objects) (list_all (is_typed_function file) functions) typed
 
-pub same_thread : (file : TypedFile) → has_main file.functions ≡ true → are_typed file ≡ true → DoSame (strict_thread (lowered file)) (source_thread file)
-same_thread file h typed =
-    let functions = file.functions in
-    let main = main_number functions in
-    let found = main_is functions h in
-    let f = found.0 in
-    let here : 0 + main ≡ main = omega arith in
-    let got : slice_get (function_codes 0 functions) main ≡ Some (function_code main f) = codes_at 0 functions main f found.1 ∙ ap (λ n. Some (function_code n f)) here in
-    let code : main_code (lowered file) ≡ function_code main f = get_or_from_slice_get (function_codes 0 functions) main (function_code main f) no_code got in
-    let typed_functions = right_of (list_all is_static file.objects) (list_all (is_typed_function file.objects) functions) typed in
+  leaves_same : (number line : ℕ) (given : Given) (meant : source.Given) → flat.leaves true number line given ≡ source_threads.leaves true number line meant
+  leaves_same number line given meant = λ i answers. by_answers answers i
+    where
+      by_answers : (answers : List Answer) → flat.leaves true number line given answers ≡ source_threads.leaves true number line meant answers
+      by_answers [] = refl
+      by_answers (a ∷ answers) = λ i. if has_shape (shape_of Exit) a then same_final (Ended (word_64 0)) i answers else Blocked
+
+  fuel_is : flat.first_fuel bounded ≡ suc (source.total (source_threads.first_left functions limits))
+  fuel_is =
+      let n = length (function_codes 0 functions) * limits.unwind in
+      let many : n ≡ length functions * limits.unwind = ap (λ k. k * limits.unwind) (codes_length 0 functions) in
+      omega (arith, many, total_is (length functions) limits.unwind)
+
+  main_does : (number : ℕ) (p : Procedure) → slice_get functions number ≡ Some p → p.parameters ≡ [] → flat.function_behaviour bounded true number ≡ source_threads.function_behaviour functions limits true number
+  main_does number p found none =
+      let here : 0 + number ≡ number = omega arith in
+      let got : slice_get (function_codes 0 functions) number ≡ Some (function_code number p) = codes_at 0 functions number p found ∙ ap (λ n. Some (function_code n p)) here in
+      let signed : slice_get (map signature functions) number ≡ Some (signature p) = signature_at functions number p found in
+      let are : AreArguments p.parameters [] [] = subst (λ (ps : List PassedType). AreArguments ps [] []) (sym none) tt in
+      (λ i. flat.runs_at bounded true number (got i))
+      ∙ (λ i. flat.activation bounded (fuel_is i) (replicate (codes_length 0 functions i) limits.unwind) number number (code_line number p p.body i) [] (flat.leaves true number (code_line number p p.body i)))
+      ∙ calls_agree file limits all_typed tests_of tests_same (suc (source.total (source_threads.first_left functions limits))) (source_threads.first_left functions limits) number number p.line (signature p) [] []
+      (flat.leaves true number p.line) (source_threads.leaves true number p.line) signed are (λ given is. leaves_same number p.line (handed p.gives given) given)
+      ∙ (λ i. source_threads.runs_at functions limits true number (sym found i))
+
+pub same_thread : (file : TypedFile) → first_breach file ≡ None → are_typed file ≡ true → (limits : Limits)
+    → DoSame (flat.function_thread (record { strict = true; functions = function_codes 0 file.functions; limits = limits }) true (main_number file.functions)) (source_thread file limits)
+same_thread file admitted typed limits =
+    let main = main_is file.functions (first_none (main_breach file.functions) (earlier (functions_breach file.functions file.functions) (objects_breach file.objects)) admitted) in
     record {
-      behaves = (λ i. runs true (code i) 0 (first_memory (code i))) ∙ function_does file.objects main f (typed_procedure file.objects functions main f typed_functions found.1) ∙ ap (λ o. runs_at true main o) (sym found.1);
-      startable = λ k. never_startable 0 functions k ∙ sym (never_less k);
-      others = λ k v can small. absurd (true≢false (sym can ∙ never_startable 0 functions k));
+      behaves = main_does file limits typed (main_number file.functions) main.procedure main.there main.parameters;
+      startable = λ k. never_startable 0 file.functions k ∙ sym (never_less k);
+      others = λ k v can small. absurd (true≢false (sym can ∙ never_startable 0 file.functions k));
     }
 
--- ---- one code after the other
-
-pub next_code : (fs : List Function) (n : ℕ) (f : Function) (codes more all : List Listing) (code : Listing)
-    → n < length fs → f ≡ slice_index_or fs n f → code ≡ function_code n (view_function f) → more ≡ codes ++ code ∷ []
-    → codes ++ function_codes n (view_functions (drop n fs)) ≡ all
-    → more ++ function_codes (n + 1) (view_functions (drop (n + 1) fs)) ≡ all
-next_code fs n f codes more all code lt is_f is_code is_more so_far =
-    let rest = function_codes (n + 1) (view_functions (drop (n + 1) fs)) in
-    let front : drop n fs ≡ f ∷ drop (n + 1) fs = drop-cons fs n f lt ∙ (λ i. sym is_f i ∷ drop (sym (add-one n) i) fs) in
-    ap (λ xs. xs ++ rest) is_more
-    ∙ append_assoc codes (code ∷ []) rest
-    ∙ (λ i. codes ++ is_code i ∷ rest)
-    ∙ sym (λ i. codes ++ function_codes n (view_functions (front i)))
-    ∙ so_far
-
-pub no_codes : (fs : List Function) (n : ℕ) (codes all : List Listing) → length fs ≤ n → codes ++ function_codes n (view_functions (drop n fs)) ≡ all → codes ≡ all
-no_codes fs n codes all past so_far =
-    let none : drop n fs ≡ [] = drop_all n fs past in
-    sym (append-nil codes) ∙ sym (λ i. codes ++ function_codes n (view_functions (none i))) ∙ so_far
+pub main_below : (file : TypedFile) → first_breach file ≡ None → main_number file.functions < length file.functions
+main_below file admitted =
+    let main = main_is file.functions (first_none (main_breach file.functions) (earlier (functions_breach file.functions file.functions) (objects_breach file.objects)) admitted) in
+    slice_get_within file.functions (main_number file.functions) main.procedure main.there

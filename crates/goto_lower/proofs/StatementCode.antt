@@ -1,231 +1,890 @@
 -- The code of a statement, and of a function's body, does what it means.
-use Rattle.std.proofs.Common.{◌≡◌, ℕ, zero, suc, ◌+◌, ◌-◌, ◌*◌, ◌<◌, ◌≤◌, Bool, true, false, take, drop, List, [], ◌∷◌, ◌++◌, length, refl, sym, ap, ◌∙◌, arith}
-use Rattle.std.specs.Prelude.{◌==◌, slice_index, if◌then◌else◌}
+use Rattle.std.proofs.Common.{◌≡◌, ℕ, zero, suc, ◌+◌, ◌-◌, ◌*◌, ◌<◌, ◌≤◌, Bool, true, false, take, drop, List, [], ◌∷◌, ◌++◌, length, Option, Some, None, refl, sym, ap, ◌∙◌, subst, arith, append-nil, length-append}
+use Rattle.std.specs.Prelude.{◌==◌, ◌||◌, ◌&&◌, bit_or, slice_index, if◌then◌else◌}
+use Rattle.std.proofs.lemmas.Bool.{false≢true}
+use Rattle.std.proofs.lemmas.List.{get_or-set_same, drop_all}
+use Rattle.c_types.specs.declared.types.ValueType.{ValueType}
+use Rattle.c_types.specs.declared.types.ValueType.TheVariants.{Void, Integer}
 use Rattle.c_types.specs.Integers.{bytes}
+use Rattle.words.specs.declared.check.Class.TheVariants.{Unwind}
+use Rattle.core_tree.specs.declared.functions.PassedType.{PassedType}
+use Rattle.core_tree.specs.declared.functions.PassedType.TheVariants as passed
+use Rattle.core_tree.specs.Ranges.{Limits}
 use Rattle.core_tree.specs.Typed as trees
-use Rattle.core_tree.specs.Typed.{Sizes, type_of, is_structure, is_typed_statement, are_typed_items}
-use Rattle.core_tree.specs.Trees.{Structure, Statement, block, if_then, if_else, evaluate, returns, Items, done, declares, initializes, initializes_structure, does}
-use Rattle.core_tree.specs.Operations.{is_true}
-use Rattle.c_values.specs.Variables.{Variables, low_bytes, block_of, word_count, drawn_count, put_bytes, cleared, write_variable}
-use Rattle.actions.specs.Behaviour.{Behaviour, word_64}
-use Rattle.actions.specs.declared.action.Action.TheVariants.{Draw, End, Exit}
+use Rattle.core_tree.specs.Typed.{Signature, Sizes, type_of, same_given, given_as, passed_size, is_typed_part, is_test, are_cases, is_typed, is_structure, is_typed_statement, are_typed_items}
+use Rattle.core_tree.specs.Trees.{Expression, Structure, Statement, block, if_then, if_else, evaluate, returns, returns_structure, returns_nothing, for_loop, do_loop, switch, breaks, continues, jumps, stray, Items, done, declares, initializes, initializes_structure, does, label, case_at, default_at}
+use Rattle.core_tree.specs.Operations.{is_true, truth_bits}
+use Rattle.c_values.specs.Variables.{Variables, low_bytes, block_of, put_at, word_count, drawn_count, put_bytes, cleared, write_variable}
+use Rattle.actions.specs.Behaviour.{Behaviour}
+use Rattle.actions.specs.declared.action.Action.TheVariants.{Draw}
 use Rattle.actions.specs.declared.action.Answer.{Answer}
-use Rattle.actions.specs.declared.action.Next.TheVariants.{Ended}
 use Rattle.c_interp.specs.Meaning as source
-use Rattle.c_interp.specs.Meaning.{Running, number_type, drawn, eval_structure, exec, exec_items, enter, leaves}
+use Rattle.c_interp.specs.Meaning.{Running, Exits, number_type, has_case, has_default, in_loop, in_switch, with_labels, enter, eval, eval_structure, eval_part, tested, at_end, exec, exec_items, at_label, at_case, at_default}
 use Rattle.goto_prog.specs.declared.code.Instruction.{Instruction}
-use Rattle.goto_prog.specs.declared.code.Operation.{Operation}
 use Rattle.goto_prog.specs.declared.code.Operation.TheVariants as operations
-use Rattle.goto_prog.specs.Meaning.{Memory, register, with_register, with_blocks, word_of, operates, places}
-use Rattle.goto_prog.specs.Threads.{behaving, ask, final}
-use Rattle.goto_lower.specs.Lowering.{Frame, top, structure_registers, code, structure_code, size_of, first_registers, words_code, first_code, initial_code, entry_registers, statement_registers, items_registers, entry_code, statement_code, items_code, body_code}
-use Rattle.goto_lower.specs.Rooms.{Rooms, both, under, rooms, structure_rooms, statement_rooms, items_rooms}
+use Rattle.goto_prog.specs.Meaning.{Memory, Given, Reading, register, with_register, with_blocks, word_of, operates, at}
+use Rattle.goto_prog.specs.Threads.{Calls, acting}
+use Rattle.goto_prog.specs.Nodes.{Nodes, plain, repeats, node_count, Routine}
+use Rattle.goto_prog.specs.Nodes as nodes
+use Rattle.goto_prog.specs.Structured as flat
+use Rattle.goto_prog.specs.Structured.{Bounded, nodes_before, round_count, tests}
+use Rattle.goto_lower.specs.Lowering.{Frame, top, structure_registers, at_line, code, structure_code, size_of, first_registers, words_code, first_code, initial_code, entry_registers, part_registers, case_registers, statement_registers, items_registers, entry_code, part_code, test_code, Ways, within_loop, within_switch, ends, plains, to_place, case_tests, last_case, statement_code, items_code, labels_of, case_jumps, default_place}
+use Rattle.goto_lower.specs.Lowered.{given_size}
+use Rattle.goto_lower.specs.Rooms.{Rooms, no_rooms, both, under, rooms, structure_rooms, part_rooms, statement_rooms, items_rooms}
 use Rattle.goto_lower.proofs.RegisterTypes.{left_of, right_of, filled_there, filled_within}
-use Rattle.goto_lower.proofs.BlockBytes.{low_count, taken_back}
+use Rattle.goto_lower.proofs.RegisterTypes as registers_of
+use Rattle.goto_lower.proofs.BlockBytes.{low_count, few_bytes, taken_back}
 use Rattle.goto_lower.proofs.Housing.{Housed, housed_left, housed_right, housed_under, housed_room}
-use Rattle.goto_lower.proofs.Placing.{Places, begin, on, written, Kept, kept-refl, kept-set, kept-write, kept-clear, filled-kept, set_same, same_final, same_ask}
-use Rattle.goto_lower.proofs.ExpressionCode.{frame, shown, known, Placed, placed_kept, placed_deeper, block_size, variable_below, variable_size, low_room, shown_write, shown_clear, split, past, past_all, turned, same_word, means, structure_means, test_less, test_equal}
+use Rattle.goto_lower.proofs.Placing.{Places, begin_in, on_in, written, Kept, kept-refl, kept-then, kept-set, kept-write, kept-clear, filled-kept, set_same, set_other, set_room, same_final, same_ask}
+use Rattle.goto_lower.proofs.ExpressionCode.{SourceCalls, Agree, IsGiven, handed, frame, shown, known, Placed, placed_kept, placed_deeper, block_size, variable_below, variable_size, low_room, block_there, shown_write, shown_clear, split, turned, same_word, means, structure_means, same_gives, test_less, test_equal}
 
--- over the sizes of the blocks behind the variables, those of the static objects, and the first block that is free
-module _ (running : Running) (is_first : running.first ≡ true) (others objects : List ℕ) (d : ℕ) where
+-- ---- lists of places
+
+at_append : (o : Reading Behaviour) (xs ys : Places) (j : ℕ) (m : Memory) → at o (xs ++ ys) (length xs + j) m ≡ at o ys j m
+at_append o [] ys j m = let none : length {A = Memory → Behaviour} [] + j ≡ j = omega arith in ap (λ n. at o ys n m) none
+at_append o (x ∷ xs) ys j m =
+    let one : length (x ∷ xs) + j ≡ suc (length xs + j) = omega arith in
+    ap (λ n. at o ((x ∷ xs) ++ ys) n m) one ∙ at_append o xs ys j m
+
+-- over the sizes of the blocks behind the variables, those of the static objects, the types of the functions and what the function gives, what calls of code do, what becomes of what the function hands over, what calls mean, the functions of the code, the bounds, the first block that is free, and how many registers there are
+module _ (running : Running) (others objects : List ℕ) (functions : List Signature) (gives : Option PassedType)
+    (calls : Calls) (hands : Given → Behaviour) (meant : SourceCalls) (agree : Agree running others calls hands meant functions)
+    (routines : List Routine) (limits : Limits) (d total : ℕ) where
   abbrev edge : ℕ
   edge = length running.sizes
 
   abbrev sizes : List ℕ
   sizes = running.sizes ++ others
 
+  abbrev reading : Reading Behaviour
+  reading = acting calls hands
+
+  abbrev bounded : Bounded
+  bounded = record { strict = true; functions = routines; limits = limits }
+
+  abbrev begin : Places → Memory → Behaviour
+  begin ps m = begin_in calls hands ps m
+
+  abbrev on : List Instruction → Places → Places
+  on xs rest = on_in calls hands xs rest
+
+  abbrev nodes_on : Nodes → Places → Places
+  nodes_on x later = nodes_before bounded reading x later
+
   abbrev named : Sizes
-  named = known running others objects
+  named = known running others calls hands meant objects functions gives agree
 
   abbrev here : Frame
-  here = frame running others d
+  here = frame running others calls hands meant d
 
   abbrev view : Memory → Variables
-  view m = shown running others m
+  view m = shown running others calls hands meant m
 
-  abbrev Stands : Memory → Type 0
-  Stands m = Placed running others d m
+  -- the blocks are there, the register that stays 0 is 0, and all registers are there
+  pub record Ready (m : Memory) : Type 0 where
+    pub placed : Placed running others calls hands meant d m
+    pub zero_there : register m 0 ≡ 0
+    pub room : length m.registers ≡ total
 
   abbrev Lives : Rooms → Type 0
   Lives r = Housed sizes edge d r
 
-  -- the places go on with the variables, whatever the registers are
-  abbrev pub GoesOn : Memory → Places → (Variables → Behaviour) → Type 0
-  GoesOn m rest follows = (m' : Memory) → Stands m' → length m'.registers ≡ length m.registers → begin rest m' ≡ follows (view m')
+  ready_kept : (n : ℕ) (m m' : Memory) → 1 ≤ n → Ready m → Kept edge d n m m' → Ready m'
+  ready_kept n m m' some ready kept = record {
+    placed = placed_kept running others calls hands meant d n m m' ready.placed kept;
+    zero_there = kept.below 0 some ∙ ready.zero_there;
+    room = kept.room ∙ ready.room;
+  }
 
-  exits : (line x : ℕ) → ask Exit line running.function (λ a. final (Ended (word_64 0))) ≡ leaves running line x
-  exits line x =
-      same_ask running Exit line (λ a. final (Ended (word_64 0))) (λ a. source.final (Ended (word_64 0))) (λ i a. same_final (Ended (word_64 0)) i)
-      ∙ (λ i. source.ask running (if sym is_first i then Exit else End x) line (λ a. source.final (Ended (word_64 (if sym is_first i then 0 else x)))))
+  -- the places go on with the variables
+  abbrev pub Goes : Places → (Variables → Behaviour) → Type 0
+  Goes ps follows = (m : Memory) → Ready m → begin ps m ≡ follows (view m)
+
+  -- the same from a memory whose registers below n are kept
+  abbrev GoesFrom : ℕ → Memory → Places → (Variables → Behaviour) → Type 0
+  GoesFrom n m ps follows = (m' : Memory) → Ready m' → ((r : ℕ) → r < n → register m' r ≡ register m r) → begin ps m' ≡ follows (view m')
+
+  -- from the place behind which so many lie
+  abbrev from_end : Places → ℕ → Memory → Behaviour
+  from_end ps w m = at reading ps (length ps - w) m
+
+  -- a place behind which so many lie goes on like that
+  abbrev Leads : Places → ℕ → (Variables → Behaviour) → Type 0
+  Leads ps w follows = (w ≤ length ps) × ((m : Memory) → Ready m → from_end ps w m ≡ follows (view m))
+
+  from_end_behind : (xs ps : Places) (w : ℕ) (m : Memory) → w ≤ length ps → from_end (xs ++ ps) w m ≡ from_end ps w m
+  from_end_behind xs ps w m within =
+      let same : length (xs ++ ps) - w ≡ length xs + (length ps - w) = omega (arith, within, length-append xs ps) in
+      ap (λ n. at reading (xs ++ ps) n m) same ∙ at_append reading xs ps (length ps - w) m
+
+  leads_behind : (xs ps : Places) (w : ℕ) (follows : Variables → Behaviour) → Leads ps w follows → Leads (xs ++ ps) w follows
+  leads_behind xs ps w follows leads = (omega (arith, leads.0, length-append xs ps), λ m ready. from_end_behind xs ps w m leads.0 ∙ leads.1 m ready)
+
+  leads_begin : (ps : Places) (w : ℕ) (follows : Variables → Behaviour) → w ≡ length ps → Goes ps follows → Leads ps w follows
+  leads_begin ps w follows same goes =
+      (omega (arith, same), λ m ready. (let none : length ps - w ≡ 0 = omega (arith, same) in ap (λ n. at reading ps n m) none) ∙ goes m ready)
+
+  -- a jump to such a place
+  skip_to : (ps : Places) (k w : ℕ) (follows : Variables → Behaviour) → k ≡ length ps - w → Leads ps w follows → (m : Memory) → Ready m → at reading ps k m ≡ follows (view m)
+  skip_to ps k w follows same leads m ready = ap (λ n. at reading ps n m) same ∙ leads.1 m ready
+
+  -- ---- code in front of code
+
+  on_plains : (xs : List Instruction) (rest : Nodes) (later : Places) → nodes_on (plains xs rest) later ≡ on xs (nodes_on rest later)
+  on_plains [] rest later = refl
+  on_plains (i ∷ xs) rest later = λ k. operates reading true 0 i.line i.function i.operation (on_plains xs rest later k) ∷ on_plains xs rest later k
+
+  begin_plains : (xs : List Instruction) (rest : Nodes) (later : Places) (m : Memory) → begin (nodes_on (plains xs rest) later) m ≡ begin (on xs (nodes_on rest later)) m
+  begin_plains xs rest later m = ap (λ (ps : Places). begin ps m) (on_plains xs rest later)
+
+  pub places_count : (x : Nodes) (later : Places) → length (nodes_on x later) ≡ node_count x + length later
+  places_count nodes.done later = omega arith
+  places_count (plain i x) later = omega (arith, places_count x later)
+  places_count (repeats line f l rotated body x) later = omega (arith, places_count x later)
+
+  -- some nodes stand in front of others
+  pub record InFront (x rest : Nodes) : Type 0 where
+    pub front : Places → Places
+    pub is : (later : Places) → nodes_on x later ≡ front later ++ nodes_on rest later
+
+  itself : (x : Nodes) → InFront x x
+  itself x = record { front = λ later. []; is = λ later. refl }
+
+  then_front : (x y z : Nodes) → InFront x y → InFront y z → InFront x z
+  then_front x y z first second = record {
+    front = λ later. first.front later ++ second.front later;
+    is = λ later. first.is later ∙ ap (λ (ps : Places). first.front later ++ ps) (second.is later) ∙ sym (assoc (first.front later) (second.front later) (nodes_on z later));
+  }
+    where
+      assoc : (xs ys zs : Places) → (xs ++ ys) ++ zs ≡ xs ++ (ys ++ zs)
+      assoc [] ys zs = refl
+      assoc (x ∷ xs) ys zs = ap (λ (ps : Places). x ∷ ps) (assoc xs ys zs)
+
+  plain_front : (i : Instruction) (x rest : Nodes) → InFront x rest → InFront (plain i x) rest
+  plain_front i x rest front = then_front (plain i x) x rest (record { front = λ later. operates reading true 0 i.line i.function i.operation (nodes_on x later) ∷ []; is = λ later. refl }) front
+
+  plains_front : (xs : List Instruction) (x rest : Nodes) → InFront x rest → InFront (plains xs x) rest
+  plains_front [] x rest front = front
+  plains_front (i ∷ xs) x rest front = plain_front i (plains xs x) rest (plains_front xs x rest front)
+
+  repeats_front : (line f l : ℕ) (rotated : Bool) (body x : Nodes) → InFront (repeats line f l rotated body x) x
+  repeats_front line f l rotated body x = record { front = λ later. take 1 (nodes_on (repeats line f l rotated body x) later); is = λ later. refl }
+
+  leads_front : (x rest : Nodes) (later : Places) (w : ℕ) (follows : Variables → Behaviour) → InFront x rest → Leads (nodes_on rest later) w follows → Leads (nodes_on x later) w follows
+  leads_front x rest later w follows front leads = subst (λ (ps : Places). Leads ps w follows) (sym (front.is later)) (leads_behind (front.front later) (nodes_on rest later) w follows leads)
+
+  -- where the ways of code lead, and what becomes of what is handed over
+  pub record LeadOut (ways : Ways) (exits : Exits) (ps : Places) : Type 0 where
+    pub breaks : Leads ps ways.break_at exits.breaks
+    pub continues : Leads ps ways.continue_at exits.continues
+    pub labels : (l : ℕ) → Leads ps (ways.label_at l) (exits.labels l)
+    pub returns : (given : source.Given) → IsGiven gives given → hands (handed gives given) ≡ exits.returns given
+
+  lead_front : (ways : Ways) (exits : Exits) (x rest : Nodes) (later : Places) → InFront x rest → LeadOut ways exits (nodes_on rest later) → LeadOut ways exits (nodes_on x later)
+  lead_front ways exits x rest later front out = record {
+    breaks = leads_front x rest later ways.break_at exits.breaks front out.breaks;
+    continues = leads_front x rest later ways.continue_at exits.continues front out.continues;
+    labels = λ l. leads_front x rest later (ways.label_at l) (exits.labels l) front (out.labels l);
+    returns = out.returns;
+  }
+
+  -- ---- variables
 
   -- the words of a variable from an offset on, by draws
-  draws_first : (words line v offset n : ℕ) (xs : List Instruction) (m : Memory) (rest : Places) (follows : Variables → Behaviour)
-      → v < edge → 8 * words ≤ source.size_of running v - offset + 7 → Stands m → n + words ≤ length m.registers
-      → ((m' : Memory) → Stands m' → length m'.registers ≡ length m.registers → begin (on xs rest) m' ≡ follows (view m'))
-      → begin (on (words_code here running.sizes words line v offset n ++ xs) rest) m ≡ source.draws_words running words line v offset (view m) follows
-  draws_first zero line v offset n xs m rest follows variable few placed room goes = goes m placed refl
-  draws_first (suc words) line v offset n xs m rest follows variable few placed room goes =
+  draws_first : (words line v offset n start : ℕ) (xs : List Instruction) (m0 m : Memory) (ps : Places) (follows : Variables → Behaviour)
+      → v < edge → 8 * words ≤ source.size_of running v - offset + 7 → Ready m0 → Kept edge d start m0 m → 1 ≤ start → start ≤ n → n + words ≤ total
+      → ((m' : Memory) → Kept edge d start m0 m' → begin (on xs ps) m' ≡ follows (view m'))
+      → begin (on (words_code here running.sizes words line v offset n ++ xs) ps) m ≡ source.draws_words running words line v offset (view m) follows
+  draws_first zero line v offset n start xs m0 m ps follows variable few ready kept some above room goes = goes m kept
+  draws_first (suc words) line v offset n start xs m0 m ps follows variable few ready kept some above room goes =
+      let now = ready_kept start m0 m some ready kept in
       let count = drawn_count (size_of running.sizes v) offset in
-      let size = variable_size running others d m placed v variable in
+      let size = variable_size running others calls hands meant d m now.placed v variable in
       let behind : (a : Answer) → Memory = λ a. written (with_register m n (word_of a)) v offset (low_bytes count (register (with_register m n (word_of a)) n)) in
       let fits : (a : Answer) → offset + length (low_bytes count (register (with_register m n (word_of a)) n)) ≤ length (block_of m.blocks v) =
       λ a. omega (arith, few, size, low_count count (register (with_register m n (word_of a)) n) (omega arith)) in
-      let kept : (a : Answer) → Kept edge d n m (behind a) =
-      λ a. kept-write edge d n v offset (low_bytes count (register (with_register m n (word_of a)) n)) m (with_register m n (word_of a)) variable (fits a) (kept-set edge d n n m (word_of a) (omega arith)) in
+      let kept_then : (a : Answer) → Kept edge d start m0 (behind a) =
+      λ a. kept-write edge d start v offset (low_bytes count (register (with_register m n (word_of a)) n)) m0 (with_register m n (word_of a)) variable (fits a) (kept-then edge d start start m0 m (with_register m n (word_of a)) (omega arith) kept (kept-set edge d start n m (word_of a) above)) in
       same_ask running (Draw (8 * count)) line _ _ (λ i a.
-      (draws_first words line v (offset + 8) (n + 1) xs (behind a) rest follows variable (omega (arith, few)) (placed_kept running others d n m (behind a) placed (kept a)) (omega (arith, room, (kept a).room)) (λ m' stands same. goes m' stands (same ∙ (kept a).room))
-      ∙ (λ k. source.draws_words running words line v (offset + 8) (shown_write running others (with_register m n (word_of a)) v offset (low_bytes count (register (with_register m n (word_of a)) n)) variable k) follows)
-      ∙ ap (λ x. source.draws_words running words line v (offset + 8) (put_bytes (view m) v offset (low_bytes count x)) follows) (set_same m n (word_of a) (omega (arith, room)) ∙ same_word running others a)) i)
+      (draws_first words line v (offset + 8) (n + 1) start xs m0 (behind a) ps follows variable (omega (arith, few)) ready (kept_then a) some (omega (arith, above)) (omega (arith, room)) goes
+      ∙ (λ k. source.draws_words running words line v (offset + 8) (shown_write running others calls hands meant (with_register m n (word_of a)) v offset (low_bytes count (register (with_register m n (word_of a)) n)) variable k) follows)
+      ∙ ap (λ x. source.draws_words running words line v (offset + 8) (put_bytes (view m) v offset (low_bytes count x)) follows) (set_same m n (word_of a) (omega (arith, room, now.room)) ∙ same_word running others calls hands meant a)) i)
 
-  -- the first values of variables from register n on
+  -- the first values of variables by registers from n on; those below `start` are kept
   abbrev Enters : Items → Type 0
-  Enters items = (n : ℕ) (m : Memory) (rest : Places) (follows : Variables → Behaviour) → are_typed_items named items ≡ true → Stands m → n + entry_registers running.sizes items ≤ length m.registers → GoesOn m rest follows
-      → begin (on (entry_code here running.sizes items n) rest) m ≡ enter running items (view m) follows
+  Enters items = (n start : ℕ) (m0 m : Memory) (ps : Places) (follows : Variables → Behaviour) → are_typed_items named items ≡ true → Ready m0 → Kept edge d start m0 m → 1 ≤ start → start ≤ n → n + entry_registers running.sizes items ≤ total
+      → ((m' : Memory) → Kept edge d start m0 m' → begin ps m' ≡ follows (view m'))
+      → begin (on (entry_code here running.sizes items n) ps) m ≡ enter running items (view m) follows
 
   -- a variable before others
-  enters_first : (line v : ℕ) (drawn : Bool) (items : Items) → Enters items → (n : ℕ) (m : Memory) (rest : Places) (follows : Variables → Behaviour)
-      → v < edge → are_typed_items named items ≡ true → Stands m → n + (first_registers running.sizes v drawn + entry_registers running.sizes items) ≤ length m.registers → GoesOn m rest follows
-      → begin (on (first_code here running.sizes line v drawn n ++ entry_code here running.sizes items (n + first_registers running.sizes v drawn)) rest) m
+  enters_first : (line v : ℕ) (drawn : Bool) (items : Items) → Enters items → (n start : ℕ) (m0 m : Memory) (ps : Places) (follows : Variables → Behaviour)
+      → v < edge → are_typed_items named items ≡ true → Ready m0 → Kept edge d start m0 m → 1 ≤ start → start ≤ n → n + (first_registers running.sizes v drawn + entry_registers running.sizes items) ≤ total
+      → ((m' : Memory) → Kept edge d start m0 m' → begin ps m' ≡ follows (view m'))
+      → begin (on (first_code here running.sizes line v drawn n ++ entry_code here running.sizes items (n + first_registers running.sizes v drawn)) ps) m
       ≡ (if drawn then source.draws running line v (view m) (λ after. enter running items after follows) else enter running items (cleared (view m) v (source.size_of running v)) follows)
-  enters_first line v true items more n m rest follows variable typed placed room goes =
+  enters_first line v true items more n start m0 m ps follows variable typed ready kept some above room goes =
       let words = word_count (size_of running.sizes v) in
-      draws_first words line v 0 n (entry_code here running.sizes items (n + words)) m rest (λ after. enter running items after follows) variable (omega arith) placed (omega (arith, room)) (λ m' stands same.
-      more (n + words) m' rest follows typed stands (omega (arith, room, same)) (λ m'' stands' again. goes m'' stands' (again ∙ same)))
-  enters_first line v false items more n m rest follows variable typed placed room goes =
+      draws_first words line v 0 n start (entry_code here running.sizes items (n + words)) m0 m ps (λ after. enter running items after follows) variable (omega arith) ready kept some above (omega (arith, room)) (λ m' kept'.
+      more (n + words) start m0 m' ps follows typed ready kept' some (omega (arith, above)) (omega (arith, room)) goes)
+  enters_first line v false items more n start m0 m ps follows variable typed ready kept some above room goes =
+      let now = ready_kept start m0 m some ready kept in
       let size = size_of running.sizes v in
       let m1 : Memory = with_blocks m (cleared m.blocks v size) in
-      let kept : Kept edge d n m m1 = kept-clear edge d n v size m m variable (variable_size running others d m placed v variable) (kept-refl edge d n m) in
-      more (n + 0) m1 rest follows typed (placed_kept running others d n m m1 placed kept) (omega (arith, room)) goes
-      ∙ ap (λ vs. enter running items vs follows) (shown_clear running others m v size variable)
+      let kept1 : Kept edge d start m0 m1 = kept-clear edge d start v size m0 m variable (variable_size running others calls hands meant d m now.placed v variable) kept in
+      more (n + 0) start m0 m1 ps follows typed ready kept1 some (omega (arith, above)) (omega (arith, room)) goes
+      ∙ ap (λ vs. enter running items vs follows) (shown_clear running others calls hands meant m v size variable)
 
   entering : (items : Items) → Enters items
-  entering done n m rest follows typed placed room goes = goes m placed refl
-  entering (declares line v items) n m rest follows typed placed room goes = enters_first line v true items (entering items) n m rest follows (test_less v edge (left_of _ _ typed)) (right_of _ _ typed) placed room goes
-  entering (initializes line v drawn e items) n m rest follows typed placed room goes =
-      enters_first line v drawn items (entering items) n m rest follows (test_less v edge (filled_there [] running.sizes v (type_of e) (left_of _ _ (left_of _ _ typed)))) (right_of _ _ typed) placed room goes
-  entering (initializes_structure line v drawn a items) n m rest follows typed placed room goes =
-      enters_first line v drawn items (entering items) n m rest follows (test_less v edge (left_of _ _ (left_of _ _ (left_of _ _ typed)))) (right_of _ _ typed) placed room goes
-  entering (does s items) n m rest follows typed placed room goes = entering items n m rest follows (right_of _ _ typed) placed room goes
+  entering done n start m0 m ps follows typed ready kept some above room goes = goes m kept
+  entering (declares line v items) n start m0 m ps follows typed ready kept some above room goes =
+      enters_first line v true items (entering items) n start m0 m ps follows (test_less v edge (left_of _ _ typed)) (right_of _ _ typed) ready kept some above room goes
+  entering (initializes line v drawn e items) n start m0 m ps follows typed ready kept some above room goes =
+      enters_first line v drawn items (entering items) n start m0 m ps follows (test_less v edge (filled_there [] running.sizes v (type_of e) (left_of _ _ (left_of _ _ typed)))) (right_of _ _ typed) ready kept some above room goes
+  entering (initializes_structure line v drawn a items) n start m0 m ps follows typed ready kept some above room goes =
+      enters_first line v drawn items (entering items) n start m0 m ps follows (test_less v edge (left_of _ _ (left_of _ _ (left_of _ _ typed)))) (right_of _ _ typed) ready kept some above room goes
+  entering (does s items) n start m0 m ps follows typed ready kept some above room goes = entering items n start m0 m ps follows (right_of _ _ typed) ready kept some above room goes
+  entering (label l items) n start m0 m ps follows typed ready kept some above room goes = entering items n start m0 m ps follows typed ready kept some above room goes
+  entering (case_at line t bits items) n start m0 m ps follows typed ready kept some above room goes = entering items n start m0 m ps follows (right_of _ _ typed) ready kept some above room goes
+  entering (default_at line items) n start m0 m ps follows typed ready kept some above room goes = entering items n start m0 m ps follows typed ready kept some above room goes
+
+  -- an expression, in front of places
+  value_first : (e : Expression) (n : ℕ) (m : Memory) (ps : Places) (follows : ℕ → Variables → Behaviour) → is_typed named e ≡ true → Lives (rooms e) → Ready m → 1 ≤ n → n + top e < total
+      → ((m' : Memory) → Ready m' → Kept edge d n m m' → begin ps m' ≡ follows (register m' (n + top e)) (view m'))
+      → begin (on (code here e n) ps) m ≡ eval running meant e (view m) follows
+  value_first e n m ps follows typed housed ready some room goes =
+      means running others calls hands meant objects functions gives agree e d n m ps follows typed housed ready.placed (omega (arith, room, ready.room)) (λ m' kept. goes m' (ready_kept n m m' some ready kept) kept)
+
+  structure_first : (a : Structure) (n into : ℕ) (m : Memory) (ps : Places) (follows : List ℕ → Variables → Behaviour) → is_structure named a ≡ true → Lives (structure_rooms a) → Ready m → edge < into → into < d
+      → 0 + trees.size_of a ≤ length (block_of m.blocks into) → n + structure_registers a ≤ total
+      → ((m' : Memory) (value : List ℕ) → length value ≡ trees.size_of a → block_of m'.blocks into ≡ put_at 0 value (block_of m.blocks into) → begin ps m' ≡ follows value (view m'))
+      → begin (on (structure_code here a n into 0) ps) m ≡ eval_structure running meant a (view m) follows
+  structure_first a n into m ps follows typed housed ready behind inside fits room goes =
+      structure_means running others calls hands meant objects functions gives agree a d n into 0 m ps follows typed housed ready.placed behind inside fits (omega (arith, room, ready.room)) (λ m' value long filled. goes m' value long filled.filled)
 
   -- the structure value of an initializer
-  initial_means : (line v : ℕ) (a : Structure) (n : ℕ) (m : Memory) (rest : Places) (follows : Variables → Behaviour)
-      → v < edge → slice_index running.sizes v ≡ trees.size_of a → is_structure named a ≡ true → Lives (under (trees.size_of a) (structure_rooms a)) → Stands m → n + structure_registers a ≤ length m.registers → GoesOn m rest follows
-      → begin (on (initial_code here running.sizes line v a n) rest) m ≡ eval_structure running a (view m) (λ value after. follows (put_bytes after v 0 value))
-  initial_means line v a n m rest follows variable whole typed housed placed room goes =
+  initial_means : (line v : ℕ) (a : Structure) (n : ℕ) (m : Memory) (ps : Places) (follows : Variables → Behaviour)
+      → v < edge → slice_index running.sizes v ≡ trees.size_of a → is_structure named a ≡ true → Lives (under (trees.size_of a) (structure_rooms a)) → Ready m → 1 ≤ n → n + structure_registers a ≤ total → Goes ps follows
+      → begin (on (initial_code here running.sizes line v a n) ps) m ≡ eval_structure running meant a (view m) (λ value after. follows (put_bytes after v 0 value))
+  initial_means line v a n m ps follows variable whole typed housed ready some room goes =
+      let placed = ready.placed in
       let free = housed_room sizes edge d (trees.size_of a) (structure_rooms a) housed in
-      let free_size = block_size running others d m placed d in
-      split running others (structure_code (frame running others (d + 1)) a n d 0) _ rest m
-      ∙ structure_means running others objects a (d + 1) n d 0 m _ (λ value after. follows (put_bytes after v 0 value)) typed (housed_under sizes edge d (trees.size_of a) (structure_rooms a) housed) (placed_deeper running others d m free.there placed)
-      placed.deep (omega arith) (omega (arith, free.fits, free_size)) room (λ m1 value long filled.
+      let free_size = block_size running others calls hands meant d m placed d in
+      split running others calls hands meant (structure_code (frame running others calls hands meant (d + 1)) a n d 0) _ ps m
+      ∙ structure_means running others calls hands meant objects functions gives agree a (d + 1) n d 0 m _ (λ value after. follows (put_bytes after v 0 value)) typed (housed_under sizes edge d (trees.size_of a) (structure_rooms a) housed) (placed_deeper running others calls hands meant d m free.there placed)
+      (omega (arith, placed.deep)) (omega arith) (omega (arith, free.fits, free_size)) (omega (arith, room, ready.room)) (λ m1 value long filled.
       let new = take (trees.size_of a) (drop 0 (block_of m1.blocks d)) in
       let same : new ≡ value = (λ i. take (trees.size_of a) (drop 0 (filled.filled i))) ∙ taken_back 0 (trees.size_of a) value (block_of m.blocks d) long (omega arith) in
       let kept1 : Kept edge d n m m1 = filled-kept edge d n 0 value m m1 filled in
-      let placed1 = placed_kept running others d n m m1 placed kept1 in
+      let placed1 = placed_kept running others calls hands meant d n m m1 placed kept1 in
       let m2 : Memory = written m1 v 0 new in
-      let fits : 0 + length new ≤ length (block_of m1.blocks v) = omega (arith, long, ap length same, whole, variable_size running others d m1 placed1 v variable) in
+      let fits : 0 + length new ≤ length (block_of m1.blocks v) = omega (arith, long, ap length same, whole, variable_size running others calls hands meant d m1 placed1 v variable) in
       let kept2 : Kept edge d n m m2 = kept-write edge d n v 0 new m m1 variable fits kept1 in
-      goes m2 (placed_kept running others d n m m2 placed kept2) kept2.room
-      ∙ ap follows (shown_write running others m1 v 0 new variable)
+      goes m2 (ready_kept n m m2 some ready kept2)
+      ∙ ap follows (shown_write running others calls hands meant m1 v 0 new variable)
       ∙ ap (λ bytes. follows (put_bytes (view m1) v 0 bytes)) same)
 
+  -- ---- loops
+
+  -- a part that may be missing
+  part_means : (e : Option Expression) (n : ℕ) (ps : Places) (follows : Variables → Behaviour) → is_typed_part named e ≡ true → Lives (part_rooms e) → 1 ≤ n → n + part_registers running.sizes e ≤ total → Goes ps follows
+      → Goes (on (part_code here running.sizes e n) ps) (λ vs. eval_part running meant e vs follows)
+  part_means None n ps follows typed housed some room goes m ready = goes m ready
+  part_means (Some e) n ps follows typed housed some room goes m ready = value_first e n m ps (λ x. follows) typed housed ready some (omega (arith, room)) (λ m' ready' kept. goes m' ready')
+
+  -- a test, behind which comes one place where it holds and another where it fails
+  test_means : (line : ℕ) (e : Option Expression) (n : ℕ) (ps : Places) (holds fails : Variables → Behaviour) → is_test named e ≡ true → Lives (part_rooms e) → 1 ≤ n → n + part_registers running.sizes e ≤ total
+      → Goes ps holds → ((m : Memory) → Ready m → at reading ps 1 m ≡ fails (view m))
+      → Goes (on (test_code here running.sizes line e n) ps) (λ vs. tested running meant e vs holds fails)
+  test_means line None n ps holds fails typed housed some room goes past m ready = goes m ready
+  test_means line (Some e) n ps holds fails typed housed some room goes past m ready =
+      split running others calls hands meant (code here e n) _ ps m
+      ∙ value_first e n m _ (λ x after. if is_true x then holds after else fails after) (right_of _ _ typed) housed ready some (omega (arith, room)) (λ m1 ready1 kept1.
+      turned running others calls hands meant (register m1 (n + top e) == 0) _ _ _ _ (past m1 ready1) (goes m1 ready1))
+
+  -- rounds of a loop mean rounds
+  rounds_mean : (line : ℕ) (assertions : Bool) (body : (Memory → Behaviour) → Memory → Behaviour) (round : (Variables → Behaviour) → Variables → Behaviour)
+      → running.assertions ≡ assertions
+      → ((again : Memory → Behaviour) (on_again : Variables → Behaviour) → ((m : Memory) → Ready m → again m ≡ on_again (view m)) → (m : Memory) → Ready m → body again m ≡ round on_again (view m))
+      → (k : ℕ) (m : Memory) → Ready m → flat.rounds assertions line running.function body k m ≡ source.rounds running line round k (view m)
+  rounds_mean line assertions body round same each zero m ready =
+      passed_same assertions ∙ (λ i. source.passed (sym same i) Unwind line running.function)
+    where
+      passed_same : (b : Bool) → flat.passed b Unwind line running.function ≡ source.passed b Unwind line running.function
+      passed_same true = same_final _
+      passed_same false = same_final _
+  rounds_mean line assertions body round same each (suc k) m ready =
+      each (flat.rounds assertions line running.function body k) (source.rounds running line round k) (λ m' ready'. rounds_mean line assertions body round same each k m' ready') m ready
+
+  -- ---- which code stands in front of which
+
+  if_front : (b : Bool) (x y rest : Nodes) → InFront x rest → InFront y rest → InFront (if b then x else y) rest
+  if_front true x y rest first second = first
+  if_front false x y rest first second = second
+
+  jumps_front : (base : ℕ) (ways : Ways) (line : ℕ) (items : Items) (k n : ℕ) (rest more : Nodes) → InFront (case_jumps here running.sizes base ways line items k n rest more) more
+  jumps_front base ways line done k n rest more = itself more
+  jumps_front base ways line (declares at_line_of v items) k n rest more = jumps_front base ways line items k n rest more
+  jumps_front base ways line (initializes at_line_of v drawn e items) k n rest more = jumps_front base ways line items k n rest more
+  jumps_front base ways line (initializes_structure at_line_of v drawn a items) k n rest more = jumps_front base ways line items k n rest more
+  jumps_front base ways line (does s items) k n rest more = jumps_front base ways line items k n rest more
+  jumps_front base ways line (label l items) k n rest more = jumps_front base ways line items k n rest more
+  jumps_front base ways line (case_at at_line_of t bits items) k n rest more = plain_front _ _ more (plain_front _ _ more (jumps_front base ways line items (k + 3) n rest more))
+  jumps_front base ways line (default_at at_line_of items) k n rest more = jumps_front base ways line items k n rest more
+
   mutual
-    pub statement_means : (s : Statement) (n : ℕ) (m : Memory) (rest : Places) (follows : Variables → Behaviour)
-        → is_typed_statement named s ≡ true → Lives (statement_rooms s) → Stands m → n + statement_registers running.sizes s ≤ length m.registers → GoesOn m rest follows
-        → begin (on (statement_code here running.sizes s n) rest) m ≡ exec running s (view m) follows
-    statement_means (block items) n m rest follows typed housed placed room goes =
-        split running others (entry_code here running.sizes items n) _ rest m
-        ∙ entering items n m _ (λ after. exec_items running items after follows) typed placed (omega (arith, room)) (λ m1 placed1 same1.
-        items_mean items (n + entry_registers running.sizes items) m1 rest follows typed housed placed1 (omega (arith, room, same1)) (λ m2 placed2 same2. goes m2 placed2 (same2 ∙ same1)))
-    statement_means (if_then line test s) n m rest follows typed housed placed room goes =
-        let yes_code = statement_code here running.sizes s (n + (top test + 1)) in
-        split running others (code here test n) _ rest m
-        ∙ means running others objects test d n m _ (λ x after. if is_true x then exec running s after follows else follows after) (right_of _ _ (left_of _ _ typed)) (housed_left sizes edge d (rooms test) (statement_rooms s) housed) placed (omega (arith, room)) (λ m1 kept1.
-        let placed1 = placed_kept running others d n m m1 placed kept1 in
-        turned running others (register m1 (n + top test) == 0) _ _ _ _
-        (past_all running others yes_code rest m1 ∙ goes m1 placed1 kept1.room)
-        (statement_means s (n + (top test + 1)) m1 rest follows (right_of _ _ typed) (housed_right sizes edge d (rooms test) (statement_rooms s) housed) placed1 (omega (arith, room, kept1.room)) (λ m2 placed2 same2. goes m2 placed2 (same2 ∙ kept1.room))))
-    statement_means (if_else line test s t) n m rest follows typed housed placed room goes =
-        let first = n + (top test + 1) in
-        let second = first + statement_registers running.sizes s in
-        let yes_code = statement_code here running.sizes s first in
-        let no_code = statement_code here running.sizes t second in
-        let ways = housed_right sizes edge d (rooms test) (both (statement_rooms s) (statement_rooms t)) housed in
-        split running others (code here test n) _ rest m
-        ∙ means running others objects test d n m _ (λ x after. if is_true x then exec running s after follows else exec running t after follows) (right_of _ _ (left_of _ _ (left_of _ _ typed))) (housed_left sizes edge d (rooms test) (both (statement_rooms s) (statement_rooms t)) housed) placed (omega (arith, room)) (λ m1 kept1.
-        let placed1 = placed_kept running others d n m m1 placed kept1 in
-        turned running others (register m1 (n + top test) == 0) _ _ _ _
-        (past running others yes_code _ rest 1 m1
-        ∙ statement_means t second m1 rest follows (right_of _ _ typed) (housed_right sizes edge d (statement_rooms s) (statement_rooms t) ways) placed1 (omega (arith, room, kept1.room)) (λ m2 placed2 same2. goes m2 placed2 (same2 ∙ kept1.room)))
-        (split running others yes_code _ rest m1
-        ∙ statement_means s first m1 _ follows (right_of _ _ (left_of _ _ typed)) (housed_left sizes edge d (statement_rooms s) (statement_rooms t) ways) placed1 (omega (arith, room, kept1.room)) (λ m2 placed2 same2. past_all running others no_code rest m2 ∙ goes m2 placed2 (same2 ∙ kept1.room))))
-    statement_means (evaluate e) n m rest follows typed housed placed room goes = means running others objects e d n m rest (λ x. follows) typed housed placed (omega (arith, room)) (λ m' kept. goes m' (placed_kept running others d n m m' placed kept) kept.room)
-    statement_means (returns line e) n m rest follows typed housed placed room goes =
-        split running others (code here e n) _ rest m
-        ∙ means running others objects e d n m _ (λ x after. leaves running line x) (right_of _ _ typed) housed placed (omega (arith, room)) (λ m' kept. exits line (register m' (n + top e)))
+    statement_front : (s : Statement) (base : ℕ) (ways : Ways) (n : ℕ) (rest : Nodes) → InFront (statement_code here running.sizes base ways s n rest) rest
+    statement_front (block items) base ways n rest = plains_front _ _ rest (items_front items base ways n rest)
+    statement_front (if_then line test s) base ways n rest = plains_front _ _ rest (plain_front _ _ rest (statement_front s base ways n rest))
+    statement_front (if_else line test s t) base ways n rest =
+        let no = statement_code here running.sizes base ways t n rest in
+        let jump = to_place here running.sizes line base (base + node_count rest) no in
+        let yes = statement_code here running.sizes base ways s (n + statement_registers running.sizes t) jump in
+        plains_front _ _ rest (plain_front _ yes rest (then_front yes jump rest (statement_front s base ways (n + statement_registers running.sizes t) jump) (plain_front _ no rest (statement_front t base ways n rest))))
+    statement_front (evaluate e) base ways n rest = plains_front _ _ rest (itself rest)
+    statement_front (returns line e) base ways n rest = plains_front _ _ rest (plain_front _ _ rest (plain_front _ rest rest (itself rest)))
+    statement_front (returns_structure line a) base ways n rest = plains_front _ _ rest (plain_front _ rest rest (itself rest))
+    statement_front (returns_nothing line) base ways n rest = plain_front _ rest rest (itself rest)
+    statement_front (for_loop line l first test last s) base ways n rest = plains_front _ _ rest (plains_front _ _ rest (repeats_front line here.function l true _ rest))
+    statement_front (do_loop line l s test) base ways n rest = repeats_front line here.function l false _ rest
+    statement_front (switch line e items) base ways n rest =
+        let inner = within_switch ways (base + node_count rest) in
+        let in_cases = n + items_registers running.sizes items + 1 in
+        let in_entry = in_cases + case_registers running.sizes items in
+        let body = items_code here running.sizes base inner items n rest in
+        let last = to_place here running.sizes line base (if has_default items then default_place here running.sizes base inner items n rest else base + node_count rest) body in
+        let jumps_of = case_jumps here running.sizes base inner line items in_cases n rest last in
+        let entered : InFront (plains (entry_code here running.sizes items in_entry) jumps_of) rest =
+        plains_front _ jumps_of rest (then_front jumps_of last rest (jumps_front base inner line items in_cases n rest last) (plain_front _ body rest (items_front items base inner n rest))) in
+        plains_front _ _ rest (plain_front _ _ rest (plains_front _ _ rest (if_front (has_default items) _ _ rest entered (plain_front _ _ rest entered))))
+    statement_front (breaks line) base ways n rest = plain_front _ rest rest (itself rest)
+    statement_front (continues line) base ways n rest = plain_front _ rest rest (itself rest)
+    statement_front (jumps line l) base ways n rest = plain_front _ rest rest (itself rest)
+    statement_front (stray line s) base ways n rest = statement_front s base ways n rest
 
-    pub items_mean : (items : Items) (n : ℕ) (m : Memory) (rest : Places) (follows : Variables → Behaviour)
-        → are_typed_items named items ≡ true → Lives (items_rooms items) → Stands m → n + items_registers running.sizes items ≤ length m.registers → GoesOn m rest follows
-        → begin (on (items_code here running.sizes items n) rest) m ≡ exec_items running items (view m) follows
-    items_mean done n m rest follows typed housed placed room goes = goes m placed refl
-    items_mean (declares line v items) n m rest follows typed housed placed room goes = items_mean items n m rest follows (right_of _ _ typed) housed placed room goes
-    items_mean (initializes line v drawn e items) n m rest follows typed housed placed room goes =
-        let type = number_type e in
-        let fills = filled_within [] running.sizes v (type_of e) (left_of _ _ (left_of _ _ typed)) in
-        let variable = variable_below running others v 0 (bytes type) fills in
-        split running others (code here e n) _ rest m
-        ∙ means running others objects e d n m _ (λ x after. exec_items running items (write_variable after v 0 type x) follows) (right_of _ _ (left_of _ _ typed)) (housed_left sizes edge d (rooms e) (items_rooms items) housed) placed (omega (arith, room)) (λ m1 kept1.
-        let placed1 = placed_kept running others d n m m1 placed kept1 in
-        let new = low_bytes (bytes type) (register m1 (n + top e)) in
-        let m2 : Memory = written m1 v 0 new in
-        let kept2 : Kept edge d n m m2 = kept-write edge d n v 0 new m m1 variable (low_room running others d m1 placed1 v 0 type (register m1 (n + top e)) fills) kept1 in
-        items_mean items (n + (top e + 1)) m2 rest follows (right_of _ _ typed) (housed_right sizes edge d (rooms e) (items_rooms items) housed) (placed_kept running others d n m m2 placed kept2) (omega (arith, room, kept2.room)) (λ m3 placed3 same3. goes m3 placed3 (same3 ∙ kept2.room))
-        ∙ ap (λ vs. exec_items running items vs follows) (shown_write running others m1 v 0 new variable))
-    items_mean (initializes_structure line v drawn a items) n m rest follows typed housed placed room goes =
-        let needs = under (trees.size_of a) (structure_rooms a) in
-        let tests = left_of _ _ (left_of _ _ typed) in
-        split running others (initial_code here running.sizes line v a n) _ rest m
-        ∙ initial_means line v a n m _ (λ after. exec_items running items after follows) (test_less v edge (left_of _ _ tests)) (sym (test_equal (trees.size_of a) (slice_index running.sizes v) (right_of _ _ tests))) (right_of _ _ (left_of _ _ typed)) (housed_left sizes edge d needs (items_rooms items) housed) placed (omega (arith, room)) (λ m1 placed1 same1.
-        items_mean items (n + structure_registers a) m1 rest follows (right_of _ _ typed) (housed_right sizes edge d needs (items_rooms items) housed) placed1 (omega (arith, room, same1)) (λ m2 placed2 same2. goes m2 placed2 (same2 ∙ same1)))
-    items_mean (does s items) n m rest follows typed housed placed room goes =
-        split running others (statement_code here running.sizes s n) _ rest m
-        ∙ statement_means s n m _ (λ after. exec_items running items after follows) (left_of _ _ typed) (housed_left sizes edge d (statement_rooms s) (items_rooms items) housed) placed (omega (arith, room)) (λ m1 placed1 same1.
-        items_mean items (n + statement_registers running.sizes s) m1 rest follows (right_of _ _ typed) (housed_right sizes edge d (statement_rooms s) (items_rooms items) housed) placed1 (omega (arith, room, same1)) (λ m2 placed2 same2. goes m2 placed2 (same2 ∙ same1)))
+    items_front : (items : Items) (base : ℕ) (ways : Ways) (n : ℕ) (rest : Nodes) → InFront (items_code here running.sizes base ways items n rest) rest
+    items_front done base ways n rest = itself rest
+    items_front (declares line v items) base ways n rest = items_front items base ways n rest
+    items_front (initializes line v drawn e items) base ways n rest = plains_front _ _ rest (plain_front _ _ rest (items_front items base ways n rest))
+    items_front (initializes_structure line v drawn a items) base ways n rest = plains_front _ _ rest (items_front items base ways n rest)
+    items_front (does s items) base ways n rest =
+        let more = items_code here running.sizes base ways items n rest in
+        then_front (items_code here running.sizes base ways (does s items) n rest) more rest (statement_front s base (labels_of here running.sizes base ways items n rest) (n + items_registers running.sizes items) more) (items_front items base ways n rest)
+    items_front (label l items) base ways n rest = items_front items base ways n rest
+    items_front (case_at line t bits items) base ways n rest = items_front items base ways n rest
+    items_front (default_at line items) base ways n rest = items_front items base ways n rest
 
-  -- ---- a body
+  -- ---- cases
 
-  pub body_means : (body : Statement) (line : ℕ) (m : Memory) → is_typed_statement named body ≡ true → Lives (statement_rooms body) → Stands m → statement_registers running.sizes body ≤ length m.registers
-      → begin (on (body_code here running.sizes body line) []) m ≡ exec running body (view m) (λ vs. leaves running line 0)
-  body_means body line m typed housed placed room =
-      split running others (statement_code here running.sizes body 0) _ [] m
-      ∙ statement_means body 0 m _ (λ vs. leaves running line 0) typed housed placed (omega (arith, room)) (λ m' placed' same. exits line 0)
+  -- the registers tell which cases have the value
+  abbrev Tested : Items → ℕ → ℕ → Memory → Type 0
+  Tested done k x m = Unit {0}
+  Tested (declares line v items) k x m = Tested items k x m
+  Tested (initializes line v drawn e items) k x m = Tested items k x m
+  Tested (initializes_structure line v drawn a items) k x m = Tested items k x m
+  Tested (does s items) k x m = Tested items k x m
+  Tested (label l items) k x m = Tested items k x m
+  Tested (case_at line t bits items) k x m = (register m (k + 1) ≡ truth_bits (bits == x)) × Tested items (k + 3) x m
+  Tested (default_at line items) k x m = Tested items k x m
 
--- ---- the places of code, whatever their numbers
+  tested_kept : (items : Items) (k x n : ℕ) (m m' : Memory) → k + case_registers running.sizes items ≤ n → ((r : ℕ) → r < n → register m' r ≡ register m r) → Tested items k x m → Tested items k x m'
+  tested_kept done k x n m m' within same tests_of = tt
+  tested_kept (declares line v items) k x n m m' within same tests_of = tested_kept items k x n m m' within same tests_of
+  tested_kept (initializes line v drawn e items) k x n m m' within same tests_of = tested_kept items k x n m m' within same tests_of
+  tested_kept (initializes_structure line v drawn a items) k x n m m' within same tests_of = tested_kept items k x n m m' within same tests_of
+  tested_kept (does s items) k x n m m' within same tests_of = tested_kept items k x n m m' within same tests_of
+  tested_kept (label l items) k x n m m' within same tests_of = tested_kept items k x n m m' within same tests_of
+  tested_kept (case_at line t bits items) k x n m m' within same tests_of =
+      (same (k + 1) (omega (arith, within)) ∙ tests_of.0, tested_kept items (k + 3) x n m m' (omega (arith, within)) same tests_of.1)
+  tested_kept (default_at line items) k x n m m' within same tests_of = tested_kept items k x n m m' within same tests_of
 
-free : (p line f : ℕ) (o : Operation) (ps : Places) (m : Memory) → operates behaving true p line f o ps m ≡ operates behaving true 0 line f o ps m
-free p line f (operations.Constant r bits) ps m = refl
-free p line f (operations.Copy r a) ps m = refl
-free p line f (operations.Load r t b offset) ps m = refl
-free p line f (operations.Store b offset count a) ps m = refl
-free p line f (operations.Clear b size) ps m = refl
-free p line f (operations.CopyBytes into to from offset count) ps m = refl
-free p line f (operations.Convert r from to a) ps m = refl
-free p line f (operations.Sign r op t a) ps m = refl
-free p line f (operations.Arithmetic r op t u a b) ps m = refl
-free p line f (operations.Compare r op t a b) ps m = refl
-free p line f (operations.IsZero r a) ps m = refl
-free p line f (operations.Skip n) ps m = refl
-free p line f (operations.SkipIfZero a n) ps m = refl
-free p line f (operations.Check c) ps m = refl
-free p line f (operations.Assert a) ps m = refl
-free p line f (operations.Assume a) ps m = refl
-free p line f (operations.Draw r bits) ps m = refl
-free p line f (operations.ReadObject b to k offset count) ps m = refl
-free p line f (operations.WriteObject k offset b from count) ps m = refl
-free p line f operations.Exit ps m = refl
+  either_bits : (a b : Bool) → bit_or (truth_bits a) (truth_bits b) ≡ truth_bits (a || b)
+  either_bits true true = refl
+  either_bits true false = refl
+  either_bits false true = refl
+  either_bits false false = refl
 
-pub places-on : (p : ℕ) (xs : List Instruction) → places behaving true p xs ≡ on xs []
-places-on p [] = refl
-places-on p (i ∷ xs) =
-    let rest = places-on (suc p) xs in
-    (λ k. (λ m. free p i.line i.function i.operation (places behaving true (suc p) xs) m k) ∷ places behaving true (suc p) xs)
-    ∙ (λ k. operates behaving true 0 i.line i.function i.operation (rest k) ∷ rest k)
+  either_either : (a b c : Bool) → ((a || b) || c) ≡ (a || (b || c))
+  either_either true b c = refl
+  either_either false b c = refl
+
+  -- what is known behind the tests of cases by registers from k on
+  abbrev AfterTests : Items → (before k x : ℕ) → Bool → Memory → Memory → Type 0
+  AfterTests items before k x any m m' =
+      Ready m' × (m'.blocks ≡ m.blocks) × ((r : ℕ) → r < k → register m' r ≡ register m r) × Tested items k x m' × (register m' (last_case here running.sizes before items k) ≡ truth_bits (any || has_case items x))
+
+  tests_mean : (items : Items) (line xr before k x : ℕ) (any : Bool) (m : Memory) (ps : Places) (b : Behaviour)
+      → register m xr ≡ x → register m before ≡ truth_bits any → before < k → k + case_registers running.sizes items ≤ xr → xr < total → Ready m
+      → ((m' : Memory) → AfterTests items before k x any m m' → begin ps m' ≡ b)
+      → begin (on (case_tests here running.sizes line xr before items k) ps) m ≡ b
+  tests_mean done line xr before k x any m ps b value prior low high room ready goes =
+      goes m (ready, refl, (λ r lt. refl), tt, prior ∙ ap truth_bits (no_more any))
+    where
+      no_more : (a : Bool) → a ≡ (a || false)
+      no_more true = refl
+      no_more false = refl
+  tests_mean (declares at_line_of v items) line xr before k x any m ps b value prior low high room ready goes = tests_mean items line xr before k x any m ps b value prior low high room ready goes
+  tests_mean (initializes at_line_of v drawn e items) line xr before k x any m ps b value prior low high room ready goes = tests_mean items line xr before k x any m ps b value prior low high room ready goes
+  tests_mean (initializes_structure at_line_of v drawn a items) line xr before k x any m ps b value prior low high room ready goes = tests_mean items line xr before k x any m ps b value prior low high room ready goes
+  tests_mean (does s items) line xr before k x any m ps b value prior low high room ready goes = tests_mean items line xr before k x any m ps b value prior low high room ready goes
+  tests_mean (label l items) line xr before k x any m ps b value prior low high room ready goes = tests_mean items line xr before k x any m ps b value prior low high room ready goes
+  tests_mean (case_at at_line_of t bits items) line xr before k x any m ps b value prior low high room ready goes =
+      let hit = bits == x in
+      let m1 : Memory = with_register m k bits in
+      let m2 : Memory = with_register m1 (k + 1) (truth_bits (register m1 k == register m1 xr)) in
+      let m3 : Memory = with_register m2 (k + 2) (bit_or (register m2 before) (register m2 (k + 1))) in
+      let room1 = set_room m k bits in
+      let room2 = set_room m1 (k + 1) (truth_bits (register m1 k == register m1 xr)) in
+      let room3 = set_room m2 (k + 2) (bit_or (register m2 before) (register m2 (k + 1))) in
+      let of_case : register m1 k ≡ bits = set_same m k bits (omega (arith, high, room, ready.room)) in
+      let of_value : register m1 xr ≡ x = set_other m k bits xr (λ e. omega (arith, e, high)) ∙ value in
+      let is_hit : register m2 (k + 1) ≡ truth_bits hit =
+      set_same m1 (k + 1) (truth_bits (register m1 k == register m1 xr)) (omega (arith, high, room, ready.room, room1)) ∙ (λ i. truth_bits (of_case i == of_value i)) in
+      let is_prior : register m2 before ≡ truth_bits any = set_other m1 (k + 1) (truth_bits (register m1 k == register m1 xr)) before (λ e. omega (arith, e, low)) ∙ set_other m k bits before (λ e. omega (arith, e, low)) ∙ prior in
+      let is_any : register m3 (k + 2) ≡ truth_bits (any || hit) =
+      set_same m2 (k + 2) (bit_or (register m2 before) (register m2 (k + 1))) (omega (arith, high, room, ready.room, room1, room2)) ∙ (λ i. bit_or (is_prior i) (is_hit i)) ∙ either_bits any hit in
+      let below : (r : ℕ) → r < k → register m3 r ≡ register m r =
+      λ r lt. set_other m2 (k + 2) (bit_or (register m2 before) (register m2 (k + 1))) r (λ e. omega (arith, e, lt)) ∙ set_other m1 (k + 1) (truth_bits (register m1 k == register m1 xr)) r (λ e. omega (arith, e, lt)) ∙ set_other m k bits r (λ e. omega (arith, e, lt)) in
+      let value3 : register m3 xr ≡ x =
+      set_other m2 (k + 2) (bit_or (register m2 before) (register m2 (k + 1))) xr (λ e. omega (arith, e, high)) ∙ set_other m1 (k + 1) (truth_bits (register m1 k == register m1 xr)) xr (λ e. omega (arith, e, high)) ∙ of_value in
+      let kept : Kept edge d k m m3 =
+      kept-then edge d k k m m1 m3 (omega arith) (kept-set edge d k k m bits (omega arith))
+      (kept-then edge d k k m1 m2 m3 (omega arith) (kept-set edge d k (k + 1) m1 (truth_bits (register m1 k == register m1 xr)) (omega arith)) (kept-set edge d k (k + 2) m2 (bit_or (register m2 before) (register m2 (k + 1))) (omega arith))) in
+      let ready3 : Ready m3 = ready_kept k m m3 (omega (arith, low)) ready kept in
+      tests_mean items line xr (k + 2) (k + 3) x (any || hit) m3 ps b value3 is_any (omega arith) (omega (arith, high)) room ready3 (λ m' after.
+      let still : (r : ℕ) → r < k + 3 → register m' r ≡ register m3 r = after.2 in
+      let hit_still : register m' (k + 1) ≡ truth_bits hit = still (k + 1) (omega arith) ∙ set_other m2 (k + 2) (bit_or (register m2 before) (register m2 (k + 1))) (k + 1) (λ e. omega (arith, e)) ∙ is_hit in
+      goes m' (after.0, after.1, (λ r lt. still r (omega (arith, lt)) ∙ below r lt), (hit_still, after.3), after.4 ∙ ap truth_bits (either_either any hit (has_case items x))))
+  tests_mean (default_at at_line_of items) line xr before k x any m ps b value prior low high room ready goes = tests_mean items line xr before k x any m ps b value prior low high room ready goes
+
+  -- a choice behind what comes first
+  chosen_behind : (b : Bool) (f : (Variables → Behaviour) → Behaviour) (x y : Variables → Behaviour) → f (λ now. if b then x now else y now) ≡ (if b then f x else f y)
+  chosen_behind true f x y = refl
+  chosen_behind false f x y = refl
+
+  -- a choice by a register that is 0 where a test fails
+  by_truth : (b : Bool) (s t u v : Behaviour) → s ≡ v → (b ≡ true → t ≡ u) → (if truth_bits b == 0 then s else t) ≡ (if b then u else v)
+  by_truth true s t u v first second = second refl
+  by_truth false s t u v first second = first
+
+  -- a case that is met or not
+  met : (b c : Bool) (next skip meets at_others other : Behaviour) → skip ≡ meets → next ≡ (if c then at_others else other) → (if truth_bits b == 0 then next else skip) ≡ (if b || c then (if b then meets else at_others) else other)
+  met true c next skip meets at_others other hit missed = hit
+  met false c next skip meets at_others other hit missed = missed
+
+  no_room : (r : Rooms) → Lives r → Lives no_rooms
+  no_room r housed = record { zeros = omega arith; sizes = tt }
+
+  some_entry : (n before in_cases in_entry : ℕ) (items : Items) → 1 ≤ n → in_entry ≡ in_cases + case_registers running.sizes items → in_cases ≤ in_entry
+  some_entry n before in_cases in_entry items some is_entry = omega (arith, is_entry)
+
+  result_there : (m : Memory) → Ready m → edge + 1 < length m.blocks
+  result_there m ready = block_there running others calls hands meant d m ready.placed (edge + 1) ready.placed.deep
+
+  -- what a number that is returned is
+  number_returned : (v : ValueType) → trees.is_integer v ≡ true → same_given gives (given_as v) ≡ true → gives ≡ Some (passed.Integer (source.integer_of v))
+  number_returned Void some h = absurd (false≢true some)
+  number_returned (Integer t) some h = same_gives running others calls hands meant gives (Some (passed.Integer t)) h
+
+  pub put_whole : (new old : List ℕ) → length new ≡ length old → put_at 0 new old ≡ new
+  put_whole new old same = ap (λ xs. new ++ xs) (drop_all (0 + length new) old (omega (arith, same))) ∙ append-nil new
+
+  leads_if : (b : Bool) (ps : Places) (v w : ℕ) (x y : Variables → Behaviour) → Leads ps v x → Leads ps w y → Leads ps (if b then v else w) (λ vs. if b then x vs else y vs)
+  leads_if true ps v w x y first second = first
+  leads_if false ps v w x y first second = second
+
+  leads_two : (b : Bool) (ps : Places) (v w : ℕ) (follows : Variables → Behaviour) → (b ≡ true → Leads ps v follows) → (b ≡ false → Leads ps w follows) → Leads ps (if b then v else w) follows
+  leads_two true ps v w follows first second = first refl
+  leads_two false ps v w follows first second = second refl
+
+  -- over the bounds, which are those of the source, and the size of the block for what the function hands over
+  module _ (tests_same : (l : ℕ) → tests bounded running.function l ≡ running.tests l) (assertions_same : running.assertions ≡ limits.assertions) (result_size : slice_index sizes (edge + 1) ≡ given_size gives) where
+    result_length : (m : Memory) → Ready m → length (block_of m.blocks (edge + 1)) ≡ given_size gives
+    result_length m ready = block_size running others calls hands meant d m ready.placed (edge + 1) ∙ result_size
+
+    -- the code of a statement does what it means, wherever it stands
+    abbrev Means : Statement → Type 0
+    Means s =
+        (ways : Ways) (exits : Exits) (n : ℕ) (rest : Nodes) (later : Places) (follows : Variables → Behaviour)
+        → is_typed_statement named s ≡ true → Lives (statement_rooms s) → 1 ≤ n → n + statement_registers running.sizes s ≤ total → LeadOut ways exits (nodes_on rest later) → Goes (nodes_on rest later) follows
+        → Goes (nodes_on (statement_code here running.sizes (length later) ways s n rest) later) (λ vs. exec running meant s exits vs follows)
+
+    -- the jumps to cases lead to the one that is met
+    abbrev JumpsMean : Items → Type 0
+    JumpsMean items =
+        (line x k n : ℕ) (ways : Ways) (exits : Exits) (rest more : Nodes) (later : Places) (follows other : Variables → Behaviour)
+        → are_typed_items named items ≡ true → Lives (items_rooms items) → 1 ≤ n → n + items_registers running.sizes items ≤ total → LeadOut ways exits (nodes_on rest later) → Goes (nodes_on rest later) follows
+        → InFront more (items_code here running.sizes (length later) ways items n rest)
+        → (m : Memory) → Ready m → Tested items k x m → begin (nodes_on more later) m ≡ other (view m)
+        → begin (nodes_on (case_jumps here running.sizes (length later) ways line items k n rest more) later) m ≡ (if has_case items x then at_case running meant items x exits (view m) follows else other (view m))
+
+    -- `default` is where its place says
+    abbrev DefaultLeads : Items → Type 0
+    DefaultLeads items =
+        (n : ℕ) (ways : Ways) (exits : Exits) (rest : Nodes) (later : Places) (follows : Variables → Behaviour)
+        → has_default items ≡ true → are_typed_items named items ≡ true → Lives (items_rooms items) → 1 ≤ n → n + items_registers running.sizes items ≤ total → LeadOut ways exits (nodes_on rest later) → Goes (nodes_on rest later) follows
+        → Leads (nodes_on (items_code here running.sizes (length later) ways items n rest) later) (default_place here running.sizes (length later) ways items n rest) (λ vs. at_default running meant items exits vs follows)
+
+    -- a round of a loop: the body, then the last part and the test
+    each_round : (line : ℕ) (s : Statement) → Means s → (last test : Option Expression) (ways : Ways) (exits : Exits) (n in_last in_body behind : ℕ) (rest : Nodes) (later : Places) (follows : Variables → Behaviour) (again : Memory → Behaviour) (on_again : Variables → Behaviour)
+        → behind ≡ length later + node_count rest → is_typed_statement named s ≡ true → is_test named test ≡ true → is_typed_part named last ≡ true
+        → Lives (statement_rooms s) → Lives (part_rooms test) → Lives (part_rooms last) → 1 ≤ n → 1 ≤ in_last → 1 ≤ in_body
+        → n + part_registers running.sizes test ≤ total → in_last + part_registers running.sizes last ≤ total → in_body + statement_registers running.sizes s ≤ total
+        → LeadOut ways exits (nodes_on rest later) → Goes (nodes_on rest later) follows → ((m : Memory) → Ready m → again m ≡ on_again (view m))
+        → (let end = plains (part_code here running.sizes last in_last) (plains (test_code here running.sizes line test n) ends) in
+        (m : Memory) → Ready m → begin (nodes_on (statement_code here running.sizes (behind + 1) (within_loop ways behind (behind + 1 + node_count end)) s in_body end) (again ∷ nodes_on rest later)) m
+        ≡ exec running meant s (in_loop exits follows (at_end running meant last test on_again follows)) (view m) (at_end running meant last test on_again follows))
+    each_round line s means_it last test ways exits n in_last in_body behind rest later follows again on_again is_behind typed test_typed last_typed housed test_rooms last_rooms some some_last some_body test_room last_room room out goes same m ready =
+        let later_in : Places = again ∷ nodes_on rest later in
+        let end = plains (part_code here running.sizes last in_last) (plains (test_code here running.sizes line test n) ends) in
+        let ways_in = within_loop ways behind (behind + 1 + node_count end) in
+        let follows_end : Variables → Behaviour = at_end running meant last test on_again follows in
+        let base : behind + 1 ≡ length later_in = omega (arith, is_behind, places_count rest later) in
+        let end_front : InFront end ends = plains_front _ _ ends (plains_front _ ends ends (itself ends)) in
+        let end_goes : Goes (nodes_on end later_in) follows_end = λ m1 ready1.
+        begin_plains (part_code here running.sizes last in_last) _ later_in m1
+        ∙ part_means last in_last (nodes_on (plains (test_code here running.sizes line test n) ends) later_in) (λ now. tested running meant test now on_again follows) last_typed last_rooms some_last last_room (λ m2 ready2.
+        begin_plains (test_code here running.sizes line test n) ends later_in m2
+        ∙ test_means line test n later_in on_again follows test_typed test_rooms some test_room same goes m2 ready2) m1 ready1 in
+        let out_in : LeadOut ways_in (in_loop exits follows follows_end) (nodes_on end later_in) = record {
+          breaks = leads_front end ends later_in behind follows end_front (leads_behind (again ∷ []) (nodes_on rest later) behind follows (leads_begin (nodes_on rest later) behind follows (omega (arith, is_behind, places_count rest later)) goes));
+          continues = leads_begin (nodes_on end later_in) (behind + 1 + node_count end) follows_end (omega (arith, places_count end later_in, base)) end_goes;
+          labels = λ l. leads_front end ends later_in (ways.label_at l) (exits.labels l) end_front (leads_behind (again ∷ []) (nodes_on rest later) (ways.label_at l) (exits.labels l) (out.labels l));
+          returns = out.returns;
+        } in
+        (λ i. begin (nodes_on (statement_code here running.sizes (base i) ways_in s in_body end) later_in) m)
+        ∙ means_it ways_in (in_loop exits follows follows_end) in_body end later_in follows_end typed housed some_body room out_in end_goes m ready
+
+    -- behind the tests of the cases: nothing where none is met and there is no default, else the block, from the place that is met
+    switch_tail : (b : Bool) (line : ℕ) (items : Items) → JumpsMean items → DefaultLeads items → (ways : Ways) (exits : Exits) (n before in_cases in_entry : ℕ) (rest : Nodes) (later : Places) (follows : Variables → Behaviour) (x : ℕ)
+        → has_default items ≡ b → in_entry ≡ in_cases + case_registers running.sizes items → 1 ≤ in_cases
+        → are_typed_items named items ≡ true → Lives (items_rooms items) → 1 ≤ n → n + items_registers running.sizes items ≤ total → in_entry + entry_registers running.sizes items ≤ total
+        → LeadOut ways exits (nodes_on rest later) → Goes (nodes_on rest later) follows → (m : Memory) → Ready m → Tested items in_cases x m → register m (last_case here running.sizes before items in_cases) ≡ truth_bits (has_case items x)
+        → (let body = items_code here running.sizes (length later) ways items n rest in
+        let last = to_place here running.sizes line (length later) (if b then default_place here running.sizes (length later) ways items n rest else length later + node_count rest) body in
+        let entered = plains (entry_code here running.sizes items in_entry) (case_jumps here running.sizes (length later) ways line items in_cases n rest last) in
+        begin (nodes_on (if b then entered else plain (at_line here line (operations.SkipIfZero (last_case here running.sizes before items in_cases) (node_count entered - node_count rest))) entered) later) m
+        ≡ (if has_case items x then enter running items (view m) (λ now. at_case running meant items x exits now follows)
+        else (if b then enter running items (view m) (λ now. at_default running meant items exits now follows) else follows (view m))))
+    switch_tail true line items jumps_it default_it ways exits n before in_cases in_entry rest later follows x is_default is_entry some_cases typed housed some room entry_room out goes m ready known_cases any =
+        let base = length later in
+        let body = items_code here running.sizes base ways items n rest in
+        let place = default_place here running.sizes base ways items n rest in
+        let last = to_place here running.sizes line base place body in
+        let by_default : Variables → Behaviour = λ vs. at_default running meant items exits vs follows in
+        let by_case : Variables → Behaviour = λ vs. at_case running meant items x exits vs follows in
+        let leads = default_it n ways exits rest later follows is_default typed housed some (omega (arith, room)) out goes in
+        begin_plains (entry_code here running.sizes items in_entry) _ later m
+        ∙ entering items in_entry in_entry m m _ (λ now. if has_case items x then by_case now else by_default now) typed ready (kept-refl edge d in_entry m) (omega (arith, some_entry n before in_cases in_entry items some is_entry, some_cases)) (omega arith) (omega (arith, entry_room)) (λ m1 kept.
+        let ready1 = ready_kept in_entry m m1 (omega (arith, some_entry n before in_cases in_entry items some is_entry, some_cases)) ready kept in
+        jumps_it line x in_cases n ways exits rest last later follows by_default typed housed some (omega (arith, room)) out goes (plain_front _ body body (itself body)) m1 ready1
+        (tested_kept items in_cases x in_entry m m1 (omega (arith, is_entry)) kept.below known_cases)
+        (skip_to (nodes_on body later) (base + node_count body - place) place by_default (omega (arith, places_count body later)) leads m1 ready1))
+        ∙ chosen_behind (has_case items x) (λ k. enter running items (view m) k) by_case by_default
+    switch_tail false line items jumps_it default_it ways exits n before in_cases in_entry rest later follows x is_default is_entry some_cases typed housed some room entry_room out goes m ready known_cases any =
+        let base = length later in
+        let behind = base + node_count rest in
+        let body = items_code here running.sizes base ways items n rest in
+        let last = to_place here running.sizes line base behind body in
+        let jumps_of = case_jumps here running.sizes base ways line items in_cases n rest last in
+        let entered = plains (entry_code here running.sizes items in_entry) jumps_of in
+        let by_case : Variables → Behaviour = λ vs. at_case running meant items x exits vs follows in
+        let body_front : InFront body rest = items_front items base ways n rest in
+        let entered_front : InFront entered rest = plains_front _ jumps_of rest (then_front jumps_of last rest (jumps_front base ways line items in_cases n rest last) (plain_front _ body rest body_front)) in
+        let end : Leads (nodes_on body later) behind follows = leads_front body rest later behind follows body_front (leads_begin (nodes_on rest later) behind follows (omega (arith, places_count rest later)) goes) in
+        let skipped : at reading (nodes_on entered later) (node_count entered - node_count rest) m ≡ follows (view m) =
+        skip_to (nodes_on entered later) (node_count entered - node_count rest) behind follows (omega (arith, places_count entered later))
+        (leads_front entered rest later behind follows entered_front (leads_begin (nodes_on rest later) behind follows (omega (arith, places_count rest later)) goes)) m ready in
+        let entering_it : begin (nodes_on entered later) m ≡ enter running items (view m) (λ now. if has_case items x then by_case now else follows now) =
+        begin_plains (entry_code here running.sizes items in_entry) jumps_of later m
+        ∙ entering items in_entry in_entry m m (nodes_on jumps_of later) (λ now. if has_case items x then by_case now else follows now) typed ready (kept-refl edge d in_entry m) (omega (arith, some_entry n before in_cases in_entry items some is_entry, some_cases)) (omega arith) (omega (arith, entry_room)) (λ m1 kept.
+        let ready1 = ready_kept in_entry m m1 (omega (arith, some_entry n before in_cases in_entry items some is_entry, some_cases)) ready kept in
+        jumps_it line x in_cases n ways exits rest last later follows follows typed housed some (omega (arith, room)) out goes (plain_front _ body body (itself body)) m1 ready1
+        (tested_kept items in_cases x in_entry m m1 (omega (arith, is_entry)) kept.below known_cases)
+        (skip_to (nodes_on body later) (base + node_count body - behind) behind follows (omega (arith, places_count body later)) end m1 ready1)) in
+        (λ i. if any i == 0 then at reading (nodes_on entered later) (node_count entered - node_count rest) m else begin (nodes_on entered later) m)
+        ∙ by_truth (has_case items x) (at reading (nodes_on entered later) (node_count entered - node_count rest) m) (begin (nodes_on entered later) m) (enter running items (view m) by_case) (follows (view m)) skipped
+        (λ h. entering_it ∙ (λ i. enter running items (view m) (λ now. if h i then by_case now else follows now)))
+
+    mutual
+      pub statement_means : (s : Statement) (ways : Ways) (exits : Exits) (n : ℕ) (rest : Nodes) (later : Places) (follows : Variables → Behaviour)
+          → is_typed_statement named s ≡ true → Lives (statement_rooms s) → 1 ≤ n → n + statement_registers running.sizes s ≤ total → LeadOut ways exits (nodes_on rest later) → Goes (nodes_on rest later) follows
+          → Goes (nodes_on (statement_code here running.sizes (length later) ways s n rest) later) (λ vs. exec running meant s exits vs follows)
+      statement_means (block items) ways exits n rest later follows typed housed some room out goes m ready =
+          let in_entry = n + items_registers running.sizes items in
+          begin_plains (entry_code here running.sizes items in_entry) _ later m
+          ∙ entering items in_entry 1 m m _ (λ after. exec_items running meant items exits after follows) typed ready (kept-refl edge d 1 m) (omega arith) (omega (arith, some)) (omega (arith, room)) (λ m' kept.
+          items_mean items ways exits n rest later follows typed housed some (omega (arith, room)) out goes m' (ready_kept 1 m m' (omega arith) ready kept))
+      statement_means (if_then line test s) ways exits n rest later follows typed housed some room out goes m ready =
+          let yes = statement_code here running.sizes (length later) ways s n rest in
+          let in_test = n + statement_registers running.sizes s in
+          begin_plains (code here test in_test) _ later m
+          ∙ value_first test in_test m _ (λ x after. if is_true x then exec running meant s exits after follows else follows after) (right_of _ _ (left_of _ _ typed)) (housed_left sizes edge d (rooms test) (statement_rooms s) housed) ready (omega (arith, some)) (omega (arith, room)) (λ m1 ready1 kept1.
+          turned running others calls hands meant (register m1 (in_test + top test) == 0) _ _ _ _
+          (skip_to (nodes_on yes later) (node_count yes - node_count rest) (length (nodes_on rest later)) follows (omega (arith, places_count yes later, places_count rest later))
+          (leads_front yes rest later (length (nodes_on rest later)) follows (statement_front s (length later) ways n rest) (leads_begin (nodes_on rest later) (length (nodes_on rest later)) follows refl goes)) m1 ready1)
+          (statement_means s ways exits n rest later follows (right_of _ _ typed) (housed_right sizes edge d (rooms test) (statement_rooms s) housed) some (omega (arith, room)) out goes m1 ready1))
+      statement_means (if_else line test s t) ways exits n rest later follows typed housed some room out goes m ready =
+          let base = length later in
+          let no = statement_code here running.sizes base ways t n rest in
+          let second = n + statement_registers running.sizes t in
+          let jump = to_place here running.sizes line base (base + node_count rest) no in
+          let yes = statement_code here running.sizes base ways s second jump in
+          let in_test = second + statement_registers running.sizes s in
+          let both_rooms = housed_right sizes edge d (rooms test) (both (statement_rooms s) (statement_rooms t)) housed in
+          let no_front : InFront no rest = statement_front t base ways n rest in
+          let jump_front : InFront jump rest = plain_front _ no rest no_front in
+          let yes_front : InFront yes no = then_front yes jump no (statement_front s base ways second jump) (plain_front _ no no (itself no)) in
+          let no_goes : Goes (nodes_on no later) (λ vs. exec running meant t exits vs follows) =
+          statement_means t ways exits n rest later follows (right_of _ _ typed) (housed_right sizes edge d (statement_rooms s) (statement_rooms t) both_rooms) some (omega (arith, room)) out goes in
+          let end : Leads (nodes_on no later) (length (nodes_on rest later)) follows = leads_front no rest later (length (nodes_on rest later)) follows no_front (leads_begin (nodes_on rest later) (length (nodes_on rest later)) follows refl goes) in
+          let jump_goes : Goes (nodes_on jump later) follows =
+          λ m' ready'. skip_to (nodes_on no later) (base + node_count no - (base + node_count rest)) (length (nodes_on rest later)) follows (omega (arith, places_count no later, places_count rest later)) end m' ready' in
+          begin_plains (code here test in_test) _ later m
+          ∙ value_first test in_test m _ (λ x after. if is_true x then exec running meant s exits after follows else exec running meant t exits after follows) (right_of _ _ (left_of _ _ (left_of _ _ typed))) (housed_left sizes edge d (rooms test) (both (statement_rooms s) (statement_rooms t)) housed) ready (omega (arith, some)) (omega (arith, room)) (λ m1 ready1 kept1.
+          turned running others calls hands meant (register m1 (in_test + top test) == 0) _ _ _ _
+          (skip_to (nodes_on yes later) (node_count yes - node_count no) (length (nodes_on no later)) (λ vs. exec running meant t exits vs follows) (omega (arith, places_count yes later, places_count no later))
+          (leads_front yes no later (length (nodes_on no later)) (λ vs. exec running meant t exits vs follows) yes_front (leads_begin (nodes_on no later) (length (nodes_on no later)) (λ vs. exec running meant t exits vs follows) refl no_goes)) m1 ready1)
+          (statement_means s ways exits second jump later follows (right_of _ _ (left_of _ _ typed)) (housed_left sizes edge d (statement_rooms s) (statement_rooms t) both_rooms) (omega (arith, some)) (omega (arith, room)) (lead_front ways exits jump rest later jump_front out) jump_goes m1 ready1))
+      statement_means (evaluate e) ways exits n rest later follows typed housed some room out goes m ready =
+          begin_plains (code here e n) rest later m
+          ∙ value_first e n m _ (λ x. follows) typed housed ready some (omega (arith, room)) (λ m1 ready1 kept1. goes m1 ready1)
+      statement_means (returns line e) ways exits n rest later follows typed housed some room out goes m ready =
+          let t = number_type e in
+          let result = edge + 1 in
+          let is : gives ≡ Some (passed.Integer t) = number_returned (type_of e) (left_of _ _ (left_of _ _ typed)) (right_of _ _ (left_of _ _ typed)) in
+          begin_plains (code here e n) _ later m
+          ∙ value_first e n m _ (λ x after. exits.returns (source.number x)) (right_of _ _ typed) housed ready some (omega (arith, room)) (λ m1 ready1 kept1.
+          let x = register m1 (n + top e) in
+          let new = low_bytes (bytes t) x in
+          let count : length new ≡ bytes t = low_count (bytes t) x (few_bytes t) in
+          let size : length (block_of m1.blocks result) ≡ bytes t = result_length m1 ready1 ∙ ap given_size is in
+          let there : result < length m1.blocks = result_there m1 ready1 in
+          let whole : block_of (written m1 result 0 new).blocks result ≡ new = get_or-set_same m1.blocks result (put_at 0 new (block_of m1.blocks result)) [] there ∙ put_whole new (block_of m1.blocks result) (count ∙ sym size) in
+          (λ i. hands (Some (whole i)))
+          ∙ sym (λ i. hands (handed (is i) (source.number x)))
+          ∙ out.returns (source.number x) (subst (λ (g : Option PassedType). IsGiven g (source.number x)) (sym is) tt))
+      statement_means (returns_structure line a) ways exits n rest later follows typed housed some room out goes m ready =
+          let result = edge + 1 in
+          let is : gives ≡ Some (passed.Structure (trees.size_of a)) = same_gives running others calls hands meant gives (Some (passed.Structure (trees.size_of a))) (left_of _ _ typed) in
+          let size : length (block_of m.blocks result) ≡ trees.size_of a = result_length m ready ∙ ap given_size is in
+          begin_plains (structure_code here a n result 0) _ later m
+          ∙ structure_first a n result m _ (λ value after. exits.returns (source.structure value)) (right_of _ _ typed) housed ready (omega arith) ready.placed.deep (omega (arith, size)) (omega (arith, room)) (λ m1 value long block_is.
+          (λ i. hands (Some ((block_is ∙ put_whole value (block_of m.blocks result) (long ∙ sym size)) i)))
+          ∙ sym (λ i. hands (handed (is i) (source.structure value)))
+          ∙ out.returns (source.structure value) (subst (λ (g : Option PassedType). IsGiven g (source.structure value)) (sym is) long))
+      statement_means (returns_nothing line) ways exits n rest later follows typed housed some room out goes m ready = out.returns source.nothing tt
+      statement_means (for_loop line l first test last s) ways exits n rest later follows typed housed some room out goes m ready =
+          let behind = length later + node_count rest in
+          let in_last = n + part_registers running.sizes test in
+          let in_body = in_last + part_registers running.sizes last in
+          let in_test = in_body + statement_registers running.sizes s in
+          let in_first = in_test + part_registers running.sizes test in
+          let first_typed = left_of _ _ (left_of _ _ (left_of _ _ typed)) in
+          let test_typed = right_of _ _ (left_of _ _ (left_of _ _ typed)) in
+          let first_rooms = housed_left sizes edge d (part_rooms first) (both (part_rooms test) (both (part_rooms last) (statement_rooms s))) housed in
+          let others_rooms = housed_right sizes edge d (part_rooms first) (both (part_rooms test) (both (part_rooms last) (statement_rooms s))) housed in
+          let test_rooms = housed_left sizes edge d (part_rooms test) (both (part_rooms last) (statement_rooms s)) others_rooms in
+          let rounds_rooms = housed_right sizes edge d (part_rooms test) (both (part_rooms last) (statement_rooms s)) others_rooms in
+          let end = plains (part_code here running.sizes last in_last) (plains (test_code here running.sizes line test n) ends) in
+          let ways_in = within_loop ways behind (behind + 1 + node_count end) in
+          let body = statement_code here running.sizes (behind + 1) ways_in s in_body end in
+          let loop = repeats line running.function l true body rest in
+          let round : (Variables → Behaviour) → Variables → Behaviour =
+          λ again now. exec running meant s (in_loop exits follows (at_end running meant last test again follows)) now (at_end running meant last test again follows) in
+          let rest_rounds : Variables → Behaviour = source.rounds running line round (running.tests l - 1) in
+          let loop_goes : Goes (nodes_on loop later) rest_rounds = λ m' ready'.
+          rounds_mean line limits.assertions (λ again. at reading (nodes_on body (again ∷ nodes_on rest later)) 0) round assertions_same (λ again on_again same m2 ready2.
+          each_round line s (λ ways2 exits2 n2 rest2 later2 follows2. statement_means s ways2 exits2 n2 rest2 later2 follows2) last test ways exits n in_last in_body behind rest later follows again on_again refl
+          (right_of _ _ typed) test_typed (right_of _ _ (left_of _ _ typed))
+          (housed_right sizes edge d (part_rooms last) (statement_rooms s) rounds_rooms) test_rooms (housed_left sizes edge d (part_rooms last) (statement_rooms s) rounds_rooms)
+          some (omega (arith, some)) (omega (arith, some)) (omega (arith, room)) (omega (arith, room)) (omega (arith, room)) out goes same m2 ready2)
+          (tests bounded running.function l - 1) m' ready'
+          ∙ (λ i. source.rounds running line round (tests_same l i - 1) (view m')) in
+          begin_plains (part_code here running.sizes first in_first) _ later m
+          ∙ part_means first in_first (nodes_on (plains (test_code here running.sizes line test in_test) loop) later) (λ start. tested running meant test start rest_rounds follows) first_typed first_rooms (omega (arith, some)) (omega (arith, room)) (λ m1 ready1.
+          begin_plains (test_code here running.sizes line test in_test) loop later m1
+          ∙ test_means line test in_test (nodes_on loop later) rest_rounds follows test_typed test_rooms (omega (arith, some)) (omega (arith, room)) loop_goes goes m1 ready1) m ready
+      statement_means (do_loop line l s test) ways exits n rest later follows typed housed some room out goes m ready =
+          let behind = length later + node_count rest in
+          let a = is_typed_statement named s in
+          let b = trees.is_integer (type_of test) in
+          let c = is_typed named test in
+          let in_body = n + (top test + 1) in
+          let end = plains (test_code here running.sizes line (Some test) n) ends in
+          let body = statement_code here running.sizes (behind + 1) (within_loop ways behind (behind + 1 + node_count end)) s in_body end in
+          let round : (Variables → Behaviour) → Variables → Behaviour =
+          λ again now. exec running meant s (in_loop exits follows (at_end running meant None (Some test) again follows)) now (at_end running meant None (Some test) again follows) in
+          rounds_mean line limits.assertions (λ again. at reading (nodes_on body (again ∷ nodes_on rest later)) 0) round assertions_same (λ again on_again same m2 ready2.
+          each_round line s (λ ways2 exits2 n2 rest2 later2 follows2. statement_means s ways2 exits2 n2 rest2 later2 follows2) None (Some test) ways exits n in_body in_body behind rest later follows again on_again refl
+          (left_of a b (left_of (a && b) c typed)) (registers_of.both b c (right_of a b (left_of (a && b) c typed)) (right_of (a && b) c typed)) refl
+          (housed_left sizes edge d (statement_rooms s) (rooms test) housed) (housed_right sizes edge d (statement_rooms s) (rooms test) housed) (no_room (rooms test) (housed_right sizes edge d (statement_rooms s) (rooms test) housed))
+          some (omega (arith, some)) (omega (arith, some)) (omega (arith, room)) (omega (arith, room)) (omega (arith, room)) out goes same m2 ready2)
+          (tests bounded running.function l) m ready
+          ∙ (λ i. source.rounds running line round (tests_same l i) (view m))
+      statement_means (switch line e items) ways exits n rest later follows typed housed some room out goes m ready =
+          let base = length later in
+          let behind = base + node_count rest in
+          let inner = within_switch ways behind in
+          let before = n + items_registers running.sizes items in
+          let in_cases = before + 1 in
+          let in_entry = in_cases + case_registers running.sizes items in
+          let from = in_entry + entry_registers running.sizes items in
+          let items_typed = right_of _ _ typed in
+          let items_housed = housed_right sizes edge d (rooms e) (items_rooms items) housed in
+          let inner_out : LeadOut inner (in_switch exits follows) (nodes_on rest later) = record {
+            breaks = leads_begin (nodes_on rest later) behind follows (omega (arith, places_count rest later)) goes;
+            continues = out.continues;
+            labels = out.labels;
+            returns = out.returns;
+          } in
+          begin_plains (code here e from) _ later m
+          ∙ value_first e from m _ _ (right_of _ _ (left_of _ _ (left_of _ _ typed))) (housed_left sizes edge d (rooms e) (items_rooms items) housed) ready (omega (arith, some)) (omega (arith, room)) (λ m1 ready1 kept1.
+          let x = register m1 (from + top e) in
+          let m2 : Memory = with_register m1 before 0 in
+          let kept2 : Kept edge d before m1 m2 = kept-set edge d before before m1 0 (omega arith) in
+          let ready2 : Ready m2 = ready_kept before m1 m2 (omega (arith, some)) ready1 kept2 in
+          let value : register m2 (from + top e) ≡ x = set_other m1 before 0 (from + top e) (λ q. omega (arith, q)) in
+          let prior : register m2 before ≡ 0 = set_same m1 before 0 (omega (arith, room, ready1.room)) in
+          begin_plains (case_tests here running.sizes line (from + top e) before items in_cases) _ later m2
+          ∙ tests_mean items line (from + top e) before in_cases x false m2 _ _ value prior (omega arith) (omega arith) (omega (arith, room)) ready2 (λ m3 after.
+          switch_tail (has_default items) line items (λ line2 x2 k2 n2 ways2 exits2 rest2 more2 later2 follows2 other2. jumps_mean items line2 x2 k2 n2 ways2 exits2 rest2 more2 later2 follows2 other2) (λ n2 ways2 exits2 rest2 later2 follows2. default_leads items n2 ways2 exits2 rest2 later2 follows2) inner (in_switch exits follows) n before in_cases in_entry rest later follows x refl refl (omega arith) items_typed items_housed some (omega (arith, room)) (omega (arith, room)) inner_out goes m3 after.0 after.3 after.4
+          ∙ (λ i. if has_case items x then enter running items (take edge (after.1 i)) (λ now. at_case running meant items x (in_switch exits follows) now follows)
+          else (if has_default items then enter running items (take edge (after.1 i)) (λ now. at_default running meant items (in_switch exits follows) now follows) else follows (take edge (after.1 i))))))
+      statement_means (breaks line) ways exits n rest later follows typed housed some room out goes m ready =
+          skip_to (nodes_on rest later) (length later + node_count rest - ways.break_at) ways.break_at exits.breaks (omega (arith, places_count rest later)) out.breaks m ready
+      statement_means (continues line) ways exits n rest later follows typed housed some room out goes m ready =
+          skip_to (nodes_on rest later) (length later + node_count rest - ways.continue_at) ways.continue_at exits.continues (omega (arith, places_count rest later)) out.continues m ready
+      statement_means (jumps line l) ways exits n rest later follows typed housed some room out goes m ready =
+          skip_to (nodes_on rest later) (length later + node_count rest - ways.label_at l) (ways.label_at l) (exits.labels l) (omega (arith, places_count rest later)) (out.labels l) m ready
+      statement_means (stray line s) ways exits n rest later follows typed housed some room out goes m ready = statement_means s ways exits n rest later follows typed housed some room out goes m ready
+
+      pub items_mean : (items : Items) (ways : Ways) (exits : Exits) (n : ℕ) (rest : Nodes) (later : Places) (follows : Variables → Behaviour)
+          → are_typed_items named items ≡ true → Lives (items_rooms items) → 1 ≤ n → n + items_registers running.sizes items ≤ total → LeadOut ways exits (nodes_on rest later) → Goes (nodes_on rest later) follows
+          → Goes (nodes_on (items_code here running.sizes (length later) ways items n rest) later) (λ vs. exec_items running meant items exits vs follows)
+      items_mean done ways exits n rest later follows typed housed some room out goes m ready = goes m ready
+      items_mean (declares line v items) ways exits n rest later follows typed housed some room out goes m ready = items_mean items ways exits n rest later follows (right_of _ _ typed) housed some room out goes m ready
+      items_mean (initializes line v drawn e items) ways exits n rest later follows typed housed some room out goes m ready =
+          let t = number_type e in
+          let in_value = n + items_registers running.sizes items in
+          let fills_it = filled_within [] running.sizes v (type_of e) (left_of _ _ (left_of _ _ typed)) in
+          let variable = variable_below running others calls hands meant v 0 (bytes t) fills_it in
+          begin_plains (code here e in_value) _ later m
+          ∙ value_first e in_value m _ (λ x after. exec_items running meant items exits (write_variable after v 0 t x) follows) (right_of _ _ (left_of _ _ typed)) (housed_left sizes edge d (rooms e) (items_rooms items) housed) ready (omega (arith, some)) (omega (arith, room)) (λ m1 ready1 kept1.
+          let new = low_bytes (bytes t) (register m1 (in_value + top e)) in
+          let kept2 : Kept edge d 1 m1 (written m1 v 0 new) = kept-write edge d 1 v 0 new m1 m1 variable (low_room running others calls hands meant d m1 ready1.placed v 0 t (register m1 (in_value + top e)) fills_it) (kept-refl edge d 1 m1) in
+          items_mean items ways exits n rest later follows (right_of _ _ typed) (housed_right sizes edge d (rooms e) (items_rooms items) housed) some (omega (arith, room)) out goes (written m1 v 0 new) (ready_kept 1 m1 (written m1 v 0 new) (omega arith) ready1 kept2)
+          ∙ ap (λ vs. exec_items running meant items exits vs follows) (shown_write running others calls hands meant m1 v 0 new variable))
+      items_mean (initializes_structure line v drawn a items) ways exits n rest later follows typed housed some room out goes m ready =
+          let needs = under (trees.size_of a) (structure_rooms a) in
+          let about = left_of _ _ (left_of _ _ typed) in
+          let in_value = n + items_registers running.sizes items in
+          begin_plains (initial_code here running.sizes line v a in_value) _ later m
+          ∙ initial_means line v a in_value m _ (λ after. exec_items running meant items exits after follows) (test_less v edge (left_of _ _ about)) (sym (test_equal (trees.size_of a) (slice_index running.sizes v) (right_of _ _ about))) (right_of _ _ (left_of _ _ typed)) (housed_left sizes edge d needs (items_rooms items) housed) ready (omega (arith, some)) (omega (arith, room))
+          (items_mean items ways exits n rest later follows (right_of _ _ typed) (housed_right sizes edge d needs (items_rooms items) housed) some (omega (arith, room)) out goes)
+      items_mean (does s items) ways exits n rest later follows typed housed some room out goes m ready =
+          let more = items_code here running.sizes (length later) ways items n rest in
+          let items_housed = housed_right sizes edge d (statement_rooms s) (items_rooms items) housed in
+          statement_means s (labels_of here running.sizes (length later) ways items n rest) (with_labels exits (λ l now. at_label running meant items l exits now follows)) (n + items_registers running.sizes items) more later (λ after. exec_items running meant items exits after follows)
+          (left_of _ _ typed) (housed_left sizes edge d (statement_rooms s) (items_rooms items) housed) (omega (arith, some)) (omega (arith, room))
+          (labels_lead items ways exits n rest later follows (right_of _ _ typed) items_housed some (omega (arith, room)) out goes)
+          (items_mean items ways exits n rest later follows (right_of _ _ typed) items_housed some (omega (arith, room)) out goes) m ready
+      items_mean (label l items) ways exits n rest later follows typed housed some room out goes m ready = items_mean items ways exits n rest later follows typed housed some room out goes m ready
+      items_mean (case_at line t bits items) ways exits n rest later follows typed housed some room out goes m ready = items_mean items ways exits n rest later follows (right_of _ _ typed) housed some room out goes m ready
+      items_mean (default_at line items) ways exits n rest later follows typed housed some room out goes m ready = items_mean items ways exits n rest later follows typed housed some room out goes m ready
+
+      -- the labels among items lead behind them
+      labels_lead : (items : Items) (ways : Ways) (exits : Exits) (n : ℕ) (rest : Nodes) (later : Places) (follows : Variables → Behaviour)
+          → are_typed_items named items ≡ true → Lives (items_rooms items) → 1 ≤ n → n + items_registers running.sizes items ≤ total → LeadOut ways exits (nodes_on rest later) → Goes (nodes_on rest later) follows
+          → LeadOut (labels_of here running.sizes (length later) ways items n rest) (with_labels exits (λ l now. at_label running meant items l exits now follows)) (nodes_on (items_code here running.sizes (length later) ways items n rest) later)
+      labels_lead done ways exits n rest later follows typed housed some room out goes = record { breaks = out.breaks; continues = out.continues; labels = out.labels; returns = out.returns }
+      labels_lead (declares line v items) ways exits n rest later follows typed housed some room out goes = labels_lead items ways exits n rest later follows (right_of _ _ typed) housed some room out goes
+      labels_lead (initializes line v drawn e items) ways exits n rest later follows typed housed some room out goes =
+          let more = items_code here running.sizes (length later) ways items n rest in
+          lead_front (labels_of here running.sizes (length later) ways items n rest) (with_labels exits (λ l now. at_label running meant items l exits now follows)) (items_code here running.sizes (length later) ways (initializes line v drawn e items) n rest) more later
+          (plains_front _ _ more (plain_front _ more more (itself more)))
+          (labels_lead items ways exits n rest later follows (right_of _ _ typed) (housed_right sizes edge d (rooms e) (items_rooms items) housed) some (omega (arith, room)) out goes)
+      labels_lead (initializes_structure line v drawn a items) ways exits n rest later follows typed housed some room out goes =
+          let more = items_code here running.sizes (length later) ways items n rest in
+          lead_front (labels_of here running.sizes (length later) ways items n rest) (with_labels exits (λ l now. at_label running meant items l exits now follows)) (items_code here running.sizes (length later) ways (initializes_structure line v drawn a items) n rest) more later
+          (plains_front _ more more (itself more))
+          (labels_lead items ways exits n rest later follows (right_of _ _ typed) (housed_right sizes edge d (under (trees.size_of a) (structure_rooms a)) (items_rooms items) housed) some (omega (arith, room)) out goes)
+      labels_lead (does s items) ways exits n rest later follows typed housed some room out goes =
+          let more = items_code here running.sizes (length later) ways items n rest in
+          lead_front (labels_of here running.sizes (length later) ways items n rest) (with_labels exits (λ l now. at_label running meant items l exits now follows)) (items_code here running.sizes (length later) ways (does s items) n rest) more later
+          (statement_front s (length later) (labels_of here running.sizes (length later) ways items n rest) (n + items_registers running.sizes items) more)
+          (labels_lead items ways exits n rest later follows (right_of _ _ typed) (housed_right sizes edge d (statement_rooms s) (items_rooms items) housed) some (omega (arith, room)) out goes)
+      labels_lead (label l items) ways exits n rest later follows typed housed some room out goes =
+          let more = items_code here running.sizes (length later) ways items n rest in
+          let first = labels_lead items ways exits n rest later follows typed housed some room out goes in
+          let place = length later + node_count more in
+          record {
+            breaks = first.breaks;
+            continues = first.continues;
+            labels = λ q. leads_if (l == q) (nodes_on more later) place ((labels_of here running.sizes (length later) ways items n rest).label_at q) (λ vs. exec_items running meant items exits vs follows) (λ vs. at_label running meant items q exits vs follows)
+                (leads_begin (nodes_on more later) place (λ vs. exec_items running meant items exits vs follows) (omega (arith, places_count more later)) (items_mean items ways exits n rest later follows typed housed some room out goes)) (first.labels q);
+            returns = first.returns;
+          }
+      labels_lead (case_at line t bits items) ways exits n rest later follows typed housed some room out goes = labels_lead items ways exits n rest later follows (right_of _ _ typed) housed some room out goes
+      labels_lead (default_at line items) ways exits n rest later follows typed housed some room out goes = labels_lead items ways exits n rest later follows typed housed some room out goes
+
+      -- the jumps to the cases: behind the one that is met, else on
+      jumps_mean : (items : Items) (line x k n : ℕ) (ways : Ways) (exits : Exits) (rest more : Nodes) (later : Places) (follows other : Variables → Behaviour)
+          → are_typed_items named items ≡ true → Lives (items_rooms items) → 1 ≤ n → n + items_registers running.sizes items ≤ total → LeadOut ways exits (nodes_on rest later) → Goes (nodes_on rest later) follows
+          → InFront more (items_code here running.sizes (length later) ways items n rest)
+          → (m : Memory) → Ready m → Tested items k x m → begin (nodes_on more later) m ≡ other (view m)
+          → begin (nodes_on (case_jumps here running.sizes (length later) ways line items k n rest more) later) m ≡ (if has_case items x then at_case running meant items x exits (view m) follows else other (view m))
+      jumps_mean done line x k n ways exits rest more later follows other typed housed some room out goes front m ready known_cases last = last
+      jumps_mean (declares at_line_of v items) line x k n ways exits rest more later follows other typed housed some room out goes front m ready known_cases last =
+          jumps_mean items line x k n ways exits rest more later follows other (right_of _ _ typed) housed some room out goes front m ready known_cases last
+      jumps_mean (initializes at_line_of v drawn e items) line x k n ways exits rest more later follows other typed housed some room out goes front m ready known_cases last =
+          let others_code = items_code here running.sizes (length later) ways items n rest in
+          jumps_mean items line x k n ways exits rest more later follows other (right_of _ _ typed) (housed_right sizes edge d (rooms e) (items_rooms items) housed) some (omega (arith, room)) out goes
+          (then_front more (items_code here running.sizes (length later) ways (initializes at_line_of v drawn e items) n rest) others_code front (plains_front _ _ others_code (plain_front _ others_code others_code (itself others_code)))) m ready known_cases last
+      jumps_mean (initializes_structure at_line_of v drawn a items) line x k n ways exits rest more later follows other typed housed some room out goes front m ready known_cases last =
+          let others_code = items_code here running.sizes (length later) ways items n rest in
+          jumps_mean items line x k n ways exits rest more later follows other (right_of _ _ typed) (housed_right sizes edge d (under (trees.size_of a) (structure_rooms a)) (items_rooms items) housed) some (omega (arith, room)) out goes
+          (then_front more (items_code here running.sizes (length later) ways (initializes_structure at_line_of v drawn a items) n rest) others_code front (plains_front _ others_code others_code (itself others_code))) m ready known_cases last
+      jumps_mean (does s items) line x k n ways exits rest more later follows other typed housed some room out goes front m ready known_cases last =
+          let others_code = items_code here running.sizes (length later) ways items n rest in
+          jumps_mean items line x k n ways exits rest more later follows other (right_of _ _ typed) (housed_right sizes edge d (statement_rooms s) (items_rooms items) housed) some (omega (arith, room)) out goes
+          (then_front more (items_code here running.sizes (length later) ways (does s items) n rest) others_code front (statement_front s (length later) (labels_of here running.sizes (length later) ways items n rest) (n + items_registers running.sizes items) others_code)) m ready known_cases last
+      jumps_mean (label l items) line x k n ways exits rest more later follows other typed housed some room out goes front m ready known_cases last =
+          jumps_mean items line x k n ways exits rest more later follows other typed housed some room out goes front m ready known_cases last
+      jumps_mean (case_at at_line_of t bits items) line x k n ways exits rest more later follows other typed housed some room out goes front m ready known_cases last =
+          let behind = items_code here running.sizes (length later) ways items n rest in
+          let next = case_jumps here running.sizes (length later) ways line items (k + 3) n rest more in
+          let place = length later + node_count behind in
+          let meets : Variables → Behaviour = λ vs. exec_items running meant items exits vs follows in
+          let next_front : InFront next behind = then_front next more behind (jumps_front (length later) ways line items (k + 3) n rest more) front in
+          let lead : Leads (nodes_on next later) place meets =
+          leads_front next behind later place meets next_front (leads_begin (nodes_on behind later) place meets (omega (arith, places_count behind later)) (items_mean items ways exits n rest later follows (right_of _ _ typed) housed some room out goes)) in
+          let hit : at reading (nodes_on next later) (length later + node_count next - place) m ≡ meets (view m) = skip_to (nodes_on next later) (length later + node_count next - place) place meets (omega (arith, places_count next later)) lead m ready in
+          let missed = jumps_mean items line x (k + 3) n ways exits rest more later follows other (right_of _ _ typed) housed some room out goes front m ready known_cases.1 last in
+          (λ i. if known_cases.0 i == 0 then begin (nodes_on next later) m else at reading (nodes_on next later) (length later + node_count next - place) m)
+          ∙ met (bits == x) (has_case items x) (begin (nodes_on next later) m) (at reading (nodes_on next later) (length later + node_count next - place) m) (meets (view m)) (at_case running meant items x exits (view m) follows) (other (view m)) hit missed
+      jumps_mean (default_at at_line_of items) line x k n ways exits rest more later follows other typed housed some room out goes front m ready known_cases last =
+          jumps_mean items line x k n ways exits rest more later follows other typed housed some room out goes front m ready known_cases last
+
+      -- where `default` stands
+      default_leads : (items : Items) (n : ℕ) (ways : Ways) (exits : Exits) (rest : Nodes) (later : Places) (follows : Variables → Behaviour)
+          → has_default items ≡ true → are_typed_items named items ≡ true → Lives (items_rooms items) → 1 ≤ n → n + items_registers running.sizes items ≤ total → LeadOut ways exits (nodes_on rest later) → Goes (nodes_on rest later) follows
+          → Leads (nodes_on (items_code here running.sizes (length later) ways items n rest) later) (default_place here running.sizes (length later) ways items n rest) (λ vs. at_default running meant items exits vs follows)
+      default_leads done n ways exits rest later follows there typed housed some room out goes = absurd (false≢true there)
+      default_leads (declares line v items) n ways exits rest later follows there typed housed some room out goes = default_leads items n ways exits rest later follows there (right_of _ _ typed) housed some room out goes
+      default_leads (initializes line v drawn e items) n ways exits rest later follows there typed housed some room out goes =
+          let behind = items_code here running.sizes (length later) ways items n rest in
+          leads_front (items_code here running.sizes (length later) ways (initializes line v drawn e items) n rest) behind later (default_place here running.sizes (length later) ways items n rest) (λ vs. at_default running meant items exits vs follows) (plains_front _ _ behind (plain_front _ behind behind (itself behind)))
+          (default_leads items n ways exits rest later follows there (right_of _ _ typed) (housed_right sizes edge d (rooms e) (items_rooms items) housed) some (omega (arith, room)) out goes)
+      default_leads (initializes_structure line v drawn a items) n ways exits rest later follows there typed housed some room out goes =
+          let behind = items_code here running.sizes (length later) ways items n rest in
+          leads_front (items_code here running.sizes (length later) ways (initializes_structure line v drawn a items) n rest) behind later (default_place here running.sizes (length later) ways items n rest) (λ vs. at_default running meant items exits vs follows) (plains_front _ behind behind (itself behind))
+          (default_leads items n ways exits rest later follows there (right_of _ _ typed) (housed_right sizes edge d (under (trees.size_of a) (structure_rooms a)) (items_rooms items) housed) some (omega (arith, room)) out goes)
+      default_leads (does s items) n ways exits rest later follows there typed housed some room out goes =
+          let behind = items_code here running.sizes (length later) ways items n rest in
+          leads_front (items_code here running.sizes (length later) ways (does s items) n rest) behind later (default_place here running.sizes (length later) ways items n rest) (λ vs. at_default running meant items exits vs follows) (statement_front s (length later) (labels_of here running.sizes (length later) ways items n rest) (n + items_registers running.sizes items) behind)
+          (default_leads items n ways exits rest later follows there (right_of _ _ typed) (housed_right sizes edge d (statement_rooms s) (items_rooms items) housed) some (omega (arith, room)) out goes)
+      default_leads (label l items) n ways exits rest later follows there typed housed some room out goes = default_leads items n ways exits rest later follows there typed housed some room out goes
+      default_leads (case_at line t bits items) n ways exits rest later follows there typed housed some room out goes = default_leads items n ways exits rest later follows there (right_of _ _ typed) housed some room out goes
+      default_leads (default_at line items) n ways exits rest later follows there typed housed some room out goes =
+          let behind = items_code here running.sizes (length later) ways items n rest in
+          leads_begin (nodes_on behind later) (length later + node_count behind) (λ vs. exec_items running meant items exits vs follows) (omega (arith, places_count behind later)) (items_mean items ways exits n rest later follows typed housed some room out goes)

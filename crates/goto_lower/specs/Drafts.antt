@@ -1,22 +1,31 @@
--- The code of a function that grows, and what each tree adds to it.
-use Rattle.std.specs.Prelude.{◌≡◌, ℕ, ◌+◌, ◌-◌, List, [], ◌++◌, length, replicate, Option, Some, None, slice_set}
+-- The code of a function that grows, and what each tree adds to it. That of an expression grows at its end; that of statements, which are nodes, grows in front of them.
+use Rattle.std.specs.Prelude.{◌≡◌, ℕ, ◌+◌, ◌-◌, ◌==◌, List, [], ◌∷◌, ◌++◌, length, replicate, reverse, Option, Some, None, slice_set, if◌then◌else◌}
 use Rattle.c_types.specs.declared.integers.IntegerType.{IntegerType}
-use Rattle.c_types.specs.declared.integers.IntegerType.TheVariants.{UnsignedLong}
-use Rattle.core_tree.specs.Trees.{Expression, Structure, Parts, Statement, Items}
+use Rattle.c_types.specs.declared.integers.IntegerType.TheVariants.{Int, UnsignedLong}
+use Rattle.core_tree.specs.declared.operators.ArithmeticOperator.TheVariants as arithmetics
+use Rattle.core_tree.specs.declared.operators.Comparison.TheVariants as comparisons
+use Rattle.core_tree.specs.Trees.{Expression, Structure, Parts, Arguments, Statement, Items, done, declares, initializes, initializes_structure, does, label, case_at, default_at}
 use Rattle.c_interp.specs.Meaning.{number_type}
 use Rattle.goto_prog.specs.declared.code.Operation.{Operation}
+use Rattle.goto_prog.specs.declared.code.Operation.TheVariants as operations
 use Rattle.goto_prog.specs.declared.code.Operation.TheVariants.{Skip, SkipIfZero}
 use Rattle.goto_prog.specs.declared.code.Instruction.{Instruction}
+use Rattle.goto_prog.specs.Nodes.{Nodes, plain, node_count}
 use Rattle.goto_lower.specs.declared.operand.Operand.{Operand}
-use Rattle.goto_lower.specs.Lowering.{Frame, deeper, top, line_of, at_line, code, structure_code, parts_code, text_code, words_code, entry_code, statement_code, items_code}
-use Rattle.goto_lower.specs.Registers.{types, structure_types, parts_types, entry_types, statement_types, items_types}
+use Rattle.goto_lower.specs.declared.exits.Exits.{Exits}
+use Rattle.goto_lower.specs.declared.exits.Target.{Target}
+use Rattle.goto_lower.specs.declared.exits.CasePlace.{CasePlace}
+use Rattle.goto_lower.specs.declared.exits.Cases.{Cases}
+use Rattle.goto_lower.specs.Lowering.{Frame, Ways, deeper, deeper_by, top, argument_count, line_of, at_line, to_place, code, structure_code, parts_code, text_code, arguments_code, words_code, entry_code, plains, case_registers, case_tests, last_case, items_code, statement_code}
+use Rattle.goto_lower.specs.Registers.{types, structure_types, parts_types, arguments_types, entry_types, items_types, statement_types}
 
--- where the code stands, and the sizes of the function's variables; the code so far, and the types of the registers so far
+-- where the code stands, and the sizes of the function's variables; the code of an expression so far, the types of the registers so far, and where the labels that are known lead, the latest first
 pub record Listed : Type 0 where
   pub frame : Frame
   pub variables : List ℕ
   pub instructions : List Instruction
   pub registers : List IntegerType
+  pub labels : List Target
 
 -- the number of the next register
 abbrev pub next : Listed → ℕ
@@ -69,10 +78,15 @@ after_parts d line ps into to = added d (parts_code d.frame line ps (next d) int
 abbrev pub after_text : Listed → ℕ → List ℕ → (r into at : ℕ) → Listed
 after_text d line text r into to = added d (text_code d.frame line text r into to) []
 
--- ---- statements
+-- the arguments of a call, the first into this block
+abbrev pub after_arguments : Listed → Arguments → (block : ℕ) → Listed
+after_arguments d args b = added d (arguments_code d.frame args (next d) b) (arguments_types args)
 
-abbrev pub after_statement : Listed → Statement → Listed
-after_statement d s = added d (statement_code d.frame d.variables s (next d)) (statement_types d.variables s)
+-- into the first blocks that are free, while one more is in use
+abbrev pub after_passed : Listed → Arguments → Listed
+after_passed d args = added d (arguments_code (deeper_by (argument_count args + 1) d.frame) args (next d) d.frame.free) (arguments_types args)
+
+-- ---- first values
 
 -- so many drawn words of a variable, from an offset on
 abbrev pub after_words : Listed → (words line v offset : ℕ) → Listed
@@ -81,5 +95,108 @@ after_words d words line v offset = added d (words_code d.frame d.variables word
 abbrev pub after_entry : Listed → Items → Listed
 after_entry d items = added d (entry_code d.frame d.variables items (next d)) (entry_types d.variables items)
 
-abbrev pub after_items : Listed → Items → Listed
-after_items d items = added d (items_code d.frame d.variables items (next d)) (items_types d.variables items)
+-- ---- statements
+
+-- with more registers
+abbrev pub typed : Listed → List IntegerType → Listed
+typed d ts = record d { registers = d.registers ++ ts }
+
+-- the code so far stands elsewhere
+abbrev pub flushed : Listed → Listed
+flushed d = record d { instructions = [] }
+
+-- how many places lie behind a label's place, up to the end of the function
+abbrev pub place_of : List Target → ℕ → ℕ
+place_of [] m = 2
+place_of (t ∷ ts) m = if t.label == m then t.place else place_of ts m
+
+abbrev pub ways_of : Exits → List Target → Ways
+ways_of x labels = record { break_at = x.break_at; continue_at = x.continue_at; label_at = place_of labels }
+
+abbrev pub target : (l place : ℕ) → Target
+target l place = record { label = l; place = place }
+
+abbrev pub case_place : (line place : ℕ) → CasePlace
+case_place line place = record { line = line; place = place }
+
+-- over where the code stands, and the sizes of the variables
+module _ (frame : Frame) (variables : List ℕ) where
+  -- the labels among items, the first of them first
+  abbrev pub targets_of : (base : ℕ) → Ways → Items → (n : ℕ) → Nodes → List Target
+  targets_of base ways done n rest = []
+  targets_of base ways (declares line v more) n rest = targets_of base ways more n rest
+  targets_of base ways (initializes line v drawn e more) n rest = targets_of base ways more n rest
+  targets_of base ways (initializes_structure line v drawn a more) n rest = targets_of base ways more n rest
+  targets_of base ways (does s more) n rest = targets_of base ways more n rest
+  targets_of base ways (label l more) n rest = target l (base + node_count (items_code frame variables base ways more n rest)) ∷ targets_of base ways more n rest
+  targets_of base ways (case_at line t bits more) n rest = targets_of base ways more n rest
+  targets_of base ways (default_at line more) n rest = targets_of base ways more n rest
+
+  -- the cases among items, the last of them first
+  abbrev pub cases_of : (base : ℕ) → Ways → Items → (n : ℕ) → Nodes → List CasePlace
+  cases_of base ways done n rest = []
+  cases_of base ways (declares line v more) n rest = cases_of base ways more n rest
+  cases_of base ways (initializes line v drawn e more) n rest = cases_of base ways more n rest
+  cases_of base ways (initializes_structure line v drawn a more) n rest = cases_of base ways more n rest
+  cases_of base ways (does s more) n rest = cases_of base ways more n rest
+  cases_of base ways (label l more) n rest = cases_of base ways more n rest
+  cases_of base ways (case_at line t bits more) n rest = cases_of base ways more n rest ++ case_place line (base + node_count (items_code frame variables base ways more n rest)) ∷ []
+  cases_of base ways (default_at line more) n rest = cases_of base ways more n rest
+
+  -- the default among items
+  abbrev pub default_of : (base : ℕ) → Ways → Items → (n : ℕ) → Nodes → Option ℕ
+  default_of base ways done n rest = None
+  default_of base ways (declares line v more) n rest = default_of base ways more n rest
+  default_of base ways (initializes line v drawn e more) n rest = default_of base ways more n rest
+  default_of base ways (initializes_structure line v drawn a more) n rest = default_of base ways more n rest
+  default_of base ways (does s more) n rest = default_of base ways more n rest
+  default_of base ways (label l more) n rest = default_of base ways more n rest
+  default_of base ways (case_at line t bits more) n rest = default_of base ways more n rest
+  default_of base ways (default_at line more) n rest = Some (base + node_count (items_code frame variables base ways more n rest))
+
+  -- jumps to cases, the first of which comes last: the registers of the first of all are from k on, and so many other cases stand before those here
+  abbrev pub jumps_to : (base k : ℕ) → List CasePlace → Nodes → Nodes
+  jumps_to base k [] others = others
+  jumps_to base k (c ∷ cs) others =
+      plain (at_line frame c.line (SkipIfZero (k + 1) 1)) (to_place frame variables c.line base c.place (jumps_to base (k + 3) cs others))
+
+-- these items have been added in front of nodes, last to first
+pub record Within (first : Listed) (rest : Nodes) (x : Exits) (items : Items) (d : Listed) (nodes : Nodes) (cases : Cases) : Type 0 where
+  pub draft_is : d ≡ (let n = next first in record first {
+    registers = first.registers ++ items_types first.variables items;
+    labels = targets_of first.frame first.variables x.base (ways_of x first.labels) items n rest ++ first.labels;
+  })
+  pub nodes_are : nodes ≡ items_code first.frame first.variables x.base (ways_of x first.labels) items (next first) rest
+  pub cases_are : cases.places.items ≡ cases_of first.frame first.variables x.base (ways_of x first.labels) items (next first) rest
+  pub default_is : cases.otherwise ≡ default_of first.frame first.variables x.base (ways_of x first.labels) items (next first) rest
+
+-- a statement has been added in front of nodes
+pub record Drafted (old new : Listed) (rest nodes : Nodes) (x : Exits) (s : Statement) : Type 0 where
+  pub draft_is : new ≡ typed old (statement_types old.variables s)
+  pub nodes_are : nodes ≡ statement_code old.frame old.variables x.base (ways_of x old.labels) s (next old) rest
+
+-- ---- the way to the cases of a switch
+
+-- the test of a case: its value, whether it is met, and whether it or one before it is
+abbrev pub case_code : Frame → (line : ℕ) → IntegerType → (bits x before n : ℕ) → List Instruction
+case_code f line t bits x before n =
+    at_line f line (operations.Constant n bits)
+    ∷ at_line f line (operations.Compare (n + 1) comparisons.Equal t n x)
+    ∷ at_line f line (operations.Arithmetic (n + 2) arithmetics.Or Int Int before (n + 1))
+    ∷ []
+
+-- the tests of cases with the value in the register x, over registers from n on
+abbrev pub after_tests : Listed → (line x before : ℕ) → Items → (n : ℕ) → Listed
+after_tests d line x before items n = added d (case_tests d.frame d.variables line x before items n) []
+
+-- in front of nodes, which are passed over up to the last of them where no case is met and there is no default
+abbrev pub unmet_code : Frame → (line : ℕ) → Option ℕ → (last count : ℕ) → Nodes → Nodes
+unmet_code f line (Some place) last count nodes = nodes
+unmet_code f line None last count nodes = plain (at_line f line (SkipIfZero last (node_count nodes - count))) nodes
+
+-- from the tests of cases, whose registers are behind n, into the items, the last jump to which stands first in the body
+abbrev pub entered_code : Frame → List ℕ → (line base count : ℕ) → Items → (n : ℕ) → List CasePlace → Option ℕ → Nodes → Nodes
+entered_code f variables line base count items n cases otherwise body =
+    let in_entry = n + 1 + case_registers variables items in
+    unmet_code f line otherwise (last_case f variables n items (n + 1)) count
+    (plains (entry_code f variables items in_entry) (jumps_to f variables base (n + 1) (reverse cases) body))

@@ -1,36 +1,76 @@
--- A file as flat code.
-use Rattle.std.specs.Prelude.{ℕ, ◌+◌, false, List, [], ◌∷◌, ◌++◌, length, if◌then◌else◌}
-use Rattle.core_tree.specs.Trees.{Procedure, TypedFile}
+-- A file as structured code.
+use Rattle.std.specs.Prelude.{ℕ, ◌+◌, false, Option, Some, None, List, [], ◌∷◌, ◌++◌, length, if◌then◌else◌}
+use Rattle.actions.specs.Objects.{Objects}
+use Rattle.c_types.specs.declared.integers.IntegerType.TheVariants.{Int}
+use Rattle.core_tree.specs.declared.functions.PassedType.{PassedType}
+use Rattle.core_tree.specs.Typed.{passed_size}
+use Rattle.core_tree.specs.Trees.{Statement, Procedure, TypedFile}
 use Rattle.c_interp.specs.Source.{main_number, first_objects, are_storable}
-use Rattle.goto_prog.specs.CodeThread.{Listing}
-use Rattle.goto_prog.specs.Flat.{Flat}
-use Rattle.goto_lower.specs.Lowering.{Frame, body_code}
+use Rattle.goto_prog.specs.declared.code.Operation.TheVariants as operations
+use Rattle.goto_prog.specs.Nodes.{Routine, plain, view_procedures}
+use Rattle.goto_prog.specs.GotoThreads.{GotoFile}
+use Rattle.goto_lower.specs.Lowering.{Frame, at_line, ends, body_code}
 use Rattle.goto_lower.specs.Registers.{statement_types}
 use Rattle.goto_lower.specs.Rooms.{Rooms, statement_rooms}
 
--- the blocks of a function: its variables, one whose bytes stay 0, and those for values on the way
-abbrev pub blocks_of : List ℕ → Rooms → List ℕ
-blocks_of variables needed = variables ++ needed.zeros ∷ needed.sizes
+-- how many bytes a function hands over
+abbrev pub given_size : Option PassedType → ℕ
+given_size None = 0
+given_size (Some p) = passed_size p
+
+-- the blocks of a function: its variables, one whose bytes stay 0, one for what it hands over, and those for values on the way
+abbrev pub blocks_of : List ℕ → (given : ℕ) → Rooms → List ℕ
+blocks_of variables given needed = variables ++ needed.zeros ∷ given ∷ needed.sizes
 
 abbrev pub first_frame : ℕ → List ℕ → Frame
-first_frame number variables = record { function = number; zeros = length variables; free = length variables + 1 }
+first_frame number variables = record { function = number; zeros = length variables; result = length variables + 1; free = length variables + 2 }
 
--- the code of the function with this number; no thread is started in one yet
-abbrev pub function_code : ℕ → Procedure → Listing
-function_code number f = record {
-  registers = statement_types f.variables f.body;
-  blocks = blocks_of f.variables (statement_rooms f.body);
-  instructions = body_code (first_frame number f.variables) f.variables f.body f.line;
+-- a function that is only declared blocks its thread; none that is admitted is called
+abbrev pub undefined_code : ℕ → Procedure → Routine
+undefined_code number f = record {
+  name = f.name;
+  line = f.line;
+  registers = Int ∷ [];
+  blocks = [];
+  nodes = plain (at_line (first_frame number []) f.line (operations.Assume 0)) ends;
   startable = false;
 }
 
+-- the code of a function with this number and body; no thread is started in one yet
+abbrev pub defined_code : ℕ → Procedure → Statement → Routine
+defined_code number f body = record {
+  name = f.name;
+  line = f.line;
+  registers = Int ∷ statement_types f.variables body;
+  blocks = blocks_of f.variables (given_size f.gives) (statement_rooms body);
+  nodes = body_code (first_frame number f.variables) f.variables f.line body;
+  startable = false;
+}
+
+abbrev pub code_by : ℕ → Procedure → Option Statement → Routine
+code_by number f None = undefined_code number f
+code_by number f (Some body) = defined_code number f body
+
+abbrev pub function_code : ℕ → Procedure → Routine
+function_code number f = code_by number f f.body
+
 -- the codes of functions, the first of which has this number
-abbrev pub function_codes : ℕ → List Procedure → List Listing
+abbrev pub function_codes : ℕ → List Procedure → List Routine
 function_codes number [] = []
 function_codes number (f ∷ functions) = function_code number f ∷ function_codes (number + 1) functions
 
+-- the codes of the functions by their numbers, the one that thread 0 calls, and the store at the start
+pub record LoweredFile : Type 0 where
+  pub functions : List Routine
+  pub main : ℕ
+  pub store : Objects
+
+-- code without where it lies in memory
+abbrev pub view_goto : GotoFile → LoweredFile
+view_goto g = record { functions = view_procedures g.functions; main = g.main; store = g.store }
+
 -- the static objects are there at the start, unless they alone pass a limit
-abbrev pub lowered : TypedFile → Flat
+abbrev pub lowered : TypedFile → LoweredFile
 lowered file = record {
   functions = function_codes 0 file.functions;
   main = main_number file.functions;

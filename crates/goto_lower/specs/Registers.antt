@@ -1,12 +1,12 @@
 -- The types of the registers of a tree, in the order of their numbers.
-use Rattle.std.specs.Prelude.{ℕ, Bool, true, List, [], ◌∷◌, ◌++◌, replicate}
+use Rattle.std.specs.Prelude.{ℕ, Bool, true, Option, Some, None, List, [], ◌∷◌, ◌++◌, replicate}
 use Rattle.c_types.specs.declared.integers.IntegerType.{IntegerType}
 use Rattle.c_types.specs.declared.integers.IntegerType.TheVariants.{Int, UnsignedChar, UnsignedLong}
 use Rattle.c_types.specs.Integers.{promoted}
 use Rattle.core_tree.specs.declared.expression.Place.{Place}
-use Rattle.core_tree.specs.Trees.{Expression, constant, read, convert, sign, is_zero, arithmetic, compare, logical, choice, assign, update, step, comma, assertion, assumption, draw, part, discard, discard_structure, Structure, copy, load, choose, put, store, follow, section, list, string, Parts, no_part, number_part, structure_part, Statement, block, if_then, if_else, evaluate, returns, Items, done, declares, initializes, initializes_structure, does}
+use Rattle.core_tree.specs.Trees.{Expression, constant, read, convert, sign, is_zero, arithmetic, compare, logical, choice, assign, update, step, comma, assertion, assumption, draw, part, discard, discard_structure, call, function_name, Structure, copy, load, choose, put, store, follow, section, list, string, give, Parts, no_part, number_part, structure_part, Arguments, no_argument, number_argument, structure_argument, Statement, block, if_then, if_else, evaluate, returns, returns_structure, returns_nothing, for_loop, do_loop, switch, breaks, continues, jumps, stray, Items, done, declares, initializes, initializes_structure, does, label, case_at, default_at}
 use Rattle.core_tree.specs.Typed.{place_type}
-use Rattle.c_interp.specs.Meaning.{number_type}
+use Rattle.c_interp.specs.Meaning.{integer_of, number_type}
 use Rattle.goto_lower.specs.Lowering.{first_registers}
 
 -- of an operation of type t on a place
@@ -34,6 +34,8 @@ abbrev mutual
   types (part line t offset a) = structure_types a ++ t ∷ []
   types (discard line e) = types e ++ Int ∷ []
   types (discard_structure a) = structure_types a ++ Int ∷ []
+  types (call line f used t args) = arguments_types args ++ Int ∷ integer_of t ∷ []
+  types (function_name line f) = Int ∷ []
 
   pub structure_types : Structure → List IntegerType
   structure_types (copy line v offset size) = []
@@ -45,11 +47,32 @@ abbrev mutual
   structure_types (section line offset size a) = structure_types a
   structure_types (list line size ps) = parts_types ps
   structure_types (string line size text) = UnsignedChar ∷ []
+  structure_types (give line f used size args) = arguments_types args ++ Int ∷ []
 
   pub parts_types : Parts → List IntegerType
   parts_types no_part = []
   parts_types (number_part offset e rest) = types e ++ parts_types rest
   parts_types (structure_part offset a rest) = structure_types a ++ parts_types rest
+
+  pub arguments_types : Arguments → List IntegerType
+  arguments_types no_argument = []
+  arguments_types (number_argument e rest) = types e ++ arguments_types rest
+  arguments_types (structure_argument a rest) = structure_types a ++ arguments_types rest
+
+abbrev pub part_types : Option Expression → List IntegerType
+part_types None = []
+part_types (Some e) = types e
+
+-- of the tests of cases
+abbrev pub case_types : Items → List IntegerType
+case_types done = []
+case_types (declares line v rest) = case_types rest
+case_types (initializes line v drawn e rest) = case_types rest
+case_types (initializes_structure line v drawn a rest) = case_types rest
+case_types (does s rest) = case_types rest
+case_types (label l rest) = case_types rest
+case_types (case_at line t bits rest) = t ∷ Int ∷ Int ∷ case_types rest
+case_types (default_at line rest) = case_types rest
 
 module _ (variables : List ℕ) where
   -- a drawn word has 8 bytes at most
@@ -62,18 +85,33 @@ module _ (variables : List ℕ) where
   entry_types (initializes line v drawn e rest) = first_types v drawn ++ entry_types rest
   entry_types (initializes_structure line v drawn a rest) = first_types v drawn ++ entry_types rest
   entry_types (does s rest) = entry_types rest
+  entry_types (label l rest) = entry_types rest
+  entry_types (case_at line t bits rest) = entry_types rest
+  entry_types (default_at line rest) = entry_types rest
 
   abbrev mutual
     pub statement_types : Statement → List IntegerType
-    statement_types (block items) = entry_types items ++ items_types items
-    statement_types (if_then line test s) = types test ++ statement_types s
-    statement_types (if_else line test s t) = types test ++ (statement_types s ++ statement_types t)
+    statement_types (block items) = items_types items ++ entry_types items
+    statement_types (if_then line test s) = statement_types s ++ types test
+    statement_types (if_else line test s t) = statement_types t ++ (statement_types s ++ types test)
     statement_types (evaluate e) = types e
     statement_types (returns line e) = types e
+    statement_types (returns_structure line a) = structure_types a
+    statement_types (returns_nothing line) = []
+    statement_types (for_loop line l first test last s) = part_types test ++ (part_types last ++ (statement_types s ++ (part_types test ++ part_types first)))
+    statement_types (do_loop line l s test) = types test ++ statement_types s
+    statement_types (switch line e items) = items_types items ++ (Int ∷ (case_types items ++ (entry_types items ++ types e)))
+    statement_types (breaks line) = []
+    statement_types (continues line) = []
+    statement_types (jumps line l) = []
+    statement_types (stray line s) = statement_types s
 
     pub items_types : Items → List IntegerType
     items_types done = []
     items_types (declares line v rest) = items_types rest
-    items_types (initializes line v drawn e rest) = types e ++ items_types rest
-    items_types (initializes_structure line v drawn a rest) = structure_types a ++ items_types rest
-    items_types (does s rest) = statement_types s ++ items_types rest
+    items_types (initializes line v drawn e rest) = items_types rest ++ types e
+    items_types (initializes_structure line v drawn a rest) = items_types rest ++ structure_types a
+    items_types (does s rest) = items_types rest ++ statement_types s
+    items_types (label l rest) = items_types rest
+    items_types (case_at line t bits rest) = items_types rest
+    items_types (default_at line rest) = items_types rest

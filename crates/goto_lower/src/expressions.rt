@@ -2,20 +2,23 @@
 
 ghost use Rattle.std.specs.Prelude.{◌≡◌, [], ◌∷◌, ◌++◌, ◌+◌, ◌<◌, ◌^◌, if◌then◌else◌, IfOk, OnOk};
 ghost use Rattle.c_types.specs.Integers.{promoted};
-ghost use Rattle.core_tree.specs.Trees.{Expression, view, constant, read, convert, sign, is_zero, arithmetic, compare, logical, choice, assign, update, step, comma, assertion, assumption, draw, part, discard, discard_structure, view_structure};
+ghost use Rattle.core_tree.specs.Trees.{Expression, view, constant, read, convert, sign, is_zero, arithmetic, compare, logical, choice, assign, update, step, comma, assertion, assumption, draw, part, discard, discard_structure, call, function_name, view_structure, arguments_of, with_argument, Arguments};
 ghost use Rattle.core_tree.specs.Typed.{place_type};
 ghost use Rattle.core_tree.specs.Operations as operations;
-ghost use Rattle.goto_lower.specs.Lowering.{write_code, update_code, truth_code};
+ghost use Rattle.c_interp.specs.Meaning.{integer_of};
+ghost use Rattle.goto_prog.specs.declared.code.Operation.TheVariants as instructions;
+ghost use Rattle.goto_lower.specs.Lowering.{at_line, argument_count, write_code, update_code, truth_code, value_size, use_code, taken_code};
 ghost use Rattle.goto_lower.specs.Registers.{update_types};
-ghost use Rattle.goto_lower.specs.Drafts.{Listed, next, added, operand, Lowers};
+ghost use Rattle.goto_lower.specs.Drafts.{Listed, next, added, operand, Lowers, after_arguments, after_passed};
 
 use crate::draft::Draft;
-use crate::operand::{Operand, Updated, step_value};
+use crate::exits::more;
+use crate::operand::{Operand, Passed, Updated, step_value};
 use crate::structures::line_of_structure;
-use c_types::{IntegerType, promote};
+use c_types::{IntegerType, ValueType, promote};
 use core_tree::{
-    ArithmeticOperator, Comparison, CoreExpr, CoreStructure, LogicalOperator, Place, SignOperator,
-    StepOperator,
+    ArithmeticOperator, Comparison, CoreArgument, CoreExpr, CoreStructure, LogicalOperator, Place,
+    SignOperator, StepOperator,
 };
 use goto_prog::Operation;
 use std::alloc::AllocError;
@@ -54,6 +57,16 @@ fn type_of_place(place: Place) -> IntegerType
             object: _,
             offset: _,
         } => type_,
+    }
+}
+
+// How many bytes a value of this type has.
+pub(crate) fn value_size(type_: ValueType) -> u32
+    ensures { result ≡ value_size type_ }
+{
+    match type_ {
+        ValueType::Void => 0,
+        ValueType::Integer(type_) => type_.size(),
     }
 }
 
@@ -479,6 +492,131 @@ impl<'a> Draft<'a> {
         self.constant(line_of_structure(value), IntegerType::Int, 0)
     }
 
+    // ---- calls
+
+    // A call that gives nothing or a number.
+    #[cycle(expression)]
+    fn call(
+        &mut self,
+        line: u32,
+        function: u32,
+        used: bool,
+        type_: ValueType,
+        arguments: &[CoreArgument],
+    ) -> Result<Operand, AllocError>
+        ensures { IfOk result (λ x. Lowers self.old self.new (call line function used type_ (arguments_of arguments.now)) x) }
+    {
+        let passed = self.pass(arguments)?;
+        self.call_passed(line, function, used, value_size(type_), passed)?;
+        self.taken(line, type_, passed.into)
+    }
+
+    // The value of a call, whose bytes a block has.
+    fn taken(&mut self, line: u32, type_: ValueType, block: usize) -> Result<Operand, AllocError>
+        ensures code { OnOk result (self.new ≡ added self.old (taken_code self.old.frame line type_ block (next self.old) ∷ []) (integer_of type_ ∷ [])) }
+        ensures value { IfOk result (λ x. x ≡ operand (next self.old) (integer_of type_) line) }
+    {
+        let into = self.next();
+        match type_ {
+            ValueType::Void => {
+                self.set(
+                    line,
+                    IntegerType::Int,
+                    Operation::Constant { into, bits: 0 },
+                )
+            }
+            ValueType::Integer(type_) => {
+                let operation = Operation::Load {
+                    into,
+                    type_,
+                    block,
+                    offset: 0,
+                };
+                self.set(line, type_, operation)
+            }
+        }
+    }
+
+    // A call with arguments that are in their blocks. The bytes that it hands over are 0 where it hands over
+    // none.
+    pub(crate) fn call_passed(
+        &mut self,
+        line: u32,
+        callee: u32,
+        used: bool,
+        size: u32,
+        passed: Passed,
+    ) -> Result<(), AllocError>
+        ensures { OnOk result (self.new ≡ added self.old (at_line self.old.frame line (instructions.CopyBytes passed.into 0 self.old.frame.zeros 0 size) ∷ at_line self.old.frame line (instructions.Call callee passed.first passed.count passed.into (next self.old)) ∷ use_code self.old.frame line used (next self.old)) (IntegerType.Int ∷ [])) }
+    {
+        self.clear(line, passed.into, 0, size)?;
+        let returned = self.register(IntegerType::Int)?;
+        self.push(
+            line,
+            Operation::Call {
+                callee,
+                first: passed.first,
+                count: passed.count,
+                into: passed.into,
+                returned,
+            },
+        )?;
+        if used {
+            self.push(line, Operation::Use { returned })?;
+        }
+        Ok(())
+    }
+
+    // The arguments of a call, into the first blocks that are free.
+    #[cycle(expression)]
+    pub(crate) fn pass(&mut self, arguments: &[CoreArgument]) -> Result<Passed, AllocError>
+        ensures code { OnOk result (self.new ≡ after_passed self.old (arguments_of arguments.now)) }
+        ensures blocks { IfOk result (λ p. p ≡ record { first = self.old.frame.free; count = argument_count (arguments_of arguments.now); into = self.old.frame.free + argument_count (arguments_of arguments.now) }) }
+    {
+        let first = self.free();
+        let count = arguments.len();
+        let into = more(first, count)?;
+        self.set_free(more(into, 1)?);
+        self.arguments(arguments, first)?;
+        self.set_free(first);
+        Ok(Passed { first, count, into })
+    }
+
+    // The arguments of a call, the first into this block.
+    #[cycle(expression)]
+    fn arguments(&mut self, arguments: &[CoreArgument], first: usize) -> Result<(), AllocError>
+        ensures { OnOk result (self.new ≡ after_arguments self.old (arguments_of arguments.now) first) }
+    {
+        let mut block = first;
+        for argument in arguments {
+            self.argument(argument, block)?;
+            block = more(block, 1)?;
+        }
+        Ok(())
+    }
+
+    // One of them.
+    #[cycle(expression)]
+    fn argument(&mut self, argument: &CoreArgument, block: usize) -> Result<(), AllocError>
+        ensures { (rest : Arguments) → OnOk result (after_arguments self.new rest (block + 1) ≡ after_arguments self.old (with_argument argument.now rest) block) }
+    {
+        match argument {
+            CoreArgument::Number { value } => {
+                let x = self.expression(value)?;
+                self.push(
+                    x.line,
+                    Operation::Store {
+                        block,
+                        offset: 0,
+                        count: x.type_.size(),
+                        operand: x.register,
+                    },
+                )
+            }
+            CoreArgument::Structure { value } => self.structure(value, block, 0),
+        }
+    }
+
     /// Adds the code of an expression.
     #[cycle(expression)]
     pub(crate) fn expression(&mut self, expr: &CoreExpr) -> Result<Operand, AllocError>
@@ -589,6 +727,16 @@ impl<'a> Draft<'a> {
                 self.discard(*line, x)
             }
             CoreExpr::DiscardStructure { value } => self.discard_structure(value),
+            CoreExpr::Call {
+                line,
+                function,
+                used,
+                type_,
+                arguments,
+            } => self.call(*line, *function, *used, *type_, arguments),
+            CoreExpr::FunctionName { line, function: _ } => {
+                self.constant(*line, IntegerType::Int, 0)
+            }
         }
     }
 }

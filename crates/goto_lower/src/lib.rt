@@ -1,12 +1,14 @@
-//! Lowers typed trees to flat code, in one pass.
+//! Lowers typed trees to code with loops and calls, in one pass.
 #![tactic(auto)]
 
 mod draft;
+mod exits;
 mod expressions;
 mod lowering;
 mod operand;
 mod rooms;
 mod statements;
 mod structures;
+mod switches;
 
 pub use lowering::lower;

@@ -1,55 +1,153 @@
 //! The code of functions and of a file.
 
-ghost use Rattle.std.specs.Prelude.{◌≡◌, ◌<◌, ◌^◌, IfOk, true, length};
-ghost use Rattle.core_tree.specs.Trees.{core_file, view_function, view_functions, view_statics, view_core};
-ghost use Rattle.core_tree.specs.Typed.{is_typed_function, are_typed};
+ghost use Rattle.std.specs.Prelude.{◌≡◌, ◌<◌, ◌^◌, [], ◌∷◌, reverse, IfOk, true, length};
+ghost use Rattle.core_tree.specs.Ranges.{Limits};
+ghost use Rattle.core_tree.specs.Trees.{view_statement, view_function, view_functions, view_core};
 ghost use Rattle.c_interp.specs.Source as source;
 ghost use Rattle.c_interp.specs.Source.{source_thread, first_objects};
-ghost use Rattle.goto_prog.specs.Flat.{strict_thread};
+ghost use Rattle.goto_prog.specs.Nodes.{plain, nodes_of, view_procedure, view_procedures};
+ghost use Rattle.goto_prog.specs.GotoThreads.{strict_thread};
 ghost use Rattle.goto_prog.specs.Same.{DoSame};
-ghost use Rattle.goto_lower.specs.Lowered.{function_code, function_codes, lowered};
+ghost use Rattle.goto_prog.specs.declared.code.Operation.TheVariants as operations;
+ghost use Rattle.goto_lower.specs.Lowering.{at_line, ends};
+ghost use Rattle.goto_lower.specs.Rooms.{statement_rooms};
+ghost use Rattle.goto_lower.specs.Lowered.{given_size, blocks_of, first_frame, undefined_code, defined_code, function_code, function_codes, view_goto, lowered};
 
 use crate::draft::Draft;
+use crate::exits::Exits;
 use crate::rooms::statement_rooms;
 use actions::Store;
 use c_interp::{are_storable, first_store, number_of_main};
 use c_profile::Admitted;
-use core_tree::{Function, StaticObject};
-use goto_prog::{Code, Goto, Operation};
+use c_types::IntegerType;
+use core_tree::{CoreStatement, Function, Name, PassedType};
+use goto_prog::{Goto, Instruction, Node, Operation, Procedure};
 use std::alloc::{AllocError, Global};
 
-// The code of a function, which names these static objects.
-fn lower_function(
-    alloc: Global,
-    _objects: &[StaticObject],
-    number: u32,
-    function: &Function,
-) -> Result<Code, AllocError>
-    requires { is_typed_function (view_statics _objects.now) (view_function function.now) ≡ true }
-    ensures { IfOk result (λ c. c ≡ function_code number (view_function function.now)) }
+// A name.
+fn copy_name(alloc: Global, name: &Name) -> Result<Name, AllocError>
+    ensures { IfOk result (λ n. n.bytes.items ≡ name.now.bytes.items) }
 {
-    let mut draft = Draft::new(alloc, number, &function.variables);
-    draft.statement(&function.body)?;
-    draft.push(function.line, Operation::Exit)?;
-    let rooms = statement_rooms(alloc, &function.body)?;
-    draft.finish(alloc, &rooms)
+    let bytes = Vec::from_slice(alloc, &name.bytes)?;
+    Ok(Name { bytes })
 }
 
-fn lower_functions(
-    alloc: Global,
-    objects: &[StaticObject],
-    functions: &[Function],
-) -> Result<Vec<Code>, AllocError>
-    requires few { length functions.now < 2 ^ 31 }
-    requires typed { are_typed (view_core (core_file functions.now objects.now)) ≡ true }
-    ensures { IfOk result (λ cs. cs.items ≡ function_codes 0 (view_functions functions.now)) }
+// The registers of a function without those of its trees: one that stays 0.
+fn one_register(alloc: Global) -> Result<Vec<IntegerType>, AllocError>
+    ensures { IfOk result (λ v. v.items ≡ IntegerType.Int ∷ []) }
 {
-    let mut codes = Vec::new(alloc);
-    for (number, function) in functions.iter().enumerate() {
-        let code = lower_function(alloc, objects, number as u32, function)?;
-        codes.push(code)?;
+    let mut registers = Vec::new(alloc);
+    registers.push(IntegerType::Int)?;
+    Ok(registers)
+}
+
+// A place that blocks, by the register that stays 0.
+fn blocking(alloc: Global, number: u32, line: u32) -> Result<Vec<Node>, AllocError>
+    ensures forwards { IfOk result (λ v. nodes_of v.items ≡ plain (at_line (first_frame number []) line (operations.Assume 0)) ends) }
+    ensures backwards { IfOk result (λ v. nodes_of (reverse v.items) ≡ plain (at_line (first_frame number []) line (operations.Assume 0)) ends) }
+{
+    let instruction = Instruction {
+        line,
+        function: number,
+        operation: Operation::Assume { operand: 0 },
+    };
+    let mut nodes = Vec::new(alloc);
+    nodes.push(Node::Plain { instruction })?;
+    Ok(nodes)
+}
+
+// The code of a function that is only declared.
+fn lower_declared(alloc: Global, number: u32, function: &Function) -> Result<Procedure, AllocError>
+    ensures { IfOk result (λ p. view_procedure p ≡ undefined_code number (view_function function.now)) }
+{
+    Ok(Procedure {
+        name: copy_name(alloc, &function.name)?,
+        line: function.line,
+        registers: one_register(alloc)?,
+        blocks: Vec::new(alloc),
+        nodes: blocking(alloc, number, function.line)?,
+        startable: false,
+    })
+}
+
+// How many bytes a function hands over.
+fn given_size(gives: Option<PassedType>) -> u32
+    ensures { result ≡ given_size gives }
+{
+    match gives {
+        None => 0,
+        Some(PassedType::Integer(type_)) => type_.size(),
+        Some(PassedType::Structure(size)) => size,
     }
-    Ok(codes)
+}
+
+// The blocks of a function.
+fn lower_blocks(
+    alloc: Global,
+    variables: &[u32],
+    given: u32,
+    body: &CoreStatement,
+) -> Result<Vec<u32>, AllocError>
+    ensures { IfOk result (λ v. v.items ≡ blocks_of variables.now given (statement_rooms (view_statement body.now))) }
+{
+    let rooms = statement_rooms(alloc, body)?;
+    let mut blocks = Vec::from_slice(alloc, variables)?;
+    blocks.push(rooms.zeros())?;
+    blocks.push(given)?;
+    blocks.extend_from_slice(rooms.sizes())?;
+    Ok(blocks)
+}
+
+// The code of a function with this body.
+fn lower_defined(
+    alloc: Global,
+    number: u32,
+    function: &Function,
+    body: &CoreStatement,
+) -> Result<Procedure, AllocError>
+    ensures { IfOk result (λ p. view_procedure p ≡ defined_code number (view_function function.now) (view_statement body.now)) }
+{
+    let mut draft = Draft::new(alloc, number, &function.variables);
+    let _zero = draft.register(IntegerType::Int)?;
+    let mut nodes = blocking(alloc, number, function.line)?;
+    draft.put(function.line, Operation::Return { value: None }, &mut nodes)?;
+    let exits = Exits {
+        base: 1,
+        break_at: 2,
+        continue_at: 2,
+    };
+    draft.statement(alloc, body, exits, &mut nodes)?;
+    nodes.reverse();
+    Ok(Procedure {
+        name: copy_name(alloc, &function.name)?,
+        line: function.line,
+        registers: draft.into_registers(),
+        blocks: lower_blocks(alloc, &function.variables, given_size(function.gives), body)?,
+        nodes,
+        startable: false,
+    })
+}
+
+// The code of a function.
+fn lower_function(alloc: Global, number: u32, function: &Function) -> Result<Procedure, AllocError>
+    ensures { IfOk result (λ p. view_procedure p ≡ function_code number (view_function function.now)) }
+{
+    match &function.body {
+        Some(body) => lower_defined(alloc, number, function, body),
+        None => lower_declared(alloc, number, function),
+    }
+}
+
+fn lower_functions(alloc: Global, functions: &[Function]) -> Result<Vec<Procedure>, AllocError>
+    requires { length functions.now < 2 ^ 31 }
+    ensures { IfOk result (λ ps. view_procedures ps.items ≡ function_codes 0 (view_functions functions.now)) }
+{
+    let mut procedures = Vec::new(alloc);
+    for (number, function) in functions.iter().enumerate() {
+        let procedure = lower_function(alloc, number as u32, function)?;
+        procedures.push(procedure)?;
+    }
+    Ok(procedures)
 }
 
 // The store at the start; it is empty where the static objects alone pass a limit.
@@ -63,17 +161,18 @@ fn lower_objects(alloc: Global, file: &Admitted) -> Result<Store, AllocError>
     }
 }
 
-/// The flat code of a file: what it does as strict code is what the file means. Its store is the first
-/// store of the file, where the static objects alone pass no limit. Fails only for want of memory.
+/// The code of a file, with loops and calls: what it does as strict code under the bounds of a command is
+/// what the file means under them. Its store is the first store of the file, where the static objects alone
+/// pass no limit. Fails only for want of memory.
 pub fn lower(alloc: Global, file: &Admitted) -> Result<Goto, AllocError>
-    ensures code { IfOk result (λ g. g ≡ lowered (view_core file.now)) }
-    ensures same { IfOk result (λ g. DoSame (strict_thread g) (source_thread (view_core file.now))) }
+    ensures code { IfOk result (λ g. view_goto g ≡ lowered (view_core file.now)) }
+    ensures same { IfOk result (λ g. (bounds : Limits) → DoSame (strict_thread g bounds) (source_thread (view_core file.now) bounds)) }
     ensures store { source.are_storable (view_core file.now).objects ≡ true → IfOk result (λ g. g.store ≡ first_objects (view_core file.now).objects) }
 {
     let core = file.core();
     let functions = core.functions();
-    let codes = lower_functions(alloc, core.objects(), functions)?;
-    let main = number_of_main(functions);
+    let procedures = lower_functions(alloc, functions)?;
+    let main = number_of_main(functions) as u32;
     let store = lower_objects(alloc, file)?;
-    Ok(Goto::new(codes, main, store))
+    Ok(Goto::new(procedures, main, store))
 }

@@ -18,6 +18,22 @@ pub(crate) struct Updated {
     pub(crate) new: usize,
 }
 
+// The blocks of a call: the first of its arguments, how many they are, and the one for what it hands over.
+#[derive(Clone, Copy)]
+pub(crate) struct Passed {
+    pub(crate) first: usize,
+    pub(crate) count: usize,
+    pub(crate) into: usize,
+}
+
+// In front of the test of a case: the register that tells whether a case before it is met, and the first of
+// its own.
+#[derive(Clone, Copy)]
+pub(crate) struct CaseTest {
+    pub(crate) before: usize,
+    pub(crate) into: usize,
+}
+
 // The register of the value of `++` or `--`.
 pub(crate) fn step_value(updated: Updated, before: bool) -> usize
     ensures { result ≡ (if before then updated.new else updated.old) }

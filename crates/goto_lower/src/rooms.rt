@@ -1,11 +1,16 @@
 //! The blocks that code uses for values on the way: structure values, and numbers of static objects.
 
-ghost use Rattle.std.specs.Prelude.{◌≡◌, IfOk, slice_index};
-ghost use Rattle.core_tree.specs.Trees.{view, view_structure, parts_of, with_part, view_statement, items_of, with_item};
+ghost use Rattle.std.specs.Prelude.{◌≡◌, ◌++◌, ◌∷◌, [], ◌≤◌, length, IfOk, option_map};
+ghost use Rattle.core_tree.specs.Trees.{view, view_structure, parts_of, with_part, arguments_of, with_argument, view_statement, items_of, with_item};
+ghost use Rattle.c_types.specs.Integers.{bytes};
+ghost use Rattle.c_interp.specs.Meaning.{number_type};
 ghost use Rattle.goto_lower.specs.Rooms as specs;
 
+use crate::expressions::value_size;
+use c_types::{IntegerType, ValueType};
 use core_tree::{
-    CoreExpr, CoreItem, CorePart, CoreStatement, CoreStructure, Place, structure_size,
+    CoreArgument, CoreExpr, CoreItem, CorePart, CoreStatement, CoreStructure, Place,
+    structure_size, type_of,
 };
 use std::alloc::{AllocError, Global};
 use std::marker::Model;
@@ -25,26 +30,36 @@ impl Model for Rooms {
     ghost view = { λ r. record { zeros = r.zeros; sizes = r.sizes.items } };
 }
 
-// A size, 0 where none is there.
-fn size_at(sizes: &[u32], place: usize) -> u32
-    ensures { result ≡ slice_index sizes.now place }
+// The greater size at each place, where the others are no more than these.
+fn raise(sizes: &mut [u32], others: &[u32])
+    requires { length others.now ≤ length sizes.old }
+    ensures { sizes.new ≡ specs.greater sizes.old others.now }
 {
-    match sizes.get(place) {
-        Some(size) => *size,
-        None => 0,
+    for place in 0..others.len() {
+        sizes[place] = sizes[place].max(others[place]);
     }
 }
 
-// The greater size at each place.
-#[tactic(auto, using(crate::proofs::Greater::greater_more, crate::proofs::Greater::greater_all))]
-fn greater(alloc: Global, left: &[u32], right: &[u32]) -> Result<Vec<u32>, AllocError>
-    ensures { IfOk result (λ v. v.items ≡ specs.greater left.now right.now) }
+// The same of sizes that are owned.
+fn raised(sizes: Vec<u32>, others: &[u32]) -> Vec<u32>
+    requires { length others.now ≤ length sizes.items }
+    ensures { result.items ≡ specs.greater sizes.items others.now }
 {
-    let mut sizes = Vec::new(alloc);
-    for place in 0..left.len().max(right.len()) {
-        sizes.push(size_at(left, place).max(size_at(right, place)))?;
+    let mut all = sizes;
+    raise(&mut all, others);
+    all
+}
+
+// The same of any two lists.
+#[tactic(auto, using(crate::proofs::Greater::greater_swapped))]
+fn greater(left: Vec<u32>, right: Vec<u32>) -> Vec<u32>
+    ensures { result.items ≡ specs.greater left.items right.items }
+{
+    if right.len() <= left.len() {
+        raised(left, &right)
+    } else {
+        raised(right, &left)
     }
-    Ok(sizes)
 }
 
 impl Rooms {
@@ -58,13 +73,13 @@ impl Rooms {
     }
 
     // One after the other, in the same blocks.
-    fn and(self, alloc: Global, other: Rooms) -> Result<Rooms, AllocError>
-        ensures { IfOk result (λ r. r ≡ specs.both self other) }
+    fn and(self, other: Rooms) -> Rooms
+        ensures { result ≡ specs.both self other }
     {
-        Ok(Rooms {
+        Rooms {
             zeros: self.zeros.max(other.zeros),
-            sizes: greater(alloc, &self.sizes, &other.sizes)?,
-        })
+            sizes: greater(self.sizes, other.sizes),
+        }
     }
 
     // While a block of this size is in use.
@@ -73,6 +88,18 @@ impl Rooms {
     {
         self.sizes.insert(0, size)?;
         Ok(self)
+    }
+
+    // While blocks of these sizes are in use.
+    fn under_all(self, sizes: Vec<u32>) -> Result<Rooms, AllocError>
+        ensures { IfOk result (λ r. r ≡ specs.under_all sizes.items self) }
+    {
+        let mut all = sizes;
+        all.extend_from_slice(&self.sizes)?;
+        Ok(Rooms {
+            zeros: self.zeros,
+            sizes: all,
+        })
     }
 
     // Behind a clear of so many bytes.
@@ -96,6 +123,37 @@ impl Rooms {
     {
         &self.sizes
     }
+}
+
+// How many bytes an argument has.
+fn argument_size(argument: &CoreArgument) -> u32
+    ensures { (rest : _) → specs.argument_sizes (with_argument argument.now rest) ≡ result ∷ specs.argument_sizes rest }
+{
+    match argument {
+        CoreArgument::Number { value } => number_size(value),
+        CoreArgument::Structure { value } => structure_size(value),
+    }
+}
+
+// How many bytes the value of an expression has; one without value has those of an int.
+fn number_size(value: &CoreExpr) -> u32
+    ensures { result ≡ bytes (number_type (view value.now)) }
+{
+    match type_of(value) {
+        ValueType::Void => IntegerType::Int.size(),
+        ValueType::Integer(type_) => type_.size(),
+    }
+}
+
+// How many bytes each argument has.
+fn argument_sizes(alloc: Global, arguments: &[CoreArgument]) -> Result<Vec<u32>, AllocError>
+    ensures { IfOk result (λ v. v.items ≡ specs.argument_sizes (arguments_of arguments.now)) }
+{
+    let mut sizes = Vec::new(alloc);
+    for argument in arguments {
+        sizes.push(argument_size(argument))?;
+    }
+    Ok(sizes)
 }
 
 /// Of an access to a place.
@@ -142,40 +200,40 @@ fn expression_rooms(alloc: Global, expr: &CoreExpr) -> Result<Rooms, AllocError>
             operator: _,
             left,
             right,
-        } => expression_rooms(alloc, left)?.and(alloc, expression_rooms(alloc, right)?),
+        } => Ok(expression_rooms(alloc, left)?.and(expression_rooms(alloc, right)?)),
         CoreExpr::Compare {
             line: _,
             operator: _,
             left,
             right,
-        } => expression_rooms(alloc, left)?.and(alloc, expression_rooms(alloc, right)?),
+        } => Ok(expression_rooms(alloc, left)?.and(expression_rooms(alloc, right)?)),
         CoreExpr::Logical {
             line: _,
             operator: _,
             left,
             right,
-        } => expression_rooms(alloc, left)?.and(alloc, expression_rooms(alloc, right)?),
+        } => Ok(expression_rooms(alloc, left)?.and(expression_rooms(alloc, right)?)),
         CoreExpr::Choice {
             line: _,
             test,
             yes,
             no,
         } => {
-            let branches = expression_rooms(alloc, yes)?.and(alloc, expression_rooms(alloc, no)?)?;
-            expression_rooms(alloc, test)?.and(alloc, branches)
+            let branches = expression_rooms(alloc, yes)?.and(expression_rooms(alloc, no)?);
+            Ok(expression_rooms(alloc, test)?.and(branches))
         }
         CoreExpr::Assign {
             line: _,
             place,
             value,
-        } => expression_rooms(alloc, value)?.and(alloc, place_rooms(alloc, *place)?),
+        } => Ok(expression_rooms(alloc, value)?.and(place_rooms(alloc, *place)?)),
         CoreExpr::Update {
             line: _,
             place,
             operator: _,
             type_: _,
             value,
-        } => expression_rooms(alloc, value)?.and(alloc, place_rooms(alloc, *place)?),
+        } => Ok(expression_rooms(alloc, value)?.and(place_rooms(alloc, *place)?)),
         CoreExpr::Step {
             line: _,
             place,
@@ -186,7 +244,7 @@ fn expression_rooms(alloc: Global, expr: &CoreExpr) -> Result<Rooms, AllocError>
             line: _,
             left,
             right,
-        } => expression_rooms(alloc, left)?.and(alloc, expression_rooms(alloc, right)?),
+        } => Ok(expression_rooms(alloc, left)?.and(expression_rooms(alloc, right)?)),
         CoreExpr::Assertion { line: _, condition } => expression_rooms(alloc, condition),
         CoreExpr::Assumption { line: _, condition } => expression_rooms(alloc, condition),
         CoreExpr::Draw { line: _, type_: _ } => Ok(Rooms::none(alloc)),
@@ -200,6 +258,48 @@ fn expression_rooms(alloc: Global, expr: &CoreExpr) -> Result<Rooms, AllocError>
         CoreExpr::DiscardStructure { value } => {
             structure_rooms(alloc, value)?.under(structure_size(value))
         }
+        CoreExpr::Call {
+            line: _,
+            function: _,
+            used: _,
+            type_,
+            arguments,
+        } => call_rooms(alloc, value_size(*type_), arguments),
+        CoreExpr::FunctionName {
+            line: _,
+            function: _,
+        } => Ok(Rooms::none(alloc)),
+    }
+}
+
+/// Of a call that hands over so many bytes.
+#[cycle(expression)]
+fn call_rooms(alloc: Global, size: u32, arguments: &[CoreArgument]) -> Result<Rooms, AllocError>
+    ensures { IfOk result (λ r. r ≡ specs.call_needs size (arguments_of arguments.now) (specs.arguments_rooms (arguments_of arguments.now))) }
+{
+    let rooms = arguments_rooms(alloc, arguments)?.under(size)?;
+    let sizes = argument_sizes(alloc, arguments)?;
+    Ok(rooms.under_all(sizes)?.clearing(size))
+}
+
+#[cycle(expression)]
+fn arguments_rooms(alloc: Global, arguments: &[CoreArgument]) -> Result<Rooms, AllocError>
+    ensures { IfOk result (λ r. r ≡ specs.arguments_rooms (arguments_of arguments.now)) }
+{
+    let mut rooms = Rooms::none(alloc);
+    for place in (0..arguments.len()).rev() {
+        rooms = argument_rooms(alloc, &arguments[place])?.and(rooms);
+    }
+    Ok(rooms)
+}
+
+#[cycle(expression)]
+fn argument_rooms(alloc: Global, argument: &CoreArgument) -> Result<Rooms, AllocError>
+    ensures { IfOk result (λ r. (rest : _) → specs.arguments_rooms (with_argument argument.now rest) ≡ specs.both r (specs.arguments_rooms rest)) }
+{
+    match argument {
+        CoreArgument::Number { value } => expression_rooms(alloc, value),
+        CoreArgument::Structure { value } => structure_rooms(alloc, value),
     }
 }
 
@@ -227,8 +327,8 @@ fn structure_rooms(alloc: Global, structure: &CoreStructure) -> Result<Rooms, Al
             yes,
             no,
         } => {
-            let branches = structure_rooms(alloc, yes)?.and(alloc, structure_rooms(alloc, no)?)?;
-            expression_rooms(alloc, test)?.and(alloc, branches)
+            let branches = structure_rooms(alloc, yes)?.and(structure_rooms(alloc, no)?);
+            Ok(expression_rooms(alloc, test)?.and(branches))
         }
         CoreStructure::Assign {
             line: _,
@@ -246,7 +346,7 @@ fn structure_rooms(alloc: Global, structure: &CoreStructure) -> Result<Rooms, Al
             line: _,
             left,
             right,
-        } => expression_rooms(alloc, left)?.and(alloc, structure_rooms(alloc, right)?),
+        } => Ok(expression_rooms(alloc, left)?.and(structure_rooms(alloc, right)?)),
         CoreStructure::Member {
             line: _,
             offset: _,
@@ -263,6 +363,13 @@ fn structure_rooms(alloc: Global, structure: &CoreStructure) -> Result<Rooms, Al
             size,
             bytes: _,
         } => Ok(Rooms::none(alloc).clearing(*size)),
+        CoreStructure::Call {
+            line: _,
+            function: _,
+            used: _,
+            size,
+            arguments,
+        } => call_rooms(alloc, *size, arguments),
     }
 }
 
@@ -272,7 +379,7 @@ fn parts_rooms(alloc: Global, parts: &[CorePart]) -> Result<Rooms, AllocError>
 {
     let mut rooms = Rooms::none(alloc);
     for place in (0..parts.len()).rev() {
-        rooms = part_rooms(alloc, &parts[place])?.and(alloc, rooms)?;
+        rooms = part_rooms(alloc, &parts[place])?.and(rooms);
     }
     Ok(rooms)
 }
@@ -287,6 +394,16 @@ fn part_rooms(alloc: Global, part: &CorePart) -> Result<Rooms, AllocError>
     }
 }
 
+/// Of a part of a loop, which may be missing.
+fn loop_part_rooms(alloc: Global, part: &Option<CoreExpr>) -> Result<Rooms, AllocError>
+    ensures { IfOk result (λ r. r ≡ specs.part_rooms (option_map view part.now)) }
+{
+    match part {
+        Some(value) => expression_rooms(alloc, value),
+        None => Ok(Rooms::none(alloc)),
+    }
+}
+
 /// Of a statement.
 #[cycle(statement)]
 pub(crate) fn statement_rooms(alloc: Global, statement: &CoreStatement) -> Result<Rooms, AllocError>
@@ -295,7 +412,7 @@ pub(crate) fn statement_rooms(alloc: Global, statement: &CoreStatement) -> Resul
     match statement {
         CoreStatement::Block { items } => items_rooms(alloc, items),
         CoreStatement::If { line: _, test, yes } => {
-            expression_rooms(alloc, test)?.and(alloc, statement_rooms(alloc, yes)?)
+            Ok(expression_rooms(alloc, test)?.and(statement_rooms(alloc, yes)?))
         }
         CoreStatement::IfElse {
             line: _,
@@ -303,11 +420,40 @@ pub(crate) fn statement_rooms(alloc: Global, statement: &CoreStatement) -> Resul
             yes,
             no,
         } => {
-            let branches = statement_rooms(alloc, yes)?.and(alloc, statement_rooms(alloc, no)?)?;
-            expression_rooms(alloc, test)?.and(alloc, branches)
+            let branches = statement_rooms(alloc, yes)?.and(statement_rooms(alloc, no)?);
+            Ok(expression_rooms(alloc, test)?.and(branches))
         }
         CoreStatement::Evaluate { expression } => expression_rooms(alloc, expression),
         CoreStatement::Return { line: _, value } => expression_rooms(alloc, value),
+        CoreStatement::ReturnStructure { line: _, value } => structure_rooms(alloc, value),
+        CoreStatement::ReturnNothing { line: _ } => Ok(Rooms::none(alloc)),
+        CoreStatement::For {
+            line: _,
+            number: _,
+            first,
+            test,
+            last,
+            body,
+        } => {
+            let round = loop_part_rooms(alloc, last)?.and(statement_rooms(alloc, body)?);
+            let rounds = loop_part_rooms(alloc, test)?.and(round);
+            Ok(loop_part_rooms(alloc, first)?.and(rounds))
+        }
+        CoreStatement::Do {
+            line: _,
+            number: _,
+            body,
+            test,
+        } => Ok(statement_rooms(alloc, body)?.and(expression_rooms(alloc, test)?)),
+        CoreStatement::Switch {
+            line: _,
+            value,
+            items,
+        } => Ok(expression_rooms(alloc, value)?.and(items_rooms(alloc, items)?)),
+        CoreStatement::Break { line: _ } => Ok(Rooms::none(alloc)),
+        CoreStatement::Continue { line: _ } => Ok(Rooms::none(alloc)),
+        CoreStatement::Goto { line: _, label: _ } => Ok(Rooms::none(alloc)),
+        CoreStatement::Stray { line: _, statement } => statement_rooms(alloc, statement),
     }
 }
 
@@ -317,7 +463,7 @@ fn items_rooms(alloc: Global, items: &[CoreItem]) -> Result<Rooms, AllocError>
 {
     let mut rooms = Rooms::none(alloc);
     for place in (0..items.len()).rev() {
-        rooms = item_rooms(alloc, &items[place])?.and(alloc, rooms)?;
+        rooms = item_rooms(alloc, &items[place])?.and(rooms);
     }
     Ok(rooms)
 }
@@ -345,5 +491,12 @@ fn item_rooms(alloc: Global, item: &CoreItem) -> Result<Rooms, AllocError>
             value,
         } => structure_rooms(alloc, value)?.under(structure_size(value)),
         CoreItem::Statement { statement } => statement_rooms(alloc, statement),
+        CoreItem::Label { label: _ } => Ok(Rooms::none(alloc)),
+        CoreItem::Case {
+            line: _,
+            type_: _,
+            bits: _,
+        } => Ok(Rooms::none(alloc)),
+        CoreItem::Default { line: _ } => Ok(Rooms::none(alloc)),
     }
 }

@@ -69,6 +69,13 @@ pub(crate) fn line_of_structure(structure: &CoreStructure) -> u32
             size: _,
             bytes: _,
         } => *line,
+        CoreStructure::Call {
+            line,
+            function: _,
+            used: _,
+            size: _,
+            arguments: _,
+        } => *line,
     }
 }
 
@@ -84,7 +91,13 @@ fn behind(offset: u32, count: u32) -> Result<u32, AllocError>
 
 impl<'a> Draft<'a> {
     // Bytes that are 0, into a block.
-    fn clear(&mut self, line: u32, into: usize, at: u32, count: u32) -> Result<(), AllocError>
+    pub(crate) fn clear(
+        &mut self,
+        line: u32,
+        into: usize,
+        at: u32,
+        count: u32,
+    ) -> Result<(), AllocError>
         ensures { OnOk result (self.new ≡ added self.old (at_line self.old.frame line (operations.CopyBytes into at self.old.frame.zeros 0 count) ∷ []) []) }
     {
         let from = self.zeros();
@@ -296,6 +309,26 @@ impl<'a> Draft<'a> {
                 self.clear(*line, into, at, *size)?;
                 let register = self.register(IntegerType::UnsignedChar)?;
                 self.text(*line, bytes, register, into, at)
+            }
+            CoreStructure::Call {
+                line,
+                function,
+                used,
+                size,
+                arguments,
+            } => {
+                let passed = self.pass(arguments)?;
+                self.call_passed(*line, *function, *used, *size, passed)?;
+                self.push(
+                    *line,
+                    Operation::CopyBytes {
+                        into,
+                        at,
+                        from: passed.into,
+                        offset: 0,
+                        count: *size,
+                    },
+                )
             }
         }
     }

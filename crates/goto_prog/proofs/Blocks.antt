@@ -1,11 +1,11 @@
 -- The blocks keep their sizes.
-use Rattle.std.proofs.Common.{◌≡◌, ℕ, ◌+◌, ◌*◌, ◌<◌, ◌≤◌, true, ◌&&◌, nat_lt, List, [], ◌∷◌, ◌++◌, map, length, take, drop, refl, sym, ap, subst, ◌∙◌, arith, get_or}
-use Rattle.std.specs.Prelude.{◌==◌, nat_le, slice_set, slice_index, slice_index_or}
+use Rattle.std.proofs.Common.{◌≡◌, ℕ, zero, suc, ◌+◌, ◌*◌, ◌<◌, ◌≤◌, true, ◌&&◌, nat_lt, List, [], ◌∷◌, ◌++◌, map, length, take, drop, refl, sym, ap, subst, ◌∙◌, arith, get_or}
+use Rattle.std.specs.Prelude.{◌==◌, min, nat_le, slice_set, slice_index, slice_index_or}
 use Rattle.std.specs.Int.{w64, to_le_bytes}
 use Rattle.std.proofs.Math.ListN.{get_or-map}
 use Rattle.std.proofs.Math.Seq.{map-set_same}
 use Rattle.std.proofs.lemmas.Bool.Decides.{nat_tests}
-use Rattle.std.proofs.lemmas.List.{get_or_default, length-map, length-append, length-take-le, length-drop, length-replicate}
+use Rattle.std.proofs.lemmas.List.{get_or_default, length-map, length-append, length-take-le, length-take, length-drop, length-replicate}
 use Rattle.c_types.specs.declared.integers.IntegerType.{IntegerType}
 use Rattle.c_types.specs.declared.integers.IntegerType.TheVariants as types
 use Rattle.c_types.specs.Integers.{width}
@@ -14,7 +14,7 @@ use Rattle.c_values.specs.Variables.{low_bytes, put_at, zeros, block_of, first_v
 use Rattle.goto_prog.specs.Fitting.{has_bytes, is_block, is_there}
 use Rattle.goto_prog.proofs.Registers.{both, test_below, at_most_64}
 
-test_within : (m n : ℕ) → nat_le m n ≡ true → m ≤ n
+pub test_within : (m n : ℕ) → nat_le m n ≡ true → m ≤ n
 test_within m n h = grind (arith, nat_tests)
 
 equal_sizes : (m n : ℕ) → (m == n) ≡ true → m ≡ n
@@ -119,3 +119,29 @@ sizes_cleared sizes blocks b d same =
 pub first_sizes : (sizes : List ℕ) → map length (first_variables sizes) ≡ sizes
 first_sizes [] = refl
 first_sizes (size ∷ sizes) = λ k. length-replicate {A = ℕ} size 0 k ∷ first_sizes sizes k
+
+-- ---- bytes that are handed over
+
+pub block_among : (sizes : List ℕ) (blocks : List (List ℕ)) (b : ℕ) → map length blocks ≡ sizes → nat_lt b (length sizes) ≡ true → b < length blocks
+block_among sizes blocks b same lt = there_among sizes blocks b same lt
+
+least : (n m : ℕ) → min (suc n) (suc m) ≡ suc (min n m)
+least n m = omega arith
+
+none_least : (n : ℕ) → min n 0 ≡ 0
+none_least n = omega arith
+
+least_none : (n : ℕ) → min 0 n ≡ 0
+least_none n = omega arith
+
+-- as many bytes as there is room for
+pub take_min : (n : ℕ) (xs : List ℕ) → take (min n (length xs)) xs ≡ take n xs
+take_min zero xs = ap (λ k. take k xs) (least_none (length xs))
+take_min (suc n) [] = ap (λ k. take k (let none : List ℕ = [] in none)) (none_least (suc n))
+take_min (suc n) (x ∷ xs) = ap (λ k. take k (x ∷ xs)) (least n (length xs)) ∙ ap (λ ys. x ∷ ys) (take_min n xs)
+
+pub sizes_filled : (sizes : List ℕ) (blocks : List (List ℕ)) (b : ℕ) (bytes d : List ℕ) → map length blocks ≡ sizes
+    → map length (slice_set blocks b (put_at 0 (take (length (get_or blocks b d)) bytes) (get_or blocks b d))) ≡ sizes
+sizes_filled sizes blocks b bytes d same =
+    let block = get_or blocks b d in
+    map-set_same length blocks b (put_at 0 (take (length block) bytes) block) d (put_size 0 (take (length block) bytes) block (omega (arith, length-take (length block) bytes))) ∙ same

@@ -1,3 +1,14 @@
 pub mod Registers
 pub mod Blocks
 pub mod Stepping
+pub mod Levels
+pub mod Places
+pub mod WalkSteps
+pub mod WalkFits
+pub mod LoopTests
+pub mod NodeViews
+pub mod LoopSteps
+pub mod WalkAnswers
+pub mod Entering
+pub mod WalkerSteps
+pub mod FlatCode

@@ -54,6 +54,10 @@ free strict p line f (operations.Draw r bits) ps m = refl
 free strict p line f (operations.ReadObject b to k offset count) ps m = refl
 free strict p line f (operations.WriteObject k offset b from count) ps m = refl
 free strict p line f operations.Exit ps m = refl
+free strict p line f (operations.Fail class) ps m = refl
+free strict p line f (operations.Use a) ps m = refl
+free strict p line f (operations.Call g first count into r) ps m = refl
+free strict p line f (operations.Return v) ps m = refl
 
 pub places-free : (strict : Bool) (p q : ℕ) (xs : List Instruction) → places behaving strict p xs ≡ places behaving strict q xs
 places-free strict p q [] = refl
@@ -132,6 +136,10 @@ calculation_fits rs bs n (operations.Draw r bits) calculates h = h
 calculation_fits rs bs n (operations.ReadObject b to k offset count) calculates h = h
 calculation_fits rs bs n (operations.WriteObject k offset b from count) calculates h = h
 calculation_fits rs bs n operations.Exit calculates h = h
+calculation_fits rs bs n (operations.Fail class) calculates h = h
+calculation_fits rs bs n (operations.Use a) calculates h = h
+calculation_fits rs bs n (operations.Call f first count into r) calculates h = h
+calculation_fits rs bs n (operations.Return v) calculates h = h
 
 -- ---- steps
 
@@ -200,6 +208,10 @@ module _ (r : Running) (i : Instruction) (found : slice_get r.code.instructions 
   calculates (operations.ReadObject b to k offset count) h = absurd (false≢true h)
   calculates (operations.WriteObject k offset b from count) h = absurd (false≢true h)
   calculates operations.Exit h = absurd (false≢true h)
+  calculates (operations.Fail class) h = absurd (false≢true h)
+  calculates (operations.Use a) h = refl
+  calculates (operations.Call g first count into q) h = absurd (false≢true h)
+  calculates (operations.Return v) h = absurd (false≢true h)
 
   pub goes_calculated : is_calculation i.operation ≡ true → strict_class i.operation ≡ None → GoesOn r (record r { place = r.place + 1 + 0; memory = calculated i.operation r.memory })
   goes_calculated h none = goes 0 (calculated i.operation r.memory) (calculates i.operation h ∙ ap (λ c. or_else behaving c i.line i.function (at behaving (behind r.strict r.code r.place) 0 (calculated i.operation r.memory))) none) (omega arith)
@@ -242,6 +254,15 @@ module _ (r : Running) (i : Instruction) (found : slice_get r.code.instructions 
 
   pub stops_assume : (a : ℕ) → Is (operations.Assume a) → (register r.memory a == 0) ≡ true → Stops r r Blocked
   stops_assume a is h = stops Blocked refl (ap operated is ∙ zero_test (register r.memory a == 0) _ _ h)
+
+  pub stops_fail : (class : Class) → Is (operations.Fail class) → Stops r r (Broken class i.line i.function)
+  stops_fail class is = stops (Broken class i.line i.function) refl (ap operated is)
+
+  pub stops_call : (g first count into q : ℕ) → Is (operations.Call g first count into q) → Stops r r Blocked
+  stops_call g first count into q is = stops Blocked refl (ap operated is)
+
+  pub stops_return : (v : Option ℕ) → Is (operations.Return v) → Stops r r Blocked
+  stops_return v is = stops Blocked refl (ap operated is)
 
   pub stops_draw : (q bits : ℕ) → Is (operations.Draw q bits) → Stops r r (Act (actions.Draw bits) i.line i.function)
   stops_draw q bits is = record {

@@ -1,5 +1,5 @@
 -- What is true of each code: the registers that it names are there with the types of its operations, the bytes of blocks that it names are there, and its jumps stay within it.
-use Rattle.std.specs.Prelude.{ℕ, ◌^◌, ◌*◌, ◌==◌, Bool, true, false, ◌&&◌, List, [], ◌∷◌, nat_lt, nat_le, length, slice_index, slice_index_or}
+use Rattle.std.specs.Prelude.{ℕ, ◌+◌, ◌^◌, ◌*◌, Option, Some, None, ◌==◌, Bool, true, false, ◌&&◌, List, [], ◌∷◌, nat_lt, nat_le, length, slice_index, slice_index_or}
 use Rattle.c_types.specs.declared.integers.IntegerType.{IntegerType}
 use Rattle.c_types.specs.declared.integers.IntegerType.TheVariants as types
 use Rattle.c_types.specs.Integers.{width, bytes, is_signed, same_integer}
@@ -48,8 +48,14 @@ check_fits registers (checks.Range op t a b) = is_signed t && is_ranged op && is
 check_fits registers (checks.Negation t a) = is_signed t && is_register registers a t
 check_fits registers (checks.Count t u count) = is_register registers count u
 check_fits registers (checks.LeftShift t u a count) = is_signed t && is_register registers a t && is_register registers count u
+check_fits registers (checks.Returned a) = is_there registers a
 
--- with this many instructions behind it
+-- a block, or none
+abbrev pub is_some_block : List ℕ → Option ℕ → Bool
+is_some_block blocks None = true
+is_some_block blocks (Some b) = nat_lt b (length blocks)
+
+-- with this many places behind it
 abbrev pub operation_fits : List IntegerType → List ℕ → ℕ → Operation → Bool
 operation_fits registers blocks behind (operations.Constant r bits) = is_there registers r && nat_lt bits (2 ^ width (slice_index_or registers r types.Int))
 operation_fits registers blocks behind (operations.Copy r a) = is_there registers a && is_register registers r (slice_index_or registers a types.Int)
@@ -71,6 +77,10 @@ operation_fits registers blocks behind (operations.Draw r bits) = is_there regis
 operation_fits registers blocks behind (operations.ReadObject b to k offset count) = is_within blocks b to count
 operation_fits registers blocks behind (operations.WriteObject k offset b from count) = is_within blocks b from count
 operation_fits registers blocks behind operations.Exit = true
+operation_fits registers blocks behind (operations.Fail class) = true
+operation_fits registers blocks behind (operations.Use a) = is_there registers a
+operation_fits registers blocks behind (operations.Call f first count into r) = nat_le (first + count) (length blocks) && nat_lt into (length blocks) && is_register registers r types.Int
+operation_fits registers blocks behind (operations.Return v) = is_some_block blocks v
 
 abbrev pub code_fits : List IntegerType → List ℕ → List Instruction → Bool
 code_fits registers blocks [] = true

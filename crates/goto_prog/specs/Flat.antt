@@ -1,5 +1,5 @@
--- A program as flat code.
-use Rattle.std.specs.Prelude.{ℕ, List, [], true, false, slice_index_or}
+-- A program as flat code, without loops and calls.
+use Rattle.std.specs.Prelude.{ℕ, List, [], false, slice_index_or}
 use Rattle.actions.specs.Objects.{Objects}
 use Rattle.actions.specs.Behaviour.{Thread}
 use Rattle.goto_prog.specs.CodeThread.{Listing}
@@ -17,9 +17,6 @@ no_code = record { registers = []; blocks = []; instructions = []; startable = f
 abbrev pub main_code : Flat → Listing
 main_code g = slice_index_or g.functions g.main no_code
 
--- thread 0 of a program as strict code, and as plain code
-abbrev pub strict_thread : Flat → Thread
-strict_thread g = thread_of (begun g.functions (main_code g) true)
-
+-- thread 0 of a program, as plain code
 abbrev pub plain_thread : Flat → Thread
 plain_thread g = thread_of (begun g.functions (main_code g) false)

@@ -1,5 +1,5 @@
--- What flat code does: each instruction chooses among the meanings of the places behind it. What an action and an end are is a parameter, so that behaviours of threads and runs under given answers are two readings of one definition.
-use Rattle.std.specs.Prelude.{ℕ, zero, suc, ◌==◌, Bool, false, not, List, [], ◌∷◌, take, drop, Option, Some, None, slice_index, slice_set, if◌then◌else◌}
+-- What instructions do: each chooses among the meanings of the places behind it. What an action, an end and a call are is a parameter, so that behaviours of threads and runs under given answers are two readings of one definition.
+use Rattle.std.specs.Prelude.{ℕ, zero, suc, ◌==◌, Bool, false, not, List, [], ◌∷◌, length, take, drop, Option, Some, None, slice_index, slice_set, if◌then◌else◌}
 use Rattle.words.specs.declared.check.Class.{Class}
 use Rattle.words.specs.declared.check.Class.TheVariants as classes
 use Rattle.actions.specs.declared.action.Action.{Action}
@@ -37,6 +37,34 @@ with_blocks m blocks = record m { blocks = blocks }
 abbrev pub bytes_of : Variables → ℕ → ℕ → ℕ → List ℕ
 bytes_of blocks b offset count = take count (drop offset (block_of blocks b))
 
+-- ---- calls
+
+-- what a function hands over at its end: nothing, or bytes
+abbrev pub Given : Type 0
+Given = Option (List ℕ)
+
+-- the bytes of so many blocks, from one on
+abbrev pub arguments_of : Variables → (first count : ℕ) → List (List ℕ)
+arguments_of blocks first count = take count (drop first blocks)
+
+-- a block takes as many of these bytes as it has, from its first on
+abbrev pub filled : Variables → ℕ → List ℕ → Variables
+filled blocks into bytes = put_bytes blocks into 0 (take (length (block_of blocks into)) bytes)
+
+-- the memory behind a call
+abbrev pub received : Memory → (into returned : ℕ) → Given → Memory
+received m into returned None = with_register m returned 0
+received m into returned (Some bytes) = with_register (with_blocks m (filled m.blocks into bytes)) returned 1
+
+-- what a function hands over of its memory: nothing, or the bytes of a block
+abbrev pub given_by : Memory → Option ℕ → Given
+given_by m None = None
+given_by m (Some b) = Some (block_of m.blocks b)
+
+-- a register tells whether a call handed something over
+abbrev pub return_check : ℕ → Option Class
+return_check returned = unless (not (returned == 0)) classes.Return
+
 -- ---- checks
 
 -- the class that a check breaks, if it breaks one
@@ -47,6 +75,7 @@ check_class (checks.Range op t a b) m = arithmetic_check op t t (register m a) (
 check_class (checks.Negation t a) m = sign_check signs.Minus t (register m a)
 check_class (checks.Count t u count) m = count_check t u (register m count)
 check_class (checks.LeftShift t u a count) m = left_shift_check t u (register m a) (register m count)
+check_class (checks.Returned a) m = return_check (register m a)
 
 -- ---- operations that give a value
 
@@ -54,6 +83,7 @@ check_class (checks.LeftShift t u a count) m = left_shift_check t u (register m 
 abbrev pub own_class : Operation → Memory → Option Class
 own_class (operations.Sign r op t a) m = sign_check op t (register m a)
 own_class (operations.Arithmetic r op t u a b) m = arithmetic_check op t u (register m a) (register m b)
+own_class (operations.Use a) m = return_check (register m a)
 own_class _ m = None
 
 -- the memory behind an operation that sets a register or a block; the others leave it
@@ -71,12 +101,14 @@ calculated (operations.Compare r op t a b) m = with_register m r (truth_bits (co
 calculated (operations.IsZero r a) m = with_register m r (truth_bits (register m a == 0))
 calculated _ m = m
 
--- ---- what becomes of an action and of an end
+-- ---- what becomes of an action, an end and a call
 
--- what follows each answer to an action, at a line of a function and a place of the code; and an end
+-- what follows each answer to an action, at a line of a function and a place of the code; an end; what follows what a call in a function, of a function at a line with these arguments' bytes, hands over; and what becomes of what the function itself hands over
 pub record Reading (R : Type 0) : Type 0 where
   pub ask : (action : Action) (line function place : ℕ) (next : Answer → R) → R
   pub stop : (end : Next) → R
+  pub call : (caller function line : ℕ) (arguments : List (List ℕ)) (next : Given → R) → R
+  pub hand : Given → R
 
 -- the word that an answer gives
 abbrev pub word_of : Answer → ℕ
@@ -128,11 +160,19 @@ module _ {R : Type 0} (o : Reading R) where
   operates strict place line f (operations.WriteObject k offset b from count) ps m =
       o.ask (actions.Write (pointer_to k offset) (bytes_of m.blocks b from count) false) line f place (λ a. at ps 0 m)
   operates strict place line f operations.Exit ps m = o.ask actions.Exit line f place (λ a. o.stop (Ended (word_64 0)))
+  operates strict place line f (operations.Fail class) ps m = o.stop (Broken class line f)
+  operates strict place line f (operations.Use a) ps m = or_else (if strict then return_check (register m a) else None) line f (at ps 0 m)
+  operates strict place line f (operations.Call g first count into r) ps m = o.call f g line (arguments_of m.blocks first count) (λ given. at ps 0 (received m into r given))
+  operates strict place line f (operations.Return v) ps m = o.hand (given_by m v)
 
-  -- the meanings of the places of code, the first of which is the place with this number
+  -- the meanings of the places of instructions and of later places; the first is the place with this number
+  abbrev pub places_before : (strict : Bool) → ℕ → List Instruction → (later : List (Memory → R)) → List (Memory → R)
+  places_before strict place [] later = later
+  places_before strict place (i ∷ code) later = let rest = places_before strict (suc place) code later in operates strict place i.line i.function i.operation rest ∷ rest
+
+  -- the meanings of the places of code
   abbrev pub places : (strict : Bool) → ℕ → List Instruction → List (Memory → R)
-  places strict place [] = []
-  places strict place (i ∷ code) = let rest = places strict (suc place) code in operates strict place i.line i.function i.operation rest ∷ rest
+  places strict place code = places_before strict place code []
 
   -- what code does from its first place
   abbrev pub does : (strict : Bool) → ℕ → List Instruction → Memory → R

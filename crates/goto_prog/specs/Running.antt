@@ -1,7 +1,5 @@
 -- A runner of code: where it stands, and what is true of it.
-use Rattle.std.specs.Prelude.{◌≡◌, ◌<◌, ◌≤◌, ℕ, ◌^◌, Bool, true, false, ◌&&◌, nat_lt, List, [], ◌∷◌, Option, Some, None, slice_get, length, map}
-use Rattle.c_types.specs.declared.integers.IntegerType.{IntegerType}
-use Rattle.c_types.specs.Integers.{width}
+use Rattle.std.specs.Prelude.{◌≡◌, ◌<◌, ◌≤◌, ℕ, Bool, true, false, List, [], Option, Some, None, slice_get, length}
 use Rattle.actions.specs.declared.action.Next.{Next}
 use Rattle.actions.specs.declared.action.Next.TheVariants.{Act, Ended, Blocked, Broken}
 use Rattle.actions.specs.Behaviour.{Thread}
@@ -9,7 +7,6 @@ use Rattle.goto_prog.specs.declared.code.Instruction.{Instruction}
 use Rattle.goto_prog.specs.declared.code.Operation.{Operation}
 use Rattle.goto_prog.specs.declared.code.Operation.TheVariants as operations
 use Rattle.goto_prog.specs.Meaning.{Memory}
-use Rattle.goto_prog.specs.Fitting.{code_fits}
 use Rattle.goto_prog.specs.CodeThread.{Listing, first_memory, code_thread}
 
 pub record Running : Type 0 where
@@ -27,18 +24,6 @@ begun functions code strict = record { functions = functions; code = code; stric
 abbrev pub thread_of : Running → Thread
 thread_of r = code_thread r.strict r.functions r.code r.place r.memory
 
--- each register has a word of its type
-abbrev pub registers_fit : List IntegerType → List ℕ → Bool
-registers_fit [] [] = true
-registers_fit [] (x ∷ xs) = false
-registers_fit (t ∷ ts) [] = false
-registers_fit (t ∷ ts) (x ∷ xs) = nat_lt x (2 ^ width t) && registers_fit ts xs
-
-pub record IsRunning (r : Running) : Type 0 where
-  pub code : code_fits r.code.registers r.code.blocks r.code.instructions ≡ true
-  pub registers : registers_fit r.code.registers r.memory.registers ≡ true
-  pub blocks : map length r.memory.blocks ≡ r.code.blocks
-
 -- an instruction that sets a register or a block
 abbrev pub is_calculation : Operation → Bool
 is_calculation (operations.Constant r bits) = true
@@ -52,6 +37,7 @@ is_calculation (operations.Sign r op t a) = true
 is_calculation (operations.Arithmetic r op t u a b) = true
 is_calculation (operations.Compare r op t a b) = true
 is_calculation (operations.IsZero r a) = true
+is_calculation (operations.Use a) = true
 is_calculation _ = false
 
 -- an instruction that acts

@@ -56,6 +56,24 @@ impl Block {
         Vec::from_slice(alloc, &self.bytes[start..start + count as usize])
     }
 
+    // A copy of all bytes.
+    pub fn copied(&self, alloc: Global) -> Result<Block, AllocError>
+        ensures { IfOk result (λ b. b ≡ self.now) }
+    {
+        Ok(Block {
+            bytes: Vec::from_slice(alloc, &self.bytes)?,
+        })
+    }
+
+    // Puts as many of these bytes as there is room for, from the first on.
+    #[tactic(auto, using(crate::proofs::Blocks::take_min))]
+    pub fn fill(&mut self, new: &Block)
+        ensures { self.new ≡ put_at 0 (take (length self.old) new.now) self.old }
+    {
+        let count = self.bytes.len().min(new.bytes.len());
+        self.put(0, &new.bytes[..count]);
+    }
+
     // Writes bytes in the place of as many, from an offset on.
     pub fn put(&mut self, at: u32, new: &[u8])
         requires { at + length new.now ≤ length self.old }

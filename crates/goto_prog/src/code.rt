@@ -1,5 +1,6 @@
 use c_types::IntegerType;
 use core_tree::{ArithmeticOperator, Comparison, SignOperator};
+use words::Class;
 
 /// What an explicit check asks of registers; it breaks where that isn't so (C11 6.5). Values are read at
 /// the types that stand beside the operators.
@@ -40,6 +41,10 @@ pub enum Condition {
         count_type: IntegerType,
         left: usize,
         count: usize,
+    },
+    /// The call whose register this is handed something over: class return (C11 6.9.1p12).
+    Returned {
+        returned: usize,
     },
 }
 
@@ -161,6 +166,30 @@ pub enum Operation {
     },
     /// Ends the process.
     Exit,
+    /// Breaks a class.
+    Fail {
+        class: Class,
+    },
+    /// The value of a call is used, whose register this is. In strict code it breaks the class return by
+    /// itself where that is 0.
+    Use {
+        returned: usize,
+    },
+    /// Calls a function with the bytes of so many blocks, from the block `first` on, as its arguments. What
+    /// the function hands over takes the place of as many bytes of the block `into`, from its first on and
+    /// at most all of them, and the register `returned` is set to 1; it is set to 0 where the function hands
+    /// over nothing.
+    Call {
+        callee: u32,
+        first: usize,
+        count: usize,
+        into: usize,
+        returned: usize,
+    },
+    /// The function ends and hands over the bytes of a block, or nothing.
+    Return {
+        value: Option<usize>,
+    },
 }
 
 /// An instruction: what it does, and the line and the function in whose name it breaks or acts.

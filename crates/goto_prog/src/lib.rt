@@ -1,19 +1,27 @@
-//! Flat code of a program: instructions over registers and blocks of bytes, with jumps forward alone, and
-//! the threads that run it.
+//! Code of a program: instructions over registers and blocks of bytes, with jumps forward alone, in loops of
+//! functions that call each other, or flat, without loops and calls; and the threads that run it.
 #![tactic(auto)]
 
+mod activation;
+mod answers;
 mod block;
 mod code;
 mod goto;
 mod listing;
 mod machines;
+mod nodes;
+mod place;
+mod program;
 mod runner;
+mod space;
 mod steps;
 #[cfg(test)]
 mod tests;
 mod threads;
+mod walker;
 
 pub use code::{Condition, Instruction, Operation};
 pub use goto::{Goto, Unrolled};
 pub use listing::Code;
 pub use machines::{PlainThread, StrictThread, UnrolledThread};
+pub use nodes::{Node, Procedure};

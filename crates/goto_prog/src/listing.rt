@@ -1,7 +1,8 @@
 ghost use Rattle.std.specs.Prelude.{◌≡◌, true};
 ghost use Rattle.goto_prog.specs.Fitting.{code_fits};
+ghost use Rattle.goto_prog.specs.UnrolledCode.{is_flat, is_flat_code};
 
-use crate::code::Instruction;
+use crate::code::{Instruction, Operation};
 use c_types::IntegerType;
 use std::marker::Model;
 
@@ -73,5 +74,35 @@ impl Code {
         ensures { result ≡ self.now.startable }
     {
         self.startable
+    }
+
+    /// Whether no instruction calls a function or returns.
+    #[tactic(auto, using(crate::proofs::FlatCode::flat_later, crate::proofs::FlatCode::not_flat, crate::proofs::FlatCode::flat_whole))]
+    pub fn is_flat(&self) -> bool
+        ensures { result ≡ is_flat_code self.now }
+    {
+        for instruction in self.instructions() {
+            if !is_flat(instruction.operation) {
+                return false;
+            }
+        }
+        true
+    }
+}
+
+// Whether an operation neither calls a function nor returns.
+fn is_flat(operation: Operation) -> bool
+    ensures { result ≡ is_flat operation }
+{
+    match operation {
+        Operation::Call {
+            callee: _,
+            first: _,
+            count: _,
+            into: _,
+            returned: _,
+        } => false,
+        Operation::Return { value: _ } => false,
+        _ => true,
     }
 }

@@ -1,9 +1,13 @@
-ghost use Rattle.std.specs.Prelude.{◌≡◌, true, false, IfOk};
+ghost use Rattle.std.specs.Prelude.{◌≡◌, false, IfOk};
 ghost use Rattle.goto_prog.specs.Flat.{main_code};
+ghost use Rattle.goto_prog.specs.GotoThreads.{strict_thread, plain_thread};
 ghost use Rattle.goto_prog.specs.Running.{begun};
+ghost use Rattle.goto_prog.specs.Walks as walks;
 
 use crate::goto::{Goto, Unrolled};
+use crate::program::Program;
 use crate::runner::Runner;
+use crate::walker::Walker;
 use actions::{Answer, Machine, Next};
 use core_tree::Bounds;
 use std::alloc::{AllocError, Global};
@@ -13,15 +17,19 @@ use words::Word;
 /// A thread of strict code: an operation that is undefined breaks by itself.
 #[derive(Drop)]
 pub struct StrictThread<'a> {
-    runner: Runner<'a>,
+    walker: Walker<'a>,
 }
 
 impl<'a> Model for StrictThread<'a> {
-    ghost use Rattle.goto_prog.specs.Running.{Running};
+    ghost use Rattle.goto_prog.specs.Walks.{Walk};
+    ghost use Rattle.std.specs.Coded.{codes};
+    ghost use Rattle.goto_prog.specs.contracts.nodes.Node as node;
 
-    ghost Value = { Running };
+    ghost Value = { Walk };
 
-    ghost view = { λ s. s.runner };
+    ghost coded = { Prim.hlevel (codes, node.the_row.coded) };
+
+    ghost view = { λ s. s.walker };
 }
 
 impl<'a> StrictThread<'a> {
@@ -29,51 +37,60 @@ impl<'a> StrictThread<'a> {
     pub fn new(
         alloc: Global,
         goto: &'a Goto,
-        _bounds: &Bounds,
+        bounds: &'a Bounds,
     ) -> Result<StrictThread<'a>, AllocError>
-        ensures { IfOk result (λ t. t ≡ begun goto.now.functions (main_code goto.now) true) }
+        ensures { IfOk result (λ t. walks.thread_of t ≡ strict_thread goto.now bounds.now) }
     {
-        let runner = Runner::new(alloc, goto.functions(), goto.main(), true)?;
-        Ok(StrictThread { runner })
+        let program = Program {
+            strict: true,
+            procedures: goto.procedures(),
+            bounds,
+        };
+        let walker = Walker::new(alloc, program, true, goto.main_number())?;
+        Ok(StrictThread { walker })
     }
 }
 
 impl<'a> Machine for StrictThread<'a> {
-    ghost use Rattle.goto_prog.specs.CodeThread.{is_thread};
-    ghost use Rattle.goto_prog.specs.Running.{thread_of};
+    ghost use Rattle.goto_prog.specs.Walks.{thread_of};
+    ghost use Rattle.goto_prog.specs.WalkThread.{is_thread};
 
     ghost thread = { λ s. thread_of s };
 
     fn start(&self, function: u32, _v: Word) -> Result<Self, AllocError> {
         Ok(StrictThread {
-            runner: self.runner.started(function)?,
+            walker: self.walker.started(function)?,
         })
     }
 
     fn advance(&mut self) -> Result<Next, AllocError> {
-        self.runner.settle()
+        self.walker.settle()
     }
 
     fn answer(&mut self, answer: &Answer) -> Result<(), AllocError> {
-        self.runner.take(answer)
+        self.walker.take(answer)
     }
 
-    ghost valid = { λ s. is_thread s.strict s.functions s.code s.place s.memory };
+    ghost valid = { λ s. is_thread s };
 }
 
 /// A thread of plain code: only its checks break, and an operation that is undefined gives the value of
 /// its definition.
 #[derive(Drop)]
 pub struct PlainThread<'a> {
-    runner: Runner<'a>,
+    walker: Walker<'a>,
 }
 
 impl<'a> Model for PlainThread<'a> {
-    ghost use Rattle.goto_prog.specs.Running.{Running};
+    ghost use Rattle.goto_prog.specs.Walks.{Walk};
+    ghost use Rattle.std.specs.Coded.{codes};
+    ghost use Rattle.goto_prog.specs.contracts.nodes.Node as node;
 
-    ghost Value = { Running };
+    ghost Value = { Walk };
 
-    ghost view = { λ s. s.runner };
+    ghost coded = { Prim.hlevel (codes, node.the_row.coded) };
+
+    ghost view = { λ s. s.walker };
 }
 
 impl<'a> PlainThread<'a> {
@@ -81,36 +98,41 @@ impl<'a> PlainThread<'a> {
     pub fn new(
         alloc: Global,
         goto: &'a Goto,
-        _bounds: &Bounds,
+        bounds: &'a Bounds,
     ) -> Result<PlainThread<'a>, AllocError>
-        ensures { IfOk result (λ t. t ≡ begun goto.now.functions (main_code goto.now) false) }
+        ensures { IfOk result (λ t. walks.thread_of t ≡ plain_thread goto.now bounds.now) }
     {
-        let runner = Runner::new(alloc, goto.functions(), goto.main(), false)?;
-        Ok(PlainThread { runner })
+        let program = Program {
+            strict: false,
+            procedures: goto.procedures(),
+            bounds,
+        };
+        let walker = Walker::new(alloc, program, true, goto.main_number())?;
+        Ok(PlainThread { walker })
     }
 }
 
 impl<'a> Machine for PlainThread<'a> {
-    ghost use Rattle.goto_prog.specs.CodeThread.{is_thread};
-    ghost use Rattle.goto_prog.specs.Running.{thread_of};
+    ghost use Rattle.goto_prog.specs.Walks.{thread_of};
+    ghost use Rattle.goto_prog.specs.WalkThread.{is_thread};
 
     ghost thread = { λ s. thread_of s };
 
     fn start(&self, function: u32, _v: Word) -> Result<Self, AllocError> {
         Ok(PlainThread {
-            runner: self.runner.started(function)?,
+            walker: self.walker.started(function)?,
         })
     }
 
     fn advance(&mut self) -> Result<Next, AllocError> {
-        self.runner.settle()
+        self.walker.settle()
     }
 
     fn answer(&mut self, answer: &Answer) -> Result<(), AllocError> {
-        self.runner.take(answer)
+        self.walker.take(answer)
     }
 
-    ghost valid = { λ s. is_thread s.strict s.functions s.code s.place s.memory };
+    ghost valid = { λ s. is_thread s };
 }
 
 /// A thread of unrolled code, which is plain.

@@ -1,19 +1,15 @@
-ghost use Rattle.c_types.specs.Integers.{width, bytes};
-ghost use Rattle.c_values.specs.Variables.{first_variables, low_bytes, put_bytes, cleared, read_variable};
-ghost use Rattle.core_tree.specs.Operations.{arithmetic_value};
+ghost use Rattle.std.specs.Prelude.{◌≡◌, ◌==◌, ◌+◌, ◌<◌, ◌≤◌, ◌^◌, true, length, slice_index_or, slice_get, IfOk, OnOk, OnErr};
+ghost use Rattle.c_types.specs.Integers.{width};
+ghost use Rattle.c_values.specs.Variables.{put_bytes};
 ghost use Rattle.core_tree.specs.Typed.{is_within};
-ghost use Rattle.std.specs.Prelude.{◌≡◌, ◌==◌, ◌+◌, ◌<◌, ◌≤◌, ◌^◌, true, length, drop, IfSome, map, slice_index_or, IfOk, OnOk, OnErr, slice_get};
-ghost use Rattle.c_values.specs.Numbers.{typed, are_operands_of};
 ghost use Rattle.goto_prog.specs.Meaning.{register, with_register, with_blocks, bytes_of, own_class, calculated, check_class};
-ghost use Rattle.goto_prog.specs.Fitting.{code_fits, is_there, is_register, is_wide, has_bytes, is_block, check_fits, operation_fits};
+ghost use Rattle.goto_prog.specs.Fitting.{code_fits, is_there, check_fits, operation_fits};
 ghost use Rattle.goto_prog.specs.Running.{begun, is_calculation};
 
-use crate::block::Block;
 use crate::code::{Condition, Instruction, Operation};
 use crate::listing::Code;
+use crate::space::Space;
 use c_types::IntegerType;
-use c_values::{Number, broken_by, broken_sign, compare, signed_value, value};
-use core_tree::{ArithmeticOperator, SignOperator};
 use std::alloc::{AllocError, Global};
 use std::marker::Model;
 use words::Class;
@@ -26,23 +22,23 @@ pub struct Runner<'a> {
     pub(crate) code: &'a Code,
     pub(crate) strict: bool,
     pub(crate) place: usize,
-    registers: Vec<u64>,
-    blocks: Vec<Block>,
+    space: Space<'a>,
 }
 
 impl<'a> Model for Runner<'a> {
-    ghost use Rattle.goto_prog.specs.Running.{Running, IsRunning};
+    ghost use Rattle.std.specs.Prelude.{◌≡◌, true};
+    ghost use Rattle.goto_prog.specs.Fitting.{code_fits};
+    ghost use Rattle.goto_prog.specs.Running.{Running};
 
     ghost Value = { Running };
 
-    ghost view = { λ r. record { functions = r.functions.now; code = r.code.now; strict = r.strict; place = r.place; memory = record { registers = r.registers.items; blocks = r.blocks.items } } };
+    ghost view = { λ r. record { functions = r.functions.now; code = r.code.now; strict = r.strict; place = r.place; memory = r.space.memory } };
 
-    ghost invariant = { λ r. IsRunning (record { functions = r.functions.now; code = r.code.now; strict = r.strict; place = r.place; memory = record { registers = r.registers.items; blocks = r.blocks.items } }) };
+    ghost invariant = { λ r. (code_fits r.code.now.registers r.code.now.blocks r.code.now.instructions ≡ true) × (r.space.types ≡ r.code.now.registers) × (r.space.sizes ≡ r.code.now.blocks) };
 }
 
 impl<'a> Runner<'a> {
     // At the start of code.
-    #[tactic(auto, using(crate::proofs::Registers::zeros_fit, crate::proofs::Blocks::first_sizes))]
     pub fn new(
         alloc: Global,
         functions: &'a [Code],
@@ -51,8 +47,7 @@ impl<'a> Runner<'a> {
     ) -> Result<Runner<'a>, AllocError>
         ensures { IfOk result (λ r. r ≡ begun functions.now code.now strict) }
     {
-        let registers = zero_words(alloc, code.registers())?;
-        let blocks = zero_blocks(alloc, code.blocks())?;
+        let space = Space::new(alloc, code.registers(), code.blocks())?;
         let _fits = code.instructions();
         Ok(Runner {
             alloc,
@@ -60,18 +55,8 @@ impl<'a> Runner<'a> {
             code,
             strict,
             place: 0,
-            registers,
-            blocks,
+            space,
         })
-    }
-
-    // The word of a register.
-    #[tactic(auto, using(crate::proofs::Registers::word_there))]
-    pub fn word(&self, from: usize) -> u64
-        requires { is_there self.now.code.registers from ≡ true }
-        ensures { result ≡ register self.now.memory from }
-    {
-        self.registers[from]
     }
 
     // Whether the word of a register is 0.
@@ -79,121 +64,23 @@ impl<'a> Runner<'a> {
         requires { is_there self.now.code.registers from ≡ true }
         ensures { result ≡ (register self.now.memory from == 0) }
     {
-        self.word(from) == 0
-    }
-
-    // The number in a register of a type.
-    #[tactic(auto, using(crate::proofs::Registers::register_there, crate::proofs::Registers::register_below))]
-    pub fn number(&self, from: usize, type_: IntegerType) -> Number
-        requires { is_register self.now.code.registers from type_ ≡ true }
-        ensures { result ≡ typed type_ (register self.now.memory from) }
-    {
-        Number::new(type_, self.registers[from])
-    }
-
-    // The number of a type in a register that is as wide.
-    #[tactic(auto, using(crate::proofs::Registers::wide_there))]
-    pub fn number_of_width(&self, from: usize, type_: IntegerType) -> Number
-        requires { is_wide self.now.code.registers from type_ ≡ true }
-        ensures { result ≡ typed type_ (register self.now.memory from) }
-    {
-        Number::new(type_, self.registers[from])
-    }
-
-    // Sets a register to a number of its type.
-    #[tactic(auto, using(crate::proofs::Registers::register_there, crate::proofs::Registers::register_set))]
-    pub fn set(&mut self, into: usize, number: Number)
-        requires { is_register self.old.code.registers into number.type ≡ true }
-        ensures { self.new ≡ record self.old { memory = with_register self.old.memory into number.bits } }
-    {
-        self.registers[into] = number.bits();
-    }
-
-    // The number of a type at an offset of a block.
-    #[tactic(auto, using(crate::proofs::Blocks::block_there))]
-    fn load(&self, block: usize, offset: u32, type_: IntegerType) -> Number
-        requires { is_within self.now.code.blocks block offset (bytes type_) ≡ true }
-        ensures { result ≡ typed type_ (read_variable self.now.memory.blocks block offset type_) }
-    {
-        self.blocks[block].number(offset, type_)
-    }
-
-    // Writes the lowest bytes of a register's word into a block.
-    #[tactic(auto, using(crate::proofs::Blocks::block_there, crate::proofs::Blocks::block_room, crate::proofs::Blocks::sizes_put))]
-    fn store(&mut self, block: usize, offset: u32, count: u32, from: usize)
-        requires from { has_bytes self.old.code.registers from count ≡ true }
-        requires within { is_within self.old.code.blocks block offset count ≡ true }
-        ensures { self.new ≡ record self.old { memory = with_blocks self.old.memory (put_bytes self.old.memory.blocks block offset (low_bytes count (register self.old.memory from))) } }
-    {
-        let bits = self.word(from);
-        self.blocks[block].write(offset, count, bits);
-    }
-
-    // Sets each byte of a block to 0.
-    #[tactic(auto, using(crate::proofs::Blocks::clear_there, crate::proofs::Blocks::zeros_of, crate::proofs::Blocks::sizes_cleared))]
-    fn clear(&mut self, block: usize, size: u32)
-        requires { is_block self.old.code.blocks block size ≡ true }
-        ensures { self.new ≡ record self.old { memory = with_blocks self.old.memory (cleared self.old.memory.blocks block size) } }
-    {
-        self.blocks[block].clear();
-    }
-
-    // Writes bytes of a block into a block.
-    #[tactic(auto, using(crate::proofs::Blocks::block_there, crate::proofs::Blocks::block_room, crate::proofs::Blocks::part_within, crate::proofs::Blocks::sizes_copied))]
-    fn copy_bytes(
-        &mut self,
-        into: usize,
-        at: u32,
-        from: usize,
-        offset: u32,
-        count: u32,
-    ) -> Result<(), AllocError>
-        requires into { is_within self.old.code.blocks into at count ≡ true }
-        requires from { is_within self.old.code.blocks from offset count ≡ true }
-        ensures ok { OnOk result (self.new ≡ record self.old { memory = with_blocks self.old.memory (put_bytes self.old.memory.blocks into at (bytes_of self.old.memory.blocks from offset count)) }) }
-        ensures err { OnErr result (self.new ≡ self.old) }
-    {
-        let part = self.blocks[from].part(self.alloc, offset, count)?;
-        self.blocks[into].put(at, &part);
-        Ok(())
+        self.space.is_zero(from)
     }
 
     // A copy of so many bytes of a block, from an offset on.
-    #[tactic(auto, using(crate::proofs::Blocks::block_there, crate::proofs::Blocks::block_room))]
     pub(crate) fn part(&self, block: usize, offset: u32, count: u32) -> Result<Vec<u8>, AllocError>
         requires { is_within self.now.code.blocks block offset count ≡ true }
         ensures { IfOk result (λ part. part.items ≡ bytes_of self.now.memory.blocks block offset count) }
     {
-        self.blocks[block].part(self.alloc, offset, count)
+        self.space.part(block, offset, count)
     }
 
     // Writes bytes into a block, from an offset on.
-    #[tactic(auto, using(crate::proofs::Blocks::block_there, crate::proofs::Blocks::block_room, crate::proofs::Blocks::sizes_put_bytes))]
     pub(crate) fn put_bytes(&mut self, block: usize, at: u32, new: &[u8])
         requires { is_within self.old.code.blocks block at (length new.now) ≡ true }
         ensures { self.new ≡ record self.old { memory = with_blocks self.old.memory (put_bytes self.old.memory.blocks block at new.now) } }
     {
-        self.blocks[block].put(at, new);
-    }
-
-    // Sets a register to an operation's result.
-    fn operate(&mut self, into: usize, operator: ArithmeticOperator, left: Number, right: Number)
-        requires operands { are_operands_of operator left.type right.type ≡ true }
-        requires into { is_register self.old.code.registers into left.type ≡ true }
-        ensures { self.new ≡ record self.old { memory = with_register self.old.memory into (arithmetic_value operator left.type left.bits right.bits) } }
-    {
-        self.set(into, value(operator, left, right));
-    }
-
-    // Sets a register to another's word.
-    fn copy(&mut self, into: usize, from: usize)
-        requires from { is_there self.old.code.registers from ≡ true }
-        requires into { is_register self.old.code.registers into (slice_index_or self.old.code.registers from IntegerType.Int) ≡ true }
-        ensures { self.new ≡ record self.old { memory = with_register self.old.memory into (register self.old.memory from) } }
-    {
-        let type_ = self.code.registers()[from];
-        let number = self.number(from, type_);
-        self.set(into, number);
+        self.space.put_bytes(block, at, new);
     }
 
     // Sets a register to these bits.
@@ -202,8 +89,7 @@ impl<'a> Runner<'a> {
         requires bits { bits < 2 ^ width (slice_index_or self.old.code.registers into IntegerType.Int) }
         ensures { self.new ≡ record self.old { memory = with_register self.old.memory into bits } }
     {
-        let type_ = self.code.registers()[into];
-        self.set(into, Number::new(type_, bits));
+        self.space.put(into, bits);
     }
 
     // Sets the register or the block that an operation sets.
@@ -213,105 +99,7 @@ impl<'a> Runner<'a> {
         ensures ok { OnOk result (self.new ≡ record self.old { memory = calculated operation self.old.memory }) }
         ensures err { OnErr result (self.new ≡ self.old) }
     {
-        match operation {
-            Operation::Constant { into, bits } => self.put(into, bits),
-            Operation::Copy { into, operand } => self.copy(into, operand),
-            Operation::Load {
-                into,
-                type_,
-                block,
-                offset,
-            } => {
-                let number = self.load(block, offset, type_);
-                self.set(into, number);
-            }
-            Operation::Store {
-                block,
-                offset,
-                count,
-                operand,
-            } => self.store(block, offset, count, operand),
-            Operation::Clear { block, size } => self.clear(block, size),
-            Operation::CopyBytes {
-                into,
-                at,
-                from,
-                offset,
-                count,
-            } => self.copy_bytes(into, at, from, offset, count)?,
-            Operation::Convert {
-                into,
-                from,
-                to,
-                operand,
-            } => {
-                let number = self.number(operand, from).converted(to);
-                self.set(into, number);
-            }
-            Operation::Sign {
-                into,
-                operator,
-                type_,
-                operand,
-            } => {
-                let number = signed_value(operator, self.number(operand, type_));
-                self.set(into, number);
-            }
-            Operation::Arithmetic {
-                into,
-                operator,
-                type_,
-                right_type,
-                left,
-                right,
-            } => {
-                let a = self.number(left, type_);
-                let b = self.number(right, right_type);
-                self.operate(into, operator, a, b);
-            }
-            Operation::Compare {
-                into,
-                operator,
-                type_,
-                left,
-                right,
-            } => {
-                let truth = compare(
-                    operator,
-                    self.number(left, type_),
-                    self.number(right, type_),
-                );
-                self.set(into, Number::of_truth(truth));
-            }
-            Operation::IsZero { into, operand } => {
-                let truth = self.word(operand) == 0;
-                self.set(into, Number::of_truth(truth));
-            }
-            Operation::Skip { count: _ } => {}
-            Operation::SkipIfZero {
-                operand: _,
-                count: _,
-            } => {}
-            Operation::Check { condition: _ } => {}
-            Operation::Assert { operand: _ } => {}
-            Operation::Assume { operand: _ } => {}
-            Operation::Draw { into: _, bits: _ } => {}
-            Operation::ReadObject {
-                block: _,
-                at: _,
-                object: _,
-                offset: _,
-                count: _,
-            } => {}
-            Operation::WriteObject {
-                object: _,
-                offset: _,
-                block: _,
-                at: _,
-                count: _,
-            } => {}
-            Operation::Exit => {}
-        }
+        self.space.calculate(operation)?;
         Ok(())
     }
 
@@ -320,92 +108,15 @@ impl<'a> Runner<'a> {
         requires fits { operation_fits self.now.code.registers self.now.code.blocks 0 operation ≡ true }
         ensures { result ≡ own_class operation self.now.memory }
     {
-        match operation {
-            Operation::Sign {
-                into: _,
-                operator,
-                type_,
-                operand,
-            } => { broken_sign(operator, self.number(operand, type_)) }
-            Operation::Arithmetic {
-                into: _,
-                operator,
-                type_,
-                right_type,
-                left,
-                right,
-            } => {
-                broken_by(
-                    operator,
-                    self.number(left, type_),
-                    self.number(right, right_type),
-                )
-            }
-            _ => None,
-        }
+        self.space.own_class(operation)
     }
 
     // The class that a check breaks, if it breaks one.
-    #[tactic(auto, using(crate::proofs::Registers::operands_same))]
     pub fn condition_class(&self, condition: Condition) -> Option<Class>
         requires { check_fits self.now.code.registers condition ≡ true }
         ensures { result ≡ check_class condition self.now.memory }
     {
-        match condition {
-            Condition::Divisor { divisor } => {
-                if self.word(divisor) == 0 {
-                    Some(Class::Division)
-                } else {
-                    None
-                }
-            }
-            Condition::Quotient { type_, left, right } => {
-                let divisor = self.number_of_width(right, type_);
-                if divisor.bits() == 0 {
-                    None
-                } else {
-                    broken_by(
-                        ArithmeticOperator::Divide,
-                        self.number(left, type_),
-                        divisor,
-                    )
-                }
-            }
-            Condition::Range {
-                operator,
-                type_,
-                left,
-                right,
-            } => {
-                broken_by(
-                    operator,
-                    self.number(left, type_),
-                    self.number_of_width(right, type_),
-                )
-            }
-            Condition::Negation { type_, operand } => {
-                broken_sign(SignOperator::Minus, self.number(operand, type_))
-            }
-            Condition::Count {
-                type_,
-                count_type,
-                count,
-            } => broken_by(
-                ArithmeticOperator::ShiftRight,
-                Number::new(type_, 0),
-                self.number(count, count_type),
-            ),
-            Condition::LeftShift {
-                type_,
-                count_type,
-                left,
-                count,
-            } => broken_by(
-                ArithmeticOperator::ShiftLeft,
-                self.number(left, type_),
-                self.number(count, count_type),
-            ),
-        }
+        self.space.condition_class(condition)
     }
 
     // The instruction at the place, if there is one.
@@ -431,23 +142,4 @@ impl<'a> Runner<'a> {
     {
         self.place = self.code.instructions().len();
     }
-}
-
-// A 0 for each register.
-#[tactic(auto, using(crate::proofs::Registers::replicate_map))]
-fn zero_words(alloc: Global, types: &[IntegerType]) -> Result<Vec<u64>, AllocError>
-    ensures { IfOk result (λ v. v.items ≡ map (λ t. 0) types.now) }
-{
-    Ok(vec![in alloc; 0; types.len()]?)
-}
-
-// Zero bytes for each block.
-fn zero_blocks(alloc: Global, sizes: &[u32]) -> Result<Vec<Block>, AllocError>
-    ensures { IfOk result (λ v. v.items ≡ first_variables sizes.now) }
-{
-    let mut blocks = Vec::new(alloc);
-    for size in sizes {
-        blocks.push(Block::new(alloc, *size)?)?;
-    }
-    Ok(blocks)
 }

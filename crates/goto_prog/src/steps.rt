@@ -216,6 +216,16 @@ impl<'a> Runner<'a> {
                 into: _,
                 operand: _,
             } => self.calculation(i),
+            Operation::Use { returned: _ } => self.calculation(i),
+            Operation::Fail { class } => Ok(Some(self.fail(i, class))),
+            Operation::Call {
+                callee,
+                first,
+                count,
+                into,
+                returned,
+            } => Ok(Some(self.call(i, callee, (first, count), (into, returned)))),
+            Operation::Return { value } => Ok(Some(self.hand_over(i, value))),
         }
     }
 
@@ -275,5 +285,43 @@ impl<'a> Runner<'a> {
         ensures { Stops self.now self.now result }
     {
         Next::Act(Action::Exit, i.line, i.function)
+    }
+
+    // A break is next.
+    #[tactic(auto, using(crate::proofs::Stepping::stops_fail))]
+    fn fail(&self, i: Instruction, class: Class) -> Next
+        requires found { slice_get self.now.code.instructions self.now.place ≡ Some i }
+        requires is { i.operation ≡ Operation.Fail class }
+        ensures { Stops self.now self.now result }
+    {
+        Next::Broken(class, i.line, i.function)
+    }
+
+    // There is no call in flat code.
+    #[tactic(auto, using(crate::proofs::Stepping::stops_call))]
+    fn call(
+        &self,
+        i: Instruction,
+        callee: u32,
+        arguments: (usize, usize),
+        into: (usize, usize),
+    ) -> Next
+        requires found { slice_get self.now.code.instructions self.now.place ≡ Some i }
+        requires is { i.operation ≡ Operation.Call callee arguments.0 arguments.1 into.0 into.1 }
+        ensures { Stops self.now self.now result }
+    {
+        let _ = (i, callee, arguments, into);
+        Next::Blocked
+    }
+
+    // Nor is there something that it could hand over to.
+    #[tactic(auto, using(crate::proofs::Stepping::stops_return))]
+    fn hand_over(&self, i: Instruction, value: Option<usize>) -> Next
+        requires found { slice_get self.now.code.instructions self.now.place ≡ Some i }
+        requires is { i.operation ≡ Operation.Return value }
+        ensures { Stops self.now self.now result }
+    {
+        let _ = (i, value);
+        Next::Blocked
     }
 }

@@ -1,12 +1,14 @@
-ghost use Rattle.std.specs.Prelude.{◌≡◌, ◌≤◌, ◌∷◌, [], IfOk};
+ghost use Rattle.std.specs.Prelude.{◌≡◌, ◌≤◌, true, ◌∷◌, [], IfOk};
+ghost use Rattle.goto_prog.specs.Nodes.{nodes_of, in_front, done, nodes_fit, routine_fits, view_procedure};
 
 use crate::code::{Condition, Instruction, Operation};
 use crate::goto::{Goto, Unrolled};
 use crate::listing::Code;
 use crate::machines::{PlainThread, StrictThread, UnrolledThread};
+use crate::nodes::{Node, Procedure};
 use actions::{Action, Machine, Next, Store};
 use c_types::IntegerType;
-use core_tree::{ArithmeticOperator, Bounds, Comparison, SignOperator};
+use core_tree::{ArithmeticOperator, Bounds, Comparison, Name, SignOperator};
 use std::alloc::{AllocError, Global};
 use std::test::*;
 use words::Class;
@@ -356,25 +358,69 @@ fn bytes(alloc: Global, bits: u64, at: u32, expected: u16) -> Result<Code, Alloc
     Ok(Code::new(types, blocks, instructions, false))
 }
 
-fn strict_next(alloc: Global, code: Code) -> Result<Told, AllocError> {
-    let bounds = Bounds::new(1, Vec::new(alloc), true, 1, false);
-    let functions = vec![in alloc; code]?;
-    let goto = Goto::new(functions, 0, Store::new(alloc));
-    let mut thread = StrictThread::new(alloc, &goto, &bounds)?;
+// Flat code as the nodes of a function.
+fn nodes(alloc: Global, instructions: &[Instruction]) -> Result<Vec<Node>, AllocError>
+    ensures { IfOk result (λ v. nodes_of v.items ≡ in_front instructions.now done) }
+{
+    let mut nodes = Vec::with_capacity(alloc, instructions.len())?;
+    for instruction in instructions {
+        nodes.push(Node::Plain {
+            instruction: *instruction,
+        })?;
+    }
+    Ok(nodes)
+}
+
+// The program whose one function is flat code.
+#[tactic(auto, using(crate::proofs::FlatCode::alone_fits))]
+fn program(alloc: Global, code: &Code) -> Result<Goto, AllocError> {
+    let nodes = nodes(alloc, code.instructions())?;
+    let procedure = Procedure {
+        name: Name {
+            bytes: Vec::from_slice(alloc, b"main".as_slice())?,
+        },
+        line: 9,
+        registers: code.registers().to_vec(alloc)?,
+        blocks: code.blocks().to_vec(alloc)?,
+        nodes,
+        startable: false,
+    };
+    let mut procedures = Vec::with_capacity(alloc, 1)?;
+    procedures.push(procedure)?;
+    Ok(Goto::new(procedures, 0, Store::new(alloc)))
+}
+
+fn bounds(alloc: Global, unwind: u32) -> Bounds
+    requires low { 1 ≤ unwind }
+    requires high { unwind ≤ 1000 }
+{
+    Bounds::new(unwind, Vec::new(alloc), true, 1, false)
+}
+
+fn strict_told(alloc: Global, goto: &Goto, bounds: &Bounds) -> Result<Told, AllocError> {
+    let mut thread = StrictThread::new(alloc, goto, bounds)?;
     let next = thread.advance()?;
     Ok(shown(&next))
+}
+
+fn plain_told(alloc: Global, goto: &Goto, bounds: &Bounds) -> Result<Told, AllocError> {
+    let mut thread = PlainThread::new(alloc, goto, bounds)?;
+    let next = thread.advance()?;
+    Ok(shown(&next))
+}
+
+fn strict_next(alloc: Global, code: Code) -> Result<Told, AllocError> {
+    strict_told(alloc, &program(alloc, &code)?, &bounds(alloc, 1))
 }
 
 fn plain_next(alloc: Global, code: Code) -> Result<Told, AllocError> {
-    let bounds = Bounds::new(1, Vec::new(alloc), true, 1, false);
-    let functions = vec![in alloc; code]?;
-    let goto = Goto::new(functions, 0, Store::new(alloc));
-    let mut thread = PlainThread::new(alloc, &goto, &bounds)?;
-    let next = thread.advance()?;
-    Ok(shown(&next))
+    plain_told(alloc, &program(alloc, &code)?, &bounds(alloc, 1))
 }
 
 fn unrolled_next(alloc: Global, code: Code) -> Result<Told, AllocError> {
+    if !code.is_flat() {
+        return Ok(Told::Other);
+    }
     let functions = vec![in alloc; code]?;
     let unrolled = Unrolled::new(functions, 0, Store::new(alloc));
     let mut thread = UnrolledThread::new(alloc, &unrolled)?;
@@ -512,6 +558,202 @@ fn machines_ask_for_accesses(rt: HostRuntime) -> Result<(), Fail> {
         assert_eq!(rt; strict_next(alloc, accesses(alloc, bits)?)?, expected);
         assert_eq!(rt; plain_next(alloc, accesses(alloc, bits)?)?, expected);
         assert_eq!(rt; unrolled_next(alloc, accesses(alloc, bits)?)?, expected);
+    }
+    Ok(())
+}
+
+fn plain(line: u32, operation: Operation) -> Node
+    ensures { result ≡ Node.Plain (record { line = line; function = 7; operation = operation }) }
+{
+    Node::Plain {
+        instruction: at_line(line, operation),
+    }
+}
+
+// `while (n) n = n - 1;`, where n is `limit` at first, as the loop with the number 0 at line 3; `int x = f(argument);` at
+// line 5, used at line 6; `assert(x);` at line 7.
+fn main_nodes(
+    alloc: Global,
+    limit: u32,
+    argument: u32,
+    callee: u32,
+) -> Result<Vec<Node>, AllocError>
+    ensures { IfOk result (λ v. nodes_fit (IntegerType.Int ∷ IntegerType.Int ∷ IntegerType.Int ∷ IntegerType.Int ∷ []) (4 ∷ 4 ∷ []) 0 (nodes_of v.items) ≡ true) }
+{
+    let body = vec![in alloc;
+        plain(
+            3,
+            Operation::SkipIfZero {
+                operand: 0,
+                count: 2
+            }
+        ),
+        plain(
+            3,
+            Operation::Arithmetic {
+                into: 0,
+                operator: ArithmeticOperator::Subtract,
+                type_: INT,
+                right_type: INT,
+                left: 0,
+                right: 1,
+            }
+        ),
+    ]?;
+    let nodes = vec![in alloc;
+        plain(
+            1,
+            Operation::Constant {
+                into: 0,
+                bits: limit as u64
+            }
+        ),
+        plain(1, Operation::Constant { into: 1, bits: 1 }),
+        Node::Loop {
+            line: 3,
+            function: 0,
+            number: 0,
+            rotated: false,
+            nodes: body,
+        },
+        plain(
+            4,
+            Operation::Constant {
+                into: 3,
+                bits: argument as u64
+            }
+        ),
+        plain(
+            4,
+            Operation::Store {
+                block: 0,
+                offset: 0,
+                count: 4,
+                operand: 3
+            }
+        ),
+        plain(
+            5,
+            Operation::Call {
+                callee,
+                first: 0,
+                count: 1,
+                into: 1,
+                returned: 2
+            }
+        ),
+        plain(6, Operation::Use { returned: 2 }),
+        plain(
+            7,
+            Operation::Load {
+                into: 3,
+                type_: INT,
+                block: 1,
+                offset: 0
+            }
+        ),
+        plain(7, Operation::Assert { operand: 3 }),
+    ]?;
+    Ok(nodes)
+}
+
+// `int f(int x) { if (x) return x; }`
+fn value_nodes(alloc: Global) -> Result<Vec<Node>, AllocError>
+    ensures { IfOk result (λ v. nodes_fit (IntegerType.Int ∷ IntegerType.Int ∷ IntegerType.Int ∷ IntegerType.Int ∷ []) (4 ∷ 4 ∷ []) 0 (nodes_of v.items) ≡ true) }
+{
+    let nodes = vec![in alloc;
+        plain(
+            1,
+            Operation::Load {
+                into: 0,
+                type_: INT,
+                block: 0,
+                offset: 0
+            }
+        ),
+        plain(
+            1,
+            Operation::SkipIfZero {
+                operand: 0,
+                count: 1
+            }
+        ),
+        plain(1, Operation::Return { value: Some(0) }),
+    ]?;
+    Ok(nodes)
+}
+
+// `int g(int x) { return g(x); }`, of which the call is at line 8.
+fn recursive_nodes(alloc: Global) -> Result<Vec<Node>, AllocError>
+    ensures { IfOk result (λ v. nodes_fit (IntegerType.Int ∷ IntegerType.Int ∷ IntegerType.Int ∷ IntegerType.Int ∷ []) (4 ∷ 4 ∷ []) 0 (nodes_of v.items) ≡ true) }
+{
+    let nodes = vec![in alloc;
+        plain(
+            8,
+            Operation::Call {
+                callee: 2,
+                first: 0,
+                count: 1,
+                into: 0,
+                returned: 0
+            }
+        ),
+        plain(8, Operation::Return { value: Some(0) }),
+    ]?;
+    Ok(nodes)
+}
+
+// A function with four registers and two blocks of an int.
+fn procedure(alloc: Global, line: u32, nodes: Vec<Node>) -> Result<Procedure, AllocError>
+    requires { nodes_fit (IntegerType.Int ∷ IntegerType.Int ∷ IntegerType.Int ∷ IntegerType.Int ∷ []) (4 ∷ 4 ∷ []) 0 (nodes_of nodes.items) ≡ true }
+    ensures { IfOk result (λ p. routine_fits (view_procedure p) ≡ true) }
+{
+    Ok(Procedure {
+        name: Name {
+            bytes: Vec::from_slice(alloc, b"main".as_slice())?,
+        },
+        line,
+        registers: Vec::from_slice(alloc, &[INT, INT, INT, INT])?,
+        blocks: Vec::from_slice(alloc, &[4, 4])?,
+        nodes,
+        startable: false,
+    })
+}
+
+fn calling(alloc: Global, limit: u32, argument: u32, callee: u32) -> Result<Goto, AllocError> {
+    let procedures = vec![in alloc;
+        procedure(alloc, 9, main_nodes(alloc, limit, argument, callee)?)?,
+        procedure(alloc, 1, value_nodes(alloc)?)?,
+        procedure(alloc, 8, recursive_nodes(alloc)?)?,
+    ]?;
+    Ok(Goto::new(procedures, 0, Store::new(alloc)))
+}
+
+#[test]
+fn loops_and_calls_keep_their_bounds(rt: HostRuntime) -> Result<(), Fail> {
+    let alloc = rt.alloc();
+    let unwinding = Told::Breaks(Class::Unwind, 3);
+    let recursion = Told::Breaks(Class::Recursion, 8);
+    let rows = [
+        (2, 5, 1, 3, Told::Exits, Told::Exits),
+        (3, 5, 1, 3, unwinding, unwinding),
+        (3, 5, 1, 4, Told::Exits, Told::Exits),
+        (
+            0,
+            0,
+            1,
+            1,
+            Told::Breaks(Class::Return, 6),
+            Told::Breaks(Class::Assertion, 7),
+        ),
+        (0, 5, 2, 1, recursion, recursion),
+        (0, 5, 2, 7, recursion, recursion),
+    ];
+    for (limit, argument, callee, unwind, strict, plain) in rows {
+        let goto = calling(alloc, limit, argument, callee)?;
+        let bounds = bounds(alloc, unwind);
+        assert_eq!(rt; strict_told(alloc, &goto, &bounds)?, strict);
+        assert_eq!(rt; plain_told(alloc, &goto, &bounds)?, plain);
     }
     Ok(())
 }

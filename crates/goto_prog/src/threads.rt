@@ -5,31 +5,12 @@ ghost use Rattle.goto_prog.specs.Fitting.{code_fits};
 ghost use Rattle.goto_prog.specs.CodeThread.{is_startable};
 ghost use Rattle.goto_prog.specs.Running.{begun, thread_of, acts, is_act};
 
+use crate::answers::{bytes_in, word_of};
 use crate::code::{Instruction, Operation};
 use crate::listing::Code;
 use crate::runner::Runner;
 use actions::{Answer, Next};
 use std::alloc::AllocError;
-
-// The word that an answer gives.
-fn word_of(answer: &Answer) -> u64
-    ensures { result ≡ word_of answer.now }
-{
-    match answer {
-        Answer::Word(word) => word.bits(),
-        _ => 0,
-    }
-}
-
-// The bytes that an answer gives.
-fn bytes_in(answer: &Answer) -> &[u8]
-    ensures { result.now ≡ bytes_in answer.now }
-{
-    match answer {
-        Answer::Bytes(bytes) => bytes.as_slice(),
-        _ => &[],
-    }
-}
 
 impl<'a> Runner<'a> {
     // Goes on to what is next.

@@ -1,2 +1,16 @@
-pub mod Sums
 pub mod Largest
+pub mod TreeSums
+pub mod CallSums
+pub mod WalkSums
+pub mod Adding
+pub mod Marks
+pub mod Arguments
+pub mod Unrolls
+pub mod Lighter
+pub mod Fits
+pub mod Starts
+pub mod Frames
+pub mod Growth
+pub mod CodeMeaning
+pub mod CallMeaning
+pub mod SameCode

@@ -1,10 +1,14 @@
-ghost use Rattle.std.specs.Prelude.{◌≡◌, codes, length, min, nat_lt, if◌then◌else◌, IfOk};
+ghost use Rattle.std.specs.Prelude.{◌≡◌, ◌<◌, ◌^◌, codes, length, map, min, nat_lt, if◌then◌else◌, IfOk};
 ghost use Rattle.std.specs.Str.{bytes_eq};
 ghost use Rattle.core_tree.specs.Trees.{view_functions, view_core};
-ghost use Rattle.goto_unwind.specs.Counts.{places, quantities, cut_counts, counts_list};
+ghost use Rattle.goto_unwind.specs.Counts.{quantities, cut_counts, counts_list};
+ghost use Rattle.goto_unwind.specs.Linear.{function_linear};
+ghost use Rattle.goto_unwind.specs.Places.{main_number, places};
 
 use crate::objects::MOST_OBJECTS;
-use crate::trees::{MOST_PLACES, statement_places};
+use crate::tally::{MOST_PLACES, Tally};
+use crate::trees::body;
+use crate::walk;
 use c_profile::Admitted;
 use core_tree::{Bounds, Function, Name, StaticObject};
 use std::alloc::{AllocError, Global};
@@ -26,16 +30,44 @@ fn is_main(name: &Name) -> bool
     name.bytes.as_slice() == b"main".as_slice()
 }
 
-// The places of the first function named `main`.
-pub(crate) fn main_places(functions: &[Function]) -> u32
-    ensures { result ≡ min (places (view_functions functions.now)) 2000001 }
+// The number of the first function named `main`.
+fn main_number(functions: &[Function]) -> u32
+    requires { length functions.now < 2 ^ 31 }
+    ensures { result ≡ main_number (view_functions functions.now) }
 {
+    let mut number = 0;
     for function in functions {
         if is_main(&function.name) {
-            return statement_places(&function.body);
+            return number;
         }
+        number += 1;
     }
-    0
+    number
+}
+
+// The places of each function.
+fn tallies(alloc: Global, functions: &[Function], bounds: &Bounds) -> Result<Vec<Tally>, AllocError>
+    ensures { IfOk result (λ v. v.items ≡ map (function_linear bounds.now) (view_functions functions.now)) }
+{
+    let mut table = Vec::with_capacity(alloc, functions.len())?;
+    for function in functions {
+        let name = function.name.bytes.as_slice();
+        table.push(body(alloc, bounds, name, &function.body)?)?;
+    }
+    Ok(table)
+}
+
+// The places of these functions, at most one more than the greatest number.
+pub(crate) fn file_places(
+    alloc: Global,
+    functions: &[Function],
+    bounds: &Bounds,
+) -> Result<u32, AllocError>
+    requires { length functions.now < 2 ^ 31 }
+    ensures { IfOk result (λ n. n ≡ min (places (view_functions functions.now) bounds.now) 2000001) }
+{
+    let table = tallies(alloc, functions, bounds)?;
+    walk::places(alloc, &table, bounds.unwind(), main_number(functions))
 }
 
 // How many static objects are counted behind so many places: none where these pass their limit, and at most
@@ -51,11 +83,11 @@ fn object_count(places: u32, objects: &[StaticObject]) -> u32
 }
 
 /// How much a file unrolls to under these bounds.
-pub fn count(_alloc: Global, file: &Admitted, _bounds: &Bounds) -> Result<Counts, AllocError>
-    ensures { IfOk result (λ c. counts_list c ≡ cut_counts (quantities (view_core file.now) _bounds.now)) }
+pub fn count(alloc: Global, file: &Admitted, bounds: &Bounds) -> Result<Counts, AllocError>
+    ensures { IfOk result (λ c. counts_list c ≡ cut_counts (quantities (view_core file.now) bounds.now)) }
 {
     let core = file.core();
-    let places = main_places(core.functions());
+    let places = file_places(alloc, core.functions(), bounds)?;
     let objects = object_count(places, core.objects());
     Ok(Counts {
         places,

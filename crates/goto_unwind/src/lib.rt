@@ -1,12 +1,19 @@
-//! Unrolls flat code, so that no loop and no call is left, and counts how much that is.
+//! Unrolls the code of a program under the bounds of a command, so that no loop and no call is left, and counts how
+//! much that is.
 #![tactic(auto)]
 
 mod counting;
+mod level;
+mod loop_bounds;
+mod moving;
 mod objects;
+mod tally;
 #[cfg(test)]
 mod tests;
 mod trees;
+mod unroller;
 mod unrolling;
+mod walk;
 
 pub use counting::{Counts, count};
 pub use unrolling::{UnwindError, passed_limit, unwind};

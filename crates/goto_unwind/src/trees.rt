@@ -1,202 +1,367 @@
-ghost use Rattle.std.specs.Prelude.{◌≡◌, ◌+◌, ◌≤◌, min};
-ghost use Rattle.core_tree.specs.Trees.{view, view_structure, parts_of, with_part, view_statement, items_of, with_item};
-ghost use Rattle.goto_unwind.specs.Counts.{expression_places, structure_places, parts_places, statement_places, items_places};
+ghost use Rattle.std.specs.Prelude.{◌≡◌, IfOk, OnOk, option_map};
+ghost use Rattle.core_tree.specs.Trees.{view, view_structure, parts_of, with_part, arguments_of, with_argument, view_statement, items_of, with_item};
+ghost use Rattle.goto_prog.specs.Structured.{tests_in};
+ghost use Rattle.goto_unwind.specs.Linear.{expression_linear, structure_linear, parts_linear, arguments_linear, optional_linear, statement_linear, items_linear, body_linear, nothing};
 
-use core_tree::{CoreExpr, CoreItem, CorePart, CoreStatement, CoreStructure};
+use crate::loop_bounds::tests;
+use crate::tally::{Tally, product};
+use core_tree::{Bounds, CoreArgument, CoreExpr, CoreItem, CorePart, CoreStatement, CoreStructure};
+use std::alloc::{AllocError, Global};
 
-/// The greatest number of places.
-pub(crate) const MOST_PLACES: u32 = 2_000_000;
-
-// Two counts together, at most one more than the greatest number of places.
-fn sum(left: u32, right: u32) -> u32
-    ensures { result ≡ min (left + right) 2000001 }
-{
-    left.saturating_add(right).min(MOST_PLACES + 1)
-}
-
-// A node with its parts.
-fn node(parts: u32) -> u32
-    ensures { result ≡ min (1 + parts) 2000001 }
-{
-    sum(1, parts)
-}
-
-/// The places of an expression.
+/// Adds the places of an expression that counts so many times.
 #[cycle(expression)]
-pub(crate) fn expression_places(expr: &CoreExpr) -> u32
-    ensures { result ≡ min (expression_places (view expr.now)) 2000001 }
+pub(crate) fn expression(tally: &mut Tally, tree: &CoreExpr, times: u32) -> Result<(), AllocError>
+    ensures { OnOk result (tally.new ≡ expression_linear times (view tree.now) tally.old) }
 {
-    match expr {
+    match tree {
         CoreExpr::Constant {
             line: _,
             type_: _,
             bits: _,
-        } => 1,
-        CoreExpr::Read { place: _ } => 2,
-        CoreExpr::Convert { to: _, operand } => node(expression_places(operand)),
+        } => {
+            tally.add(times);
+            Ok(())
+        }
+        CoreExpr::Read { place: _ } => {
+            tally.add(times);
+            tally.add(times);
+            Ok(())
+        }
+        CoreExpr::Convert { to: _, operand } => {
+            tally.add(times);
+            expression(tally, operand, times)
+        }
         CoreExpr::Sign {
             line: _,
             operator: _,
             operand,
-        } => node(expression_places(operand)),
-        CoreExpr::IsZero { line: _, operand } => node(expression_places(operand)),
+        } => {
+            tally.add(times);
+            expression(tally, operand, times)
+        }
+        CoreExpr::IsZero { line: _, operand } => {
+            tally.add(times);
+            expression(tally, operand, times)
+        }
         CoreExpr::Arithmetic {
             line: _,
             operator: _,
             left,
             right,
-        } => node(sum(expression_places(left), expression_places(right))),
+        } => {
+            tally.add(times);
+            expression(tally, left, times)?;
+            expression(tally, right, times)
+        }
         CoreExpr::Compare {
             line: _,
             operator: _,
             left,
             right,
-        } => node(sum(expression_places(left), expression_places(right))),
+        } => {
+            tally.add(times);
+            expression(tally, left, times)?;
+            expression(tally, right, times)
+        }
         CoreExpr::Logical {
             line: _,
             operator: _,
             left,
             right,
-        } => node(sum(expression_places(left), expression_places(right))),
+        } => {
+            tally.add(times);
+            expression(tally, left, times)?;
+            expression(tally, right, times)
+        }
         CoreExpr::Choice {
             line: _,
             test,
             yes,
             no,
         } => {
-            let branches = sum(expression_places(yes), expression_places(no));
-            node(sum(expression_places(test), branches))
+            tally.add(times);
+            expression(tally, test, times)?;
+            expression(tally, yes, times)?;
+            expression(tally, no, times)
         }
         CoreExpr::Assign {
             line: _,
             place: _,
             value,
-        } => node(node(expression_places(value))),
+        } => {
+            tally.add(times);
+            tally.add(times);
+            expression(tally, value, times)
+        }
         CoreExpr::Update {
             line: _,
             place: _,
             operator: _,
             type_: _,
             value,
-        } => node(node(expression_places(value))),
+        } => {
+            tally.add(times);
+            tally.add(times);
+            expression(tally, value, times)
+        }
         CoreExpr::Step {
             line: _,
             place: _,
             operator: _,
             before: _,
-        } => 2,
+        } => {
+            tally.add(times);
+            tally.add(times);
+            Ok(())
+        }
         CoreExpr::Comma {
             line: _,
             left,
             right,
-        } => node(sum(expression_places(left), expression_places(right))),
-        CoreExpr::Assertion { line: _, condition } => node(expression_places(condition)),
-        CoreExpr::Assumption { line: _, condition } => node(expression_places(condition)),
-        CoreExpr::Draw { line: _, type_: _ } => 1,
+        } => {
+            tally.add(times);
+            expression(tally, left, times)?;
+            expression(tally, right, times)
+        }
+        CoreExpr::Assertion { line: _, condition } => {
+            tally.add(times);
+            expression(tally, condition, times)
+        }
+        CoreExpr::Assumption { line: _, condition } => {
+            tally.add(times);
+            expression(tally, condition, times)
+        }
+        CoreExpr::Draw { line: _, type_: _ } => {
+            tally.add(times);
+            Ok(())
+        }
         CoreExpr::Member {
             line: _,
             type_: _,
             offset: _,
             value,
-        } => node(structure_places(value)),
-        CoreExpr::Discard { line: _, operand } => node(expression_places(operand)),
-        CoreExpr::DiscardStructure { value } => structure_places(value),
+        } => {
+            tally.add(times);
+            structure(tally, value, times)
+        }
+        CoreExpr::Discard { line: _, operand } => {
+            tally.add(times);
+            expression(tally, operand, times)
+        }
+        CoreExpr::DiscardStructure { value } => { structure(tally, value, times) }
+        CoreExpr::Call {
+            line: _,
+            function,
+            used: _,
+            type_: _,
+            arguments,
+        } => {
+            tally.add(times);
+            arguments_of_call(tally, arguments, times)?;
+            tally.call(*function, times)
+        }
+        CoreExpr::FunctionName {
+            line: _,
+            function: _,
+        } => {
+            tally.add(times);
+            Ok(())
+        }
     }
 }
 
-/// The places of a structure value.
+/// Adds the places of a structure value.
 #[cycle(expression)]
-fn structure_places(structure: &CoreStructure) -> u32
-    ensures { result ≡ min (structure_places (view_structure structure.now)) 2000001 }
+pub(crate) fn structure(
+    tally: &mut Tally,
+    tree: &CoreStructure,
+    times: u32,
+) -> Result<(), AllocError>
+    ensures { OnOk result (tally.new ≡ structure_linear times (view_structure tree.now) tally.old) }
 {
-    match structure {
+    match tree {
         CoreStructure::Read {
             line: _,
             variable: _,
             offset: _,
             size: _,
-        } => 2,
+        } => {
+            tally.add(times);
+            tally.add(times);
+            Ok(())
+        }
         CoreStructure::Load {
             line: _,
             object: _,
             offset: _,
             size: _,
-        } => 2,
+        } => {
+            tally.add(times);
+            tally.add(times);
+            Ok(())
+        }
         CoreStructure::Choice {
             line: _,
             test,
             yes,
             no,
         } => {
-            let branches = sum(structure_places(yes), structure_places(no));
-            node(sum(expression_places(test), branches))
+            tally.add(times);
+            expression(tally, test, times)?;
+            structure(tally, yes, times)?;
+            structure(tally, no, times)
         }
         CoreStructure::Assign {
             line: _,
             variable: _,
             offset: _,
             value,
-        } => node(node(structure_places(value))),
+        } => {
+            tally.add(times);
+            tally.add(times);
+            structure(tally, value, times)
+        }
         CoreStructure::Store {
             line: _,
             object: _,
             offset: _,
             value,
-        } => node(node(structure_places(value))),
+        } => {
+            tally.add(times);
+            tally.add(times);
+            structure(tally, value, times)
+        }
         CoreStructure::Comma {
             line: _,
             left,
             right,
-        } => node(sum(expression_places(left), structure_places(right))),
+        } => {
+            tally.add(times);
+            expression(tally, left, times)?;
+            structure(tally, right, times)
+        }
         CoreStructure::Member {
             line: _,
             offset: _,
             size: _,
             value,
-        } => node(structure_places(value)),
+        } => {
+            tally.add(times);
+            structure(tally, value, times)
+        }
         CoreStructure::List {
             line: _,
             size: _,
             parts,
-        } => parts_places(parts),
+        } => { parts_of_list(tally, parts, times) }
         CoreStructure::String {
             line: _,
             size: _,
             bytes: _,
-        } => 1,
+        } => {
+            tally.add(times);
+            Ok(())
+        }
+        CoreStructure::Call {
+            line: _,
+            function,
+            used: _,
+            size: _,
+            arguments,
+        } => {
+            tally.add(times);
+            arguments_of_call(tally, arguments, times)?;
+            tally.call(*function, times)
+        }
     }
 }
 
 #[cycle(expression)]
-fn parts_places(parts: &[CorePart]) -> u32
-    ensures { result ≡ min (parts_places (parts_of parts.now)) 2000001 }
+fn parts_of_list(tally: &mut Tally, parts: &[CorePart], times: u32) -> Result<(), AllocError>
+    ensures { OnOk result (tally.new ≡ parts_linear times (parts_of parts.now) tally.old) }
 {
-    let mut places = 0;
     for part in parts {
-        places = sum(places, part_places(part));
+        part_of_list(tally, part, times)?;
     }
-    places
+    Ok(())
 }
 
 #[cycle(expression)]
-fn part_places(part: &CorePart) -> u32
-    ensures { (rest : _) → min (parts_places (with_part part.now rest)) 2000001 ≡ min (result + parts_places rest) 2000001 }
+fn part_of_list(tally: &mut Tally, part: &CorePart, times: u32) -> Result<(), AllocError>
+    ensures { OnOk result ((rest : _) → parts_linear times rest tally.new ≡ parts_linear times (with_part part.now rest) tally.old) }
 {
     match part {
-        CorePart::Number { offset: _, value } => expression_places(value),
-        CorePart::Structure { offset: _, value } => structure_places(value),
+        CorePart::Number { offset: _, value } => expression(tally, value, times),
+        CorePart::Structure { offset: _, value } => structure(tally, value, times),
     }
 }
 
-/// The places of a statement.
-#[cycle(statement)]
-pub(crate) fn statement_places(statement: &CoreStatement) -> u32
-    ensures { result ≡ min (statement_places (view_statement statement.now)) 2000001 }
+#[cycle(expression)]
+fn arguments_of_call(
+    tally: &mut Tally,
+    arguments: &[CoreArgument],
+    times: u32,
+) -> Result<(), AllocError>
+    ensures { OnOk result (tally.new ≡ arguments_linear times (arguments_of arguments.now) tally.old) }
 {
-    match statement {
-        CoreStatement::Block { items } => node(items_places(items)),
+    for argument in arguments {
+        argument_of_call(tally, argument, times)?;
+    }
+    Ok(())
+}
+
+#[cycle(expression)]
+fn argument_of_call(
+    tally: &mut Tally,
+    argument: &CoreArgument,
+    times: u32,
+) -> Result<(), AllocError>
+    ensures { OnOk result ((rest : _) → arguments_linear times rest tally.new ≡ arguments_linear times (with_argument argument.now rest) tally.old) }
+{
+    match argument {
+        CoreArgument::Number { value } => expression(tally, value, times),
+        CoreArgument::Structure { value } => structure(tally, value, times),
+    }
+}
+
+// An expression that may be missing, and then counts so many.
+fn optional(
+    tally: &mut Tally,
+    expr: &Option<CoreExpr>,
+    times: u32,
+    missing: u32,
+) -> Result<(), AllocError>
+    ensures { OnOk result (tally.new ≡ optional_linear times missing (option_map view expr.now) tally.old) }
+{
+    match expr {
+        Some(found) => expression(tally, found, times),
+        None => {
+            tally.add(missing);
+            Ok(())
+        }
+    }
+}
+
+/// Adds the places of a statement of the function with this name.
+#[cycle(statement)]
+pub(crate) fn statement(
+    tally: &mut Tally,
+    bounds: &Bounds,
+    name: &[u8],
+    code: &CoreStatement,
+    times: u32,
+) -> Result<(), AllocError>
+    ensures { OnOk result (tally.new ≡ statement_linear (tests_in bounds.now.set bounds.now.unwind name.now) times (view_statement code.now) tally.old) }
+{
+    match code {
+        CoreStatement::Block { items } => {
+            tally.add(times);
+            items_of_block(tally, bounds, name, items, times)
+        }
         CoreStatement::If { line: _, test, yes } => {
-            node(sum(expression_places(test), statement_places(yes)))
+            tally.add(times);
+            expression(tally, test, times)?;
+            statement(tally, bounds, name, yes, times)
         }
         CoreStatement::IfElse {
             line: _,
@@ -204,46 +369,170 @@ pub(crate) fn statement_places(statement: &CoreStatement) -> u32
             yes,
             no,
         } => {
-            let branches = sum(statement_places(yes), statement_places(no));
-            node(sum(expression_places(test), branches))
+            tally.add(times);
+            expression(tally, test, times)?;
+            statement(tally, bounds, name, yes, times)?;
+            statement(tally, bounds, name, no, times)
         }
-        CoreStatement::Evaluate { expression } => node(expression_places(expression)),
-        CoreStatement::Return { line: _, value } => node(expression_places(value)),
+        CoreStatement::Evaluate { expression: value } => {
+            tally.add(times);
+            expression(tally, value, times)
+        }
+        CoreStatement::Return { line: _, value } => {
+            tally.add(times);
+            expression(tally, value, times)
+        }
+        CoreStatement::ReturnStructure { line: _, value } => {
+            tally.add(times);
+            structure(tally, value, times)
+        }
+        CoreStatement::ReturnNothing { line: _ } => {
+            tally.add(times);
+            Ok(())
+        }
+        CoreStatement::For {
+            line: _,
+            number,
+            first,
+            test,
+            last,
+            body,
+        } => {
+            tally.add(times);
+            optional(tally, first, times, 0)?;
+            let count = tests(bounds, name, *number);
+            let tested = product(times, count);
+            optional(tally, test, tested, tested)?;
+            let round = product(times, count.saturating_sub(1));
+            statement(tally, bounds, name, body, round)?;
+            optional(tally, last, round, 0)
+        }
+        CoreStatement::Do {
+            line: _,
+            number,
+            body,
+            test,
+        } => {
+            tally.add(times);
+            let round = product(times, tests(bounds, name, *number));
+            statement(tally, bounds, name, body, round)?;
+            expression(tally, test, round)
+        }
+        CoreStatement::Switch {
+            line: _,
+            value,
+            items,
+        } => {
+            tally.add(times);
+            expression(tally, value, times)?;
+            items_of_block(tally, bounds, name, items, times)
+        }
+        CoreStatement::Break { line: _ } => {
+            tally.add(times);
+            Ok(())
+        }
+        CoreStatement::Continue { line: _ } => {
+            tally.add(times);
+            Ok(())
+        }
+        CoreStatement::Goto { line: _, label: _ } => {
+            tally.add(times);
+            Ok(())
+        }
+        CoreStatement::Stray {
+            line: _,
+            statement: labelled,
+        } => {
+            tally.add(times);
+            statement(tally, bounds, name, labelled, times)
+        }
     }
 }
 
 #[cycle(statement)]
-fn items_places(items: &[CoreItem]) -> u32
-    ensures { result ≡ min (items_places (items_of items.now)) 2000001 }
+fn items_of_block(
+    tally: &mut Tally,
+    bounds: &Bounds,
+    name: &[u8],
+    items: &[CoreItem],
+    times: u32,
+) -> Result<(), AllocError>
+    ensures { OnOk result (tally.new ≡ items_linear (tests_in bounds.now.set bounds.now.unwind name.now) times (items_of items.now) tally.old) }
 {
-    let mut places = 0;
     for item in items {
-        places = sum(places, item_places(item));
+        item_of_block(tally, bounds, name, item, times)?;
     }
-    places
+    Ok(())
 }
 
 #[cycle(statement)]
-fn item_places(item: &CoreItem) -> u32
-    ensures { (rest : _) → min (items_places (with_item item.now rest)) 2000001 ≡ min (result + items_places rest) 2000001 }
+fn item_of_block(
+    tally: &mut Tally,
+    bounds: &Bounds,
+    name: &[u8],
+    item: &CoreItem,
+    times: u32,
+) -> Result<(), AllocError>
+    ensures { OnOk result ((rest : _) → items_linear (tests_in bounds.now.set bounds.now.unwind name.now) times rest tally.new ≡ items_linear (tests_in bounds.now.set bounds.now.unwind name.now) times (with_item item.now rest) tally.old) }
 {
     match item {
         CoreItem::Declare {
             line: _,
             variable: _,
-        } => 1,
+        } => {
+            tally.add(times);
+            Ok(())
+        }
         CoreItem::Initialize {
             line: _,
             variable: _,
             drawn: _,
             value,
-        } => node(expression_places(value)),
+        } => {
+            tally.add(times);
+            expression(tally, value, times)
+        }
         CoreItem::InitializeStructure {
             line: _,
             variable: _,
             drawn: _,
             value,
-        } => node(structure_places(value)),
-        CoreItem::Statement { statement } => statement_places(statement),
+        } => {
+            tally.add(times);
+            structure(tally, value, times)
+        }
+        CoreItem::Statement { statement: code } => { statement(tally, bounds, name, code, times) }
+        CoreItem::Label { label: _ } => {
+            tally.add(times);
+            Ok(())
+        }
+        CoreItem::Case {
+            line: _,
+            type_: _,
+            bits: _,
+        } => {
+            tally.add(times);
+            Ok(())
+        }
+        CoreItem::Default { line: _ } => {
+            tally.add(times);
+            Ok(())
+        }
     }
+}
+
+/// The places of the body of the function with this name, which may be missing.
+pub(crate) fn body(
+    alloc: Global,
+    bounds: &Bounds,
+    name: &[u8],
+    code: &Option<CoreStatement>,
+) -> Result<Tally, AllocError>
+    ensures { IfOk result (λ t. t ≡ body_linear (tests_in bounds.now.set bounds.now.unwind name.now) (option_map view_statement code.now)) }
+{
+    let mut tally = Tally::new(alloc);
+    if let Some(found) = code {
+        statement(&mut tally, bounds, name, found, 1)?;
+    }
+    Ok(tally)
 }

@@ -1,16 +1,20 @@
-ghost use Rattle.std.specs.Prelude.{◌≡◌, None, IfOk, IfErr};
+ghost use Rattle.std.specs.Prelude.{◌≡◌, true, None, IfOk, IfErr};
 ghost use Rattle.core_tree.specs.Trees.{view_core};
-ghost use Rattle.goto_prog.specs.Flat.{plain_thread};
+ghost use Rattle.goto_prog.specs.Flat as flat;
+ghost use Rattle.goto_prog.specs.GotoThreads as structured;
+ghost use Rattle.goto_prog.specs.Nodes.{view_procedures};
 ghost use Rattle.goto_prog.specs.Same.{DoSame};
 ghost use Rattle.goto_unwind.specs.Counts.{passed, HasCause};
+ghost use Rattle.goto_unwind.specs.Program.{starts_none, unrolled};
 ghost use Rattle.goto_unwind.specs.declared.unrolling.UnwindError.TheVariants as errors;
 
-use crate::counting::main_places;
+use crate::counting::file_places;
 use crate::objects::{MOST_OBJECT_BYTES, MOST_OBJECTS, object_bytes};
-use crate::trees::MOST_PLACES;
+use crate::tally::MOST_PLACES;
+use crate::unroller::unrolled_main;
 use c_profile::Admitted;
 use core_tree::{Bounds, Limit};
-use goto_prog::{Code, Goto, Unrolled};
+use goto_prog::{Goto, Unrolled};
 use std::alloc::{AllocError, AllocFailed, Global};
 use thiserror::Error;
 
@@ -42,59 +46,57 @@ impl<T: Drop> From<AllocFailed<T>> for UnwindError {
 }
 
 /// The first quantity of a file that passes its limit, in the order places, threads, actions, objects,
-/// object-bytes. It tells a file that is too large before its code is made. Takes no memory.
-pub fn passed_limit(file: &Admitted, _bounds: &Bounds) -> Option<Limit>
-    ensures { result ≡ passed (view_core file.now) _bounds.now }
+/// object-bytes. It tells a file that is too large before its code is made.
+pub fn passed_limit(
+    alloc: Global,
+    file: &Admitted,
+    bounds: &Bounds,
+) -> Result<Option<Limit>, AllocError>
+    ensures { IfOk result (λ l. l ≡ passed (view_core file.now) bounds.now) }
 {
     let core = file.core();
-    if main_places(core.functions()) > MOST_PLACES {
-        Some(Limit::Places)
-    } else if core.objects().len() > MOST_OBJECTS as usize {
+    if file_places(alloc, core.functions(), bounds)? > MOST_PLACES {
+        return Ok(Some(Limit::Places));
+    }
+    Ok(if core.objects().len() > MOST_OBJECTS as usize {
         Some(Limit::Objects)
     } else if object_bytes(core) > MOST_OBJECT_BYTES {
         Some(Limit::ObjectBytes)
     } else {
         None
-    }
+    })
 }
 
-// The code of a function without loops and calls.
-fn unrolled_code(alloc: Global, code: &Code) -> Result<Code, AllocError>
-    ensures { IfOk result (λ c. c ≡ code.now) }
+/// The code of a program without loops and calls.
+pub(crate) fn unrolled(alloc: Global, goto: &Goto, bounds: &Bounds) -> Result<Unrolled, AllocError>
+    ensures { IfOk result (λ u. u ≡ unrolled goto.now bounds.now) }
 {
-    let instructions = code.instructions().to_vec(alloc)?;
-    let registers = code.registers().to_vec(alloc)?;
-    let blocks = code.blocks().to_vec(alloc)?;
-    Ok(Code::new(registers, blocks, instructions, code.is_startable()))
-}
-
-// The code of each function without loops and calls.
-fn unrolled_functions(alloc: Global, functions: &[Code]) -> Result<Vec<Code>, AllocError>
-    ensures { IfOk result (λ v. v.items ≡ functions.now) }
-{
-    let mut unrolled = Vec::with_capacity(alloc, functions.len())?;
-    for code in functions {
-        unrolled.push(unrolled_code(alloc, code)?)?;
-    }
-    Ok(unrolled)
+    let main = unrolled_main(alloc, goto, bounds)?;
+    let mut functions = Vec::with_capacity(alloc, 1)?;
+    functions.push(main)?;
+    Ok(Unrolled::new(functions, 0, goto.store().clone()?))
 }
 
 /// The code of a file without loops and calls, with the same first store, under these bounds; or the first
-/// quantity of the file that passes its limit.
+/// quantity of the file that passes its limit. It does what the file's code does under the bounds, where no
+/// thread is started in a function.
 pub fn unwind(
     alloc: Global,
     file: &Admitted,
     goto: &Goto,
     bounds: &Bounds,
 ) -> Result<Unrolled, UnwindError>
-    ensures same { IfOk result (λ u. DoSame (plain_thread u) (plain_thread goto.now)) }
+    ensures code { IfOk result (λ u. u ≡ unrolled goto.now bounds.now) }
+    ensures same { IfOk result (λ u. starts_none (view_procedures goto.now.functions) ≡ true → DoSame (flat.plain_thread u) (structured.plain_thread goto.now bounds.now)) }
     ensures store { IfOk result (λ u. u.store ≡ goto.now.store) }
     ensures within { IfOk result (λ u. passed (view_core file.now) bounds.now ≡ None) }
     ensures cause { IfErr result (HasCause (view_core file.now) bounds.now) }
 {
-    if let Some(limit) = passed_limit(file, bounds) {
+    let _procedures = goto.procedures();
+    let _main = goto.main_number();
+    let _unwind = bounds.unwind();
+    if let Some(limit) = passed_limit(alloc, file, bounds)? {
         return Err(UnwindError::Limit(limit));
     }
-    let functions = unrolled_functions(alloc, goto.functions())?;
-    Ok(Unrolled::new(functions, goto.main_number(), goto.store().clone()?))
+    Ok(unrolled(alloc, goto, bounds)?)
 }

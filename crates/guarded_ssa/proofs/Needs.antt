@@ -13,7 +13,7 @@ use Rattle.goto_prog.specs.declared.code.Condition.TheVariants as checks
 use Rattle.goto_prog.specs.declared.code.Operation.{Operation}
 use Rattle.goto_prog.specs.declared.code.Operation.TheVariants as operations
 use Rattle.goto_prog.specs.declared.code.Instruction.{Instruction}
-use Rattle.goto_prog.specs.Meaning.{Memory, register, with_register, with_blocks, bytes_of, word_of, bytes_in, check_class, calculated}
+use Rattle.goto_prog.specs.Meaning.{Memory, register, with_register, with_blocks, bytes_of, word_of, bytes_in, check_class, calculated, return_check}
 use Rattle.guarded_ssa.specs.Runs.{answer_at}
 use Rattle.guarded_ssa.specs.Ways.{asked, stopped, Ways, either, arrived, updated, kept, on, breaks, tells, leaves, first_way, later_ways, told}
 use Rattle.guarded_ssa.specs.Reads.{IsRead, AreRead, Covers, Agree, Alike, AllAlike}
@@ -107,6 +107,7 @@ module _ (until : List ℕ) where
     same_check (checks.Negation t a) read = ap (sign_check signs.Minus t) (agree.needed a read.0)
     same_check (checks.Count t u count) read = ap (count_check t u) (agree.needed count read.0)
     same_check (checks.LeftShift t u a count) read = let p = agree.needed a read.0 in let q = agree.needed count read.1 in λ i. left_shift_check t u (p i) (q i)
+    same_check (checks.Returned a) read = ap return_check (agree.needed a read.0)
 
     agree_calculated : (o : Operation) → AreRead until place o → Agree until (suc place) (calculated o m) (calculated o n)
     agree_calculated (operations.Constant r bits) read = agree_set r bits bits refl
@@ -187,6 +188,10 @@ module _ (until : List ℕ) where
     leaves_alike (operations.Check c) read = goes_on (operations.Check c) read
     leaves_alike (operations.Assert a) read = goes_on (operations.Assert a) read
     leaves_alike (operations.Assume a) read = goes_on (operations.Assume a) read
+    leaves_alike (operations.Fail class) read = goes_on (operations.Fail class) read
+    leaves_alike (operations.Use a) read = goes_on (operations.Use a) read
+    leaves_alike (operations.Call g first count into r) read = goes_on (operations.Call g first count into r) read
+    leaves_alike (operations.Return v) read = goes_on (operations.Return v) read
 
   -- ---- code
 

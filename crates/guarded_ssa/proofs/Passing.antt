@@ -36,6 +36,7 @@ use Rattle.c_values.specs.Numbers.{are_operands_of}
 use Rattle.c_values.specs.Variables.{pointer_to, word_count, put_bytes}
 use Rattle.goto_prog.specs.CodeThread.{Listing}
 use Rattle.goto_prog.specs.Running.{is_calculation}
+use Rattle.goto_prog.specs.UnrolledCode.{is_flat}
 use Rattle.guarded_ssa.specs.declared.forms.Event.{Event}
 use Rattle.guarded_ssa.specs.declared.forms.EventKind.TheVariants.{Draw, Read, Write, Exit, Check, Assume}
 use Rattle.guarded_ssa.specs.declared.slots.Slot.{Slot}
@@ -138,6 +139,7 @@ leads_on (operations.Sign r op t a) h v apart place w ws = refl
 leads_on (operations.Arithmetic r op t u a b) h v apart place w ws = refl
 leads_on (operations.Compare r op t a b) h v apart place w ws = refl
 leads_on (operations.IsZero r a) h v apart place w ws = refl
+leads_on (operations.Use a) h v apart place w ws = refl
 leads_on _ h v apart place w ws = absurd (false≢true h)
 
 silent : (o : Operation) → is_calculation o ≡ true → (v : ℕ → ℕ) (apart place line f : ℕ) (m : Memory) → tells v apart place line f o m ≡ []
@@ -152,6 +154,7 @@ silent (operations.Sign r op t a) h v apart place line f m = refl
 silent (operations.Arithmetic r op t u a b) h v apart place line f m = refl
 silent (operations.Compare r op t a b) h v apart place line f m = refl
 silent (operations.IsZero r a) h v apart place line f m = refl
+silent (operations.Use a) h v apart place line f m = refl
 silent _ h v apart place line f m = absurd (false≢true h)
 
 nothing_on : (w : Option Memory) (tell : Memory → List Seen) → ((m : Memory) → tell m ≡ []) → on w tell ≡ []
@@ -287,6 +290,7 @@ one_class registers (checks.Range op t a b) m h = range_class op t (register m a
 one_class registers (checks.Negation t a) m h = unless_class _ classes.Overflow
 one_class registers (checks.Count t u count) m h = unless_class _ classes.Shift
 one_class registers (checks.LeftShift t u a count) m h = unless_class _ classes.Shift
+one_class registers (checks.Returned a) m h = unless_class _ classes.Return
 
 breaks_by : (c : Option Class) (k : Class) (b : Bool) (line f : ℕ) → c ≡ (if is_some c then Some k else None) → b ≡ is_some c → (if b then stopped (Broken k line f) ∷ [] else []) ≡ breaks c line f
 breaks_by None k b line f e h = if_false b (stopped (Broken k line f) ∷ []) [] h
@@ -335,6 +339,38 @@ failing_in d d1 code s failing line f class t x h made = record { guard = bit_of
 
 pub assumed_in : (d d1 : List Node) (code : Listing) (s : Slot) (failing : Id) (line f : ℕ) (t : (ℕ → ℕ) → Bool) → Extends d d1 → SlotIn d code s → IsTest d1 failing t → EventIn d1 (record { guard = s.guard; line = line; function = f; kind = Assume failing })
 assumed_in d d1 code s failing line f t x h made = record { guard = bit_of_word d1 s.guard (slot_stays d d1 x code s h).guard; kind = record { there = made.there; width_is = made.width_is } }
+
+-- ---- ends
+
+-- a slot's guard as a test under itself
+twice : (b : Bool) (m : Memory) (told : List Seen) → (if b then (if b then told else []) else []) ≡ on (if b then Some m else None) (λ k. told)
+twice true m told = refl
+twice false m told = refl
+
+pub failed_in : (d : List Node) (code : Listing) (s : Slot) (line f : ℕ) (class : Class) → SlotIn d code s → EventIn d (record { guard = s.guard; line = line; function = f; kind = Check class s.guard })
+failed_in d code s line f class h = record { guard = bit_of_word d s.guard h.guard; kind = bit_of_word d s.guard h.guard }
+
+pub stopped_in : (d : List Node) (code : Listing) (s : Slot) (line f : ℕ) → SlotIn d code s → EventIn d (record { guard = s.guard; line = line; function = f; kind = Assume s.guard })
+stopped_in d code s line f h = record { guard = bit_of_word d s.guard h.guard; kind = bit_of_word d s.guard h.guard }
+
+module _ (until : List ℕ) (code : Listing) (place line f : ℕ) (d e : List Node) (s : Slot) (p q : Pass) (within : PassIn d code p) (slot : SlotIn d code s) where
+  stays_same : (v : ℕ → ℕ) (ws : Ways) → arrived 0 (updated (λ m. m) (gone v d code s)) ws ≡ arrived 0 (gone v d code s) ws
+  stays_same v ws = ap (λ w. arrived 0 w ws) (same_way (gone v d code s))
+
+  pub passes_failed : (class : Class) → Tells until code place (record { guard = s.guard; line = line; function = f; kind = Check class s.guard }) s d e p q → Passes until code place line f (operations.Fail class) s d e p q
+  passes_failed class tells_it =
+      passes_by_event until code place line f (operations.Fail class) d d e s s p q (extends_itself d) within (record { guard = s.guard; line = line; function = f; kind = Check class s.guard })
+      (λ v. twice (holds (value v d s.guard)) (held v d code s) (stopped (Broken class line f) ∷ [])) stays_same tells_it
+
+  -- unrolled code doesn't have them
+  pub passes_stopped : (o : Operation) → is_flat o ≡ false → Tells until code place (record { guard = s.guard; line = line; function = f; kind = Assume s.guard }) s d e p q → Passes until code place line f o s d e p q
+  passes_stopped (operations.Call g first count into r) calls tells_it =
+      passes_by_event until code place line f (operations.Call g first count into r) d d e s s p q (extends_itself d) within (record { guard = s.guard; line = line; function = f; kind = Assume s.guard })
+      (λ v. twice (holds (value v d s.guard)) (held v d code s) (stopped Blocked ∷ [])) stays_same tells_it
+  passes_stopped (operations.Return x) calls tells_it =
+      passes_by_event until code place line f (operations.Return x) d d e s s p q (extends_itself d) within (record { guard = s.guard; line = line; function = f; kind = Assume s.guard })
+      (λ v. twice (holds (value v d s.guard)) (held v d code s) (stopped Blocked ∷ [])) stays_same tells_it
+  passes_stopped _ calls tells_it = absurd (false≢true (sym calls))
 
 -- ---- draws and exits
 

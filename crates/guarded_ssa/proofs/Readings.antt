@@ -13,7 +13,7 @@ use Rattle.actions.specs.declared.action.Next.TheVariants.{Act, Ended, Blocked, 
 use Rattle.goto_prog.specs.declared.code.Operation.{Operation}
 use Rattle.goto_prog.specs.declared.code.Operation.TheVariants as operations
 use Rattle.goto_prog.specs.declared.code.Instruction.{Instruction}
-use Rattle.goto_prog.specs.Meaning.{Memory, Reading, register, with_register, with_blocks, bytes_of, word_of, bytes_in, check_class, at, or_else, operates, places, does, calculated}
+use Rattle.goto_prog.specs.Meaning.{Memory, Given, Reading, arguments_of, received, given_by, register, with_register, with_blocks, bytes_of, word_of, bytes_in, check_class, at, or_else, operates, places, does, calculated}
 
 -- nothing is done next
 abbrev pub IsEnd : Next → Type 0
@@ -34,7 +34,9 @@ IsAsked _ = ⊥
 module _ {R S : Type 0} (most : ℕ) (o : Reading R) (q : Reading S) (T : ℕ → R → S → Type 0)
     (lower : (p : ℕ) (r : R) (s : S) → T (suc p) r s → T p r s)
     (stops : (p : ℕ) (end : Next) → IsEnd end → T p (o.stop end) (q.stop end))
-    (asks : (p : ℕ) (action : Action) (line f : ℕ) (g : Answer → R) (h : Answer → S) → IsAsked action → p < most → ((a : Answer) → T (suc p) (g a) (h a)) → T p (o.ask action line f p g) (q.ask action line f p h)) where
+    (asks : (p : ℕ) (action : Action) (line f : ℕ) (g : Answer → R) (h : Answer → S) → IsAsked action → p < most → ((a : Answer) → T (suc p) (g a) (h a)) → T p (o.ask action line f p g) (q.ask action line f p h))
+    (calls : (p caller f line : ℕ) (arguments : List (List ℕ)) (g : Given → R) (h : Given → S) → T p (o.call caller f line arguments g) (q.call caller f line arguments h))
+    (hands : (p : ℕ) (given : Given) → T p (o.hand given) (q.hand given)) where
   abbrev AllRelated : ℕ → List (Memory → R) → List (Memory → S) → Type 0
   AllRelated p [] [] = Unit {0}
   AllRelated p [] (s ∷ ss) = ⊥
@@ -90,6 +92,11 @@ module _ {R S : Type 0} (most : ℕ) (o : Reading R) (q : Reading S) (T : ℕ �
         asks p (actions.Read (pointer_to object offset) count) line f (λ a. at o rs 0 (next a)) (λ a. at q ss 0 (next a)) tt few (λ a. at_related (suc p) rs ss 0 (next a) h)
     operation_related line f (operations.WriteObject object offset b from count) m =
         asks p (actions.Write (pointer_to object offset) (bytes_of m.blocks b from count) false) line f (λ a. at o rs 0 m) (λ a. at q ss 0 m) tt few (λ a. at_related (suc p) rs ss 0 m h)
+    operation_related line f (operations.Fail class) m = stops p (Broken class line f) tt
+    operation_related line f (operations.Use a) m = goes 0 m
+    operation_related line f (operations.Call g first count into r) m =
+        calls p f g line (arguments_of m.blocks first count) (λ given. at o rs 0 (received m into r given)) (λ given. at q ss 0 (received m into r given))
+    operation_related line f (operations.Return v) m = hands p (given_by m v)
     operation_related line f operations.Exit m = asks p actions.Exit line f (λ a. o.stop (Ended (word_64 0))) (λ a. q.stop (Ended (word_64 0))) tt few (λ a. stops (suc p) (Ended (word_64 0)) tt)
 
   places_related : (p : ℕ) (code : List Instruction) → p + length code ≤ most → AllRelated p (places o false p code) (places q false p code)

@@ -109,6 +109,10 @@ module _ (v : ℕ → ℕ) (apart : ℕ) where
   leaves_none place (operations.ReadObject b to k offset count) ws = arrived_none 0 ws
   leaves_none place (operations.WriteObject k offset b from count) ws = arrived_none 0 ws
   leaves_none place operations.Exit ws = refl
+  leaves_none place (operations.Fail class) ws = arrived_none 0 ws
+  leaves_none place (operations.Use a) ws = arrived_none 0 ws
+  leaves_none place (operations.Call g first count into r) ws = arrived_none 0 ws
+  leaves_none place (operations.Return x) ws = arrived_none 0 ws
 
   -- ---- one step from a place that is reached
 
@@ -163,6 +167,10 @@ module _ (v : ℕ → ℕ) (apart : ℕ) where
         ap (asks action line f answer) (goes 0 (with_blocks m (put_bytes m.blocks b to (bytes_in answer))))
     step line f from (operations.WriteObject k offset b at count) = ap (asks (actions.Write (pointer_to k offset) (bytes_of m.blocks b at count) false) line f answers.Done) (goes 0 m)
     step line f from operations.Exit = refl
+    step line f from (operations.Fail class) = refl
+    step line f from (operations.Use a) = goes 0 m
+    step line f from (operations.Call g first count into r) = refl
+    step line f from (operations.Return x) = refl
 
   -- ---- all of it
 

@@ -36,6 +36,8 @@ abbrev choosing : ℕ → Reading Runs
 choosing apart = record {
   ask = λ action line f place follows v. asks action line f (answer_at v apart place action) (follows (answer_at v apart place action) v);
   stop = λ end v. stops end;
+  call = λ caller f line arguments follows v. stops Blocked;
+  hand = λ given v. stops Blocked;
 }
 
 -- the same at the variables of the places from p on
@@ -261,7 +263,8 @@ module _ (apart p : ℕ) (action : Action) (line f : ℕ) (g : Answer → Runs) 
 
 code_fits : (apart : ℕ) (code : List Instruction) (m : Memory) → apart ≡ length code → Fits apart 0 (does (choosing apart) false 0 code m) (does behaving false 0 code m)
 code_fits apart code m size =
-    does_related apart (choosing apart) behaving (Fits apart) (fits_lower apart) (fits_end apart) (λ p action line f g h asked few fits. fits_ask apart p action line f g h asked few fits) 0 code m (omega (arith, size))
+    does_related apart (choosing apart) behaving (Fits apart) (fits_lower apart) (fits_end apart) (λ p action line f g h asked few fits. fits_ask apart p action line f g h asked few fits)
+    (λ p caller f line arguments g h. fits_end apart p Blocked tt) (λ p given. fits_end apart p Blocked tt) 0 code m (omega (arith, size))
 
 abbrev RunIs : (ℕ → ℕ) → ℕ → Runs → Run → Type 0
 RunIs v p runs r = runs v ≡ r
@@ -269,7 +272,8 @@ RunIs v p runs r = runs v ≡ r
 run_is : (v : ℕ → ℕ) (apart : ℕ) (code : List Instruction) (m : Memory) → apart ≡ length code → does (choosing apart) false 0 code m v ≡ does (running v apart) false 0 code m
 run_is v apart code m size =
     does_related apart (choosing apart) (running v apart) (RunIs v) (λ p r s h. h) (λ p end ends. refl)
-    (λ p action line f g h asked few same. ap (asks action line f (answer_at v apart p action)) (same (answer_at v apart p action))) 0 code m (omega (arith, size))
+    (λ p action line f g h asked few same. ap (asks action line f (answer_at v apart p action)) (same (answer_at v apart p action)))
+    (λ p caller f line arguments g h. refl) (λ p given. refl) 0 code m (omega (arith, size))
 
 -- events that tell the run of code under each valuation are a form of what it does
 pub is_form : (d : List Node) (es : List Event) (code : List Instruction) (m : Memory) → ((v : ℕ → ℕ) → run_read v d es ≡ does (running v (length code)) false 0 code m) → IsForm (does behaving false 0 code m) d es

@@ -16,6 +16,7 @@ first_checked (checks.Range op t a b) = Some a
 first_checked (checks.Negation t a) = Some a
 first_checked (checks.Count t u count) = Some count
 first_checked (checks.LeftShift t u a count) = Some a
+first_checked (checks.Returned a) = Some a
 
 abbrev pub second_checked : Condition → Option ℕ
 second_checked (checks.Divisor b) = None
@@ -24,6 +25,7 @@ second_checked (checks.Range op t a b) = Some b
 second_checked (checks.Negation t a) = None
 second_checked (checks.Count t u count) = None
 second_checked (checks.LeftShift t u a count) = Some count
+second_checked (checks.Returned a) = None
 
 abbrev pub first_read : Operation → Option ℕ
 first_read (operations.Constant r bits) = None
@@ -46,6 +48,10 @@ first_read (operations.Draw r bits) = None
 first_read (operations.ReadObject b to k offset count) = None
 first_read (operations.WriteObject k offset b from count) = None
 first_read operations.Exit = None
+first_read (operations.Fail class) = None
+first_read (operations.Use a) = None
+first_read (operations.Call f first count into r) = None
+first_read (operations.Return v) = None
 
 abbrev pub second_read : Operation → Option ℕ
 second_read (operations.Constant r bits) = None
@@ -68,6 +74,10 @@ second_read (operations.Draw r bits) = None
 second_read (operations.ReadObject b to k offset count) = None
 second_read (operations.WriteObject k offset b from count) = None
 second_read operations.Exit = None
+second_read (operations.Fail class) = None
+second_read (operations.Use a) = None
+second_read (operations.Call f first count into r) = None
+second_read (operations.Return v) = None
 
 -- ---- `until` gives for each register the place behind its last read
 

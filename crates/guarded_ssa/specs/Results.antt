@@ -53,3 +53,4 @@ class_of (checks.Range op t a b) = classes.Overflow
 class_of (checks.Negation t a) = classes.Overflow
 class_of (checks.Count t u count) = classes.Shift
 class_of (checks.LeftShift t u a count) = classes.Shift
+class_of (checks.Returned a) = classes.Return

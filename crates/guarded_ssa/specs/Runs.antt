@@ -7,6 +7,7 @@ use Rattle.actions.specs.declared.action.Action.TheVariants as actions
 use Rattle.actions.specs.declared.action.Answer.{Answer}
 use Rattle.actions.specs.declared.action.Answer.TheVariants as answers
 use Rattle.actions.specs.declared.action.Next.{Next}
+use Rattle.actions.specs.declared.action.Next.TheVariants.{Blocked}
 use Rattle.c_values.specs.Variables.{low_bytes, word_count}
 use Rattle.goto_prog.specs.Meaning.{Reading}
 
@@ -38,9 +39,11 @@ answer_at v apart place (actions.Draw bits) = answers.Word (word bits (low_bits 
 answer_at v apart place (actions.Read p n) = answers.Bytes (bytes_of_words n (words_by v apart (word_count n) place n))
 answer_at v apart place _ = answers.Done
 
--- code as the run under these answers
+-- code as the run under these answers; unrolled code has no calls
 abbrev pub running : (ℕ → ℕ) → ℕ → Reading Run
 running v apart = record {
   ask = λ action line function place follows. asks action line function (answer_at v apart place action) (follows (answer_at v apart place action));
   stop = stops;
+  call = λ caller function line arguments follows. stops Blocked;
+  hand = λ given. stops Blocked;
 }

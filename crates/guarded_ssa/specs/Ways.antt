@@ -61,7 +61,7 @@ breaks (Some c) line f = stopped (Broken c line f) ∷ []
 -- ---- one instruction, reached with w
 
 module _ (v : ℕ → ℕ) (apart : ℕ) where
-  -- what an operation at a place tells
+  -- what an operation at a place tells; a call and a return, which unrolled code doesn't have, block
   abbrev pub tells : (place line function : ℕ) → Operation → Memory → List Seen
   tells place line f (operations.Check c) m = breaks (check_class c m) line f
   tells place line f (operations.Assert a) m = if register m a == 0 then stopped (Broken classes.Assertion line f) ∷ [] else []
@@ -72,6 +72,9 @@ module _ (v : ℕ → ℕ) (apart : ℕ) where
   tells place line f (operations.WriteObject k offset b from count) m =
       let action = actions.Write (pointer_to k offset) (bytes_of m.blocks b from count) false in asked action line f (answer_at v apart place action) ∷ []
   tells place line f operations.Exit m = asked actions.Exit line f (answer_at v apart place actions.Exit) ∷ stopped (Ended (word_64 0)) ∷ []
+  tells place line f (operations.Fail class) m = stopped (Broken class line f) ∷ []
+  tells place line f (operations.Call g first count into r) m = stopped Blocked ∷ []
+  tells place line f (operations.Return v) m = stopped Blocked ∷ []
   tells place line f _ m = []
 
   -- where it leads: checks and assumptions change no way, since what is told behind an end doesn't count

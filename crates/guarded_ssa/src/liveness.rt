@@ -45,6 +45,7 @@ fn checked(condition: Condition) -> (Option<usize>, Option<usize>)
             left,
             count,
         } => (Some(left), Some(count)),
+        Condition::Returned { returned } => (Some(returned), None),
     }
 }
 
@@ -123,7 +124,17 @@ fn reads(operation: Operation) -> (Option<usize>, Option<usize>)
             at: _,
             count: _,
         }
-        | Operation::Exit => (None, None),
+        | Operation::Exit
+        | Operation::Fail { class: _ }
+        | Operation::Use { returned: _ }
+        | Operation::Call {
+            callee: _,
+            first: _,
+            count: _,
+            into: _,
+            returned: _,
+        }
+        | Operation::Return { value: _ } => (None, None),
     }
 }
 

@@ -6,6 +6,7 @@ ghost use Rattle.std.specs.Prelude.{
   ◌<◌,
   ◌^◌,
   true,
+  false,
   List,
   [],
   ◌∷◌,
@@ -28,6 +29,7 @@ ghost use Rattle.c_types.specs.Integers.{width as type_width};
 ghost use Rattle.core_tree.specs.Typed.{is_within};
 ghost use Rattle.goto_prog.specs.Fitting.{is_there, is_register, check_fits, operation_fits};
 ghost use Rattle.goto_prog.specs.Running.{is_calculation};
+ghost use Rattle.goto_prog.specs.UnrolledCode.{is_flat};
 ghost use Rattle.guarded_ssa.specs.Forms.{EventIn};
 ghost use Rattle.goto_prog.specs.CodeThread.{first_memory};
 ghost use Rattle.guarded_ssa.specs.Held.{SlotIn, PassIn, Arrives, Tells, Passes, Visits, ways, starts_from};
@@ -440,6 +442,65 @@ impl Pass {
         Ok(())
     }
 
+    // A class that is broken.
+    fn fail(
+        &mut self,
+        dag: &mut Dag,
+        plan: &Plan,
+        place: usize,
+        i: Instruction,
+        slot: Slot,
+        class: Class,
+    ) -> Result<(), AllocError>
+        requires until { length plan.now.until.items ≡ length plan.now.code.now.registers }
+        requires room { place + length self.old.pending.items < 2 ^ 64 }
+        requires within { PassIn dag.old plan.now.code.now self.old }
+        requires slot { SlotIn dag.old plan.now.code.now slot }
+        ensures extends { Extends dag.old dag.new }
+        ensures passes { OnOk result (Passes plan.now.until.items plan.now.code.now place i.line i.function (Operation.Fail class) slot dag.old dag.new self.old self.new) }
+    {
+        let event = Event {
+            guard: slot.guard,
+            line: i.line,
+            function: i.function,
+            kind: EventKind::Check {
+                class,
+                failing: slot.guard,
+            },
+        };
+        self.tell_and_go(dag, plan, place, slot, event)?;
+        Ok(())
+    }
+
+    // A call or a return, which unrolled code doesn't have.
+    fn stop(
+        &mut self,
+        dag: &mut Dag,
+        plan: &Plan,
+        place: usize,
+        i: Instruction,
+        slot: Slot,
+    ) -> Result<(), AllocError>
+        requires until { length plan.now.until.items ≡ length plan.now.code.now.registers }
+        requires room { place + length self.old.pending.items < 2 ^ 64 }
+        requires within { PassIn dag.old plan.now.code.now self.old }
+        requires slot { SlotIn dag.old plan.now.code.now slot }
+        requires stops { is_flat i.operation ≡ false }
+        ensures extends { Extends dag.old dag.new }
+        ensures passes { OnOk result (Passes plan.now.until.items plan.now.code.now place i.line i.function (i.operation) slot dag.old dag.new self.old self.new) }
+    {
+        let event = Event {
+            guard: slot.guard,
+            line: i.line,
+            function: i.function,
+            kind: EventKind::Assume {
+                failing: slot.guard,
+            },
+        };
+        self.tell_and_go(dag, plan, place, slot, event)?;
+        Ok(())
+    }
+
     // One instruction, which is reached with a slot.
     fn step(
         &mut self,
@@ -506,6 +567,15 @@ impl Pass {
                 )
             }
             Operation::Exit => self.exit(dag, plan, place, i, slot),
+            Operation::Fail { class } => self.fail(dag, plan, place, i, slot, class),
+            Operation::Call {
+                callee: _,
+                first: _,
+                count: _,
+                into: _,
+                returned: _,
+            }
+            | Operation::Return { value: _ } => self.stop(dag, plan, place, i, slot),
             Operation::Constant { into: _, bits: _ }
             | Operation::Copy {
                 into: _,
@@ -561,7 +631,8 @@ impl Pass {
             | Operation::IsZero {
                 into: _,
                 operand: _,
-            } => { self.calculate(dag, plan, place, i, slot) }
+            }
+            | Operation::Use { returned: _ } => { self.calculate(dag, plan, place, i, slot) }
         }
     }
 

@@ -311,6 +311,7 @@ impl Slot {
                 into: _,
                 operand: _,
             } => self.assigned(dag, plan, operation),
+            Operation::Use { returned: _ } => Ok(self),
             _ => unreachable!(),
         }
     }

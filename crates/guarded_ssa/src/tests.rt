@@ -1,5 +1,8 @@
 ghost use Rattle.std.specs.Prelude.{◌≡◌, true, [], ◌∷◌, IfOk};
+ghost use Rattle.std.specs.List.{list_all};
 ghost use Rattle.goto_prog.specs.Fitting.{code_fits};
+ghost use Rattle.goto_prog.specs.UnrolledCode.{is_flat, is_flat_code};
+ghost use Rattle.goto_prog.specs.declared.code.Instruction.{Instruction as GotoInstruction};
 
 use super::*;
 use actions::Store;
@@ -12,7 +15,9 @@ use word_dag::{Dag, Id, Valuation};
 use words::{Class, Word};
 
 // `int x = <input>, y; if (x) y = 5; else y = 7; assert(y < 7);`
-fn choice(alloc: Global) -> Result<Code, AllocError> {
+fn choice(alloc: Global) -> Result<Code, AllocError>
+    ensures { IfOk result (λ c. is_flat_code c ≡ true) }
+{
     let at = |line: u32, operation: Operation| Instruction {
         line,
         function: 0,
@@ -69,7 +74,9 @@ fn choice(alloc: Global) -> Result<Code, AllocError> {
 
 // Registers that are set on one side only, and read behind the join: `r1` is 5 where the input isn't 0, and
 // `r2` is 7 where it is; `assert(r1 < r2);`
-fn one_sided(alloc: Global) -> Result<Code, AllocError> {
+fn one_sided(alloc: Global) -> Result<Code, AllocError>
+    ensures { IfOk result (λ c. is_flat_code c ≡ true) }
+{
     let at = |line: u32, operation: Operation| Instruction {
         line,
         function: 0,
@@ -112,7 +119,9 @@ fn one_sided(alloc: Global) -> Result<Code, AllocError> {
 // `unsigned long x = <input>`, whose bytes 3 and 4 are written over bytes 0 and 1: `assert(x == 0x0807060504030504);`.
 // A block of three bytes stands in front, which is written and cleared; then byte 1 is copied to its last:
 // `assert(!y[1]);` and, of both bytes, `assert(z == 0x0500);`.
-fn pieces(alloc: Global) -> Result<Code, AllocError> {
+fn pieces(alloc: Global) -> Result<Code, AllocError>
+    ensures { IfOk result (λ c. is_flat_code c ≡ true) }
+{
     let long = IntegerType::UnsignedLong;
     let short = IntegerType::UnsignedShort;
     let byte = IntegerType::UnsignedChar;
@@ -250,8 +259,10 @@ fn pieces(alloc: Global) -> Result<Code, AllocError> {
 
 // Draws each word of a block of 4,096 bytes, in front of other code.
 fn drawn_first(rest: Vec<Instruction>) -> Result<Vec<Instruction>, AllocError>
-    requires { code_fits (IntegerType.UnsignedLong ∷ IntegerType.Int ∷ IntegerType.Int ∷ IntegerType.Int ∷ []) (4096 ∷ []) rest.items ≡ true }
-    ensures { IfOk result (λ r. code_fits (IntegerType.UnsignedLong ∷ IntegerType.Int ∷ IntegerType.Int ∷ IntegerType.Int ∷ []) (4096 ∷ []) r.items ≡ true) }
+    requires fits { code_fits (IntegerType.UnsignedLong ∷ IntegerType.Int ∷ IntegerType.Int ∷ IntegerType.Int ∷ []) (4096 ∷ []) rest.items ≡ true }
+    requires flat { list_all (λ (i : GotoInstruction). is_flat i.operation) rest.items ≡ true }
+    ensures fits { IfOk result (λ r. code_fits (IntegerType.UnsignedLong ∷ IntegerType.Int ∷ IntegerType.Int ∷ IntegerType.Int ∷ []) (4096 ∷ []) r.items ≡ true) }
+    ensures flat { IfOk result (λ r. list_all (λ (i : GotoInstruction). is_flat i.operation) r.items ≡ true) }
 {
     let mut code = rest;
     for word in 0..512 {
@@ -284,7 +295,9 @@ fn drawn_first(rest: Vec<Instruction>) -> Result<Vec<Instruction>, AllocError>
 
 // A drawn structure of 4,096 bytes with members of type int at 100 and 4,092, and one that stands across two
 // words: `if (x.a) x.b = 7; if (x.b) x.c = x.a; assert(x.c);`. Its first 1,024 bytes are copied between.
-fn large(alloc: Global) -> Result<Code, AllocError> {
+fn large(alloc: Global) -> Result<Code, AllocError>
+    ensures { IfOk result (λ c. is_flat_code c ≡ true) }
+{
     let int = IntegerType::Int;
     let at = |line: u32, operation: Operation| Instruction {
         line,
@@ -512,7 +525,9 @@ fn nodes_of_a_large_block(rt: HostRuntime) -> Result<(), Fail> {
 }
 
 // `char a[11]` is a static object: `if (a[10] == 3) a[0] = a[10] else;`, by a block of 11 bytes
-fn accesses(alloc: Global) -> Result<Code, AllocError> {
+fn accesses(alloc: Global) -> Result<Code, AllocError>
+    ensures { IfOk result (λ c. is_flat_code c ≡ true) }
+{
     let at = |line: u32, operation: Operation| Instruction {
         line,
         function: 0,

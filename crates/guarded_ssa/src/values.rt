@@ -248,6 +248,10 @@ impl Slot {
                 let b = self.number(dag, plan, count, count_type);
                 left_shift_fails(dag, type_, count_type, a, b)
             }
+            Condition::Returned { returned } => {
+                let a = self.register(dag, plan, returned);
+                zero_test(dag, a)
+            }
         }
     }
 }
@@ -284,5 +288,6 @@ pub fn class_of(condition: Condition) -> Class
             left: _,
             count: _,
         } => Class::Shift,
+        Condition::Returned { returned: _ } => Class::Return,
     }
 }

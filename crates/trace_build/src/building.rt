@@ -195,15 +195,15 @@ fn inputs(alloc: Global, words: Vec<u64>) -> Result<Inputs, AllocError>
 pub fn build(
     alloc: Global,
     file: &Admitted,
-    _bounds: &Bounds,
+    bounds: &Bounds,
     dag: &Dag,
     formula: &Formula,
     valuation: &Valuation,
 ) -> Result<Trace, AllocError>
-    requires formula { IsFormula (source_world (view_core file.now)) dag.now formula.now }
+    requires formula { IsFormula (source_world (view_core file.now) bounds.now) dag.now formula.now }
     requires within { FormulaIn dag.now formula.now }
     requires satisfied { value (valuation_of valuation.now) dag.now formula.now.goal ≡ 1 }
-    ensures replays { IfOk result (λ t. Replays (source_world (view_core file.now)) t.inputs t.schedule t.check) }
+    ensures replays { IfOk result (λ t. Replays (source_world (view_core file.now) bounds.now) t.inputs t.schedule t.check) }
     ensures parts { IfOk result (λ t. (t.inputs ≡ inputs_of (valuation_of valuation.now) dag.now formula.now.form) × (t.schedule ≡ schedule_of (valuation_of valuation.now) dag.now formula.now.form) × (t.check ≡ check_told (valuation_of valuation.now) dag.now formula.now.form)) }
 {
     let words = dag.words(alloc, valuation)?;

@@ -1,6 +1,27 @@
+use Rattle.std.proofs.Common.{ap, sym, subst}
+use Rattle.c_tree.specs.declared.statement.External.{External}
 use Rattle.c_tree.specs.Declarations.{parts_of, declarators_of}
-use Rattle.c_elab_decl.proofs.WellTyped.{nothing_outside}
+use Rattle.c_tree.specs.Statements.{view_external}
+use Rattle.c_elab_decl.specs.Files.{typed_externals}
+use Rattle.c_elab_decl.specs.Steps.{DefinitionStep, TypedDefinitions}
+use Rattle.c_elab_decl.proofs.Bodies.{nothing_outside}
+use Rattle.c_elab_decl.proofs.Definitions.{outside_step}
 use Rattle.c_elab_decl.proofs.defining.elaborate_one.Goals as goal
+
+pub returns-in-Declares-clause-step : goal.returns-in-Declares-clause-step
+returns-in-Declares-clause-step c = λ rest.
+    let d = c.in-Declares.declaration in
+    let s = c.args.scope.now in
+    let t = c.declare_outside.new.scope in
+    let before = c.args.definitions.now.items in
+    subst (λ (r : TypedDefinitions). DefinitionStep c.declare_outside.result before before r (typed_externals t rest)) (sym (ap (λ (x : External). typed_externals s (view_external x rest)) c.in-Declares.is))
+    (outside_step c.declare_outside.result s t (parts_of d.specifiers.items) (declarators_of d.declarators.items) rest before c.declare_outside.ensures)
+
+pub returns-in-Defines-clause-step : goal.returns-in-Defines-clause-step
+returns-in-Defines-clause-step c = λ rest.
+    let s = c.args.scope.now in
+    subst (λ (r : TypedDefinitions). DefinitionStep c.define.result c.args.definitions.now.items c.define.new.definitions.items r (typed_externals c.define.new.scope rest)) (sym (ap (λ (x : External). typed_externals s (view_external x rest)) c.in-Defines.is))
+    (c.define.ensures.step rest)
 
 pub returns-in-Declares-clause-outside : goal.returns-in-Declares-clause-outside
 returns-in-Declares-clause-outside c =

@@ -3,12 +3,11 @@ use Rattle.std.proofs.lemmas.Result.{err_from_is_err_and}
 use Rattle.std.proofs.lemmas.List.{append-nil, drop_all}
 use Rattle.c_tree.specs.declared.statement.External.{External}
 use Rattle.c_tree.specs.Statements.{externals_of}
-use Rattle.core_tree.specs.Trees.{Procedure, view_functions}
 use Rattle.c_elab_expr.specs.Scopes.{Scoped}
 use Rattle.c_elab_expr.specs.Typing.{Fails}
-use Rattle.c_elab_decl.specs.Files.{typed_externals}
-use Rattle.c_elab_decl.specs.Steps.{TypedFunctions, functions_first}
-use Rattle.c_elab_decl.proofs.Fronts.{externals_at}
+use Rattle.c_elab_decl.specs.Files.{Definition, typed_externals}
+use Rattle.c_elab_decl.specs.Steps.{TypedDefinitions, definitions_first, view_definitions}
+use Rattle.c_elab_decl.proofs.Fronts.{no_definitions_first, externals_at}
 use Rattle.c_elab_decl.proofs.Steps.{fails_on, gives_err}
 use Rattle.c_elab_decl.proofs.defining.typed_externals.Goals as goal
 
@@ -20,19 +19,19 @@ returns-in_err-elaborate_one c =
     let i = c.loop-external.external-index in
     let d = c.external-item.result in
     let e = c.in_err-elaborate_one.field-0.0 in
-    let before = view_functions c.loop-external.functions.items in
+    let before = view_definitions c.loop-external.definitions.items in
     let tail = typed_externals s (externals_of (drop i is)) in
     let whole = typed_externals c.args.scope.now (externals_of is) in
     let bad : Fails e tail =
-    subst (λ (r : TypedFunctions). Fails e r) (sym (externals_at s is i d (omega arith) c.external-item.is)) (c.in_err-elaborate_one.ensures.step (externals_of (drop (i + 1) is))) in
-    gives_err _ _ p.0 e whole p.1 p.2 (fails_on e tail whole (λ f is_bad. sym c.loop-external.invariant.step ∙ ap (functions_first before) is_bad) bad)
+    subst (λ (r : TypedDefinitions). Fails e r) (sym (externals_at s is i d (omega arith) c.external-item.is)) (c.in_err-elaborate_one.ensures.step (externals_of (drop (i + 1) is))) in
+    gives_err _ _ p.0 e whole p.1 p.2 (fails_on e tail whole (λ f is_bad. sym c.loop-external.invariant.step ∙ ap (definitions_first before) is_bad) bad)
 
--- at the end the functions are those of the file
-at_end : (s : Scoped) (is : List External) (i : ℕ) (fs : List Procedure) (whole : TypedFunctions) → length is ≤ i
-    → functions_first fs (typed_externals s (externals_of (drop i is))) ≡ whole → whole ≡ Ok (fs, s)
-at_end s is i fs whole h e =
-    sym e ∙ ap (λ (ds : List External). functions_first fs (typed_externals s (externals_of ds))) (drop_all i is h) ∙ ap (λ (gs : List Procedure). Ok (gs, s)) (append-nil fs)
+-- at the end the definitions are those of the file
+at_end : (s : Scoped) (is : List External) (i : ℕ) (xs : List Definition) (whole : TypedDefinitions) → length is ≤ i
+    → definitions_first xs (typed_externals s (externals_of (drop i is))) ≡ whole → whole ≡ Ok (xs, s)
+at_end s is i xs whole h e =
+    sym e ∙ ap (λ (ds : List External). definitions_first xs (typed_externals s (externals_of ds))) (drop_all i is h) ∙ ap (λ (ys : List Definition). Ok (ys, s)) (append-nil xs)
 
 pub returns : goal.returns
 returns c =
-    at_end c.loop-external.scope c.args.externals.now c.loop-external.external-index (view_functions c.loop-external.functions.items) (typed_externals c.args.scope.now (externals_of c.args.externals.now)) (omega arith) c.loop-external.invariant.step
+    at_end c.loop-external.scope c.args.externals.now c.loop-external.external-index (view_definitions c.loop-external.definitions.items) (typed_externals c.args.scope.now (externals_of c.args.externals.now)) (omega arith) c.loop-external.invariant.step

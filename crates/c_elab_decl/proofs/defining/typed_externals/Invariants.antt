@@ -1,12 +1,11 @@
 use Rattle.std.proofs.Common.{◌≡◌, [], drop}
 use Rattle.c_tree.specs.Statements.{externals_of}
-use Rattle.core_tree.specs.Trees.{view_functions}
 use Rattle.c_elab_decl.specs.Files.{typed_externals}
-use Rattle.c_elab_decl.specs.Steps.{functions_first}
+use Rattle.c_elab_decl.specs.Steps.{definitions_first, view_definitions}
 use Rattle.c_elab_decl.proofs.defining.typed_externals.Given as goal
 
 abbrev pub invariant-loop-external : goal.invariant-loop-external
 invariant-loop-external l = record {
-  step : functions_first (view_functions l.functions.items) (typed_externals l.scope (externals_of (drop l.external-index l.externals))) ≡ typed_externals l.initial.scope (externals_of l.externals);
+  step : definitions_first (view_definitions l.definitions.items) (typed_externals l.scope (externals_of (drop l.external-index l.externals))) ≡ typed_externals l.initial.scope (externals_of l.externals);
   outside : l.scope.variables ≡ [];
 }

@@ -14,4 +14,4 @@ returns-clause-there c =
     let r = lasting_type s.records.done (type_view base.type_) c.args.is_extern i c.args.lengths.items in
     let linked = c.linked_object-linked.ensures ∙ ap (λ (n : List ℕ). linked_object c.args.region c.args.is_extern s n) c.name_of-name.ensures in
     subst (λ (o : Option ℕ). OnOk c.lasting_node.result (IfSome o (λ k. IsObjectThere s k))) linked
-    (type_there (λ t. (type_view t.type_, t.unknown_length)) c.lasting_node.result c.declared_line-line.result s base.constant c.earlier-earlier.result c.linked_object-linked.result r i (c.lasting_node.ensures r c.lasting_type-made.ensures))
+    (type_there (λ t. (type_view t.type_, t.unknown_length)) c.lasting_node.result c.full_line-line.result s base.constant c.earlier_linked-earlier.result c.linked_object-linked.result r i (c.lasting_node.ensures r c.lasting_type-made.ensures))

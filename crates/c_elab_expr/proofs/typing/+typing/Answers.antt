@@ -1,4 +1,4 @@
-use Rattle.std.proofs.Common.{◌≡◌, ◌+◌, ℕ, Option, List, [], ◌∷◌, ◌++◌, drop, map, Result, Ok, Err, ap, sym, subst, refl, ◌∙◌, arith}
+use Rattle.std.proofs.Common.{◌≡◌, ◌+◌, ℕ, Bool, Option, List, [], ◌∷◌, ◌++◌, drop, map, Result, Ok, Err, ap, sym, subst, refl, ◌∙◌, arith}
 use Rattle.std.proofs.lemmas.List.{map-append, append-nil, drop_all}
 use Rattle.std.proofs.lemmas.Result.{err_from_is_err_and}
 use Rattle.c_tree.specs.declared.expr.Expr.{Expr}
@@ -15,7 +15,7 @@ use Rattle.c_types.specs.Types.{view as type_view}
 use Rattle.c_elab_expr.specs.declared.operands.CoreOperand.{CoreOperand}
 use Rattle.c_elab_expr.specs.Operands.{Operand, view_operand, cast_operand}
 use Rattle.c_elab_expr.specs.Scopes.{Scoped}
-use Rattle.c_elab_expr.specs.Typing.{Fault, Gives, GivesNode, Adds, on_line, called, callee, typed, typed_arguments, operand, lengths, suffix_lengths, behind}
+use Rattle.c_elab_expr.specs.Typing.{Fault, Gives, GivesNode, Adds, on_line, called, callee, typed, typed_arguments, operand_by, operand, lengths, suffix_lengths, behind}
 use Rattle.c_elab_expr.proofs.Arguments.{fails_on, front, argument_fails, argument_typed, call_fails, call_typed}
 use Rattle.c_elab_expr.specs.Nodes.{◌>>=◌}
 use Rattle.c_elab_expr.specs.Types.{type_size}
@@ -73,8 +73,8 @@ typed_expr-returns-in_err-arguments-in-Call t c =
     let same_args = ap trees c.deref-in-Call-2.ensures.value in
     let m = c.in_ok-callee-in-Call.callee in
     let means : callee scope f (operand scope f) ≡ Ok m = ap (λ (x : Tree). callee scope x (operand scope x)) (sym same_f) ∙ c.in_ok-callee-in-Call.ensures in
-    rw (p.1, p.2) (fails_on c.in_err-arguments-in-Call.field-0.0 (typed_arguments scope (trees c.deref-in-Call-2.result.now)) (typed scope (tree c.args.expr.now))
-    (λ bad e. ap (typed scope) shape ∙ call_fails scope f args m bad means (ap (typed_arguments scope) (sym same_args) ∙ e))
+    rw (p.1, p.2) (fails_on c.in_err-arguments-in-Call.field-0.0 (typed_arguments scope (trees c.deref-in-Call-2.result.now)) (typed scope c.args.wanted (tree c.args.expr.now))
+    (λ bad e. ap (typed scope c.args.wanted) shape ∙ call_fails scope f args c.args.wanted m bad means (ap (typed_arguments scope) (sym same_args) ∙ e))
     c.in_err-arguments-in-Call.ensures)
 
 pub typed_expr-returns-in_ok-arguments-in-Call : goal.typed_expr-returns-in_ok-arguments-in-Call
@@ -89,9 +89,9 @@ typed_expr-returns-in_ok-arguments-in-Call t c =
     let xs = map view_operand c.in_ok-arguments-in-Call.arguments.items in
     let means : callee scope f (operand scope f) ≡ Ok m = ap (λ (x : Tree). callee scope x (operand scope x)) (sym same_f) ∙ c.in_ok-callee-in-Call.ensures in
     let typing : typed_arguments scope args ≡ Ok xs = ap (typed_arguments scope) (sym same_args) ∙ c.in_ok-arguments-in-Call.ensures in
-    let node = called m xs in
+    let node = called scope c.args.wanted m xs in
     let line : on_line (first_line (tree c.deref-in-Call-3.result.now)) node ≡ on_line (first_line f) node = ap (λ (e : Expr). on_line (first_line (tree e)) node) c.deref-in-Call-3.ensures in
-    let same : on_line (first_line (tree c.deref-in-Call-3.result.now)) node ≡ typed scope (tree c.args.expr.now) = line ∙ sym (ap (typed scope) shape ∙ call_typed scope f args m xs means typing) in
+    let same : on_line (first_line (tree c.deref-in-Call-3.result.now)) node ≡ typed scope c.args.wanted (tree c.args.expr.now) = line ∙ sym (ap (typed scope c.args.wanted) shape ∙ call_typed scope f args c.args.wanted m xs means typing) in
     subst (λ (r : Result Operand Fault). Gives view_operand c.placed-in-Call.result r) same (c.placed-in-Call.ensures node c.called.ensures)
 
 -- ---- measures
@@ -189,8 +189,8 @@ typed_expr-returns-in_err-type_-in-Cast t c =
     let name = c.in-Cast.type_name.value in
     let shape = ap tree c.in-Cast.is ∙ view_cast c.in-Cast.line c.in-Cast.type_name c.in-Cast.operand in
     let same = ap (named_type s) c.deref-in-Cast.ensures in
-    rw (p.1, p.2) (fails_on c.in_err-type_-in-Cast.field-0.0 (named_type s c.deref-in-Cast.result.now) (typed s (tree c.args.expr.now))
-    (λ f bad. ap (typed s) shape ∙ cast_name_fails s c.in-Cast.line (map view_type_part name.specifiers.items) (view_declarator name.declarator) (tree c.in-Cast.operand.value) f (sym same ∙ bad))
+    rw (p.1, p.2) (fails_on c.in_err-type_-in-Cast.field-0.0 (named_type s c.deref-in-Cast.result.now) (typed s c.args.wanted (tree c.args.expr.now))
+    (λ f bad. ap (typed s c.args.wanted) shape ∙ cast_name_fails s c.args.wanted c.in-Cast.line (map view_type_part name.specifiers.items) (view_declarator name.declarator) (tree c.in-Cast.operand.value) f (sym same ∙ bad))
     c.in_err-type_-in-Cast.ensures)
 
 pub typed_expr-returns-in_err-core-in-Cast : goal.typed_expr-returns-in_err-core-in-Cast
@@ -200,9 +200,9 @@ typed_expr-returns-in_err-core-in-Cast t c =
     let name = c.in-Cast.type_name.value in
     let shape = ap tree c.in-Cast.is ∙ view_cast c.in-Cast.line c.in-Cast.type_name c.in-Cast.operand in
     let same = ap (named_type s) c.deref-in-Cast.ensures in
-    let other = ap (λ (e : Expr). operand s (tree e)) c.deref-in-Cast-2.ensures in
-    rw (p.1, p.2) (fails_on c.in_err-core-in-Cast.field-0.0 (operand s (tree c.deref-in-Cast-2.result.now)) (typed s (tree c.args.expr.now))
-    (λ f bad. ap (typed s) shape ∙ cast_fails s c.in-Cast.line (map view_type_part name.specifiers.items) (view_declarator name.declarator) (tree c.in-Cast.operand.value) (type_view c.in_ok-type_-in-Cast.type_) f
+    let other = ap (λ (e : Expr). operand_by s c.is_wanted.result (tree e)) c.deref-in-Cast-2.ensures ∙ ap (λ (w : Bool). operand_by s w (tree c.in-Cast.operand.value)) c.is_wanted.ensures in
+    rw (p.1, p.2) (fails_on c.in_err-core-in-Cast.field-0.0 (operand_by s c.is_wanted.result (tree c.deref-in-Cast-2.result.now)) (typed s c.args.wanted (tree c.args.expr.now))
+    (λ f bad. ap (typed s c.args.wanted) shape ∙ cast_fails s c.args.wanted c.in-Cast.line (map view_type_part name.specifiers.items) (view_declarator name.declarator) (tree c.in-Cast.operand.value) (type_view c.in_ok-type_-in-Cast.type_) f
     (sym same ∙ c.in_ok-type_-in-Cast.ensures) (sym other ∙ bad))
     c.in_err-core-in-Cast.ensures)
 
@@ -212,14 +212,14 @@ typed_expr-returns-in_ok-core-in-Cast t c =
     let name = c.in-Cast.type_name.value in
     let shape = ap tree c.in-Cast.is ∙ view_cast c.in-Cast.line c.in-Cast.type_name c.in-Cast.operand in
     let same = ap (named_type s) c.deref-in-Cast.ensures in
-    let other = ap (λ (e : Expr). operand s (tree e)) c.deref-in-Cast-2.ensures in
+    let other = ap (λ (e : Expr). operand_by s c.is_wanted.result (tree e)) c.deref-in-Cast-2.ensures ∙ ap (λ (w : Bool). operand_by s w (tree c.in-Cast.operand.value)) c.is_wanted.ensures in
     let u = type_view c.in_ok-type_-in-Cast.type_ in
     let x = view_operand c.in_ok-core-in-Cast.core in
     let node = cast_operand s.records.done c.in-Cast.line u x in
     let made : GivesNode view_operand c.cast_operand.result node =
     subst (λ (r : Records). GivesNode view_operand c.cast_operand.result (cast_operand r.done c.in-Cast.line u x)) c.layouts.ensures c.cast_operand.ensures in
-    let whole : on_line c.in-Cast.line node ≡ typed s (tree c.args.expr.now) =
-    sym (ap (typed s) shape ∙ cast_typed s c.in-Cast.line (map view_type_part name.specifiers.items) (view_declarator name.declarator) (tree c.in-Cast.operand.value) u x
+    let whole : on_line c.in-Cast.line node ≡ typed s c.args.wanted (tree c.args.expr.now) =
+    sym (ap (typed s c.args.wanted) shape ∙ cast_typed s c.args.wanted c.in-Cast.line (map view_type_part name.specifiers.items) (view_declarator name.declarator) (tree c.in-Cast.operand.value) u x
     (sym same ∙ c.in_ok-type_-in-Cast.ensures) (sym other ∙ c.in_ok-core-in-Cast.ensures)) in
     subst (λ (r : Result Operand Fault). Gives view_operand c.placed_at-in-Cast.result r) whole (c.placed_at-in-Cast.ensures node made)
 
@@ -230,8 +230,8 @@ typed_expr-returns-in_err-type_-in-SizeofType t c =
     let name = c.in-SizeofType.type_name.value in
     let shape = ap tree c.in-SizeofType.is ∙ view_sizeof_type c.in-SizeofType.line c.in-SizeofType.type_name in
     let same = ap (named_type s) c.deref-in-SizeofType.ensures in
-    rw (p.1, p.2) (fails_on c.in_err-type_-in-SizeofType.field-0.0 (named_type s c.deref-in-SizeofType.result.now) (typed s (tree c.args.expr.now))
-    (λ f bad. ap (typed s) shape ∙ size_name_fails s c.in-SizeofType.line (map view_type_part name.specifiers.items) (view_declarator name.declarator) f (sym same ∙ bad))
+    rw (p.1, p.2) (fails_on c.in_err-type_-in-SizeofType.field-0.0 (named_type s c.deref-in-SizeofType.result.now) (typed s c.args.wanted (tree c.args.expr.now))
+    (λ f bad. ap (typed s c.args.wanted) shape ∙ size_name_fails s c.args.wanted c.in-SizeofType.line (map view_type_part name.specifiers.items) (view_declarator name.declarator) f (sym same ∙ bad))
     c.in_err-type_-in-SizeofType.ensures)
 
 pub typed_expr-returns-in_err-size-in-SizeofType : goal.typed_expr-returns-in_err-size-in-SizeofType
@@ -244,8 +244,8 @@ typed_expr-returns-in_err-size-in-SizeofType t c =
     let u = type_view c.in_ok-type_-in-SizeofType.type_ in
     let size = type_size s.records.done u in
     let node : GivesNode (λ (n : ℕ). n) c.type_size.result size = subst (λ (r : Records). GivesNode (λ (n : ℕ). n) c.type_size.result (type_size r.done u)) c.layouts-in-SizeofType.ensures c.type_size.ensures in
-    rw (p.1, p.2) (fails_on c.in_err-size-in-SizeofType.field-0.0 (on_line c.in-SizeofType.line size) (typed s (tree c.args.expr.now))
-    (λ f bad. ap (typed s) shape ∙ size_fails s c.in-SizeofType.line (map view_type_part name.specifiers.items) (view_declarator name.declarator) u f (sym same ∙ c.in_ok-type_-in-SizeofType.ensures) bad)
+    rw (p.1, p.2) (fails_on c.in_err-size-in-SizeofType.field-0.0 (on_line c.in-SizeofType.line size) (typed s c.args.wanted (tree c.args.expr.now))
+    (λ f bad. ap (typed s c.args.wanted) shape ∙ size_fails s c.args.wanted c.in-SizeofType.line (map view_type_part name.specifiers.items) (view_declarator name.declarator) u f (sym same ∙ c.in_ok-type_-in-SizeofType.ensures) bad)
     (c.in_err-size-in-SizeofType.ensures size node))
 
 pub typed_expr-returns-in_ok-size-in-SizeofType : goal.typed_expr-returns-in_ok-size-in-SizeofType
@@ -257,7 +257,7 @@ typed_expr-returns-in_ok-size-in-SizeofType t c =
     let u = type_view c.in_ok-type_-in-SizeofType.type_ in
     let size = type_size s.records.done u in
     let node : GivesNode (λ (n : ℕ). n) c.type_size.result size = subst (λ (r : Records). GivesNode (λ (n : ℕ). n) c.type_size.result (type_size r.done u)) c.layouts-in-SizeofType.ensures c.type_size.ensures in
-    ap (typed s) shape
-    ∙ size_typed s c.in-SizeofType.line (map view_type_part name.specifiers.items) (view_declarator name.declarator) u c.in_ok-size-in-SizeofType.size
+    ap (typed s c.args.wanted) shape
+    ∙ size_typed s c.args.wanted c.in-SizeofType.line (map view_type_part name.specifiers.items) (view_declarator name.declarator) u c.in_ok-size-in-SizeofType.size
     (sym same ∙ c.in_ok-type_-in-SizeofType.ensures) (c.in_ok-size-in-SizeofType.ensures size node)
     ∙ ap Ok (sym c.sized.ensures)

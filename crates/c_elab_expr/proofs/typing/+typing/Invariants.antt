@@ -14,34 +14,37 @@ invariant-add_suffixes-loop-suffix l =
     behind l.found.items (suffix_lengths l.scope (suffixes_of (drop l.suffix-index l.suffixes))) ≡ behind l.initial.found.items (suffix_lengths l.scope (suffixes_of l.suffixes))
 
 abbrev pub decreases-typed_expr : goal.decreases-typed_expr
-decreases-typed_expr l = 8 * depth (tree l.expr.now)
+decreases-typed_expr l = 9 * depth (tree l.expr.now)
 
 abbrev pub decreases-callee : goal.decreases-callee
-decreases-callee l = 8 * depth (tree l.function.now) + 2
+decreases-callee l = 9 * depth (tree l.function.now) + 3
 
 abbrev pub decreases-operand_size : goal.decreases-operand_size
-decreases-operand_size l = 8 * depth (tree l.operand.now) + 1
+decreases-operand_size l = 9 * depth (tree l.operand.now) + 1
 
 abbrev pub decreases-typed_arguments : goal.decreases-typed_arguments
-decreases-typed_arguments l = 8 * depth_of (trees l.exprs.now) + 2
+decreases-typed_arguments l = 9 * depth_of (trees l.exprs.now) + 3
 
 abbrev pub decreases-bound : goal.decreases-bound
-decreases-bound l = 8 * depth (tree l.expr.now) + 2
+decreases-bound l = 9 * depth (tree l.expr.now) + 3
 
 abbrev pub decreases-add_suffix : goal.decreases-add_suffix
-decreases-add_suffix l = 8 * suffixes_depth (view_suffix l.suffix.now no_suffix) + 3
+decreases-add_suffix l = 9 * suffixes_depth (view_suffix l.suffix.now no_suffix) + 4
 
 abbrev pub decreases-add_suffixes : goal.decreases-add_suffixes
-decreases-add_suffixes l = 8 * suffixes_depth (suffixes_of l.suffixes.now) + 4
+decreases-add_suffixes l = 9 * suffixes_depth (suffixes_of l.suffixes.now) + 5
 
 abbrev pub decreases-add_lengths : goal.decreases-add_lengths
-decreases-add_lengths l = 8 * declared_depth (view_declarator l.declarator.now) + 5
+decreases-add_lengths l = 9 * declared_depth (view_declarator l.declarator.now) + 6
 
 abbrev pub decreases-lengths : goal.decreases-lengths
-decreases-lengths l = 8 * declared_depth (view_declarator l.declarator.now) + 6
+decreases-lengths l = 9 * declared_depth (view_declarator l.declarator.now) + 7
 
 abbrev pub decreases-type_named : goal.decreases-type_named
-decreases-type_named l = 8 * declared_depth (view_declarator l.name.now.declarator) + 7
+decreases-type_named l = 9 * declared_depth (view_declarator l.name.now.declarator) + 8
 
 abbrev pub decreases-used_expr : goal.decreases-used_expr
-decreases-used_expr l = 8 * depth (tree l.expr.now) + 1
+decreases-used_expr l = 9 * depth (tree l.expr.now) + 2
+
+abbrev pub decreases-used_by : goal.decreases-used_by
+decreases-used_by l = 9 * depth (tree l.expr.now) + 1

@@ -1,15 +1,24 @@
-use Rattle.std.proofs.Common.{◌≡◌, ℕ, true, false, List, [], ◌∷◌, refl, ap, ◌∙◌}
-use Rattle.std.specs.Prelude.{None}
-use Rattle.core_tree.specs.Trees.{Static, items_of, view_statics}
+use Rattle.std.proofs.Common.{Some, None, true, false, [], ◌∷◌, refl, ap, ◌∙◌}
+use Rattle.c_types.specs.declared.integers.IntegerType.TheVariants.{Int}
+use Rattle.core_tree.specs.declared.functions.PassedType.TheVariants as passed
+use Rattle.core_tree.specs.Trees.{items_of, view_functions, view_statics}
 use Rattle.core_tree.proofs.Views.{view_block}
-use Rattle.c_interp.proofs.TypedFiles.{one_typed_over}
+use Rattle.c_interp.proofs.TypedFiles.{one_typed}
 use Rattle.c_interp.proofs.object_tests.file.Goals as goal
 
-pub new-requires-clause-typed : goal.new-requires-clause-typed
-new-requires-clause-typed c =
-    let first : List ℕ → Static = λ bytes. record { size = 8; readonly = false; bytes = bytes; undefined = None } in
-    let second : List ℕ → Static = λ bytes. record { size = 8; readonly = true; bytes = bytes; undefined = None } in
-    let statics : List Static = first (5 ∷ []) ∷ second (1 ∷ 2 ∷ 3 ∷ 4 ∷ 5 ∷ 6 ∷ 7 ∷ 8 ∷ []) ∷ [] in
-    let seen : view_statics c.in_ok-objects.objects.items ≡ statics =
-    ap view_statics c.in_ok-objects.ensures.items ∙ (λ i. first (c.in_ok-from_slice-3.ensures.items i) ∷ second (c.in_ok-from_slice-4.ensures.items i) ∷ []) in
-    one_typed_over _ _ statics _ (4 ∷ []) (items_of c.args.items.items) seen c.in_ok-functions.ensures.items c.in_ok-from_slice-2.ensures.items (view_block c.args.items) refl c.requires
+pub new-requires-2-clause-typed : goal.new-requires-2-clause-typed
+new-requires-2-clause-typed c =
+    let made = ap view_functions c.in_ok-functions.ensures.items ∙ (λ i. record {
+      name = c.in_ok-from_slice.field-0.items;
+      line = 1;
+      gives = Some (passed.Integer Int);
+      parameters = c.new.ensures.items i;
+      ellipsis = None;
+      variables = c.in_ok-from_slice-2.ensures.items i;
+      body = Some (view_block c.args.items i);
+    } ∷ []) in
+    let objects = ap view_statics c.in_ok-objects.ensures.items ∙ (λ i.
+    record { size = 8; readonly = false; bytes = c.in_ok-from_slice-3.ensures.items i; undefined = None }
+    ∷ record { size = 8; readonly = true; bytes = c.in_ok-from_slice-4.ensures.items i; undefined = None }
+    ∷ []) in
+    one_typed _ _ _ (4 ∷ []) (items_of c.args.items.items) _ made objects refl c.requires

@@ -6,7 +6,7 @@ use Rattle.c_interp.specs.Items.{second}
 use Rattle.c_values.specs.Numbers.{are_operands_of}
 use Rattle.c_interp.specs.Tasks.{finish_of}
 use Rattle.c_interp.specs.Fits.{sizes_of}
-use Rattle.c_interp.specs.Plans.{FitsIn, sizes_seen, items_behind, values_on, structures_on}
+use Rattle.c_interp.specs.Plans.{FitsIn, file_in, items_behind, values_on, structures_on}
 use Rattle.c_interp.proofs.FitParts.{operates_fit}
 use Rattle.c_interp.proofs.plan.plan_finish.Goals as goal
 
@@ -15,6 +15,6 @@ operate-requires c =
     let l = c.args.look.now in
     let n = c.in-Arithmetic in
     let P : CoreExpr → Type 0 = λ e. FitsIn l (finish_of (view e)) in
-    let fit = operates_fit (sizes_seen l) (items_behind l) (values_on l) (sizes_of (structures_on l)) n.line n.operator (subst P n.is c.requires) in
+    let fit = operates_fit (file_in l) l.function (items_behind l) (values_on l) (sizes_of (structures_on l)) n.line n.operator (subst P n.is c.requires) in
     ap (λ (x : TypedNumber). are_operands_of n.operator x.type c.top_of-x.result.type) c.second_of.ensures
     ∙ ap (λ (y : TypedNumber). are_operands_of n.operator (second (values_on l)).type y.type) c.top_of-x.ensures ∙ fit

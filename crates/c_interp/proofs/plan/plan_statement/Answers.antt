@@ -1,5 +1,5 @@
 use Rattle.std.proofs.Common.{ap, sym, subst, ◌∙◌}
-use Rattle.core_tree.specs.Trees.{Statement, view_statement, block, items_of}
+use Rattle.core_tree.specs.Trees.{Statement, view_statement}
 use Rattle.core_tree.proofs.Views.{view_block}
 use Rattle.c_interp.specs.Items.{runs}
 use Rattle.c_interp.specs.Plans.{PlansItem}
@@ -8,5 +8,4 @@ use Rattle.c_interp.proofs.plan.plan_statement.Goals as goal
 pub returns-in-Block : goal.returns-in-Block
 returns-in-Block c =
     let P : Statement → Type 0 = λ s. PlansItem c.args.look.now (runs s) c.plan_block.result in
-    let e = ap view_statement c.in-Block.is ∙ view_block c.in-Block.items ∙ ap (λ is. block (items_of is)) (sym c.deref.ensures.value) in
-    subst P (sym e) c.plan_block.ensures
+    subst P (sym (ap view_statement c.in-Block.is ∙ view_block c.in-Block.items)) c.plan_block.ensures

@@ -11,11 +11,12 @@ use Rattle.c_interp.proofs.replay.run.Goals as goal
 pub take_turns-requires : goal.take_turns-requires
 take_turns-requires c =
     let file = view_core c.args.file.now in
+    let limits = c.args.bounds.now in
     let s = c.in_ok-system.system in
     let t = c.in_ok-first.first in
     let world : world_of thread_of s ≡ first_world (thread_of t) c.in_ok-store.store = search rules in
-    let thread : thread_of t ≡ source_thread file = search rules in
+    let thread : thread_of t ≡ source_thread file limits = search rules in
     let store : c.in_ok-store.store ≡ first_objects file.objects = search rules in
     let P : World → Type 0 = λ w. OneQuiet w.members in
-    let e : world_of thread_of s ≡ first_world (source_thread file) (first_objects file.objects) = world ∙ ap (λ t. first_world t c.in_ok-store.store) thread ∙ ap (first_world (source_thread file)) store in
-    subst P (sym e) (starts_quiet file (first_objects file.objects))
+    let e : world_of thread_of s ≡ first_world (source_thread file limits) (first_objects file.objects) = world ∙ ap (λ t. first_world t c.in_ok-store.store) thread ∙ ap (first_world (source_thread file limits)) store in
+    subst P (sym e) (starts_quiet file limits (first_objects file.objects))

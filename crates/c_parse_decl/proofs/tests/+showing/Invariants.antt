@@ -6,3 +6,6 @@ decreases-show l = 2 * l.levels
 
 abbrev pub decreases-show_item : goal.decreases-show_item
 decreases-show_item l = 2 * l.levels + 1
+
+abbrev pub decreases-show_body : goal.decreases-show_body
+decreases-show_body l = 2 * l.levels + 1

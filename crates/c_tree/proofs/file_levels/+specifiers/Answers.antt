@@ -1,11 +1,12 @@
-use Rattle.std.proofs.Common.{◌<◌, ◌+◌, List, take, map, ap, ◌∙◌, arith}
+use Rattle.std.proofs.Common.{◌==◌, length, ◌<◌, ◌+◌, List, take, map, ap, ◌∙◌, arith}
 use Rattle.c_tree.specs.declared.declaration.Specifier.{Specifier}
 use Rattle.c_tree.specs.declared.declaration.MemberDeclaration.{MemberDeclaration}
-use Rattle.c_tree.specs.declared.expr.Declarator.{Declarator}
-use Rattle.c_tree.specs.Tree.{view_declarator}
-use Rattle.c_tree.specs.Declarations.{view_part, parts_of, members_of, part_depth, parts_depth, members_depth, declareds_depth}
-use Rattle.c_tree.proofs.DeclarationViews.{view_record}
-use Rattle.c_tree.proofs.Deepest.{deepest_within, deepest_more, of_specifier, parts_deepest, of_member, members_deepest}
+use Rattle.c_tree.specs.declared.declaration.FullDeclarator.{FullDeclarator}
+use Rattle.c_tree.specs.declared.declaration.DeclaratorSuffix.{DeclaratorSuffix}
+use Rattle.c_tree.specs.declared.declaration.Parameter.{Parameter}
+use Rattle.c_tree.specs.Declarations.{view_part, parts_of, members_of, view_full, fulls_of, view_full_suffix, full_suffixes_of, full_end, parameters_of, part_depth, parts_depth, members_depth, full_depth, fulls_depth, full_suffixes_depth, parameters_depth}
+use Rattle.c_tree.proofs.DeclarationViews.{view_record, view_unnamed, view_named, view_inside, view_takes}
+use Rattle.c_tree.proofs.Deepest.{deepest_within, deepest_more, of_specifier, parts_deepest, of_member, members_deepest, of_declarator, fulls_deepest, of_suffix, full_suffixes_deepest, unnamed_empty, unnamed_more, of_parameter, parameters_deepest}
 use Rattle.c_tree.proofs.file_levels.+specifiers.Goals as goal
 
 pub part_depth-members_depth-requires : goal.part_depth-members_depth-requires
@@ -50,13 +51,13 @@ members_depth-parts_depth-requires t c =
     let first = ap (λ (ss : List Specifier). parts_depth (parts_of ss)) c.deref.ensures.value in
     (omega (arith, below, all, e, first), omega (arith, below, all, e, first))
 
-pub members_depth-declareds_depth-requires : goal.members_depth-declareds_depth-requires
-members_depth-declareds_depth-requires t c =
+pub members_depth-fulls_depth-requires : goal.members_depth-fulls_depth-requires
+members_depth-fulls_depth-requires t c =
     let below = deepest_within of_member c.args.members.now c.loop-member.member-index c.member-item.result (omega arith) in
     let all = members_deepest c.args.members.now in
     let e = ap (λ (x : MemberDeclaration). of_member x) c.member-item.is in
-    let second = ap (λ (ds : List Declarator). declareds_depth (map view_declarator ds)) c.deref-in-loop-member.ensures.value in
-    omega (arith, below, all, e, second)
+    let second = ap (λ (ds : List FullDeclarator). fulls_depth (fulls_of ds)) c.deref-in-loop-member.ensures.value in
+    (omega (arith, below, all, e, second), omega (arith, below, all, e, second))
 
 pub members_depth-loop-member-preserved : goal.members_depth-loop-member-preserved
 members_depth-loop-member-preserved t c =
@@ -65,5 +66,151 @@ members_depth-loop-member-preserved t c =
     let before = members_deepest (take c.loop-member.member-index c.args.members.now) in
     let e = ap (λ (x : MemberDeclaration). of_member x) c.member-item.is in
     let first = ap (λ (ss : List Specifier). parts_depth (parts_of ss)) c.deref.ensures.value in
-    let second = ap (λ (ds : List Declarator). declareds_depth (map view_declarator ds)) c.deref-in-loop-member.ensures.value in
+    let second = ap (λ (ds : List FullDeclarator). fulls_depth (fulls_of ds)) c.deref-in-loop-member.ensures.value in
     omega (arith, one, next, before, e, first, second)
+
+pub fulls_depth-full_depth-requires : goal.fulls_depth-full_depth-requires
+fulls_depth-full_depth-requires t c =
+    let below = deepest_within of_declarator c.args.declarators.now c.loop-declarator.declarator-index c.declarator-item.result (omega arith) in
+    let all = fulls_deepest c.args.declarators.now in
+    let e = ap (λ (x : FullDeclarator). of_declarator x) c.declarator-item.is in
+    (omega (arith, below, all, e), omega (arith, below, all, e))
+
+pub fulls_depth-loop-declarator-preserved : goal.fulls_depth-loop-declarator-preserved
+fulls_depth-loop-declarator-preserved t c =
+    let one = deepest_more of_declarator c.args.declarators.now c.loop-declarator.declarator-index c.declarator-item.result (omega arith) in
+    let next = fulls_deepest (take (c.loop-declarator.declarator-index + 1) c.args.declarators.now) in
+    let before = fulls_deepest (take c.loop-declarator.declarator-index c.args.declarators.now) in
+    let e = ap (λ (x : FullDeclarator). of_declarator x) c.declarator-item.is in
+    omega (arith, one, next, before, e)
+
+pub full_suffixes_depth-full_suffix_depth-requires : goal.full_suffixes_depth-full_suffix_depth-requires
+full_suffixes_depth-full_suffix_depth-requires t c =
+    let below = deepest_within of_suffix c.args.suffixes.now c.loop-suffix.suffix-index c.suffix-item.result (omega arith) in
+    let all = full_suffixes_deepest c.args.suffixes.now in
+    let e = ap (λ (x : DeclaratorSuffix). of_suffix x) c.suffix-item.is in
+    (omega (arith, below, all, e), omega (arith, below, all, e))
+
+pub full_suffixes_depth-loop-suffix-preserved : goal.full_suffixes_depth-loop-suffix-preserved
+full_suffixes_depth-loop-suffix-preserved t c =
+    let one = deepest_more of_suffix c.args.suffixes.now c.loop-suffix.suffix-index c.suffix-item.result (omega arith) in
+    let next = full_suffixes_deepest (take (c.loop-suffix.suffix-index + 1) c.args.suffixes.now) in
+    let before = full_suffixes_deepest (take c.loop-suffix.suffix-index c.args.suffixes.now) in
+    let e = ap (λ (x : DeclaratorSuffix). of_suffix x) c.suffix-item.is in
+    omega (arith, one, next, before, e)
+
+pub parameters_depth-parts_depth-requires : goal.parameters_depth-parts_depth-requires
+parameters_depth-parts_depth-requires t c =
+    let below = deepest_within of_parameter c.args.parameters.now c.loop-parameter.parameter-index c.parameter-item.result (omega arith) in
+    let all = parameters_deepest c.args.parameters.now in
+    let e = ap (λ (x : Parameter). of_parameter x) c.parameter-item.is in
+    let first = ap (λ (ss : List Specifier). parts_depth (parts_of ss)) c.deref.ensures.value in
+    (omega (arith, below, all, e, first), omega (arith, below, all, e, first))
+
+pub parameters_depth-full_depth-requires : goal.parameters_depth-full_depth-requires
+parameters_depth-full_depth-requires t c =
+    let below = deepest_within of_parameter c.args.parameters.now c.loop-parameter.parameter-index c.parameter-item.result (omega arith) in
+    let all = parameters_deepest c.args.parameters.now in
+    let e = ap (λ (x : Parameter). of_parameter x) c.parameter-item.is in
+    (omega (arith, below, all, e), omega (arith, below, all, e))
+
+pub parameters_depth-loop-parameter-preserved : goal.parameters_depth-loop-parameter-preserved
+parameters_depth-loop-parameter-preserved t c =
+    let one = deepest_more of_parameter c.args.parameters.now c.loop-parameter.parameter-index c.parameter-item.result (omega arith) in
+    let next = parameters_deepest (take (c.loop-parameter.parameter-index + 1) c.args.parameters.now) in
+    let before = parameters_deepest (take c.loop-parameter.parameter-index c.args.parameters.now) in
+    let e = ap (λ (x : Parameter). of_parameter x) c.parameter-item.is in
+    let first = ap (λ (ss : List Specifier). parts_depth (parts_of ss)) c.deref.ensures.value in
+    omega (arith, one, next, before, e, first)
+
+pub full_suffix_depth-parameters_depth-requires : goal.full_suffix_depth-parameters_depth-requires
+full_suffix_depth-parameters_depth-requires t c =
+    let e = ap (λ (s : DeclaratorSuffix). of_suffix s) c.in-Parameters.is ∙ ap full_suffixes_depth (view_takes c.in-Parameters.line c.in-Parameters.parameters c.in-Parameters.variadic full_end) in
+    let same = ap (λ (ps : List Parameter). parameters_depth (parameters_of ps)) c.deref.ensures.value in
+    let small : full_suffixes_depth (view_full_suffix c.args.suffix.now full_end) < 4294967296 = c.requires in
+    (omega (arith, e, same), omega (arith, e, same))
+
+pub full_suffix_depth-returns-in-Parameters : goal.full_suffix_depth-returns-in-Parameters
+full_suffix_depth-returns-in-Parameters t c =
+    let e = ap (λ (s : DeclaratorSuffix). of_suffix s) c.in-Parameters.is ∙ ap full_suffixes_depth (view_takes c.in-Parameters.line c.in-Parameters.parameters c.in-Parameters.variadic full_end) in
+    let same = ap (λ (ps : List Parameter). parameters_depth (parameters_of ps)) c.deref.ensures.value in
+    omega (arith, e, same)
+
+pub full_depth-full_suffixes_depth-requires : goal.full_depth-full_suffixes_depth-requires
+full_depth-full_suffixes_depth-requires t c =
+    let e = ap (λ (d : FullDeclarator). of_declarator d) c.in-Unnamed.is ∙ ap full_depth (view_unnamed c.in-Unnamed.suffixes) in
+    let none = c.are_none.ensures ∙ ap (λ (ss : List DeclaratorSuffix). length ss == 0) c.deref.ensures.value in
+    let one = unnamed_more c.in-Unnamed.suffixes.items c.are_none.result none c.if-are_none.false in
+    let same = ap (λ (ss : List DeclaratorSuffix). full_suffixes_depth (full_suffixes_of ss)) c.deref-else-are_none.ensures.value in
+    let small : full_depth (view_full c.args.declarator.now) < 4294967296 = c.requires in
+    (omega (arith, e, one, same), omega (arith, e, one, same))
+
+pub full_depth-overflow_add-result : goal.full_depth-overflow_add-result
+full_depth-overflow_add-result t c =
+    let e = ap (λ (d : FullDeclarator). of_declarator d) c.in-Unnamed.is ∙ ap full_depth (view_unnamed c.in-Unnamed.suffixes) in
+    let none = c.are_none.ensures ∙ ap (λ (ss : List DeclaratorSuffix). length ss == 0) c.deref.ensures.value in
+    let one = unnamed_more c.in-Unnamed.suffixes.items c.are_none.result none c.if-are_none.false in
+    let same = ap (λ (ss : List DeclaratorSuffix). full_suffixes_depth (full_suffixes_of ss)) c.deref-else-are_none.ensures.value in
+    omega (arith, e, one, same)
+
+pub full_depth-returns-then-are_none : goal.full_depth-returns-then-are_none
+full_depth-returns-then-are_none t c =
+    let e = ap (λ (d : FullDeclarator). of_declarator d) c.in-Unnamed.is ∙ ap full_depth (view_unnamed c.in-Unnamed.suffixes) in
+    let none = c.are_none.ensures ∙ ap (λ (ss : List DeclaratorSuffix). length ss == 0) c.deref.ensures.value in
+    let one = unnamed_empty c.in-Unnamed.suffixes.items c.are_none.result none c.if-are_none.true in
+    omega (arith, e, one)
+
+pub full_depth-returns-else-are_none : goal.full_depth-returns-else-are_none
+full_depth-returns-else-are_none t c =
+    let e = ap (λ (d : FullDeclarator). of_declarator d) c.in-Unnamed.is ∙ ap full_depth (view_unnamed c.in-Unnamed.suffixes) in
+    let none = c.are_none.ensures ∙ ap (λ (ss : List DeclaratorSuffix). length ss == 0) c.deref.ensures.value in
+    let one = unnamed_more c.in-Unnamed.suffixes.items c.are_none.result none c.if-are_none.false in
+    let same = ap (λ (ss : List DeclaratorSuffix). full_suffixes_depth (full_suffixes_of ss)) c.deref-else-are_none.ensures.value in
+    omega (arith, e, one, same)
+
+pub full_depth-full_suffixes_depth-requires-in-Named : goal.full_depth-full_suffixes_depth-requires-in-Named
+full_depth-full_suffixes_depth-requires-in-Named t c =
+    let e = ap (λ (d : FullDeclarator). of_declarator d) c.in-Named.is ∙ ap full_depth (view_named c.in-Named.line c.in-Named.name c.in-Named.suffixes) in
+    let same = ap (λ (ss : List DeclaratorSuffix). full_suffixes_depth (full_suffixes_of ss)) c.deref-in-Named.ensures.value in
+    let small : full_depth (view_full c.args.declarator.now) < 4294967296 = c.requires in
+    (omega (arith, e, same), omega (arith, e, same))
+
+pub full_depth-overflow_add-result-in-Named : goal.full_depth-overflow_add-result-in-Named
+full_depth-overflow_add-result-in-Named t c =
+    let e = ap (λ (d : FullDeclarator). of_declarator d) c.in-Named.is ∙ ap full_depth (view_named c.in-Named.line c.in-Named.name c.in-Named.suffixes) in
+    let same = ap (λ (ss : List DeclaratorSuffix). full_suffixes_depth (full_suffixes_of ss)) c.deref-in-Named.ensures.value in
+    omega (arith, e, same)
+
+pub full_depth-returns-in-Named : goal.full_depth-returns-in-Named
+full_depth-returns-in-Named t c =
+    let e = ap (λ (d : FullDeclarator). of_declarator d) c.in-Named.is ∙ ap full_depth (view_named c.in-Named.line c.in-Named.name c.in-Named.suffixes) in
+    let same = ap (λ (ss : List DeclaratorSuffix). full_suffixes_depth (full_suffixes_of ss)) c.deref-in-Named.ensures.value in
+    omega (arith, e, same)
+
+pub full_depth-full_depth-requires : goal.full_depth-full_depth-requires
+full_depth-full_depth-requires t c =
+    let e = ap (λ (d : FullDeclarator). of_declarator d) c.in-Inside.is ∙ ap full_depth (view_inside c.in-Inside.line c.in-Inside.inner c.in-Inside.suffixes) in
+    let one = ap (λ (d : FullDeclarator). of_declarator d) c.deref-in-Inside.ensures in
+    let small : full_depth (view_full c.args.declarator.now) < 4294967296 = c.requires in
+    (omega (arith, e, one), omega (arith, e, one))
+
+pub full_depth-full_suffixes_depth-requires-in-Inside : goal.full_depth-full_suffixes_depth-requires-in-Inside
+full_depth-full_suffixes_depth-requires-in-Inside t c =
+    let e = ap (λ (d : FullDeclarator). of_declarator d) c.in-Inside.is ∙ ap full_depth (view_inside c.in-Inside.line c.in-Inside.inner c.in-Inside.suffixes) in
+    let same = ap (λ (ss : List DeclaratorSuffix). full_suffixes_depth (full_suffixes_of ss)) c.deref-in-Inside-2.ensures.value in
+    let small : full_depth (view_full c.args.declarator.now) < 4294967296 = c.requires in
+    (omega (arith, e, same), omega (arith, e, same))
+
+pub full_depth-overflow_add-result-in-Inside : goal.full_depth-overflow_add-result-in-Inside
+full_depth-overflow_add-result-in-Inside t c =
+    let e = ap (λ (d : FullDeclarator). of_declarator d) c.in-Inside.is ∙ ap full_depth (view_inside c.in-Inside.line c.in-Inside.inner c.in-Inside.suffixes) in
+    let one = ap (λ (d : FullDeclarator). of_declarator d) c.deref-in-Inside.ensures in
+    let same = ap (λ (ss : List DeclaratorSuffix). full_suffixes_depth (full_suffixes_of ss)) c.deref-in-Inside-2.ensures.value in
+    omega (arith, e, one, same)
+
+pub full_depth-returns-in-Inside : goal.full_depth-returns-in-Inside
+full_depth-returns-in-Inside t c =
+    let e = ap (λ (d : FullDeclarator). of_declarator d) c.in-Inside.is ∙ ap full_depth (view_inside c.in-Inside.line c.in-Inside.inner c.in-Inside.suffixes) in
+    let one = ap (λ (d : FullDeclarator). of_declarator d) c.deref-in-Inside.ensures in
+    let same = ap (λ (ss : List DeclaratorSuffix). full_suffixes_depth (full_suffixes_of ss)) c.deref-in-Inside-2.ensures.value in
+    omega (arith, e, one, same)

@@ -3,8 +3,8 @@ use Rattle.c_tree.specs.declared.declaration.InitDeclarator.{InitDeclarator}
 use Rattle.c_tree.proofs.Deepest.{deepest_within, deepest_more, declarators_deepest, of_init_declarator}
 use Rattle.c_tree.proofs.file_levels.declarators_depth.Goals as goal
 
-pub declarator_depth-requires : goal.declarator_depth-requires
-declarator_depth-requires c =
+pub full_depth-requires : goal.full_depth-requires
+full_depth-requires c =
     let below = deepest_within of_init_declarator c.args.declarators.now c.loop-declarator.declarator-index c.declarator-item.result (omega arith) in
     let all = declarators_deepest c.args.declarators.now in
     let e = ap (λ (x : InitDeclarator). of_init_declarator x) c.declarator-item.is in

@@ -10,7 +10,7 @@ returns-in-Refuted-clause-found c =
     let core = view_core c.in_ok-program.program in
     let found = subst (IsSearched c.args.bounds.now c.args.budget core) c.in-Refuted.is c.in_ok-searched.ensures.found in
     accepted_decides c.args.bounds.now c.args.budget c.args.file.now core None (successful c.in-Refuted.used) c.in_ok-program.ensures.found c.in_ok-searched.ensures.counts
-    (record { within = found.0; at_all = λ on. found.0 }, found.1)
+    found
 
 pub returns-in-Broken-clause-found : goal.returns-in-Broken-clause-found
 returns-in-Broken-clause-found c =

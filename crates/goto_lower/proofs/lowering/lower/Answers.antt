@@ -1,29 +1,52 @@
-use Rattle.std.proofs.Common.{◌≡◌, true, List, length, ap, sym, subst, ◌∙◌, arith}
+use Rattle.std.proofs.Common.{◌≡◌, ◌<◌, ◌^◌, true, List, length, rules, ap, sym, subst, ◌∙◌, arith}
+use Rattle.std.proofs.lemmas.List.{length-map}
 use Rattle.core_tree.specs.declared.functions.Function.{Function}
-use Rattle.core_tree.specs.Trees.{CoreFile, view_functions, view_core}
+use Rattle.core_tree.specs.Trees.{CoreFile, view_function, view_functions, view_core}
 use Rattle.core_tree.specs.Typed.{are_typed}
+use Rattle.actions.specs.Behaviour.{Thread}
 use Rattle.c_interp.specs.Source.{main_number, source_thread}
-use Rattle.goto_prog.specs.Flat.{Flat, strict_thread}
+use Rattle.goto_prog.specs.Nodes.{Routine, view_procedure, view_procedures, routines_fit}
+use Rattle.goto_prog.specs.Structured.{function_thread}
+use Rattle.goto_prog.specs.GotoThreads.{strict_thread}
 use Rattle.goto_prog.specs.Same.{DoSame}
-use Rattle.goto_lower.specs.Lowered.{function_codes, lowered}
-use Rattle.goto_lower.proofs.SameThread.{main_below, same_thread}
+use Rattle.goto_lower.specs.Lowered.{function_codes}
+use Rattle.goto_lower.proofs.SameThread.{main_below, codes_length, same_thread}
+use Rattle.goto_lower.proofs.CodeFits.{codes_fit}
 use Rattle.goto_lower.proofs.lowering.lower.Goals as goal
+
+pub overflow_cast-main : goal.overflow_cast-main
+overflow_cast-main c =
+    let file = c.args.file.now in
+    let same = c.functions-functions.ensures.is ∙ ap (λ (f : CoreFile). f.functions) c.core-core.ensures.is in
+    let main = c.number_of_main-main.ensures ∙ ap (λ (fs : List Function). main_number (view_functions fs)) same in
+    let few : length file.functions < 2 ^ 31 = subst (λ (f : CoreFile). length f.functions < 2 ^ 31) c.core-core.ensures.is c.functions-functions.ensures.few in
+    let below = main_below (view_core file) c.core-core.ensures.admitted in
+    let long : length (view_functions file.functions) ≡ length file.functions = length-map file.functions view_function in
+    let small : c.number_of_main-main.result < 2 ^ 32 = omega (arith, main, few, below, long) in
+    search (rules, small)
 
 pub new-requires : goal.new-requires
 new-requires c =
     let file = c.args.file.now in
     let same = c.functions-functions.ensures.is ∙ ap (λ (f : CoreFile). f.functions) c.core-core.ensures.is in
     let main = c.number_of_main-main.ensures ∙ ap (λ (fs : List Function). main_number (view_functions fs)) same in
-    let long = ap length c.in_ok-codes.ensures ∙ ap (λ (fs : List Function). length (function_codes 0 (view_functions fs))) same in
-    omega (arith, main, long, main_below (view_core file).functions c.core-core.ensures.main)
+    let codes = c.in_ok-procedures.ensures ∙ ap (λ (fs : List Function). function_codes 0 (view_functions fs)) same in
+    let below = main_below (view_core file) c.core-core.ensures.admitted in
+    let made : length (view_procedures c.in_ok-procedures.procedures.items) ≡ length c.in_ok-procedures.procedures.items = length-map c.in_ok-procedures.procedures.items view_procedure in
+    let typed : are_typed (view_core file) ≡ true = subst (λ (f : CoreFile). are_typed (view_core f) ≡ true) c.core-core.ensures.is c.functions-functions.ensures.typed in
+    record {
+      within = omega (arith, main, below, made, ap length codes, codes_length 0 (view_functions file.functions));
+      fits = subst (λ (rs : List Routine). routines_fit rs ≡ true) (sym codes) (codes_fit (view_core file) typed);
+    }
 
 pub returns-clause-same : goal.returns-clause-same
 returns-clause-same c =
     let file = c.args.file.now in
     let same = c.functions-functions.ensures.is ∙ ap (λ (f : CoreFile). f.functions) c.core-core.ensures.is in
     let main = c.number_of_main-main.ensures ∙ ap (λ (fs : List Function). main_number (view_functions fs)) same in
-    let codes = c.in_ok-codes.ensures ∙ ap (λ (fs : List Function). function_codes 0 (view_functions fs)) same in
-    let goto : c.new.result ≡ lowered (view_core file) = c.new.ensures ∙ (λ i. record { functions = codes i; main = main i; store = c.in_ok-store.ensures i }) in
-    let P : Flat → Type 0 = λ g. DoSame (strict_thread g) (source_thread (view_core file)) in
+    let codes = c.in_ok-procedures.ensures ∙ ap (λ (fs : List Function). function_codes 0 (view_functions fs)) same in
     let typed : are_typed (view_core file) ≡ true = subst (λ (f : CoreFile). are_typed (view_core f) ≡ true) c.core-core.ensures.is c.functions-functions.ensures.typed in
-    subst P (sym goto) (same_thread (view_core file) c.core-core.ensures.main typed)
+    λ bounds.
+    (let thread : strict_thread c.new.result bounds ≡ function_thread (record { strict = true; functions = function_codes 0 (view_functions file.functions); limits = bounds }) true (main_number (view_functions file.functions)) =
+    (λ i. strict_thread (c.new.ensures i) bounds) ∙ (λ i. function_thread (record { strict = true; functions = codes i; limits = bounds }) true (main i)) in
+    subst (λ (t : Thread). DoSame t (source_thread (view_core file) bounds)) (sym thread) (same_thread (view_core file) c.core-core.ensures.admitted typed bounds))

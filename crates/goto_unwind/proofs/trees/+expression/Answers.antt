@@ -1,19 +1,42 @@
-use Rattle.std.proofs.Common.{◌≡◌, ap, sym, ◌∙◌, arith}
+use Rattle.std.proofs.Common.{ap, sym, ◌∙◌}
+use Rattle.core_tree.specs.declared.expression.CoreExpr.{CoreExpr}
 use Rattle.core_tree.specs.declared.expression.CoreStructure.{CoreStructure}
-use Rattle.core_tree.specs.Trees.{view_structure, parts_of}
-use Rattle.core_tree.proofs.Views.{view_list}
-use Rattle.goto_unwind.specs.Counts.{structure_places, parts_places}
-use Rattle.goto_unwind.proofs.Sums.{parts_whole}
+use Rattle.core_tree.specs.Trees.{Expression, Structure, view, view_structure, parts_of, arguments_of}
+use Rattle.core_tree.proofs.Views.{view_list, view_call, view_give}
+use Rattle.goto_unwind.specs.Linear.{called, expression_linear, structure_linear, parts_linear, arguments_linear}
+use Rattle.goto_unwind.proofs.Adding.{ok_same}
 use Rattle.goto_unwind.proofs.trees.+expression.Goals as goal
 
-pub parts_places-returns : goal.parts_places-returns
-parts_places-returns t c =
-    parts_whole c.args.parts.now c.loop-part.part-index c.loop-part.places (parts_places (parts_of c.args.parts.now)) c.loop-part-test.false c.loop-part.invariant.0 c.loop-part.invariant.1
+pub expression-returns-in_ok-arguments_of_call-in-Call : goal.expression-returns-in_ok-arguments_of_call-in-Call
+expression-returns-in_ok-arguments_of_call-in-Call t c =
+    let n = c.args.times in
+    let i = c.in-Call in
+    let tally = c.args.tally.now in
+    ok_same c.call.result _ _ _
+    (ap (called i.function n) (c.in_ok-arguments_of_call-in-Call.ensures
+    ∙ ap (λ as_. arguments_linear n (arguments_of as_) c.add-in-Call.new.self) c.deref-in-Call.ensures.value
+    ∙ ap (arguments_linear n (arguments_of i.arguments.items)) c.add-in-Call.ensures)
+    ∙ sym (ap (λ (e : CoreExpr). expression_linear n (view e) tally) i.is ∙ ap (λ (e : Expression). expression_linear n e tally) (view_call i.line i.function i.used i.type_ i.arguments)))
+    c.call.ensures
 
-pub structure_places-returns-in-List : goal.structure_places-returns-in-List
-structure_places-returns-in-List t c =
-    let whole : structure_places (view_structure c.args.structure.now) ≡ parts_places (parts_of c.deref-in-List.result.now) =
-    ap (λ (s : CoreStructure). structure_places (view_structure s)) c.in-List.is
-    ∙ ap structure_places (view_list c.in-List.line c.in-List.size c.in-List.parts)
-    ∙ ap (λ xs. parts_places (parts_of xs)) (sym c.deref-in-List.ensures.value) in
-    omega (arith, whole, c.parts_places.ensures)
+pub structure-returns-in-List : goal.structure-returns-in-List
+structure-returns-in-List t c =
+    let n = c.args.times in
+    let i = c.in-List in
+    let tally = c.args.tally.now in
+    ok_same c.parts_of_list.result _ _ _
+    (ap (λ ps. parts_linear n (parts_of ps) tally) c.deref-in-List.ensures.value
+    ∙ sym (ap (λ (a : CoreStructure). structure_linear n (view_structure a) tally) i.is ∙ ap (λ (a : Structure). structure_linear n a tally) (view_list i.line i.size i.parts)))
+    c.parts_of_list.ensures
+
+pub structure-returns-in_ok-arguments_of_call-in-Call : goal.structure-returns-in_ok-arguments_of_call-in-Call
+structure-returns-in_ok-arguments_of_call-in-Call t c =
+    let n = c.args.times in
+    let i = c.in-Call in
+    let tally = c.args.tally.now in
+    ok_same c.call.result _ _ _
+    (ap (called i.function n) (c.in_ok-arguments_of_call-in-Call.ensures
+    ∙ ap (λ as_. arguments_linear n (arguments_of as_) c.add-in-Call.new.self) c.deref-in-Call.ensures.value
+    ∙ ap (arguments_linear n (arguments_of i.arguments.items)) c.add-in-Call.ensures)
+    ∙ sym (ap (λ (a : CoreStructure). structure_linear n (view_structure a) tally) i.is ∙ ap (λ (a : Structure). structure_linear n a tally) (view_give i.line i.function i.used i.size i.arguments)))
+    c.call.ensures

@@ -1,8 +1,10 @@
-use Rattle.std.proofs.Common.{◌≡◌, ◌≤◌, ◌+◌, drop}
-use Rattle.std.specs.Prelude.{min}
-use Rattle.core_tree.specs.Trees.{parts_of}
-use Rattle.goto_unwind.specs.Counts.{parts_places}
+use Rattle.std.proofs.Common.{◌≡◌, drop}
+use Rattle.core_tree.specs.Trees.{parts_of, arguments_of}
+use Rattle.goto_unwind.specs.Linear.{parts_linear, arguments_linear}
 use Rattle.goto_unwind.proofs.trees.+expression.Given as goal
 
-abbrev pub invariant-parts_places-loop-part : goal.invariant-parts_places-loop-part
-invariant-parts_places-loop-part l = (l.places ≤ 2000001) × (min (l.places + parts_places (parts_of (drop l.part-index l.parts))) 2000001 ≡ min (parts_places (parts_of l.parts)) 2000001)
+abbrev pub invariant-parts_of_list-loop-part : goal.invariant-parts_of_list-loop-part
+invariant-parts_of_list-loop-part l = parts_linear l.times (parts_of (drop l.part-index l.parts)) l.tally ≡ parts_linear l.times (parts_of l.parts) l.initial.tally
+
+abbrev pub invariant-arguments_of_call-loop-argument : goal.invariant-arguments_of_call-loop-argument
+invariant-arguments_of_call-loop-argument l = arguments_linear l.times (arguments_of (drop l.argument-index l.arguments)) l.tally ≡ arguments_linear l.times (arguments_of l.arguments) l.initial.tally

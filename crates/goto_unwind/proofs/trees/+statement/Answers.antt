@@ -1,19 +1,33 @@
-use Rattle.std.proofs.Common.{◌≡◌, ◌+◌, ap, sym, ◌∙◌, arith}
+use Rattle.std.proofs.Common.{ap, sym, ◌∙◌}
 use Rattle.core_tree.specs.declared.statement.CoreStatement.{CoreStatement}
-use Rattle.core_tree.specs.Trees.{view_statement, items_of}
+use Rattle.core_tree.specs.Trees.{Statement, view, view_statement, items_of}
 use Rattle.core_tree.proofs.Views.{view_block}
-use Rattle.goto_unwind.specs.Counts.{statement_places, items_places}
-use Rattle.goto_unwind.proofs.Sums.{items_whole}
+use Rattle.c_profile.proofs.Switches.{view_switch}
+use Rattle.goto_prog.specs.Structured.{tests_in}
+use Rattle.goto_unwind.specs.Linear.{expression_linear, statement_linear, items_linear}
+use Rattle.goto_unwind.proofs.Adding.{ok_same}
 use Rattle.goto_unwind.proofs.trees.+statement.Goals as goal
 
-pub items_places-returns : goal.items_places-returns
-items_places-returns t c =
-    items_whole c.args.items.now c.loop-item.item-index c.loop-item.places (items_places (items_of c.args.items.now)) c.loop-item-test.false c.loop-item.invariant.0 c.loop-item.invariant.1
+pub statement-returns-in-Block : goal.statement-returns-in-Block
+statement-returns-in-Block t c =
+    let n = c.args.times in
+    let i = c.in-Block in
+    let tally = c.args.tally.now in
+    let tests = tests_in c.args.bounds.now.set c.args.bounds.now.unwind c.args.name.now in
+    ok_same c.items_of_block.result _ _ _
+    (ap (λ is. items_linear tests n (items_of is) c.add.new.self) c.deref.ensures.value
+    ∙ ap (items_linear tests n (items_of i.items.items)) c.add.ensures
+    ∙ sym (ap (λ (a : CoreStatement). statement_linear tests n (view_statement a) tally) i.is ∙ ap (λ (a : Statement). statement_linear tests n a tally) (view_block i.items)))
+    c.items_of_block.ensures
 
-pub statement_places-returns-in-Block : goal.statement_places-returns-in-Block
-statement_places-returns-in-Block t c =
-    let whole : statement_places (view_statement c.args.statement.now) ≡ 1 + items_places (items_of c.deref.result.now) =
-    ap (λ (s : CoreStatement). statement_places (view_statement s)) c.in-Block.is
-    ∙ ap statement_places (view_block c.in-Block.items)
-    ∙ ap (λ xs. 1 + items_places (items_of xs)) (sym c.deref.ensures.value) in
-    omega (arith, whole, c.node.ensures, c.items_places.ensures)
+pub statement-returns-in_ok-expression-in-Switch : goal.statement-returns-in_ok-expression-in-Switch
+statement-returns-in_ok-expression-in-Switch t c =
+    let n = c.args.times in
+    let i = c.in-Switch in
+    let tally = c.args.tally.now in
+    let tests = tests_in c.args.bounds.now.set c.args.bounds.now.unwind c.args.name.now in
+    ok_same c.items_of_block-in-Switch.result _ _ _
+    (ap (λ is. items_linear tests n (items_of is) c.expression-in-Switch.new.tally) c.deref-in-Switch.ensures.value
+    ∙ ap (items_linear tests n (items_of i.items.items)) (c.in_ok-expression-in-Switch.ensures ∙ ap (expression_linear n (view i.value)) c.add-in-Switch.ensures)
+    ∙ sym (ap (λ (a : CoreStatement). statement_linear tests n (view_statement a) tally) i.is ∙ ap (λ (a : Statement). statement_linear tests n a tally) (view_switch i.line i.value i.items)))
+    c.items_of_block-in-Switch.ensures

@@ -1,8 +1,9 @@
-use Rattle.std.proofs.Common.{◌≡◌, ◌≤◌, ◌+◌, drop}
-use Rattle.std.specs.Prelude.{min}
+use Rattle.std.proofs.Common.{◌≡◌, drop}
 use Rattle.core_tree.specs.Trees.{items_of}
-use Rattle.goto_unwind.specs.Counts.{items_places}
+use Rattle.goto_prog.specs.Structured.{tests_in}
+use Rattle.goto_unwind.specs.Linear.{items_linear}
 use Rattle.goto_unwind.proofs.trees.+statement.Given as goal
 
-abbrev pub invariant-items_places-loop-item : goal.invariant-items_places-loop-item
-invariant-items_places-loop-item l = (l.places ≤ 2000001) × (min (l.places + items_places (items_of (drop l.item-index l.items))) 2000001 ≡ min (items_places (items_of l.items)) 2000001)
+abbrev pub invariant-items_of_block-loop-item : goal.invariant-items_of_block-loop-item
+invariant-items_of_block-loop-item l =
+    items_linear (tests_in l.bounds.set l.bounds.unwind l.name) l.times (items_of (drop l.item-index l.items)) l.tally ≡ items_linear (tests_in l.bounds.set l.bounds.unwind l.name) l.times (items_of l.items) l.initial.tally

@@ -7,7 +7,7 @@ use Rattle.c_types.specs.declared.types.RecordKind.{RecordKind}
 use Rattle.c_types.specs.Layouts.{is_completed, with_completed, kind_at}
 use Rattle.c_elab_expr.specs.declared.members.MemberTable.{MemberTable}
 use Rattle.c_elab_expr.specs.Members.{Members, view_fields, field_types, view_members, view_tables, members_by}
-use Rattle.c_elab_expr.specs.Scopes.{Scoped, view_named, view_lasting, view_linked, are_there, are_complete, sizes_of}
+use Rattle.c_elab_expr.specs.Scopes.{Scoped, view_named, view_lasting, view_linked, view_flow, are_there, are_complete, sizes_of}
 use Rattle.c_elab_expr.specs.Places.{environment}
 use Rattle.c_elab_expr.proofs.Variables.{variables_later}
 use Rattle.c_elab_expr.proofs.scope.Scope.complete_record.Goals as goal
@@ -47,6 +47,6 @@ returns-clause-completed c =
     map-set view_members tables place c.in_ok-table.table ∙ ap (λ (m : Members). slice_set (view_tables tables) place m) table in
     let records : c.complete.new.self ≡ with_completed rs place (kind_at rs place) (field_types fs) =
     c.in_ok-complete.ensures.completed ∙ ap (λ (ts : List CType). with_completed rs place (kind_at rs place) ts) c.in_ok-types.ensures in
-    let whole : Scoped = record { bindings = environment inside.bounds.items; types = map view_named inside.types.items; records = rs; members = view_tables tables; variables = map view_named inside.variables.items; objects = map view_lasting inside.objects.items; linked = map view_linked inside.linked.entries } in
+    let whole : Scoped = record { bindings = environment inside.bounds.items; types = map view_named inside.types.items; records = rs; members = view_tables tables; variables = map view_named inside.variables.items; objects = map view_lasting inside.objects.items; linked = map view_linked inside.linked.entries; functions = inside.functions; flow = view_flow inside.flow } in
     ap₂ (λ (r : Records) (ms : List Members). record whole { records = r; members = ms }) records members
     ∙ ap (λ (s : Scoped). record s { records = with_completed s.records place (kind_at s.records place) (field_types fs); members = slice_set s.members place (members_by s.members fs) }) c.self.view_is

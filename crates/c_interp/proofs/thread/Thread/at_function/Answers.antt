@@ -6,25 +6,32 @@ use Rattle.core_tree.specs.declared.functions.Function.{Function}
 use Rattle.core_tree.specs.Trees.{Procedure, view_function, view_functions}
 use Rattle.c_interp.specs.Source.{runs_at, source_program}
 use Rattle.c_interp.specs.View.{thread_of}
-use Rattle.c_interp.proofs.TypedAt.{typed_at}
 use Rattle.c_interp.proofs.thread.Thread.at_function.Goals as goal
 
 pub at_start-requires-clause-body : goal.at_start-requires-clause-body
 at_start-requires-clause-body c =
-    typed_at c.args.functions.now c.args.objects.now c.args.function c.in-Some.body.now c.requires (sym c.body_of.ensures ∙ ap (option_map (λ (f : Bor Function). f.now)) c.in-Some.is)
-
-pub returns-in-Some : goal.returns-in-Some
-returns-in-Some c =
     let fs = c.args.functions.now in
     let got : slice_get fs c.args.function ≡ Some c.in-Some.body.now = sym c.body_of.ensures ∙ ap (option_map (λ (f : Bor Function). f.now)) c.in-Some.is in
-    let e : slice_get (view_functions fs) c.args.function ≡ Some (view_function c.in-Some.body.now) = slice_get-map view_function fs c.args.function ∙ ap (option_map view_function) got in
-    let P : Option Procedure → Type 0 = λ o. IfOk c.at_start.result (λ t. thread_of t ≡ record { behaves = runs_at c.args.first c.args.function o; program = source_program (view_functions fs) c.args.startable }) in
-    subst P (sym e) c.at_start.ensures
+    slice_get-map view_function fs c.args.function ∙ ap (option_map view_function) got
+
+pub nowhere-requires-clause-nothing : goal.nowhere-requires-clause-nothing
+nowhere-requires-clause-nothing c =
+    let fs = c.args.functions.now in
+    let got : slice_get fs c.args.function ≡ None = sym c.body_of.ensures ∙ ap (option_map (λ (f : Bor Function). f.now)) c.in-None.is in
+    slice_get-map view_function fs c.args.function ∙ ap (option_map view_function) got
 
 pub returns-in-None : goal.returns-in-None
 returns-in-None c =
     let fs = c.args.functions.now in
     let got : slice_get fs c.args.function ≡ None = sym c.body_of.ensures ∙ ap (option_map (λ (f : Bor Function). f.now)) c.in-None.is in
     let e : slice_get (view_functions fs) c.args.function ≡ None = slice_get-map view_function fs c.args.function ∙ ap (option_map view_function) got in
-    let P : Option Procedure → Type 0 = λ o. IfOk c.nowhere.result (λ t. thread_of t ≡ record { behaves = runs_at c.args.first c.args.function o; program = source_program (view_functions fs) c.args.startable }) in
+    let P : Option Procedure → Type 0 = λ o. IfOk c.nowhere.result (λ t. thread_of t ≡ record { behaves = runs_at (view_functions fs) c.args.bounds.now c.args.first c.args.function o; program = source_program (view_functions fs) c.args.bounds.now c.args.startable }) in
     subst P (sym e) c.nowhere.ensures
+
+pub returns-in-Some : goal.returns-in-Some
+returns-in-Some c =
+    let fs = c.args.functions.now in
+    let got : slice_get fs c.args.function ≡ Some c.in-Some.body.now = sym c.body_of.ensures ∙ ap (option_map (λ (f : Bor Function). f.now)) c.in-Some.is in
+    let e : slice_get (view_functions fs) c.args.function ≡ Some (view_function c.in-Some.body.now) = slice_get-map view_function fs c.args.function ∙ ap (option_map view_function) got in
+    let P : Option Procedure → Type 0 = λ o. IfOk c.at_start.result (λ t. thread_of t ≡ record { behaves = runs_at (view_functions fs) c.args.bounds.now c.args.first c.args.function o; program = source_program (view_functions fs) c.args.bounds.now c.args.startable }) in
+    subst P (sym e) c.at_start.ensures

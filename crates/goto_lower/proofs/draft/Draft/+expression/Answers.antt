@@ -1,10 +1,12 @@
-use Rattle.std.proofs.Common.{rules, ap, sym, ◌∙◌}
+use Rattle.std.proofs.Common.{rules, ◌≡◌, ℕ, ◌+◌, ap, sym, ◌∙◌, arith}
 use Rattle.std.proofs.lemmas.Result.{IfOk-weaker}
-use Rattle.core_tree.specs.Trees.{view, Structure, view_structure, parts_of}
-use Rattle.core_tree.proofs.Views.{view_list}
-use Rattle.goto_lower.specs.Drafts.{after_structure, after_parts, after_text}
+use Rattle.core_tree.specs.Trees.{call, view, Structure, view_structure, parts_of, arguments_of}
+use Rattle.core_tree.proofs.Views.{view_list, view_call, view_give}
+use Rattle.goto_lower.specs.Drafts.{after_structure, after_parts, after_text, after_arguments, after_passed}
+use Rattle.goto_lower.specs.Lowering.{argument_count}
 use Rattle.goto_lower.proofs.Drafting.{ok_both, ok_maps, lowers_and, lowers_or, lowers_choice}
 use Rattle.goto_lower.proofs.DraftingStructures.{lowers_discarded, lowers_member, number_adds, structure_adds, follow_adds, list_adds, string_adds, choose_adds}
+use Rattle.goto_lower.proofs.DraftingCalls.{argument_length, number_argument_adds, structure_argument_adds, passed_adds, passed_of, lowers_call, lowers_same, give_adds}
 use Rattle.goto_lower.proofs.draft.Draft.+expression.Goals as goal
 
 pub and-returns : goal.and-returns
@@ -80,3 +82,53 @@ structure-returns-in_ok-structure-in-Choice-2 t c =
     c.in_ok-test-in-Choice.ensures c.in_ok-skip-in-Choice.ensures.code c.in_ok-skip-in-Choice.ensures.place c.in_ok-structure-in-Choice.ensures c.in_ok-over-in-Choice.ensures.code c.in_ok-over-in-Choice.ensures.place
     c.land.ensures c.in_ok-structure-in-Choice-2.ensures c.land-in-Choice.ensures in
     search (rules, h)
+
+pub argument-returns-in_ok-x-in-Number : goal.argument-returns-in_ok-x-in-Number
+argument-returns-in_ok-x-in-Number t c =
+    rw c.in-Number.is (λ rest. ok_maps _ _ _ (λ same.
+    number_argument_adds c.args.self.now c.expression.new.self c.push.new.self (view c.in-Number.value) c.in_ok-x-in-Number.x c.args.block c.size.result rest c.in_ok-x-in-Number.ensures c.size.ensures.is same) c.push.ensures)
+
+pub argument-returns-in-Structure : goal.argument-returns-in-Structure
+argument-returns-in-Structure t c =
+    rw c.in-Structure.is (λ rest. ok_maps _ _ _ (λ same. structure_argument_adds c.args.self.now c.structure.new.self (view_structure c.in-Structure.value) c.args.block rest same) c.structure.ensures)
+
+pub call-returns : goal.call-returns
+call-returns t c =
+    ok_both _ _ _ _ c.taken.ensures.code c.taken.ensures.value (λ x n v.
+    lowers_call c.args.self.now c.pass.new.self c.call_passed.new.self c.taken.new.self (arguments_of c.args.arguments.now) c.in_ok-passed.passed c.args.line c.args.function c.value_size.result c.args.used c.args.type_ x
+    c.in_ok-passed.ensures.code c.in_ok-passed.ensures.blocks c.value_size.ensures c.in_ok-call_passed.ensures n v)
+
+pub expression-returns-in-Call : goal.expression-returns-in-Call
+expression-returns-in-Call t c =
+    let l = c.in-Call in
+    let whole = ap (λ xs. call l.line l.function l.used l.type_ (arguments_of xs)) c.deref-in-Call.ensures.value ∙ sym (ap view l.is ∙ view_call l.line l.function l.used l.type_ l.arguments) in
+    lowers_same _ _ _ _ _ whole c.call.ensures
+
+pub pass-returns-clause-code : goal.pass-returns-clause-code
+pass-returns-clause-code t c =
+    let d = c.args.self.now in
+    let args = arguments_of c.args.arguments.now in
+    let first = c.free-first.ensures in
+    passed_adds d c.set_free.new.self c.arguments.new.self c.set_free-2.new.self args c.in_ok-more.field-0 c.set_free.ensures
+    (omega (arith, c.in_ok-more.ensures, c.in_ok-into.ensures, first, argument_length c.args.arguments.now))
+    (c.in_ok-arguments.ensures ∙ ap (λ b. after_arguments c.set_free.new.self args b) first)
+    (c.set_free-2.ensures ∙ ap (λ (b : ℕ). record c.arguments.new.self { frame = record c.arguments.new.self.frame { free = b } }) first)
+
+pub pass-returns-clause-blocks : goal.pass-returns-clause-blocks
+pass-returns-clause-blocks t c =
+    let count = sym (argument_length c.args.arguments.now) in
+    let into : c.in_ok-into.into ≡ c.args.self.now.frame.free + argument_count (arguments_of c.args.arguments.now) = omega (arith, c.in_ok-into.ensures, c.free-first.ensures, count) in
+    λ i. record { first = c.free-first.ensures i; count = count i; into = into i }
+
+pub structure-returns-in_ok-call_passed-in-Call : goal.structure-returns-in_ok-call_passed-in-Call
+structure-returns-in_ok-call_passed-in-Call t c =
+    let d = c.args.self.now in
+    let l = c.in-Call in
+    let whole = ap view_structure l.is ∙ view_give l.line l.function l.used l.size l.arguments in
+    ok_maps _ _ _ (λ same.
+    give_adds c.args.into c.args.at d c.pass.new.self c.call_passed.new.self c.push-in-Call.new.self (arguments_of l.arguments.items) c.in_ok-passed-in-Call.passed l.line l.function l.size l.used
+    (c.in_ok-passed-in-Call.ensures.code ∙ ap (λ xs. after_passed d (arguments_of xs)) c.deref-in-Call.ensures.value)
+    (c.in_ok-passed-in-Call.ensures.blocks ∙ ap (λ xs. passed_of d (arguments_of xs)) c.deref-in-Call.ensures.value)
+    c.in_ok-call_passed-in-Call.ensures same
+    ∙ ap (λ (a : Structure). after_structure d a c.args.into c.args.at) (sym whole))
+    c.push-in-Call.ensures

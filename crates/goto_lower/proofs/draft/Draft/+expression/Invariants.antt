@@ -1,7 +1,7 @@
 use Rattle.std.proofs.Common.{◌≡◌, ◌+◌, ◌*◌, max, drop}
 use Rattle.core_tree.proofs.expression.CoreExpr.TheLaws.{the_size}
-use Rattle.core_tree.specs.Trees.{parts_of}
-use Rattle.goto_lower.specs.Drafts.{after_parts}
+use Rattle.core_tree.specs.Trees.{parts_of, arguments_of}
+use Rattle.goto_lower.specs.Drafts.{after_parts, after_arguments}
 use Rattle.goto_lower.proofs.draft.Draft.+expression.Given as goal
 
 abbrev pub decreases-expression : goal.decreases-expression
@@ -36,3 +36,18 @@ decreases-list_part l = 4 * goal.size-list_part l
 
 abbrev pub invariant-parts-loop-part : goal.invariant-parts-loop-part
 invariant-parts-loop-part l = after_parts l.self l.line (parts_of (drop l.part-index l.parts)) l.into l.at ≡ after_parts l.initial.self l.line (parts_of l.parts) l.into l.at
+
+abbrev pub decreases-call : goal.decreases-call
+decreases-call l = 4 * goal.size-call l + 3
+
+abbrev pub decreases-pass : goal.decreases-pass
+decreases-pass l = 4 * goal.size-pass l + 2
+
+abbrev pub decreases-arguments : goal.decreases-arguments
+decreases-arguments l = 4 * goal.size-arguments l + 1
+
+abbrev pub decreases-argument : goal.decreases-argument
+decreases-argument l = 4 * goal.size-argument l
+
+abbrev pub invariant-arguments-loop-argument : goal.invariant-arguments-loop-argument
+invariant-arguments-loop-argument l = after_arguments l.self (arguments_of (drop l.argument-index l.arguments)) l.block ≡ after_arguments l.initial.self (arguments_of l.arguments) l.first

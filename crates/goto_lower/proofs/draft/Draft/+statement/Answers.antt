@@ -1,45 +1,162 @@
-use Rattle.std.proofs.Common.{rules, ap, sym, ◌∙◌}
-use Rattle.core_tree.specs.Trees.{view, view_structure, view_statement, items_of}
+use Rattle.std.proofs.Common.{rules, ◌≡◌, ◌+◌, ◌-◌, Some, refl, ap, sym, ◌∙◌, arith}
+use Rattle.std.specs.Prelude.{reverse, option_map}
+use Rattle.core_tree.specs.Trees.{block, switch, view, view_structure, view_statement, items_of}
 use Rattle.core_tree.proofs.Views.{view_block}
-use Rattle.goto_lower.specs.Drafts.{after_entry, after_items, after_statement}
+use Rattle.c_profile.proofs.Switches.{view_switch}
+use Rattle.goto_prog.specs.Nodes.{plain, nodes_of, node_count}
+use Rattle.goto_prog.specs.declared.code.Operation.TheVariants as operations
+use Rattle.goto_lower.specs.Lowering.{at_line, top, code, plains, to_place, test_code, initial_code}
+use Rattle.goto_lower.specs.Registers.{structure_types}
+use Rattle.goto_lower.specs.Drafts.{next}
 use Rattle.goto_lower.proofs.Drafting.{ok_maps}
-use Rattle.goto_lower.proofs.DraftingStatements.{initialize_adds, initialize_structure_adds, does_adds, block_adds, if_adds, if_else_adds}
+use Rattle.goto_lower.proofs.Making.{reversed_count}
+use Rattle.goto_lower.proofs.Flushing.{flushed_draft, flushed_code}
+use Rattle.goto_lower.proofs.DraftingItems.{within_initializes, within_structure, within_does, within_label, within_case, within_default}
+use Rattle.goto_lower.proofs.DraftingControl.{ok_two, drafted_same, drafted_block, drafted_if, drafted_if_else, drafted_do, drafted_for, drafted_switch}
 use Rattle.goto_lower.proofs.draft.Draft.+statement.Goals as goal
 
-pub item-returns-in_ok-value-in-Initialize : goal.item-returns-in_ok-value-in-Initialize
-item-returns-in_ok-value-in-Initialize t c =
-    let i = c.in-Initialize in
-    rw c.in-Initialize.is (λ rest. ok_maps _ _ _ (λ same. initialize_adds c.args.self.now c.expression.new.self c.initialize.new.self (view i.value) c.in_ok-value-in-Initialize.value i.line i.variable i.drawn rest c.in_ok-value-in-Initialize.ensures same) c.initialize.ensures)
+pub block-returns : goal.block-returns
+block-returns t c =
+    ok_two c.flush.result _ _ _ (λ last put.
+    drafted_block c.args.self.now c.items.new.self c.enter.new.self c.flush.new.self c.args.exits (items_of c.args.items.now) (nodes_of (reverse c.args.made.now.items)) _ _
+    c.requires c.in_ok-_cases.ensures.draft c.in_ok-_cases.ensures.code c.in_ok-enter.ensures put last)
+    c.flush.ensures.draft c.flush.ensures.code
 
-pub item-returns-in-InitializeStructure : goal.item-returns-in-InitializeStructure
-item-returns-in-InitializeStructure t c =
-    let i = c.in-InitializeStructure in
-    rw c.in-InitializeStructure.is (λ rest. ok_maps _ _ _ (λ same. initialize_structure_adds c.args.self.now c.initialize_structure.new.self i.line i.variable i.drawn (view_structure i.value) rest same) c.initialize_structure.ensures)
+pub branches-returns : goal.branches-returns
+branches-returns t c =
+    let x = c.args.exits in
+    let rest = nodes_of (reverse c.args.made.now.items) in
+    let n1 = nodes_of (reverse c.statement.new.made.items) in
+    let n3 = nodes_of (reverse c.statement-2.new.made.items) in
+    let over : c.in_ok-over.over ≡ x.base + node_count rest = omega (arith, c.in_ok-over.ensures, c.len.ensures, reversed_count c.args.made.now.items) in
+    let count : c.saturating_sub-count.result ≡ node_count n3 - node_count n1 =
+    omega (arith, c.saturating_sub-count.ensures, c.len-2.ensures, c.len-before.ensures, reversed_count c.statement.new.made.items, reversed_count c.statement-2.new.made.items) in
+    ok_two c.test.result _ _ _ (λ draft put.
+    drafted_if_else c.args.self.now c.statement.new.self c.statement-2.new.self c.test.new.self x (view c.args.test.now) (view_statement c.args.yes.now) (view_statement c.args.no.now) c.args.line c.in_ok-over.over c.saturating_sub-count.result
+    rest n1 (nodes_of (reverse c.jump_to.new.made.items)) n3 (nodes_of (reverse c.test.new.made.items))
+    over c.in_ok-statement.ensures c.in_ok-jump_to.ensures c.in_ok-statement-2.ensures count draft put)
+    c.test.ensures.draft c.test.ensures.code
+
+pub do_loop-returns : goal.do_loop-returns
+do_loop-returns t c =
+    let d = c.args.self.now in
+    let x = c.args.exits in
+    let e = view c.args.test.now in
+    let rest = nodes_of (reverse c.args.made.now.items) in
+    let r1 = nodes_of (reverse c.test.new.made.items) in
+    let behind : c.in_ok-behind.behind ≡ x.base + node_count rest = omega (arith, c.in_ok-behind.ensures, c.len.ensures, reversed_count c.args.made.now.items) in
+    let count : c.len-2.result ≡ node_count r1 = omega (arith, c.len-2.ensures, reversed_count c.test.new.made.items) in
+    ok_maps c.repeat.result _ _ (λ loops.
+    drafted_do d c.test.new.self c.statement.new.self x c.in_ok-inner.inner e (view_statement c.args.body.now) c.args.line c.args.number c.in_ok-behind.behind c.len-2.result
+    rest r1 (nodes_of (reverse c.statement.new.made.items)) (nodes_of (reverse c.repeat.new.made.items))
+    behind c.in_ok-test.ensures.draft
+    (c.in_ok-test.ensures.code ∙ ap (λ xs. plains (code d.frame e (next d)) (plain (at_line d.frame c.args.line (operations.SkipIfZero (next d + top e) 1)) (nodes_of (reverse xs)))) c.new-round.ensures.items)
+    count c.in_ok-inner.ensures c.in_ok-statement.ensures loops)
+    c.repeat.ensures
+
+pub for_loop-returns : goal.for_loop-returns
+for_loop-returns t c =
+    let d = c.args.self.now in
+    let x = c.args.exits in
+    let first = option_map view c.args.first.now in
+    let test = option_map view c.args.test.now in
+    let last = option_map view c.args.last.now in
+    let rest = nodes_of (reverse c.args.made.now.items) in
+    let r2 = nodes_of (reverse c.evaluate_part.new.made.items) in
+    let behind : c.in_ok-behind.behind ≡ x.base + node_count rest = omega (arith, c.in_ok-behind.ensures, c.len.ensures, reversed_count c.args.made.now.items) in
+    let count : c.len-2.result ≡ node_count r2 = omega (arith, c.len-2.ensures, reversed_count c.evaluate_part.new.made.items) in
+    ok_two c.evaluate_part-2.result _ _ _ (λ five begun.
+    drafted_for d c.loop_test.new.self c.evaluate_part.new.self c.statement.new.self c.loop_test-2.new.self c.evaluate_part-2.new.self x c.in_ok-inner.inner first test last (view_statement c.args.body.now) c.args.line c.args.number c.in_ok-behind.behind c.len-2.result
+    rest (nodes_of (reverse c.loop_test.new.made.items)) r2 (nodes_of (reverse c.statement.new.made.items)) (nodes_of (reverse c.repeat.new.made.items)) (nodes_of (reverse c.loop_test-2.new.made.items)) (nodes_of (reverse c.evaluate_part-2.new.made.items))
+    behind c.in_ok-loop_test.ensures.draft
+    (c.in_ok-loop_test.ensures.code ∙ ap (λ xs. plains (test_code d.frame d.variables c.args.line test (next d)) (nodes_of (reverse xs))) c.new-round.ensures.items)
+    c.in_ok-evaluate_part.ensures.draft c.in_ok-evaluate_part.ensures.code count c.in_ok-inner.ensures c.in_ok-statement.ensures c.in_ok-repeat.ensures
+    c.in_ok-loop_test-2.ensures.draft c.in_ok-loop_test-2.ensures.code five begun)
+    c.evaluate_part-2.ensures.draft c.evaluate_part-2.ensures.code
+
+pub item-returns-in-Initialize : goal.item-returns-in-Initialize
+item-returns-in-Initialize t c =
+    let l = c.in-Initialize in
+    rw l.is (λ first rest others h. ok_two c.initialize_number.result _ _ _ (λ same put.
+    within_initializes first rest c.args.exits others c.args.self.now (nodes_of (reverse c.args.made.now.items)) c.args.cases.now h c.initialize_number.new.self (nodes_of (reverse c.initialize_number.new.made.items)) l.line l.variable l.drawn (view l.value) same put)
+    c.initialize_number.ensures.draft c.initialize_number.ensures.code)
+
+pub item-returns-in_ok-initialize_structure-in-InitializeStructure : goal.item-returns-in_ok-initialize_structure-in-InitializeStructure
+item-returns-in_ok-initialize_structure-in-InitializeStructure t c =
+    let l = c.in-InitializeStructure in
+    let d = c.args.self.now in
+    let a = view_structure l.value in
+    let rest = nodes_of (reverse c.args.made.now.items) in
+    let xs = initial_code d.frame d.variables l.line l.variable a (next d) in
+    let added = c.in_ok-initialize_structure-in-InitializeStructure.ensures in
+    rw l.is (λ first others_behind others h. ok_two c.flush.result _ _ _ (λ last put.
+    within_structure first others_behind c.args.exits others d rest c.args.cases.now h c.flush.new.self (nodes_of (reverse c.flush.new.made.items)) l.line l.variable l.drawn a
+    (flushed_draft d c.initialize_structure.new.self c.flush.new.self xs (structure_types a) c.requires added last)
+    (flushed_code d c.initialize_structure.new.self xs (structure_types a) rest (nodes_of (reverse c.flush.new.made.items)) c.requires added put))
+    c.flush.ensures.draft c.flush.ensures.code)
 
 pub item-returns-in-Statement : goal.item-returns-in-Statement
 item-returns-in-Statement t c =
-    rw c.in-Statement.is (λ rest. ok_maps _ _ _ (λ same. does_adds c.args.self.now c.statement.new.self (view_statement c.in-Statement.statement) rest same) c.statement.ensures)
+    let l = c.in-Statement in
+    rw l.is (λ first rest others h. ok_maps c.statement.result _ _ (λ k.
+    within_does first rest c.args.exits others c.args.self.now (nodes_of (reverse c.args.made.now.items)) c.args.cases.now h c.statement.new.self (nodes_of (reverse c.statement.new.made.items)) (view_statement l.statement) k)
+    c.statement.ensures)
 
-pub statement-returns-in_ok-enter-in-Block : goal.statement-returns-in_ok-enter-in-Block
-statement-returns-in_ok-enter-in-Block t c =
-    let whole = ap view_statement c.in-Block.is ∙ view_block c.in-Block.items in
-    let items = items_of c.in-Block.items.items in
-    let first = c.in_ok-enter-in-Block.ensures ∙ ap (λ xs. after_entry c.args.self.now (items_of xs)) c.deref.ensures.value in
-    ok_maps _ _ _
-    (λ same. block_adds c.args.self.now c.enter.new.self c.items.new.self items first (same ∙ ap (λ xs. after_items c.enter.new.self (items_of xs)) c.deref-in-Block.ensures.value)
-    ∙ ap (λ s. after_statement c.args.self.now s) (sym whole))
-    c.items.ensures
+pub item-returns-in_ok-place-in-Label : goal.item-returns-in_ok-place-in-Label
+item-returns-in_ok-place-in-Label t c =
+    let rest = nodes_of (reverse c.args.made.now.items) in
+    let place : c.in_ok-place-in-Label.place ≡ c.args.exits.base + node_count rest = omega (arith, c.in_ok-place-in-Label.ensures, c.len.ensures, reversed_count c.args.made.now.items) in
+    rw c.in-Label.is (λ first behind others h. ok_maps c.know.result _ _ (λ same.
+    within_label first behind c.args.exits others c.args.self.now rest c.args.cases.now h c.know.new.self c.in-Label.label c.in_ok-place-in-Label.place place same)
+    c.know.ensures)
+
+pub item-returns-in_ok-push-in-Case : goal.item-returns-in_ok-push-in-Case
+item-returns-in_ok-push-in-Case t c =
+    let l = c.in-Case in
+    let rest = nodes_of (reverse c.args.made.now.items) in
+    let place : c.in_ok-place-in-Case.place ≡ c.args.exits.base + node_count rest = omega (arith, c.in_ok-place-in-Case.ensures, c.len-in-Case.ensures, reversed_count c.args.made.now.items) in
+    rw l.is (λ first behind others h.
+    within_case first behind c.args.exits others c.args.self.now rest c.args.cases.now h (record { places = c.push.new.self; otherwise = c.args.cases.now.otherwise }) l.line l.bits c.in_ok-place-in-Case.place l.type_ place c.in_ok-push-in-Case.ensures.items refl)
+
+pub item-returns-in_ok-place-in-Default : goal.item-returns-in_ok-place-in-Default
+item-returns-in_ok-place-in-Default t c =
+    let l = c.in-Default in
+    let rest = nodes_of (reverse c.args.made.now.items) in
+    let place : c.in_ok-place-in-Default.place ≡ c.args.exits.base + node_count rest = omega (arith, c.in_ok-place-in-Default.ensures, c.len-in-Default.ensures, reversed_count c.args.made.now.items) in
+    rw l.is (λ first behind others h.
+    within_default first behind c.args.exits others c.args.self.now rest c.args.cases.now h (record { places = c.args.cases.now.places; otherwise = Some c.in_ok-place-in-Default.place }) l.line c.in_ok-place-in-Default.place place refl refl)
+
+pub statement-returns-in-Block : goal.statement-returns-in-Block
+statement-returns-in-Block t c = drafted_same _ _ _ _ _ _ _ _ (ap (λ xs. block (items_of xs)) c.deref.ensures.value ∙ sym (ap view_statement c.in-Block.is ∙ view_block c.in-Block.items)) c.block.ensures
 
 pub statement-returns-in_ok-statement-in-If : goal.statement-returns-in_ok-statement-in-If
 statement-returns-in_ok-statement-in-If t c =
-    let h = if_adds c.args.self.now c.expression.new.self c.reserve.new.self c.statement.new.self c.land.new.self (view c.in-If.test) (view_statement c.deref-in-If.result.now) c.in_ok-test-in-If.test c.in_ok-skip-in-If.skip c.in-If.line _
-    c.in_ok-test-in-If.ensures c.in_ok-skip-in-If.ensures.code c.in_ok-skip-in-If.ensures.place c.in_ok-statement-in-If.ensures c.land.ensures in
+    let rest = nodes_of (reverse c.args.made.now.items) in
+    let n1 = nodes_of (reverse c.statement.new.made.items) in
+    let count : c.saturating_sub-count.result ≡ node_count n1 - node_count rest =
+    omega (arith, c.saturating_sub-count.ensures, c.len.ensures, c.len-before.ensures, reversed_count c.args.made.now.items, reversed_count c.statement.new.made.items) in
+    let h = ok_two c.test.result _ _ _ (λ draft put.
+    drafted_if c.args.self.now c.statement.new.self c.test.new.self c.args.exits (view c.in-If.test) (view_statement c.deref-in-If.result.now) c.in-If.line c.saturating_sub-count.result rest n1 (nodes_of (reverse c.test.new.made.items))
+    c.in_ok-statement-in-If.ensures count draft put)
+    c.test.ensures.draft c.test.ensures.code in
     search (rules, h)
 
-pub statement-returns-in_ok-statement-in-IfElse-2 : goal.statement-returns-in_ok-statement-in-IfElse-2
-statement-returns-in_ok-statement-in-IfElse-2 t c =
-    let h = if_else_adds c.args.self.now c.expression-in-IfElse.new.self c.reserve-in-IfElse.new.self c.statement-in-IfElse.new.self c.reserve-in-IfElse-2.new.self c.land-in-IfElse.new.self c.statement-in-IfElse-2.new.self c.land-in-IfElse-2.new.self
-    (view c.in-IfElse.test) (view_statement c.deref-in-IfElse.result.now) (view_statement c.deref-in-IfElse-2.result.now) c.in_ok-test-in-IfElse.test c.in_ok-skip-in-IfElse.skip c.in_ok-over-in-IfElse.over c.in-IfElse.line _ _
-    c.in_ok-test-in-IfElse.ensures c.in_ok-skip-in-IfElse.ensures.code c.in_ok-skip-in-IfElse.ensures.place c.in_ok-statement-in-IfElse.ensures c.in_ok-over-in-IfElse.ensures.code c.in_ok-over-in-IfElse.ensures.place
-    c.land-in-IfElse.ensures c.in_ok-statement-in-IfElse-2.ensures c.land-in-IfElse-2.ensures in
-    search (rules, h)
+pub statement-returns-in-Switch : goal.statement-returns-in-Switch
+statement-returns-in-Switch t c =
+    let l = c.in-Switch in
+    drafted_same _ _ _ _ _ _ _ _ (ap (λ xs. switch l.line (view l.value) (items_of xs)) c.deref-in-Switch.ensures.value ∙ sym (ap view_statement l.is ∙ view_switch l.line l.value l.items)) c.switch.ensures
+
+pub switch-returns : goal.switch-returns
+switch-returns t c =
+    let d = c.args.self.now in
+    let x = c.args.exits in
+    let rest = nodes_of (reverse c.args.made.now.items) in
+    let cases = c.in_ok-cases.cases in
+    let count : c.len-count.result ≡ node_count rest = omega (arith, c.len-count.ensures, reversed_count c.args.made.now.items) in
+    ok_two c.choose.result _ _ _ (λ last chosen.
+    drafted_switch d c.items.new.self c.enter_switch.new.self c.choose.new.self x (record { base = x.base; break_at = c.in_ok-behind.behind; continue_at = x.continue_at }) (view c.args.value.now) (items_of c.args.items.now) c.args.line c.in_ok-behind.behind c.len-count.result c.in_ok-before.before cases.places.items cases.otherwise
+    rest (nodes_of (reverse c.items.new.made.items)) (nodes_of (reverse c.jump_to.new.made.items)) (nodes_of (reverse c.enter_switch.new.made.items)) (nodes_of (reverse c.choose.new.made.items))
+    count c.in_ok-behind.ensures refl c.in_ok-cases.ensures.draft c.in_ok-cases.ensures.code c.in_ok-cases.ensures.cases c.in_ok-cases.ensures.otherwise
+    (c.in_ok-jump_to.ensures ∙ ap (λ p. to_place c.items.new.self.frame c.items.new.self.variables c.args.line x.base p (nodes_of (reverse c.items.new.made.items))) c.unwrap_or.ensures)
+    c.in_ok-before.ensures.draft c.in_ok-before.ensures.before c.in_ok-before.ensures.code last chosen)
+    c.choose.ensures.draft c.choose.ensures.code

@@ -1,7 +1,36 @@
-use Rattle.std.proofs.Common.{◌≡◌, drop}
+use Rattle.std.proofs.Common.{◌+◌, ◌*◌, max, drop}
+use Rattle.std.specs.Prelude.{reverse}
+use Rattle.core_tree.proofs.statement.CoreStatement.TheLaws.{the_size}
+use Rattle.core_tree.proofs.statement.CoreItem.TheLaws as item
+use denote.Param.Weighed.{most}
 use Rattle.core_tree.specs.Trees.{items_of}
-use Rattle.goto_lower.specs.Drafts.{after_items}
+use Rattle.goto_prog.specs.Nodes.{nodes_of}
+use Rattle.goto_lower.specs.Drafts.{Within}
 use Rattle.goto_lower.proofs.draft.Draft.+statement.Given as goal
 
-abbrev pub invariant-items-loop-item : goal.invariant-items-loop-item
-invariant-items-loop-item l = after_items l.self (items_of (drop l.item-index l.items)) ≡ after_items l.initial.self (items_of l.items)
+abbrev pub decreases-statement : goal.decreases-statement
+decreases-statement l = 4 * the_size l.statement.now
+
+abbrev pub decreases-branches : goal.decreases-branches
+decreases-branches l = 4 * max (the_size l.yes.now) (the_size l.no.now) + 1
+
+abbrev pub decreases-for_loop : goal.decreases-for_loop
+decreases-for_loop l = 4 * the_size l.body.now + 1
+
+abbrev pub decreases-do_loop : goal.decreases-do_loop
+decreases-do_loop l = 4 * the_size l.body.now + 1
+
+abbrev pub decreases-item : goal.decreases-item
+decreases-item l = 4 * goal.size-item l
+
+abbrev pub decreases-items : goal.decreases-items
+decreases-items l = 4 * goal.size-items l + 1
+
+abbrev pub decreases-block : goal.decreases-block
+decreases-block l = 4 * goal.size-block l + 2
+
+abbrev pub decreases-switch : goal.decreases-switch
+decreases-switch l = 4 * most item.the_size l.items.now + 2
+
+abbrev pub invariant-items-loop-place : goal.invariant-items-loop-place
+invariant-items-loop-place l = Within l.initial.self (nodes_of (reverse l.initial.made.items)) l.exits (items_of (drop l.place l.items)) l.self (nodes_of (reverse l.made.items)) l.cases

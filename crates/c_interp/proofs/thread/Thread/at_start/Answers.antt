@@ -1,0 +1,34 @@
+use Rattle.std.proofs.Common.{◌≡◌, ◌≤◌, ◌^◌, true, ℕ, List, [], ◌∷◌, ap, sym, subst, ◌∙◌, rules, arith}
+use Rattle.core_tree.specs.Trees.{core_file, view_core, view_function, no_argument}
+use Rattle.c_values.specs.Variables.{Variables, first_variables}
+use Rattle.c_values.specs.Numbers.{TypedNumber}
+use Rattle.c_interp.specs.Meaning.{total}
+use Rattle.c_interp.specs.Items.{Item, wants_end, gathers}
+use Rattle.c_interp.specs.Fits.{fits, types_of, sizes_of}
+use Rattle.c_interp.specs.Tasks.{items_in, values_in, structures_in, open_in}
+use Rattle.c_interp.proofs.Starts.{start_fits, start_sized}
+use Rattle.c_interp.proofs.thread.Thread.at_start.Goals as goal
+
+pub invariant_of-result-clause-typed : goal.invariant_of-result-clause-typed
+invariant_of-result-clause-typed c =
+    let file = view_core (core_file c.args.functions.now c.args.objects.now) in
+    let f = c.args.function in
+    let begin = gathers (wants_end c.args.body.now.line) f 0 no_argument in
+    let items : items_in c.push.new.self.items ≡ begin ∷ [] = search rules in
+    let numbers : c.new.result.items ≡ [] = search rules in
+    let structures : c.new-2.result.items ≡ [] = search rules in
+    let P : List Item → List TypedNumber → List (List ℕ) → Type 0 = λ is xs bs. fits file is f (types_of (values_in xs)) (sizes_of (structures_in bs)) ≡ true in
+    let first : P (begin ∷ []) [] [] = start_fits file f (view_function c.args.body.now) c.requires.body c.args.body.now.line in
+    subst (P (items_in c.push.new.self.items) c.new.result.items) (sym structures) (subst (λ xs. P (items_in c.push.new.self.items) xs []) (sym numbers) (subst (λ is. P is [] []) (sym items) first))
+
+pub invariant_of-result-clause-sized : goal.invariant_of-result-clause-sized
+invariant_of-result-clause-sized c =
+    let file = view_core (core_file c.args.functions.now c.args.objects.now) in
+    let made : c.add_variables.new.blocks.items ≡ first_variables c.args.body.now.variables.items = search rules in
+    ap (λ (vs : Variables). sizes_of vs) made ∙ start_sized file c.args.function (view_function c.args.body.now) c.requires.body
+
+pub invariant_of-result-clause-counted : goal.invariant_of-result-clause-counted
+invariant_of-result-clause-counted c =
+    let items : items_in c.push.new.self.items ≡ gathers (wants_end c.args.body.now.line) c.args.function 0 no_argument ∷ [] = search rules in
+    let few : total c.in_ok-left.left.items ≤ 2 ^ 42 = search rules in
+    omega (arith, few, ap open_in items)

@@ -1,0 +1,77 @@
+use Rattle.std.proofs.Common.{◌≡◌, Some, ◌∷◌, drop, slice_get, sym, ap, subst, ◌∙◌, rules}
+use Rattle.core_tree.specs.Trees.{Statement, view_statement, view_functions}
+use Rattle.c_interp.specs.Meaning.{opened}
+use Rattle.c_interp.specs.Items.{active, sizes_at, runs, resumes, State, state}
+use Rattle.c_interp.specs.Tasks.{items_in, values_in, structures_in, want_of, behind, body_of, frame_on, called}
+use Rattle.c_interp.specs.View.{file_of, active_of, IsSound}
+use Rattle.c_interp.proofs.Sound.{sound_kept, same_statement}
+use Rattle.c_interp.proofs.thread.Thread.call.Goals as goal
+
+pub invariant_of-self-2-clause-typed : goal.invariant_of-self-2-clause-typed
+invariant_of-self-2-clause-typed c =
+    let o = c.args.self.now in
+    let call = c.args.call in
+    let f = call.function in
+    let xs = values_in o.numbers.items in
+    let bs = structures_in o.structures.items in
+    let js = behind (items_in o.tasks.items) in
+    let s = view_statement c.in-Some.body.statement.now in
+    let sizes = sizes_at (slice_get (view_functions o.functions.now) f) in
+    let p = c.requires.planned in
+    let t = called (file_of o) call p.0 js (active_of o) xs bs o.variables.items in
+    let now = state (items_in c.change_tasks.new.tasks.items) (active f c.open_activation.new.left.items) xs (structures_in c.take_frame.new.structures.items) c.replace-saved.new.dest.items in
+    let found : body_of (slice_get (view_functions o.functions.now) f) ≡ Some s = search rules in
+    let first : items_in c.change_tasks.new.tasks.items ≡ runs s ∷ resumes (want_of call.want) o.function o.variables.items ∷ js = search rules in
+    let left : c.open_activation.new.left.items ≡ opened o.left.items f = c.open_activation.ensures in
+    let under : structures_in c.take_frame.new.structures.items ≡ drop call.count bs = search rules in
+    let frame : c.replace-saved.new.dest.items ≡ frame_on call.count bs sizes = search rules in
+    let named : s ≡ p.0 = same_statement s p.0 (sym found ∙ p.1) in
+    let same : now ≡ t = (λ i. state (first i) (active f (left i)) xs (under i) (frame i)) ∙ ap (λ (s : Statement). called (file_of o) call s js (active_of o) xs bs o.variables.items) named in
+    let P : State → Type 0 = IsSound (file_of o) in
+    (subst P (sym same) (sound_kept o t p.3)).0
+
+pub invariant_of-self-2-clause-sized : goal.invariant_of-self-2-clause-sized
+invariant_of-self-2-clause-sized c =
+    let o = c.args.self.now in
+    let call = c.args.call in
+    let f = call.function in
+    let xs = values_in o.numbers.items in
+    let bs = structures_in o.structures.items in
+    let js = behind (items_in o.tasks.items) in
+    let s = view_statement c.in-Some.body.statement.now in
+    let sizes = sizes_at (slice_get (view_functions o.functions.now) f) in
+    let p = c.requires.planned in
+    let t = called (file_of o) call p.0 js (active_of o) xs bs o.variables.items in
+    let now = state (items_in c.change_tasks.new.tasks.items) (active f c.open_activation.new.left.items) xs (structures_in c.take_frame.new.structures.items) c.replace-saved.new.dest.items in
+    let found : body_of (slice_get (view_functions o.functions.now) f) ≡ Some s = search rules in
+    let first : items_in c.change_tasks.new.tasks.items ≡ runs s ∷ resumes (want_of call.want) o.function o.variables.items ∷ js = search rules in
+    let left : c.open_activation.new.left.items ≡ opened o.left.items f = c.open_activation.ensures in
+    let under : structures_in c.take_frame.new.structures.items ≡ drop call.count bs = search rules in
+    let frame : c.replace-saved.new.dest.items ≡ frame_on call.count bs sizes = search rules in
+    let named : s ≡ p.0 = same_statement s p.0 (sym found ∙ p.1) in
+    let same : now ≡ t = (λ i. state (first i) (active f (left i)) xs (under i) (frame i)) ∙ ap (λ (s : Statement). called (file_of o) call s js (active_of o) xs bs o.variables.items) named in
+    let P : State → Type 0 = IsSound (file_of o) in
+    (subst P (sym same) (sound_kept o t p.3)).1
+
+pub invariant_of-self-2-clause-counted : goal.invariant_of-self-2-clause-counted
+invariant_of-self-2-clause-counted c =
+    let o = c.args.self.now in
+    let call = c.args.call in
+    let f = call.function in
+    let xs = values_in o.numbers.items in
+    let bs = structures_in o.structures.items in
+    let js = behind (items_in o.tasks.items) in
+    let s = view_statement c.in-Some.body.statement.now in
+    let sizes = sizes_at (slice_get (view_functions o.functions.now) f) in
+    let p = c.requires.planned in
+    let t = called (file_of o) call p.0 js (active_of o) xs bs o.variables.items in
+    let now = state (items_in c.change_tasks.new.tasks.items) (active f c.open_activation.new.left.items) xs (structures_in c.take_frame.new.structures.items) c.replace-saved.new.dest.items in
+    let found : body_of (slice_get (view_functions o.functions.now) f) ≡ Some s = search rules in
+    let first : items_in c.change_tasks.new.tasks.items ≡ runs s ∷ resumes (want_of call.want) o.function o.variables.items ∷ js = search rules in
+    let left : c.open_activation.new.left.items ≡ opened o.left.items f = c.open_activation.ensures in
+    let under : structures_in c.take_frame.new.structures.items ≡ drop call.count bs = search rules in
+    let frame : c.replace-saved.new.dest.items ≡ frame_on call.count bs sizes = search rules in
+    let named : s ≡ p.0 = same_statement s p.0 (sym found ∙ p.1) in
+    let same : now ≡ t = (λ i. state (first i) (active f (left i)) xs (under i) (frame i)) ∙ ap (λ (s : Statement). called (file_of o) call s js (active_of o) xs bs o.variables.items) named in
+    let P : State → Type 0 = IsSound (file_of o) in
+    (subst P (sym same) (sound_kept o t p.3)).2

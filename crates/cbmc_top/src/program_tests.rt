@@ -1,0 +1,369 @@
+// Programs with functions, loops, switches and jumps: their runs on the machines of all stages, and their
+// verdicts under bounds.
+
+ghost use Rattle.std.specs.Prelude.{◌≡◌, IfOk, IfSome};
+
+use crate::machines::outcomes_within;
+use crate::{Job, Options, Task, Verdict, check_bytes};
+use core_tree::{Bounds, Limit, Refusal};
+use interleave::Outcome;
+use std::alloc::{AllocError, Global};
+use std::test::*;
+use words::{Check, Class};
+
+// Texts with the greatest number of tests of a loop and of activations of a function, the word that they
+// draw, and the class, the line and the function of the check that breaks.
+static RUNS: [(&str, u32, i32, Option<(Class, u32, u32)>); 34] = [
+    (
+        "int main(void){int i=0;while(i<3)i++;\nassert(i!=3);return 0;}",
+        4,
+        0,
+        Some((Class::Assertion, 2, 0)),
+    ),
+    (
+        "int main(void){int i=0;while(i<3)i++;\nassert(i==3);return 0;}",
+        8,
+        0,
+        None,
+    ),
+    (
+        "int main(void){int i=0;\nwhile(i<3)i++;\nassert(i!=3);return 0;}",
+        3,
+        0,
+        Some((Class::Unwind, 2, 0)),
+    ),
+    (
+        "int main(void){int i=0;\nwhile(i<3)i++;\nassert(i!=3);return 0;}",
+        1,
+        0,
+        Some((Class::Unwind, 2, 0)),
+    ),
+    (
+        "int main(void){int i=0,s=0;for(;;){i++;if(i==2)continue;if(i>3)break;s+=i;}\nassert(s!=4);return 0;}",
+        8,
+        0,
+        Some((Class::Assertion, 2, 0)),
+    ),
+    (
+        "int main(void){int i=0,s=0;for(;;){i++;if(i==2)continue;if(i>3)break;s+=i;}\nassert(s!=4);return 0;}",
+        3,
+        0,
+        Some((Class::Unwind, 1, 0)),
+    ),
+    (
+        "int main(void){int i=0;do i+=2;while(i<5);assert(i==6);return 0;}",
+        3,
+        0,
+        None,
+    ),
+    (
+        "int main(void){int i=0;do i+=2;while(i<5);assert(i==6);return 0;}",
+        2,
+        0,
+        Some((Class::Unwind, 1, 0)),
+    ),
+    (
+        "int main(void){int s=0;for(int i=0;i<3;i++)for(int j=0;j<2;j++)s+=i;assert(s==6);return 0;}",
+        8,
+        0,
+        None,
+    ),
+    (
+        "int main(void){int s=0;for(int i=0;i<3;i++)for(int j=0;j<2;j++)s+=i;assert(s==6);return 0;}",
+        3,
+        0,
+        Some((Class::Unwind, 1, 0)),
+    ),
+    (
+        "int main(void){int s=0;switch(nondet_int()){case 1:s=1;case 2:s+=2;break;default:s=9;}\nassert(s!=3);return 0;}",
+        1,
+        1,
+        Some((Class::Assertion, 2, 0)),
+    ),
+    (
+        "int main(void){int s=0;switch(nondet_int()){case 1:s=1;case 2:s+=2;break;default:s=9;}\nassert(s!=2);return 0;}",
+        1,
+        2,
+        Some((Class::Assertion, 2, 0)),
+    ),
+    (
+        "int main(void){int s=0;switch(nondet_int()){case 1:s=1;case 2:s+=2;break;default:s=9;}\nassert(s!=9);return 0;}",
+        1,
+        -5,
+        Some((Class::Assertion, 2, 0)),
+    ),
+    (
+        "int main(void){int s=0;switch(nondet_int()){case 1:s=1;case 2:s+=2;break;}\nassert(s!=0);return 0;}",
+        1,
+        7,
+        Some((Class::Assertion, 2, 0)),
+    ),
+    (
+        "int main(void){int i=0,j=0;for(;i<3;i++)for(j=0;j<3;j++)if(i+j==3)goto out;out:\nassert(i!=1||j!=2);return 0;}",
+        4,
+        0,
+        Some((Class::Assertion, 2, 0)),
+    ),
+    (
+        "int main(void){int x=nondet_int();if(x==4)goto done;\nassert(x!=5);done:return 0;}",
+        1,
+        4,
+        None,
+    ),
+    (
+        "int main(void){int x=nondet_int();if(x==4)goto done;\nassert(x!=5);done:return 0;}",
+        1,
+        5,
+        Some((Class::Assertion, 2, 0)),
+    ),
+    (
+        "int add(int a,int b){return a+b;}int main(void){\nassert(add(2,3)==6);return 0;}",
+        1,
+        0,
+        Some((Class::Assertion, 2, 1)),
+    ),
+    (
+        "int add(int a,int b){return a+b;}int main(void){assert(add(add(1,2),add(3,4))==10);return 0;}",
+        1,
+        0,
+        None,
+    ),
+    (
+        "int f(int n){if(n<2)return 1;\nreturn n*f(n-1);}int main(void){assert(f(4)==24);return 0;}",
+        4,
+        0,
+        None,
+    ),
+    (
+        "int f(int n){if(n<2)return 1;\nreturn n*f(n-1);}int main(void){assert(f(4)==24);return 0;}",
+        3,
+        0,
+        Some((Class::Recursion, 2, 0)),
+    ),
+    (
+        "int odd(int n);int even(int n){return n==0?1:odd(n-1);}int odd(int n){return n==0?0:even(n-1);}int main(void){assert(even(4));return 0;}",
+        3,
+        0,
+        None,
+    ),
+    (
+        "int odd(int n);int even(int n){return n==0?1:odd(n-1);}int odd(int n){\nreturn n==0?0:even(n-1);}int main(void){assert(even(4));return 0;}",
+        2,
+        0,
+        Some((Class::Recursion, 2, 0)),
+    ),
+    (
+        "int f(void){}int main(void){\nint x=f();return x;}",
+        8,
+        0,
+        Some((Class::Return, 2, 1)),
+    ),
+    ("int f(void){}int main(void){f();return 0;}", 8, 0, None),
+    (
+        "struct s{int a;int b;};struct s swap(struct s x){struct s y={x.b,x.a};return y;}int main(void){struct s p={1,2};struct s q=swap(p);assert(q.a==2&&q.b==1&&p.a==1);return 0;}",
+        1,
+        0,
+        None,
+    ),
+    (
+        "int n;void up(void){n++;}int main(void){up();up();\nassert(n!=2);return 0;}",
+        1,
+        0,
+        Some((Class::Assertion, 2, 1)),
+    ),
+    (
+        "int f(int a){return a+1;}int main(void){return f(2147483647);}",
+        1,
+        0,
+        Some((Class::Overflow, 1, 0)),
+    ),
+    (
+        "int half(int a){return a/2;}int main(void){int x=nondet_int();int n=0;while(x>1){x=half(x);n++;}\nassert(n!=3);return 0;}",
+        4,
+        9,
+        Some((Class::Assertion, 2, 1)),
+    ),
+    (
+        "int half(int a){return a/2;}int main(void){int x=nondet_int();int n=0;while(x>1){x=half(x);n++;}\nassert(n!=3);return 0;}",
+        3,
+        9,
+        Some((Class::Unwind, 1, 1)),
+    ),
+    (
+        "int f(int a){a=a+1;return a;}int main(void){int a=5;assert(f(a)==6&&a==5);return 0;}",
+        1,
+        0,
+        None,
+    ),
+    (
+        "int f(unsigned char a){return a;}int main(void){assert(f(258)==2);return 0;}",
+        1,
+        0,
+        None,
+    ),
+    (
+        "unsigned char f(int a){return a;}int main(void){assert(f(258)==2);return 0;}",
+        1,
+        0,
+        None,
+    ),
+    (
+        "int main(void){int s=0;switch(2){int t=3;case 1:s=t;case 2:s+=4;}assert(s==4);return 0;}",
+        2,
+        0,
+        None,
+    ),
+];
+
+#[test]
+fn programs_have_their_runs(rt: HostRuntime) -> Result<(), Fail> {
+    for (text, unwind, word, check) in RUNS {
+        let found = outcomes_within(rt.alloc(), text.as_bytes(), &[word, 0, 0], unwind)?;
+        let wanted = match check {
+            Some((class, line, function)) => Outcome::Broken(Check {
+                class,
+                line,
+                function,
+                thread: 0,
+            }),
+            None => Outcome::Fine,
+        };
+        assert!(rt;
+            found == [wanted; 4],
+            "{text} with {word} within {unwind}: {found:?}"
+        );
+    }
+    Ok(())
+}
+
+// Texts with their bounds and whether passing one breaks a check, and their verdicts.
+static VERDICTS: [(&str, u32, bool, Option<(Class, u32, u32)>); 14] = [
+    (HUNDRED, 101, true, None),
+    (HUNDRED, 100, true, Some((Class::Unwind, 1, 0))),
+    (HUNDRED, 100, false, None),
+    (
+        "int main(void){unsigned n=0;while(1){n++;assert(n<100);}}",
+        3,
+        false,
+        None,
+    ),
+    (
+        "int main(void){unsigned n=0;while(1){n++;assert(n<100);}}",
+        3,
+        true,
+        Some((Class::Unwind, 1, 0)),
+    ),
+    (
+        "int main(void){unsigned n=0;while(1){n++;\nassert(n<100);}}",
+        101,
+        false,
+        Some((Class::Assertion, 2, 0)),
+    ),
+    (DOWN, 8, true, Some((Class::Recursion, 2, 0))),
+    (DOWN, 9, true, None),
+    (DOWN, 8, false, None),
+    (SUM, 4, true, None),
+    (SUM, 3, true, Some((Class::Unwind, 1, 0))),
+    (SUM, 3, false, None),
+    (
+        "int f(void){}\nint main(void){int x=f();return x;}",
+        8,
+        true,
+        Some((Class::Return, 2, 1)),
+    ),
+    (
+        "int f(void){}\nint main(void){f();return 0;}",
+        8,
+        true,
+        None,
+    ),
+];
+
+const HUNDRED: &str = "int main(void){for(int i=0;i<100;i++);return 0;}";
+
+const DOWN: &str = "int f(int n){if(n==0)return 0;\nreturn f(n-1);}\nint main(void){return f(8);}";
+
+const SUM: &str =
+    "int main(void){int i=0;int s=0;do{s=s+i;i++;}while(i<4);switch(s){case 6:goto ok;default:assert(0);}ok:return s;}";
+
+// The options of a command on a file `a.c` with these bounds, if they are bounds of a command.
+fn options_within(
+    alloc: Global,
+    unwind: u32,
+    assertions: bool,
+) -> Result<Option<Options>, AllocError>
+    ensures { IfOk result (λ found. IfSome found (λ o. o.task.job ≡ Job.Check)) }
+{
+    if unwind == 0 || unwind > 1_000 {
+        return Ok(None);
+    }
+    Ok(Some(Options {
+        name: String::from_str(alloc, "a.c")?,
+        bounds: Bounds::new(unwind, Vec::new(alloc), assertions, 256, false),
+        budget: 1_000_000,
+        task: Task {
+            job: Job::Check,
+            generate: None,
+        },
+    }))
+}
+
+// What is said of a text: the check that breaks; None where another thing is said.
+fn said(
+    alloc: Global,
+    text: &str,
+    unwind: u32,
+    assertions: bool,
+) -> Result<Option<Option<(Class, u32, u32)>>, AllocError> {
+    match options_within(alloc, unwind, assertions)? {
+        None => Ok(None),
+        Some(options) => Ok(match check_bytes(alloc, text.as_bytes(), &options)? {
+            Verdict::Successful(_) => Some(None),
+            Verdict::Failed(trace) => Some(Some((
+                trace.check.class,
+                trace.check.line,
+                trace.check.function,
+            ))),
+            _ => None,
+        }),
+    }
+}
+
+#[test]
+fn programs_have_their_verdicts(rt: HostRuntime) -> Result<(), Fail> {
+    for (text, unwind, assertions, check) in VERDICTS {
+        let found = said(rt.alloc(), text, unwind, assertions)?;
+        assert!(rt; found == Some(check), "{text} within {unwind}: {found:?}");
+    }
+    Ok(())
+}
+
+#[test]
+fn programs_are_refused(rt: HostRuntime) -> Result<(), Fail> {
+    let alloc = rt.alloc();
+    let wanted = [
+        ("int f(void){return 1;}", 12, 1),
+        ("int main(void){a:;goto a;}", 12, 6),
+    ];
+    if let Some(options) = options_within(alloc, 8, true)? {
+        for (text, number, rule) in wanted {
+            match check_bytes(alloc, text.as_bytes(), &options)? {
+                Verdict::Refused(refused) => {
+                    assert_eq!(rt; refused, Refusal::new(number, 1, Some(rule)))
+                }
+                _ => assert!(rt; false, "{text}"),
+            }
+        }
+        match check_bytes(alloc, b"int main(void){for(;;)for(;;)for(;;);}", &options)? {
+            Verdict::Failed(trace) => assert_eq!(rt; trace.check.class, Class::Unwind),
+            _ => assert!(rt; false),
+        }
+    }
+    if let Some(options) = options_within(alloc, 1_000, true)? {
+        match check_bytes(alloc, b"int main(void){for(;;)for(;;)for(;;);}", &options)? {
+            Verdict::Limited(limit) => assert_eq!(rt; limit, Limit::Places),
+            _ => assert!(rt; false),
+        }
+    }
+    Ok(())
+}

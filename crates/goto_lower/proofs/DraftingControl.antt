@@ -1,0 +1,293 @@
+-- What statements add to a draft, by what their parts add.
+use Rattle.std.proofs.Common.{◌≡◌, ℕ, ◌+◌, ◌-◌, ◌*◌, Bool, true, false, List, [], ◌∷◌, ◌++◌, length, Option, Some, None, refl, sym, ap, ◌∙◌, arith, append_assoc, length-append}
+use Rattle.std.specs.Prelude.{reverse, unwrap_or, is_some, if◌then◌else◌, Result, Ok, Err, OnOk}
+use Rattle.std.proofs.lemmas.List.{reverse-append}
+use Rattle.c_types.specs.declared.integers.IntegerType.{IntegerType}
+use Rattle.c_types.specs.declared.integers.IntegerType.TheVariants.{Int}
+use Rattle.core_tree.specs.Trees.{Expression, Statement, block, if_then, if_else, for_loop, do_loop, switch, Items, done, declares, initializes, initializes_structure, does, label, case_at, default_at}
+use Rattle.c_interp.specs.Meaning.{has_default}
+use Rattle.goto_prog.specs.declared.code.Operation.TheVariants as operations
+use Rattle.goto_prog.specs.Nodes.{Nodes, plain, repeats, node_count}
+use Rattle.goto_lower.specs.declared.exits.Exits.{Exits}
+use Rattle.goto_lower.specs.declared.exits.CasePlace.{CasePlace}
+use Rattle.goto_lower.specs.Lowering.{Frame, Ways, within_switch, ends, top, at_line, plains, to_place, code, part_code, test_code, part_registers, entry_code, entry_registers, items_registers, statement_registers, case_registers, case_tests, last_case, statement_code, items_code, case_jumps, default_place}
+use Rattle.goto_lower.specs.Registers.{types, part_types, case_types, entry_types, statement_types, items_types}
+use Rattle.goto_lower.specs.Drafts.{Listed, next, added, typed, flushed, after_entry, ways_of, case_place, cases_of, default_of, jumps_to, unmet_code, entered_code, Drafted}
+use Rattle.goto_lower.proofs.RegisterCounts.{types_length, part_length, case_length, entry_length, statement_length, items_length}
+use Rattle.goto_lower.proofs.Flushing.{typed_more, next_typed, flushed_draft, flushed_code}
+
+-- ---- a part behind others, whose registers are these, up to the number m
+
+module _ (d d1 d2 : Listed) (ts : List IntegerType) (m : ℕ) (same : d1 ≡ typed d ts) (at : next d1 ≡ m) where
+  pub then_statement : (x : Exits) (s : Statement) (n1 n2 : Nodes) → Drafted d1 d2 n1 n2 x s
+      → (d2 ≡ typed d (ts ++ statement_types d.variables s)) × (n2 ≡ statement_code d.frame d.variables x.base (ways_of x d.labels) s m n1) × (next d2 ≡ m + statement_registers d.variables s)
+  then_statement x s n1 n2 h =
+      let us = statement_types d.variables s in
+      let draft : d2 ≡ typed d1 us = h.draft_is ∙ (λ i. typed d1 (statement_types (same i).variables s)) in (
+        draft ∙ typed_more d d1 ts us same,
+        h.nodes_are ∙ (λ i. statement_code (same i).frame (same i).variables x.base (ways_of x (same i).labels) s (at i) n1),
+        omega (arith, next_typed d1 d2 us draft, at, statement_length d.variables s),
+      )
+
+  pub then_test : (line count : ℕ) (e : Expression) (n1 n2 : Nodes) → d2 ≡ typed d1 (types e)
+      → n2 ≡ plains (code d1.frame e (next d1)) (plain (at_line d1.frame line (operations.SkipIfZero (next d1 + top e) count)) n1)
+      → (d2 ≡ typed d (ts ++ types e)) × (n2 ≡ plains (code d.frame e m) (plain (at_line d.frame line (operations.SkipIfZero (m + top e) count)) n1)) × (next d2 ≡ m + (top e + 1))
+  then_test line count e n1 n2 draft put = (
+    draft ∙ typed_more d d1 ts (types e) same,
+    put ∙ (λ i. plains (code (same i).frame e (at i)) (plain (at_line (same i).frame line (operations.SkipIfZero (at i + top e) count)) n1)),
+    omega (arith, next_typed d1 d2 (types e) draft, at, types_length e),
+  )
+
+  pub then_part : (e : Option Expression) (n1 n2 : Nodes) → d2 ≡ typed d1 (part_types e) → n2 ≡ plains (part_code d1.frame d1.variables e (next d1)) n1
+      → (d2 ≡ typed d (ts ++ part_types e)) × (n2 ≡ plains (part_code d.frame d.variables e m) n1) × (next d2 ≡ m + part_registers d.variables e)
+  then_part e n1 n2 draft put = (
+    draft ∙ typed_more d d1 ts (part_types e) same,
+    put ∙ (λ i. plains (part_code (same i).frame (same i).variables e (at i)) n1),
+    omega (arith, next_typed d1 d2 (part_types e) draft, at, part_length d.variables e),
+  )
+
+  pub then_loop_test : (line : ℕ) (e : Option Expression) (n1 n2 : Nodes) → d2 ≡ typed d1 (part_types e) → n2 ≡ plains (test_code d1.frame d1.variables line e (next d1)) n1
+      → (d2 ≡ typed d (ts ++ part_types e)) × (n2 ≡ plains (test_code d.frame d.variables line e m) n1) × (next d2 ≡ m + part_registers d.variables e)
+  then_loop_test line e n1 n2 draft put = (
+    draft ∙ typed_more d d1 ts (part_types e) same,
+    put ∙ (λ i. plains (test_code (same i).frame (same i).variables line e (at i)) n1),
+    omega (arith, next_typed d1 d2 (part_types e) draft, at, part_length d.variables e),
+  )
+
+-- ---- blocks and branches
+
+pub drafted_block : (d d1 d2 new : Listed) (x : Exits) (items : Items) (rest n1 n2 : Nodes) → d.instructions ≡ []
+    → d1 ≡ typed d (items_types d.variables items) → n1 ≡ items_code d.frame d.variables x.base (ways_of x d.labels) items (next d) rest
+    → d2 ≡ after_entry d1 items → n2 ≡ plains d2.instructions n1 → new ≡ flushed d2
+    → Drafted d new rest n2 x (block items)
+drafted_block d d1 d2 new x items rest n1 n2 empty first filled second put last =
+    let ts = items_types d.variables items in
+    let us = entry_types d.variables items in
+    let m = next d + items_registers d.variables items in
+    let at : next d1 ≡ m = next_typed d d1 ts first ∙ ap (λ n. next d + n) (items_length d.variables items) in
+    let empty1 : d1.instructions ≡ [] = (λ i. (first i).instructions) ∙ empty in
+    let entry : d2 ≡ added d1 (entry_code d.frame d.variables items m) us = second ∙ (λ i. added d1 (entry_code (first i).frame (first i).variables items (at i)) (entry_types (first i).variables items)) in
+    record {
+      draft_is = flushed_draft d1 d2 new (entry_code d.frame d.variables items m) us empty1 entry last ∙ typed_more d d1 ts us first;
+      nodes_are = flushed_code d1 d2 (entry_code d.frame d.variables items m) us n1 n2 empty1 entry put ∙ ap (plains (entry_code d.frame d.variables items m)) filled;
+    }
+
+pub drafted_if : (d d1 new : Listed) (x : Exits) (test : Expression) (s : Statement) (line count : ℕ) (rest n1 n2 : Nodes)
+    → Drafted d d1 rest n1 x s → count ≡ node_count n1 - node_count rest
+    → new ≡ typed d1 (types test) → n2 ≡ plains (code d1.frame test (next d1)) (plain (at_line d1.frame line (operations.SkipIfZero (next d1 + top test) count)) n1)
+    → Drafted d new rest n2 x (if_then line test s)
+drafted_if d d1 new x test s line count rest n1 n2 h is_count draft put =
+    let ts = statement_types d.variables s in
+    let m = next d + statement_registers d.variables s in
+    let at : next d1 ≡ m = next_typed d d1 ts h.draft_is ∙ ap (λ n. next d + n) (statement_length d.variables s) in
+    let last = then_test d d1 new ts m h.draft_is at line count test n1 n2 draft put in
+    let yes = statement_code d.frame d.variables x.base (ways_of x d.labels) s (next d) rest in
+    let skips : count ≡ node_count yes - node_count rest = is_count ∙ (λ i. node_count (h.nodes_are i) - node_count rest) in
+    record {
+      draft_is = last.0;
+      nodes_are = last.1 ∙ (λ i. plains (code d.frame test m) (plain (at_line d.frame line (operations.SkipIfZero (m + top test) (skips i))) (h.nodes_are i)));
+    }
+
+pub drafted_if_else : (d d1 d2 new : Listed) (x : Exits) (test : Expression) (s t : Statement) (line over count : ℕ) (rest n1 n2 n3 n4 : Nodes)
+    → over ≡ x.base + node_count rest → Drafted d d1 rest n1 x t
+    → n2 ≡ to_place d1.frame d1.variables line x.base over n1 → Drafted d1 d2 n2 n3 x s → count ≡ node_count n3 - node_count n1
+    → new ≡ typed d2 (types test) → n4 ≡ plains (code d2.frame test (next d2)) (plain (at_line d2.frame line (operations.SkipIfZero (next d2 + top test) count)) n3)
+    → Drafted d new rest n4 x (if_else line test s t)
+drafted_if_else d d1 d2 new x test s t line over count rest n1 n2 n3 n4 is_over h jumps k is_count draft put =
+    let vs = d.variables in
+    let ts = statement_types vs t in
+    let us = statement_types vs s in
+    let second = next d + statement_registers vs t in
+    let m = second + statement_registers vs s in
+    let at : next d1 ≡ second = next_typed d d1 ts h.draft_is ∙ ap (λ n. next d + n) (statement_length vs t) in
+    let both = then_statement d d1 d2 ts second h.draft_is at x s n2 n3 k in
+    let last = then_test d d2 new (ts ++ us) m both.0 both.2 line count test n3 n4 draft put in
+    let no = statement_code d.frame vs x.base (ways_of x d.labels) t (next d) rest in
+    let jump : n2 ≡ to_place d.frame vs line x.base (x.base + node_count rest) no = jumps ∙ (λ i. to_place (h.draft_is i).frame (h.draft_is i).variables line x.base (is_over i) (h.nodes_are i)) in
+    let yes = statement_code d.frame vs x.base (ways_of x d.labels) s second (to_place d.frame vs line x.base (x.base + node_count rest) no) in
+    let yes_is : n3 ≡ yes = both.1 ∙ (λ i. statement_code d.frame vs x.base (ways_of x d.labels) s second (jump i)) in
+    let skips : count ≡ node_count yes - node_count no = is_count ∙ (λ i. node_count (yes_is i) - node_count (h.nodes_are i)) in
+    record {
+      draft_is = last.0 ∙ ap (typed d) (append_assoc ts us (types test));
+      nodes_are = last.1 ∙ (λ i. plains (code d.frame test m) (plain (at_line d.frame line (operations.SkipIfZero (m + top test) (skips i))) (yes_is i)));
+    }
+
+-- ---- loops
+
+abbrev pub inner_exits : (behind count : ℕ) → Exits
+inner_exits behind count = record { base = behind + 1; break_at = behind; continue_at = behind + 1 + count }
+
+pub drafted_do : (d d1 new : Listed) (x inner : Exits) (test : Expression) (s : Statement) (line l behind count : ℕ) (rest r1 r2 now : Nodes)
+    → behind ≡ x.base + node_count rest → d1 ≡ typed d (types test)
+    → r1 ≡ plains (code d.frame test (next d)) (plain (at_line d.frame line (operations.SkipIfZero (next d + top test) 1)) ends)
+    → count ≡ node_count r1 → inner ≡ inner_exits behind count → Drafted d1 new r1 r2 inner s
+    → now ≡ repeats line new.frame.function l false r2 rest
+    → Drafted d new rest now x (do_loop line l s test)
+drafted_do d d1 new x inner test s line l behind count rest r1 r2 now is_behind first tested is_count is_inner h loops =
+    let vs = d.variables in
+    let from = x.base + node_count rest in
+    let at : next d1 ≡ next d + (top test + 1) = next_typed d d1 (types test) first ∙ ap (λ n. next d + n) (types_length test) in
+    let last = then_statement d d1 new (types test) (next d + (top test + 1)) first at inner s r1 r2 h in
+    let end = plains (test_code d.frame vs line (Some test) (next d)) ends in
+    let end_is : r1 ≡ end = tested ∙ sym (plains_one (code d.frame test (next d)) (at_line d.frame line (operations.SkipIfZero (next d + top test) 1)) ends) in
+    let exits : inner ≡ inner_exits from (node_count end) = is_inner ∙ (λ i. inner_exits (is_behind i) (is_count i)) ∙ (λ i. inner_exits from (node_count (end_is i))) in
+    record {
+      draft_is = last.0;
+      nodes_are = loops ∙ (λ i. repeats line (last.0 i).frame.function l false (last.1 i) rest)
+          ∙ (λ i. repeats line d.frame.function l false (statement_code d.frame vs (exits i).base (ways_of (exits i) d.labels) s (next d + (top test + 1)) (end_is i)) rest);
+    }
+  where
+    plains_one : (xs : List _) (y : _) (ns : Nodes) → plains (xs ++ y ∷ []) ns ≡ plains xs (plain y ns)
+    plains_one [] y ns = refl
+    plains_one (z ∷ xs) y ns = ap (plain z) (plains_one xs y ns)
+
+regroup : {A : Type 0} (a b c d e : List A) → (((a ++ b) ++ c) ++ d) ++ e ≡ a ++ (b ++ (c ++ (d ++ e)))
+regroup a b c d e = simp append_assoc
+
+pub drafted_for : (d d1 d2 d3 d4 new : Listed) (x inner : Exits) (first test last : Option Expression) (s : Statement) (line l behind count : ℕ) (rest r1 r2 r3 n1 n2 n3 : Nodes)
+    → behind ≡ x.base + node_count rest
+    → d1 ≡ typed d (part_types test) → r1 ≡ plains (test_code d.frame d.variables line test (next d)) ends
+    → d2 ≡ typed d1 (part_types last) → r2 ≡ plains (part_code d1.frame d1.variables last (next d1)) r1
+    → count ≡ node_count r2 → inner ≡ inner_exits behind count → Drafted d2 d3 r2 r3 inner s
+    → n1 ≡ repeats line d3.frame.function l true r3 rest
+    → d4 ≡ typed d3 (part_types test) → n2 ≡ plains (test_code d3.frame d3.variables line test (next d3)) n1
+    → new ≡ typed d4 (part_types first) → n3 ≡ plains (part_code d4.frame d4.variables first (next d4)) n2
+    → Drafted d new rest n3 x (for_loop line l first test last s)
+drafted_for d d1 d2 d3 d4 new x inner first test last s line l behind count rest r1 r2 r3 n1 n2 n3 is_behind one tested two ended is_count is_inner h loops four again five begun =
+    let vs = d.variables in
+    let f = d.frame in
+    let from = x.base + node_count rest in
+    let in_last = next d + part_registers vs test in
+    let in_body = in_last + part_registers vs last in
+    let in_test = in_body + statement_registers vs s in
+    let at : next d1 ≡ in_last = next_typed d d1 (part_types test) one ∙ ap (λ n. next d + n) (part_length vs test) in
+    let a = then_part d d1 d2 (part_types test) in_last one at last r1 r2 two ended in
+    let end = plains (part_code f vs last in_last) (plains (test_code f vs line test (next d)) ends) in
+    let end_is : r2 ≡ end = a.1 ∙ ap (plains (part_code f vs last in_last)) tested in
+    let exits : inner ≡ inner_exits from (node_count end) = is_inner ∙ (λ i. inner_exits (is_behind i) (is_count i)) ∙ (λ i. inner_exits from (node_count (end_is i))) in
+    let b = then_statement d d2 d3 (part_types test ++ part_types last) in_body a.0 a.2 inner s r2 r3 h in
+    let c = then_loop_test d d3 d4 ((part_types test ++ part_types last) ++ statement_types vs s) in_test b.0 b.2 line test n1 n2 four again in
+    let e = then_part d d4 new (((part_types test ++ part_types last) ++ statement_types vs s) ++ part_types test) (in_test + part_registers vs test) c.0 c.2 first n2 n3 five begun in
+    let looped : n1 ≡ repeats line f.function l true (statement_code f vs (from + 1) (ways_of (inner_exits from (node_count end)) d.labels) s in_body end) rest =
+    loops ∙ (λ i. repeats line (b.0 i).frame.function l true (b.1 i) rest)
+    ∙ (λ i. repeats line f.function l true (statement_code f vs (exits i).base (ways_of (exits i) d.labels) s in_body (end_is i)) rest) in
+    record {
+      draft_is = e.0 ∙ ap (typed d) (regroup (part_types test) (part_types last) (statement_types vs s) (part_types test) (part_types first));
+      nodes_are = e.1 ∙ ap (plains (part_code f vs first (in_test + part_registers vs test))) (c.1 ∙ ap (plains (test_code f vs line test in_test)) looped);
+    }
+
+-- ---- switches
+
+module _ (frame : Frame) (variables : List ℕ) (base : ℕ) (ways : Ways) where
+  pub cases_length : (items : Items) (n : ℕ) (rest : Nodes) → 3 * length (cases_of frame variables base ways items n rest) ≡ length (case_types items)
+  cases_length done n rest = refl
+  cases_length (declares line v more) n rest = cases_length more n rest
+  cases_length (initializes line v drawn e more) n rest = cases_length more n rest
+  cases_length (initializes_structure line v drawn a more) n rest = cases_length more n rest
+  cases_length (does s more) n rest = cases_length more n rest
+  cases_length (label l more) n rest = cases_length more n rest
+  cases_length (case_at line t bits more) n rest =
+      omega (arith, length-append (cases_of frame variables base ways more n rest) (case_place line (base + node_count (items_code frame variables base ways more n rest)) ∷ []), cases_length more n rest)
+  cases_length (default_at line more) n rest = cases_length more n rest
+
+  pub jumps_same : (line : ℕ) (items : Items) (k n : ℕ) (rest others : Nodes) → jumps_to frame variables base k (reverse (cases_of frame variables base ways items n rest)) others ≡ case_jumps frame variables base ways line items k n rest others
+  jumps_same line done k n rest others = refl
+  jumps_same line (declares at v more) k n rest others = jumps_same line more k n rest others
+  jumps_same line (initializes at v drawn e more) k n rest others = jumps_same line more k n rest others
+  jumps_same line (initializes_structure at v drawn a more) k n rest others = jumps_same line more k n rest others
+  jumps_same line (does s more) k n rest others = jumps_same line more k n rest others
+  jumps_same line (label l more) k n rest others = jumps_same line more k n rest others
+  jumps_same line (case_at at t bits more) k n rest others =
+      let place = base + node_count (items_code frame variables base ways more n rest) in
+      ap (λ cs. jumps_to frame variables base k cs others) (reverse-append (cases_of frame variables base ways more n rest) (case_place at place ∷ []))
+      ∙ ap (λ (ns : Nodes). plain (at_line frame at (operations.SkipIfZero (k + 1) 1)) (to_place frame variables at base place ns)) (jumps_same line more (k + 3) n rest others)
+  jumps_same line (default_at at more) k n rest others = jumps_same line more k n rest others
+
+  pub has_default_same : (items : Items) (n : ℕ) (rest : Nodes) → is_some (default_of frame variables base ways items n rest) ≡ has_default items
+  has_default_same done n rest = refl
+  has_default_same (declares line v more) n rest = has_default_same more n rest
+  has_default_same (initializes line v drawn e more) n rest = has_default_same more n rest
+  has_default_same (initializes_structure line v drawn a more) n rest = has_default_same more n rest
+  has_default_same (does s more) n rest = has_default_same more n rest
+  has_default_same (label l more) n rest = has_default_same more n rest
+  has_default_same (case_at line t bits more) n rest = has_default_same more n rest
+  has_default_same (default_at line more) n rest = refl
+
+  pub default_same : (behind : ℕ) (items : Items) (n : ℕ) (rest : Nodes)
+      → unwrap_or (default_of frame variables base ways items n rest) behind ≡ (if has_default items then default_place frame variables base ways items n rest else behind)
+  default_same behind done n rest = refl
+  default_same behind (declares line v more) n rest = default_same behind more n rest
+  default_same behind (initializes line v drawn e more) n rest = default_same behind more n rest
+  default_same behind (initializes_structure line v drawn a more) n rest = default_same behind more n rest
+  default_same behind (does s more) n rest = default_same behind more n rest
+  default_same behind (label l more) n rest = default_same behind more n rest
+  default_same behind (case_at line t bits more) n rest = default_same behind more n rest
+  default_same behind (default_at line more) n rest = refl
+
+unmet_same : (f : Frame) (line : ℕ) (o : Option ℕ) (last count : ℕ) (ns : Nodes)
+    → unmet_code f line o last count ns ≡ (if is_some o then ns else plain (at_line f line (operations.SkipIfZero last (node_count ns - count))) ns)
+unmet_same f line None last count ns = refl
+unmet_same f line (Some p) last count ns = refl
+
+pub drafted_switch : (d d1 d2 new : Listed) (x inner : Exits) (e : Expression) (items : Items) (line behind count before : ℕ) (places : List CasePlace) (otherwise : Option ℕ) (rest n1 n2 n3 n4 : Nodes)
+    → count ≡ node_count rest → behind ≡ x.base + count → inner ≡ record { base = x.base; break_at = behind; continue_at = x.continue_at }
+    → d1 ≡ typed d (items_types d.variables items) → n1 ≡ items_code d.frame d.variables inner.base (ways_of inner d.labels) items (next d) rest
+    → places ≡ cases_of d.frame d.variables inner.base (ways_of inner d.labels) items (next d) rest → otherwise ≡ default_of d.frame d.variables inner.base (ways_of inner d.labels) items (next d) rest
+    → n2 ≡ to_place d1.frame d1.variables line x.base (unwrap_or otherwise behind) n1
+    → d2 ≡ typed d1 (Int ∷ (case_types items ++ entry_types d1.variables items)) → before ≡ next d1
+    → (3 * length places ≡ length (case_types items) → n3 ≡ entered_code d1.frame d1.variables line x.base count items (next d1) places otherwise n2)
+    → new ≡ typed d2 (types e)
+    → n4 ≡ plains (code d2.frame e (next d2)) (plain (at_line d2.frame line (operations.Constant before 0)) (plains (case_tests d2.frame d2.variables line (next d2 + top e) before items (before + 1)) n3))
+    → Drafted d new rest n4 x (switch line e items)
+drafted_switch d d1 d2 new x inner e items line behind count before places otherwise rest n1 n2 n3 n4 is_count is_behind is_inner first filled placed defaults jumps second is_before entered last chosen =
+    let f = d.frame in
+    let vs = d.variables in
+    let n = next d in
+    let from = x.base + node_count rest in
+    let ways = within_switch (ways_of x d.labels) from in
+    let exits : inner ≡ record { base = x.base; break_at = from; continue_at = x.continue_at } = is_inner ∙ (λ i. record { base = x.base; break_at = (is_behind ∙ ap (λ k. x.base + k) is_count) i; continue_at = x.continue_at }) in
+    let body = items_code f vs x.base ways items n rest in
+    let body_is : n1 ≡ body = filled ∙ (λ i. items_code f vs (exits i).base (ways_of (exits i) d.labels) items n rest) in
+    let cs = cases_of f vs x.base ways items n rest in
+    let cs_are : places ≡ cs = placed ∙ (λ i. cases_of f vs (exits i).base (ways_of (exits i) d.labels) items n rest) in
+    let o = default_of f vs x.base ways items n rest in
+    let o_is : otherwise ≡ o = defaults ∙ (λ i. default_of f vs (exits i).base (ways_of (exits i) d.labels) items n rest) in
+    let m = n + items_registers vs items in
+    let at : next d1 ≡ m = next_typed d d1 (items_types vs items) first ∙ ap (λ k. n + k) (items_length vs items) in
+    let to = if has_default items then default_place f vs x.base ways items n rest else from in
+    let leads : unwrap_or otherwise behind ≡ to = (λ i. unwrap_or (o_is i) ((is_behind ∙ ap (λ k. x.base + k) is_count) i)) ∙ default_same f vs x.base ways from items n rest in
+    let jumped : n2 ≡ to_place f vs line x.base to body = jumps ∙ (λ i. to_place (first i).frame (first i).variables line x.base (leads i) (body_is i)) in
+    let long : 3 * length places ≡ length (case_types items) = ap (λ (ps : List CasePlace). 3 * length ps) cs_are ∙ cases_length f vs x.base ways items n rest in
+    let in_entry = m + 1 + case_registers vs items in
+    let way = plains (entry_code f vs items in_entry) (case_jumps f vs x.base ways line items (m + 1) n rest (to_place f vs line x.base to body)) in
+    let way_is : n3 ≡ unmet_code f line o (last_case f vs m items (m + 1)) (node_count rest) way =
+    entered long
+    ∙ (λ i. entered_code (first i).frame (first i).variables line x.base (is_count i) items (at i) (cs_are i) (o_is i) (jumped i))
+    ∙ (λ i. unmet_code f line o (last_case f vs m items (m + 1)) (node_count rest) (plains (entry_code f vs items in_entry) (jumps_same f vs x.base ways line items (m + 1) n rest (to_place f vs line x.base to body) i))) in
+    let met : n3 ≡ (if has_default items then way else plain (at_line f line (operations.SkipIfZero (last_case f vs m items (m + 1)) (node_count way - node_count rest))) way) =
+    way_is ∙ unmet_same f line o (last_case f vs m items (m + 1)) (node_count rest) way
+    ∙ ap (λ (b : Bool). if b then way else plain (at_line f line (operations.SkipIfZero (last_case f vs m items (m + 1)) (node_count way - node_count rest))) way) (has_default_same f vs x.base ways items n rest) in
+    let us = Int ∷ (case_types items ++ entry_types vs items) in
+    let two : d2 ≡ typed d1 us = second ∙ (λ i. typed d1 (Int ∷ (case_types items ++ entry_types (first i).variables items))) in
+    let whole : d2 ≡ typed d (items_types vs items ++ us) = two ∙ typed_more d d1 (items_types vs items) us first in
+    let at2 : next d2 ≡ in_entry + entry_registers vs items =
+    omega (arith, next_typed d1 d2 us two, at, length-append (case_types items) (entry_types vs items), case_length vs items, entry_length vs items) in
+    let x_at = in_entry + entry_registers vs items in
+    record {
+      draft_is = last ∙ typed_more d d2 (items_types vs items ++ us) (types e) whole ∙ ap (typed d) (append_assoc (items_types vs items) us (types e) ∙ ap (λ ts. items_types vs items ++ (Int ∷ ts)) (append_assoc (case_types items) (entry_types vs items) (types e)));
+      nodes_are = chosen
+          ∙ (λ i. plains (code (whole i).frame e (at2 i)) (plain (at_line (whole i).frame line (operations.Constant ((is_before ∙ at) i) 0)) (plains (case_tests (whole i).frame (whole i).variables line (at2 i + top e) ((is_before ∙ at) i) items ((is_before ∙ at) i + 1)) (met i))));
+    }
+
+-- ---- results
+
+pub ok_two : {T E : Type 0} (r : Result T E) (p q s : Type 0) → (p → q → s) → OnOk r p → OnOk r q → OnOk r s
+ok_two (Ok x) p q s f h k = f h k
+ok_two (Err e) p q s f h k = h
+
+pub drafted_same : {T E : Type 0} (r : Result T E) (old new : Listed) (rest nodes : Nodes) (x : Exits) (s t : Statement) → s ≡ t → OnOk r (Drafted old new rest nodes x s) → OnOk r (Drafted old new rest nodes x t)
+drafted_same (Ok y) old new rest nodes x s t same h = record {
+  draft_is = h.draft_is ∙ ap (λ (u : Statement). typed old (statement_types old.variables u)) same;
+  nodes_are = h.nodes_are ∙ ap (λ (u : Statement). statement_code old.frame old.variables x.base (ways_of x old.labels) u (next old) rest) same;
+}
+drafted_same (Err e) old new rest nodes x s t same h = h

@@ -1,0 +1,308 @@
+-- The code of functions does what they mean, however they call one another.
+use Rattle.std.proofs.Common.{◌≡◌, ℕ, zero, suc, ◌+◌, ◌-◌, ◌≤◌, Bool, true, false, take, drop, List, [], ◌∷◌, ◌++◌, length, map, Option, Some, None, refl, sym, ap, ◌∙◌, subst, arith, append_assoc, append-nil, length-append}
+use Rattle.std.specs.Prelude.{◌==◌, ◌&&◌, ◌||◌, not, is_some, slice_get, slice_index, if◌then◌else◌}
+use Rattle.std.proofs.lemmas.Bool.{false≢true}
+use Rattle.std.proofs.lemmas.List.{length-replicate, length-map}
+use Rattle.std.proofs.Math.Seq.{get_or-append_seam, take-append_seam}
+use Rattle.c_types.specs.declared.integers.IntegerType.{IntegerType}
+use Rattle.words.specs.declared.check.Class.{Class}
+use Rattle.words.specs.declared.check.Class.TheVariants.{Recursion}
+use Rattle.core_tree.specs.declared.functions.PassedType.{PassedType}
+use Rattle.core_tree.specs.Ranges.{Limits}
+use Rattle.std.specs.List.{list_all}
+use Rattle.core_tree.specs.Typed.{is_typed_function, Signature, signature, sizes_in, sizes_of_objects, passed_size, have_parameters, is_typed_body, is_typed_statement}
+use Rattle.core_tree.specs.Trees.{Statement, Procedure, TypedFile}
+use Rattle.c_values.specs.Variables.{Variables, block_of, put_at, zeros, first_variables}
+use Rattle.actions.specs.Behaviour.{Behaviour}
+use Rattle.actions.specs.declared.action.Next.TheVariants.{Broken, Blocked}
+use Rattle.c_interp.specs.Meaning as source
+use Rattle.c_interp.specs.Meaning.{Running, Code, running_at, in_function, exec}
+use Rattle.goto_prog.specs.Meaning.{Memory, Given, at}
+use Rattle.goto_prog.specs.Threads.{Calls, acting, final}
+use Rattle.goto_prog.specs.Nodes.{Nodes, plain, Routine}
+use Rattle.goto_prog.specs.Structured as flat
+use Rattle.goto_prog.specs.Structured.{Bounded, with_arguments, entry_memory}
+use Rattle.goto_prog.specs.declared.code.Operation.TheVariants as operations
+use Rattle.goto_lower.specs.Lowering.{at_line, ends, no_ways, statement_code}
+use Rattle.goto_lower.specs.Rooms.{Rooms, statement_rooms}
+use Rattle.goto_lower.specs.Lowered.{given_size, first_frame, undefined_code, defined_code, code_by, function_code, function_codes}
+use Rattle.goto_lower.proofs.RegisterTypes.{left_of, right_of}
+use Rattle.goto_lower.proofs.RegisterCounts.{statement_length}
+use Rattle.goto_lower.proofs.Housing.{housed_body}
+use Rattle.goto_lower.proofs.Placing.{Places, same_final}
+use Rattle.goto_lower.proofs.ExpressionCode.{SourceCalls, IsGiven, handed, AreArguments, Placed, test_equal}
+use Rattle.goto_lower.proofs.StatementCode.{Ready, LeadOut, places_count, statement_means}
+
+-- ---- the blocks of a function at its start
+
+zeros_append : (vs ws : List ℕ) → first_variables (vs ++ ws) ≡ first_variables vs ++ first_variables ws
+zeros_append [] ws = refl
+zeros_append (v ∷ vs) ws = ap (λ (bs : Variables). zeros v ∷ bs) (zeros_append vs ws)
+
+no_arguments : (ws : List ℕ) → with_arguments ws [] ≡ first_variables ws
+no_arguments [] = refl
+no_arguments (w ∷ ws) = refl
+
+-- the arguments are for the first blocks
+arguments_front : (vs ws : List ℕ) (args : List (List ℕ)) → length args ≤ length vs → with_arguments (vs ++ ws) args ≡ with_arguments vs args ++ first_variables ws
+arguments_front [] ws [] few = no_arguments ws
+arguments_front [] ws (a ∷ args) few = absurd (omega (arith, few))
+arguments_front (v ∷ vs) ws [] few = zeros_append (v ∷ vs) ws
+arguments_front (v ∷ vs) ws (a ∷ args) few = ap (λ (bs : Variables). put_at 0 (take v a) (zeros v) ∷ bs) (arguments_front vs ws args (omega (arith, few)))
+
+short : (v : ℕ) (a : List ℕ) → length (take v a) ≤ v
+short zero a = omega arith
+short (suc v) [] = omega arith
+short (suc v) (x ∷ a) = omega (arith, short v a)
+
+put_size : (v : ℕ) (new : List ℕ) → length new ≤ v → length (put_at 0 new (zeros v)) ≡ v
+put_size v new fits =
+    let rest : length (drop (0 + length new) (zeros v)) ≡ length (zeros v) - (0 + length new) = length_drop (0 + length new) (zeros v) in
+    omega (arith, fits, length-replicate {A = ℕ} v 0, length-append new (drop (0 + length new) (zeros v)), rest)
+  where
+    length_drop : (n : ℕ) (xs : List ℕ) → length (drop n xs) ≡ length xs - n
+    length_drop zero xs = omega arith
+    length_drop (suc n) [] = omega arith
+    length_drop (suc n) (x ∷ xs) = omega (arith, length_drop n xs)
+
+argument_sizes_are : (vs : List ℕ) (args : List (List ℕ)) → map length (with_arguments vs args) ≡ vs
+argument_sizes_are [] args = refl
+argument_sizes_are (v ∷ vs) [] = zero_sizes (v ∷ vs)
+  where
+    zero_sizes : (xs : List ℕ) → map length (first_variables xs) ≡ xs
+    zero_sizes [] = refl
+    zero_sizes (x ∷ xs) = λ i. length-replicate {A = ℕ} x 0 i ∷ zero_sizes xs i
+argument_sizes_are (v ∷ vs) (a ∷ args) = λ i. put_size v (take v a) (short v a) i ∷ argument_sizes_are vs args i
+
+-- the variables are the arguments and bytes that are 0
+arguments_are : (vs : List ℕ) (ps : List PassedType) (blocks values : List (List ℕ)) → have_parameters vs ps ≡ true → AreArguments ps blocks values
+    → with_arguments vs blocks ≡ values ++ first_variables (drop (length values) vs)
+arguments_are vs [] [] [] fits are = no_arguments vs
+arguments_are vs [] [] (v ∷ values) fits are = absurd are
+arguments_are vs [] (b ∷ blocks) values fits are = absurd are
+arguments_are [] (p ∷ ps) blocks values fits are = absurd (false≢true fits)
+arguments_are (v ∷ vs) (p ∷ ps) [] values fits are = absurd are
+arguments_are (v ∷ vs) (p ∷ ps) (b ∷ blocks) [] fits are = absurd are
+arguments_are (v ∷ vs) (p ∷ ps) (b ∷ blocks) (x ∷ values) fits are =
+    let size : v ≡ passed_size p = test_equal v (passed_size p) (left_of _ _ fits) in
+    let whole : put_at 0 (take v b) (zeros v) ≡ x =
+    (λ i. put_at 0 (take (size i) b) (zeros v)) ∙ (λ i. put_at 0 (are.0 i) (zeros v)) ∙ put_all x v (omega (arith, are.1, size)) in
+    let more : length (x ∷ values) ≡ suc (length values) = omega arith in
+    (λ i. whole i ∷ arguments_are vs ps blocks values (right_of _ _ fits) are.2 i)
+    ∙ (λ i. x ∷ (values ++ first_variables (drop (sym more i) (v ∷ vs))))
+  where
+    put_all : (new : List ℕ) (n : ℕ) → length new ≡ n → put_at 0 new (zeros n) ≡ new
+    put_all new n same = ap (λ xs. new ++ xs) (none (0 + length new) (zeros n) (omega (arith, same, length-replicate {A = ℕ} n 0))) ∙ append-nil new
+      where
+        none : (k : ℕ) (xs : List ℕ) → length xs ≤ k → drop k xs ≡ []
+        none zero [] few = refl
+        none zero (y ∷ xs) few = absurd (omega (arith, few))
+        none (suc k) [] few = refl
+        none (suc k) (y ∷ xs) few = none k xs (omega (arith, few))
+
+argument_count_is : (ps : List PassedType) (vs : List ℕ) (blocks values : List (List ℕ)) → have_parameters vs ps ≡ true → AreArguments ps blocks values → length blocks ≤ length vs
+argument_count_is [] vs [] [] fits are = omega arith
+argument_count_is [] vs [] (v ∷ values) fits are = absurd are
+argument_count_is [] vs (b ∷ blocks) values fits are = absurd are
+argument_count_is (p ∷ ps) [] blocks values fits are = absurd (false≢true fits)
+argument_count_is (p ∷ ps) (v ∷ vs) [] values fits are = absurd are
+argument_count_is (p ∷ ps) (v ∷ vs) (b ∷ blocks) [] fits are = absurd are
+argument_count_is (p ∷ ps) (v ∷ vs) (b ∷ blocks) (x ∷ values) fits are = omega (arith, argument_count_is ps vs blocks values (right_of _ _ fits) are.2)
+
+-- ---- lists of functions
+
+signature_of : (procedures : List Procedure) (f : ℕ) (g : Signature) → slice_get (map signature procedures) f ≡ Some g → (p : Procedure) × (slice_get procedures f ≡ Some p) × (signature p ≡ g)
+signature_of [] f g h = absurd (cc)
+signature_of (p ∷ procedures) zero g h = let same : signature p ≡ g = cc in (p, refl, same)
+signature_of (p ∷ procedures) (suc f) g h = signature_of procedures f g h
+
+pub codes_at : (number : ℕ) (procedures : List Procedure) (k : ℕ) (p : Procedure) → slice_get procedures k ≡ Some p → slice_get (function_codes number procedures) k ≡ Some (function_code (number + k) p)
+codes_at number [] k p h = absurd (cc)
+codes_at number (q ∷ procedures) zero p h =
+    let same : q ≡ p = cc in
+    let here : number ≡ number + 0 = omega arith in
+    λ i. Some (function_code (here i) (same i))
+codes_at number (q ∷ procedures) (suc k) p h =
+    let there : number + 1 + k ≡ number + suc k = omega arith in
+    codes_at (number + 1) procedures k p h ∙ ap (λ n. Some (function_code n p)) there
+
+typed_at : (file : TypedFile) (procedures : List Procedure) (k : ℕ) (p : Procedure) → list_all (is_typed_function file) procedures ≡ true → slice_get procedures k ≡ Some p → is_typed_function file p ≡ true
+typed_at file [] k p h found = absurd (cc)
+typed_at file (q ∷ procedures) zero p h found =
+    let same : q ≡ p = cc in
+    subst (λ (r : Procedure). is_typed_function file r ≡ true) same (left_of (is_typed_function file q) (list_all (is_typed_function file) procedures) h)
+typed_at file (q ∷ procedures) (suc k) p h found = typed_at file procedures k p (right_of (is_typed_function file q) (list_all (is_typed_function file) procedures) h) found
+
+zero_register : (ts : List IntegerType) → slice_index (map (λ t. 0) ts) 0 ≡ 0
+zero_register [] = refl
+zero_register (t ∷ ts) = refl
+
+passed_same : (b : Bool) (class : Class) (line function : ℕ) → flat.passed b class line function ≡ source.passed b class line function
+passed_same true class line function = same_final (Broken class line function)
+passed_same false class line function = same_final Blocked
+
+parameters_or : (a b : Bool) → (a || not b) ≡ true → b ≡ true → a ≡ true
+parameters_or true b h k = refl
+parameters_or false true h k = absurd (false≢true h)
+parameters_or false false h k = absurd (false≢true k)
+
+-- ---- functions
+
+-- over a file that is typed, the bounds, and how many times tests may be evaluated
+module _ (file : TypedFile) (limits : Limits) (all_typed : list_all (is_typed_function file) file.functions ≡ true)
+    (tests_of : (function loop : ℕ) → ℕ) (tests_same : (f l : ℕ) → flat.tests (record { strict = true; functions = function_codes 0 file.functions; limits = limits }) f l ≡ tests_of f l) where
+  abbrev pub bounded : Bounded
+  bounded = record { strict = true; functions = function_codes 0 file.functions; limits = limits }
+
+  abbrev pub meaning : Code
+  meaning = record { functions = file.functions; tests = tests_of; assertions = limits.assertions }
+
+  abbrev signatures : List Signature
+  signatures = map signature file.functions
+
+  -- calls agree where so much fuel is left
+  abbrev CallsAgree : ℕ → Type 0
+  CallsAgree fuel =
+      (left : List ℕ) (caller f line : ℕ) (g : Signature) (blocks values : List (List ℕ)) (x : Given → Behaviour) (y : source.Given → Behaviour)
+      → slice_get signatures f ≡ Some g → AreArguments g.parameters blocks values
+      → ((given : source.Given) → IsGiven g.gives given → x (handed g.gives given) ≡ y given)
+      → flat.activation bounded fuel left caller f line blocks x ≡ source.activation meaning fuel left caller f line values y
+
+  -- a function that is defined
+  module _ (fuel : ℕ) (agrees : CallsAgree fuel) (left : List ℕ) (f : ℕ) (p : Procedure) (s : Statement) (blocks values : List (List ℕ)) (x : Given → Behaviour) (y : source.Given → Behaviour)
+      (fits : have_parameters p.variables p.parameters ≡ true) (typed : is_typed_statement (sizes_in file p) s ≡ true) (are : AreArguments p.parameters blocks values)
+      (follows : (given : source.Given) → IsGiven p.gives given → x (handed p.gives given) ≡ y given) where
+    abbrev running : Running
+    running = running_at meaning f p
+
+    abbrev needed : Rooms
+    needed = statement_rooms s
+
+    abbrev others : List ℕ
+    others = needed.zeros ∷ given_size p.gives ∷ needed.sizes
+
+    abbrev calls : Calls
+    calls = flat.activation bounded fuel left
+
+    abbrev meant : SourceCalls
+    meant = source.activation meaning fuel left f
+
+    abbrev routine : Routine
+    routine = defined_code f p s
+
+    abbrev depth : ℕ
+    depth = length p.variables + 2
+
+    abbrev total : ℕ
+    total = length routine.registers
+
+    abbrev start : Memory
+    start = entry_memory routine blocks
+
+    abbrev later : Places
+    later = (λ last. x None) ∷ []
+
+    abbrev rest : Nodes
+    rest = plain (at_line (first_frame f p.variables) p.line (operations.Return None)) (plain (at_line (first_frame f p.variables) p.line (operations.Assume 0)) ends)
+
+    blocks_are : start.blocks ≡ with_arguments p.variables blocks ++ first_variables others
+    blocks_are = arguments_front p.variables others blocks (argument_count_is p.parameters p.variables blocks values fits are)
+
+    front_length : length (with_arguments p.variables blocks) ≡ length p.variables
+    front_length = sym (length-map (with_arguments p.variables blocks) length) ∙ ap length (argument_sizes_are p.variables blocks)
+
+    long : length (p.variables ++ others) ≡ length p.variables + length others
+    long = length-append p.variables others
+
+    placed : Placed running others calls x meant depth start
+    placed = record {
+      deep = omega arith;
+      within = omega (arith, long);
+      sized = argument_sizes_are (p.variables ++ others) blocks;
+      clean = (λ i. block_of (blocks_are i) (sym front_length i)) ∙ get_or-append_seam (with_arguments p.variables blocks) (zeros needed.zeros) (first_variables (given_size p.gives ∷ needed.sizes)) []
+          ∙ sym (ap zeros (get_or-append_seam p.variables needed.zeros (given_size p.gives ∷ needed.sizes) 0));
+    }
+
+    signature_agrees : (g : ℕ) (line : ℕ) (k : Signature) (bs vs : List (List ℕ)) (u : Given → Behaviour) (v : source.Given → Behaviour)
+        → slice_get signatures g ≡ Some k → AreArguments k.parameters bs vs → ((given : source.Given) → IsGiven k.gives given → u (handed k.gives given) ≡ v given)
+        → calls f g line bs u ≡ meant g line vs v
+    signature_agrees g line k bs vs u v found fit same = agrees left f g line k bs vs u v found fit same
+
+    out : LeadOut running others (sizes_of_objects file.objects) signatures p.gives calls x meant signature_agrees (function_codes 0 file.functions) limits depth total no_ways (in_function y) (flat.nodes_before bounded (acting calls x) rest later)
+    out = record {
+      breaks = blocked;
+      continues = blocked;
+      labels = λ l. blocked;
+      returns = follows;
+    }
+      where
+        places : Places
+        places = flat.nodes_before bounded (acting calls x) rest later
+
+        three : length places ≡ 3
+        three = places_count running others (sizes_of_objects file.objects) signatures p.gives calls x meant signature_agrees (function_codes 0 file.functions) limits depth total rest later
+
+        blocked : (2 ≤ length places) × ((m : Memory) → Ready running others (sizes_of_objects file.objects) signatures p.gives calls x meant signature_agrees (function_codes 0 file.functions) limits depth total m → at (acting calls x) places (length places - 2) m ≡ source.final Blocked)
+        blocked = (
+          omega (arith, three),
+          λ m ready.
+              (let one : length places - 2 ≡ 1 = omega (arith, three) in ap (λ n. at (acting calls x) places n m) one)
+              ∙ (λ i. if ready.zero_there i == 0 then final Blocked else x None)
+              ∙ same_final Blocked,
+        )
+
+    ready : Ready running others (sizes_of_objects file.objects) signatures p.gives calls x meant signature_agrees (function_codes 0 file.functions) limits depth total start
+    ready = record { placed = placed; zero_there = zero_register routine.registers; room = length-map {B = ℕ} routine.registers (λ t. 0) }
+
+    result_size : slice_index (p.variables ++ others) (length p.variables + 1) ≡ given_size p.gives
+    result_size =
+        let front = p.variables ++ needed.zeros ∷ [] in
+        let at_end : length front ≡ length p.variables + 1 = length-append p.variables (needed.zeros ∷ []) in
+        (λ i. slice_index (sym (append_assoc p.variables (needed.zeros ∷ []) (given_size p.gives ∷ needed.sizes)) i) (sym at_end i))
+        ∙ get_or-append_seam front (given_size p.gives) needed.sizes 0
+
+    shown_start : take (length p.variables) start.blocks ≡ source.frame running values
+    shown_start =
+        let front = with_arguments p.variables blocks in
+        (λ i. take (length p.variables) (blocks_are i))
+        ∙ (λ i. take (sym front_length i) (front ++ first_variables others))
+        ∙ take-append_seam front (first_variables others)
+        ∙ arguments_are p.variables p.parameters blocks values fits are
+
+    defined_means : at (acting calls x) (flat.nodes_before bounded (acting calls x) routine.nodes later) 0 start ≡ exec running meant s (in_function y) (source.frame running values) (λ vs. y source.nothing)
+    defined_means =
+        let one : 1 ≡ length later = omega arith in
+        (λ i. at (acting calls x) (flat.nodes_before bounded (acting calls x) (statement_code (first_frame f p.variables) p.variables (one i) no_ways s 1 rest) later) 0 start)
+        ∙ statement_means running others (sizes_of_objects file.objects) signatures p.gives calls x meant signature_agrees (function_codes 0 file.functions) limits depth total (tests_same f) refl result_size
+        s no_ways (in_function y) 1 rest later (λ vs. y source.nothing) typed (housed_body p.variables (given_size p.gives) needed) (omega arith) (omega (arith, statement_length p.variables s)) out (λ m ready'. follows source.nothing tt) start ready
+        ∙ (λ i. exec running meant s (in_function y) (shown_start i) (λ vs. y source.nothing))
+
+  choose_same : (b : Bool) (u v u' v' : Behaviour) → u ≡ u' → v ≡ v' → (if b then u else v) ≡ (if b then u' else v')
+  choose_same true u v u' v' first second = first
+  choose_same false u v u' v' first second = second
+
+  -- a function's code and its body
+  enters_same : (fuel : ℕ) → CallsAgree fuel → (left : List ℕ) (f : ℕ) (p : Procedure) (body : Option Statement) (blocks values : List (List ℕ)) (x : Given → Behaviour) (y : source.Given → Behaviour)
+      → ((have_parameters p.variables p.parameters || not (is_some body)) && is_typed_body (sizes_in file p) body) ≡ true → AreArguments p.parameters blocks values
+      → ((given : source.Given) → IsGiven p.gives given → x (handed p.gives given) ≡ y given)
+      → flat.enters bounded (Some (code_by f p body)) (flat.activation bounded fuel left) blocks x ≡ source.exec_body (running_at meaning f p) (source.activation meaning fuel left f) body values y
+  enters_same fuel agrees left f p None blocks values x y typed are follows =
+      (λ i. if zero_register (undefined_code f p).registers i == 0 then final Blocked else x None) ∙ same_final Blocked
+  enters_same fuel agrees left f p (Some s) blocks values x y typed are follows =
+      defined_means fuel agrees left f p s blocks values x y (parameters_or (have_parameters p.variables p.parameters) true (left_of _ _ typed) refl) (right_of _ _ typed) are follows
+
+  -- calls of code do what calls mean
+  pub calls_agree : (fuel : ℕ) → CallsAgree fuel
+  calls_agree zero left caller f line g blocks values x y found fit same = passed_same limits.assertions Recursion line caller
+  calls_agree (suc fuel) left caller f line g blocks values x y found fit same =
+      let there = signature_of file.functions f g found in
+      let p = there.0 in
+      let here : 0 + f ≡ f = omega arith in
+      let got : slice_get (function_codes 0 file.functions) f ≡ Some (function_code f p) = codes_at 0 file.functions f p there.1 ∙ ap (λ n. Some (function_code n p)) here in
+      let are : AreArguments p.parameters blocks values = subst (λ (k : Signature). AreArguments k.parameters blocks values) (sym there.2) fit in
+      let follows : (given : source.Given) → IsGiven p.gives given → x (handed p.gives given) ≡ y given =
+      subst (λ (k : Signature). (given : source.Given) → IsGiven k.gives given → x (handed k.gives given) ≡ y given) (sym there.2) same in
+      choose_same (slice_index left f == 0) _ _ _ _ (passed_same limits.assertions Recursion line caller)
+      ((λ i. flat.enters bounded (got i) (flat.activation bounded fuel (flat.opened left f)) blocks x)
+      ∙ enters_same fuel (calls_agree fuel) (flat.opened left f) f p p.body blocks values x y (typed_at file file.functions f p all_typed there.1) are follows
+      ∙ sym (λ i. source.enters meaning f (there.1 i) (source.activation meaning fuel (source.opened left f) f) values y))

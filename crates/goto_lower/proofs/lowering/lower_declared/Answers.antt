@@ -1,0 +1,12 @@
+use Rattle.std.proofs.Common.{false}
+use Rattle.goto_lower.proofs.lowering.lower_declared.Goals as goal
+
+pub returns : goal.returns
+returns c = λ i. record {
+  name = c.in_ok-copy_name.ensures i;
+  line = c.args.function.now.line;
+  registers = c.in_ok-one_register.ensures i;
+  blocks = c.new.ensures.items i;
+  nodes = c.in_ok-blocking.ensures.forwards i;
+  startable = false;
+}

@@ -1,0 +1,169 @@
+-- The places of a tree are what its linear sum comes to.
+use Rattle.std.proofs.Common.{◌≡◌, ℕ, zero, suc, ◌+◌, ◌*◌, ◌-◌, ◌<◌, ◌≤◌, ◌⊎◌, inl, inr, List, [], ◌∷◌, ◌++◌, Option, Some, None, refl, sym, ap, ◌∙◌, arith}
+use Rattle.std.specs.Prelude.{min}
+use Rattle.std.proofs.Math.Nat.{mul_comm}
+use Rattle.std.proofs.lemmas.Bool.{cases_lt}
+use Rattle.core_tree.specs.Trees.{call, function_name, give, Arguments, no_argument, number_argument, structure_argument, returns_structure, returns_nothing, for_loop, do_loop, switch, breaks, continues, jumps, stray, label, case_at, default_at, Expression, constant, read, convert, sign, is_zero, arithmetic, compare, logical, choice, assign, update, step, comma, assertion, assumption, draw, part, discard, discard_structure, Structure, copy, load, choose, put, store, follow, section, list, string, Parts, no_part, number_part, structure_part, Statement, block, if_then, if_else, evaluate, returns, Items, done, declares, initializes, initializes_structure, does}
+use Rattle.goto_unwind.specs.declared.tally.Called.{Called}
+use Rattle.goto_unwind.specs.Places.{optional, expression_places, structure_places, parts_places, argument_places, statement_places, items_places}
+use Rattle.goto_unwind.specs.Linear.{cut, Linear, nothing, counted, called, expression_linear, structure_linear, parts_linear, arguments_linear, optional_linear, statement_linear, items_linear, calls_value, value}
+
+-- ---- sums and products that are cut
+
+pub cut_front : (s a b : ℕ) → cut a ≡ cut b → cut (s + a) ≡ cut (s + b)
+cut_front s a b same = omega (arith, same)
+
+pub cut_back : (a b q : ℕ) → cut a ≡ cut b → cut (a + q) ≡ cut (b + q)
+cut_back a b q same = omega (arith, same)
+
+pub cut_both : (a b c d : ℕ) → cut a ≡ cut b → cut c ≡ cut d → cut (a + c) ≡ cut (b + d)
+cut_both a b c d one other = omega (arith, one, other)
+
+large : (m x : ℕ) → 2000001 ≤ m → 2000001 ≤ m * suc x
+large m x more = omega (arith, more)
+
+small_factor : (m k x : ℕ) → k ≡ m → cut (k * x) ≡ cut (m * x)
+small_factor m k x same = ap (λ i. cut (i * x)) same
+
+large_factor : (m k x : ℕ) → 2000001 ≤ m → 2000001 ≤ k → cut (k * suc x) ≡ cut (m * suc x)
+large_factor m k x more most = omega (arith, large m x more, large k x most)
+
+-- a factor may be cut
+pub cut_times : (m x : ℕ) → cut (cut m * x) ≡ cut (m * x)
+cut_times m zero = omega arith
+cut_times m (suc x) = elim (cases_lt m 2000001) [ inl few ↦ small_factor m (cut m) (suc x) (omega (arith, few)) | inr more ↦ large_factor m (cut m) x more (omega (arith, more)) ]
+
+pub cut_factor : (t x y : ℕ) → cut x ≡ cut y → cut (t * x) ≡ cut (t * y)
+cut_factor t x y same =
+    ap cut (mul_comm t x) ∙ sym (cut_times x t) ∙ ap (λ k. cut (k * t)) same ∙ cut_times y t ∙ ap cut (mul_comm y t)
+
+-- ---- trees
+
+module _ (calls : ℕ → ℕ) where
+  calls_more : (cs : List Called) (c : Called) → calls_value calls (cs ++ c ∷ []) ≡ calls_value calls cs + c.times * calls c.callee
+  calls_more [] c = omega arith
+  calls_more (b ∷ cs) c = omega (arith, calls_more cs c)
+
+  -- from one sum to another, which has so many times so much more
+  pub record Adds (n x : ℕ) (s t : Linear) : Type 0 where
+    pub adds : cut (value calls t) ≡ cut (value calls s + n * x)
+
+  one : (n : ℕ) (s : Linear) → Adds n 1 s (counted n s)
+  one n s = record { adds = by_parts s.places n (calls_value calls s.calls) }
+    where
+      by_parts : (p k v : ℕ) → cut (cut (p + k) + v) ≡ cut (p + v + k * 1)
+      by_parts p k v = omega arith
+
+  nothing_more : (n : ℕ) (s : Linear) → Adds n 0 s s
+  nothing_more n s = record { adds = by_parts (value calls s) n }
+    where
+      by_parts : (v k : ℕ) → cut v ≡ cut (v + k * 0)
+      by_parts v k = omega arith
+
+  missing : (n : ℕ) (s : Linear) → Adds n 0 s (counted 0 s)
+  missing n s = record { adds = by_parts s.places n (calls_value calls s.calls) }
+    where
+      by_parts : (p k v : ℕ) → cut (cut (p + 0) + v) ≡ cut (p + v + k * 0)
+      by_parts p k v = omega arith
+
+  then : {n x y : ℕ} {s t u : Linear} → Adds n x s t → Adds n y t u → Adds n (x + y) s u
+  then {n} {x} {y} {s} {t} {u} first second = record { adds = by_parts (value calls s) (value calls t) (value calls u) n x y first.adds second.adds }
+    where
+      by_parts : (a b c k i j : ℕ) → cut b ≡ cut (a + k * i) → cut c ≡ cut (b + k * j) → cut c ≡ cut (a + k * (i + j))
+      by_parts a b c k i j one two = omega (arith, one, two)
+
+  called_adds : (n f : ℕ) (s : Linear) → Adds n (calls f) s (called f n s)
+  called_adds n f s = record { adds = by_parts s.places (calls_value calls s.calls) n (calls f) (calls_value calls (called f n s).calls) (calls_more s.calls (record { callee = f; times = n })) }
+    where
+      by_parts : (p v k x w : ℕ) → w ≡ v + k * x → cut (p + w) ≡ cut (p + v + k * x)
+      by_parts p v k x w is = omega (arith, is)
+
+  -- so many times more
+  times : {n x : ℕ} {s t : Linear} (k : ℕ) → Adds (cut (n * k)) x s t → Adds n (k * x) s t
+  times {n} {x} {s} {t} k more = record { adds = more.adds ∙ cut_front (value calls s) (cut (n * k) * x) (n * k * x) (cut_times (n * k) x) ∙ by_parts (value calls s) n k x }
+    where
+      by_parts : (v m i j : ℕ) → cut (v + m * i * j) ≡ cut (v + m * (i * j))
+      by_parts v m i j = omega arith
+
+  module _ (tests : ℕ → ℕ) where
+    mutual
+      pub expression_adds : (n : ℕ) (e : Expression) (s : Linear) → Adds n (expression_places tests calls e) s (expression_linear n e s)
+      expression_adds n (constant line t bits) s = one n s
+      expression_adds n (read p) s = then (one n s) (one n _)
+      expression_adds n (convert to e) s = then (one n s) (expression_adds n e _)
+      expression_adds n (sign line op e) s = then (one n s) (expression_adds n e _)
+      expression_adds n (is_zero line e) s = then (one n s) (expression_adds n e _)
+      expression_adds n (arithmetic line op a b) s = then (one n s) (then (expression_adds n a _) (expression_adds n b _))
+      expression_adds n (compare line op a b) s = then (one n s) (then (expression_adds n a _) (expression_adds n b _))
+      expression_adds n (logical line op a b) s = then (one n s) (then (expression_adds n a _) (expression_adds n b _))
+      expression_adds n (choice line test a b) s = then (one n s) (then (expression_adds n test _) (then (expression_adds n a _) (expression_adds n b _)))
+      expression_adds n (assign line p e) s = then (one n s) (then (one n _) (expression_adds n e _))
+      expression_adds n (update line p op t e) s = then (one n s) (then (one n _) (expression_adds n e _))
+      expression_adds n (step line p op before) s = then (one n s) (one n _)
+      expression_adds n (comma line a b) s = then (one n s) (then (expression_adds n a _) (expression_adds n b _))
+      expression_adds n (assertion line e) s = then (one n s) (expression_adds n e _)
+      expression_adds n (assumption line e) s = then (one n s) (expression_adds n e _)
+      expression_adds n (draw line t) s = one n s
+      expression_adds n (part line t offset a) s = then (one n s) (structure_adds n a _)
+      expression_adds n (discard line e) s = then (one n s) (expression_adds n e _)
+      expression_adds n (discard_structure a) s = structure_adds n a s
+      expression_adds n (call line f used t args) s = then (one n s) (then (arguments_adds n args _) (called_adds n f _))
+      expression_adds n (function_name line f) s = one n s
+
+      pub structure_adds : (n : ℕ) (a : Structure) (s : Linear) → Adds n (structure_places tests calls a) s (structure_linear n a s)
+      structure_adds n (copy line v offset size) s = then (one n s) (one n _)
+      structure_adds n (load line k offset size) s = then (one n s) (one n _)
+      structure_adds n (choose line test a b) s = then (one n s) (then (expression_adds n test _) (then (structure_adds n a _) (structure_adds n b _)))
+      structure_adds n (put line v offset a) s = then (one n s) (then (one n _) (structure_adds n a _))
+      structure_adds n (store line k offset a) s = then (one n s) (then (one n _) (structure_adds n a _))
+      structure_adds n (follow line e a) s = then (one n s) (then (expression_adds n e _) (structure_adds n a _))
+      structure_adds n (section line offset size a) s = then (one n s) (structure_adds n a _)
+      structure_adds n (list line size ps) s = parts_adds n ps s
+      structure_adds n (string line size text) s = one n s
+      structure_adds n (give line f used size args) s = then (one n s) (then (arguments_adds n args _) (called_adds n f _))
+
+      pub parts_adds : (n : ℕ) (ps : Parts) (s : Linear) → Adds n (parts_places tests calls ps) s (parts_linear n ps s)
+      parts_adds n no_part s = nothing_more n s
+      parts_adds n (number_part offset e rest) s = then (expression_adds n e s) (parts_adds n rest _)
+      parts_adds n (structure_part offset a rest) s = then (structure_adds n a s) (parts_adds n rest _)
+
+      pub arguments_adds : (n : ℕ) (args : Arguments) (s : Linear) → Adds n (argument_places tests calls args) s (arguments_linear n args s)
+      arguments_adds n no_argument s = nothing_more n s
+      arguments_adds n (number_argument e rest) s = then (expression_adds n e s) (arguments_adds n rest _)
+      arguments_adds n (structure_argument a rest) s = then (structure_adds n a s) (arguments_adds n rest _)
+
+    first_adds : (n : ℕ) (e : Option Expression) (s : Linear) → Adds n (optional (expression_places tests calls) 0 e) s (optional_linear n 0 e s)
+    first_adds n None s = missing n s
+    first_adds n (Some e) s = expression_adds n e s
+
+    test_adds : (n : ℕ) (e : Option Expression) (s : Linear) → Adds n (optional (expression_places tests calls) 1 e) s (optional_linear n n e s)
+    test_adds n None s = one n s
+    test_adds n (Some e) s = expression_adds n e s
+
+    mutual
+      pub statement_adds : (n : ℕ) (a : Statement) (s : Linear) → Adds n (statement_places tests calls a) s (statement_linear tests n a s)
+      statement_adds n (block items) s = then (one n s) (items_adds n items _)
+      statement_adds n (if_then line test a) s = then (one n s) (then (expression_adds n test _) (statement_adds n a _))
+      statement_adds n (if_else line test a b) s = then (one n s) (then (expression_adds n test _) (then (statement_adds n a _) (statement_adds n b _)))
+      statement_adds n (evaluate e) s = then (one n s) (expression_adds n e _)
+      statement_adds n (returns line e) s = then (one n s) (expression_adds n e _)
+      statement_adds n (returns_structure line a) s = then (one n s) (structure_adds n a _)
+      statement_adds n (returns_nothing line) s = one n s
+      statement_adds n (for_loop line l first test last a) s =
+          then (one n s) (then (first_adds n first _) (then (times (tests l) (test_adds _ test _)) (times (tests l - 1) (then (statement_adds _ a _) (first_adds _ last _)))))
+      statement_adds n (do_loop line l a test) s = then (one n s) (then (times (tests l) (statement_adds _ a _)) (times (tests l) (expression_adds _ test _)))
+      statement_adds n (switch line e items) s = then (one n s) (then (expression_adds n e _) (items_adds n items _))
+      statement_adds n (breaks line) s = one n s
+      statement_adds n (continues line) s = one n s
+      statement_adds n (jumps line k) s = one n s
+      statement_adds n (stray line a) s = then (one n s) (statement_adds n a _)
+
+      pub items_adds : (n : ℕ) (is : Items) (s : Linear) → Adds n (items_places tests calls is) s (items_linear tests n is s)
+      items_adds n done s = nothing_more n s
+      items_adds n (declares line v rest) s = then (one n s) (items_adds n rest _)
+      items_adds n (initializes line v drawn e rest) s = then (then (one n s) (expression_adds n e _)) (items_adds n rest _)
+      items_adds n (initializes_structure line v drawn a rest) s = then (then (one n s) (structure_adds n a _)) (items_adds n rest _)
+      items_adds n (does a rest) s = then (statement_adds n a s) (items_adds n rest _)
+      items_adds n (label k rest) s = then (one n s) (items_adds n rest _)
+      items_adds n (case_at line t bits rest) s = then (one n s) (items_adds n rest _)
+      items_adds n (default_at line rest) s = then (one n s) (items_adds n rest _)

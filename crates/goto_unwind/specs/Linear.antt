@@ -1,0 +1,217 @@
+-- How many places a function has, as a sum that is linear in what a call of each function adds; the numbers are cut behind the limit.
+use Rattle.std.specs.Prelude.{ℕ, zero, suc, ◌+◌, ◌*◌, ◌-◌, ◌==◌, min, ◌≡◌, ◌||◌, replicate, length, slice_get, List, [], ◌∷◌, ◌++◌, drop, Option, Some, None, slice_index, slice_set, if◌then◌else◌}
+use Rattle.core_tree.specs.Ranges.{Limits}
+use Rattle.core_tree.specs.Trees.{call, function_name, give, Arguments, no_argument, number_argument, structure_argument, returns_structure, returns_nothing, for_loop, do_loop, switch, breaks, continues, jumps, stray, label, case_at, default_at, Expression, constant, read, convert, sign, is_zero, arithmetic, compare, logical, choice, assign, update, step, comma, assertion, assumption, draw, part, discard, discard_structure, Structure, copy, load, choose, put, store, follow, section, list, string, Parts, no_part, number_part, structure_part, Statement, block, if_then, if_else, evaluate, returns, Items, done, declares, initializes, initializes_structure, does, Procedure}
+use Rattle.goto_prog.specs.Structured.{tests_in, opened}
+use Rattle.goto_prog.specs.Walks.{total}
+use Rattle.goto_unwind.specs.declared.tally.Called.{Called}
+use Rattle.goto_unwind.specs.declared.walk.Visit.{Visit}
+
+-- one more than the limit stands for all greater numbers
+abbrev pub cut : ℕ → ℕ
+cut n = min n 2000001
+
+-- so many places, and the calls of functions with how many times each of them counts
+pub record Linear : Type 0 where
+  pub places : ℕ
+  pub calls : List Called
+
+abbrev pub nothing : Linear
+nothing = record { places = 0; calls = [] }
+
+-- so many places more
+abbrev pub counted : ℕ → Linear → Linear
+counted n s = record { places = cut (s.places + n); calls = s.calls }
+
+-- a call more that counts so many times
+abbrev pub called : (function times : ℕ) → Linear → Linear
+called f n s = record { places = s.places; calls = s.calls ++ record { callee = f; times = n } ∷ [] }
+
+-- ---- what a tree that counts so many times adds
+
+abbrev mutual
+  pub expression_linear : (times : ℕ) → Expression → Linear → Linear
+  expression_linear n (constant line t bits) s = counted n s
+  expression_linear n (read p) s = counted n (counted n s)
+  expression_linear n (convert to e) s = expression_linear n e (counted n s)
+  expression_linear n (sign line op e) s = expression_linear n e (counted n s)
+  expression_linear n (is_zero line e) s = expression_linear n e (counted n s)
+  expression_linear n (arithmetic line op a b) s = expression_linear n b (expression_linear n a (counted n s))
+  expression_linear n (compare line op a b) s = expression_linear n b (expression_linear n a (counted n s))
+  expression_linear n (logical line op a b) s = expression_linear n b (expression_linear n a (counted n s))
+  expression_linear n (choice line test a b) s = expression_linear n b (expression_linear n a (expression_linear n test (counted n s)))
+  expression_linear n (assign line p e) s = expression_linear n e (counted n (counted n s))
+  expression_linear n (update line p op t e) s = expression_linear n e (counted n (counted n s))
+  expression_linear n (step line p op before) s = counted n (counted n s)
+  expression_linear n (comma line a b) s = expression_linear n b (expression_linear n a (counted n s))
+  expression_linear n (assertion line e) s = expression_linear n e (counted n s)
+  expression_linear n (assumption line e) s = expression_linear n e (counted n s)
+  expression_linear n (draw line t) s = counted n s
+  expression_linear n (part line t offset a) s = structure_linear n a (counted n s)
+  expression_linear n (discard line e) s = expression_linear n e (counted n s)
+  expression_linear n (discard_structure a) s = structure_linear n a s
+  expression_linear n (call line f used t args) s = called f n (arguments_linear n args (counted n s))
+  expression_linear n (function_name line f) s = counted n s
+
+  pub structure_linear : (times : ℕ) → Structure → Linear → Linear
+  structure_linear n (copy line v offset size) s = counted n (counted n s)
+  structure_linear n (load line k offset size) s = counted n (counted n s)
+  structure_linear n (choose line test a b) s = structure_linear n b (structure_linear n a (expression_linear n test (counted n s)))
+  structure_linear n (put line v offset a) s = structure_linear n a (counted n (counted n s))
+  structure_linear n (store line k offset a) s = structure_linear n a (counted n (counted n s))
+  structure_linear n (follow line e a) s = structure_linear n a (expression_linear n e (counted n s))
+  structure_linear n (section line offset size a) s = structure_linear n a (counted n s)
+  structure_linear n (list line size ps) s = parts_linear n ps s
+  structure_linear n (string line size text) s = counted n s
+  structure_linear n (give line f used size args) s = called f n (arguments_linear n args (counted n s))
+
+  pub parts_linear : (times : ℕ) → Parts → Linear → Linear
+  parts_linear n no_part s = s
+  parts_linear n (number_part offset e rest) s = parts_linear n rest (expression_linear n e s)
+  parts_linear n (structure_part offset a rest) s = parts_linear n rest (structure_linear n a s)
+
+  pub arguments_linear : (times : ℕ) → Arguments → Linear → Linear
+  arguments_linear n no_argument s = s
+  arguments_linear n (number_argument e rest) s = arguments_linear n rest (expression_linear n e s)
+  arguments_linear n (structure_argument a rest) s = arguments_linear n rest (structure_linear n a s)
+
+-- an expression that may be missing, and then counts so many
+abbrev pub optional_linear : (times missing : ℕ) → Option Expression → Linear → Linear
+optional_linear n missing None s = counted missing s
+optional_linear n missing (Some e) s = expression_linear n e s
+
+-- by how many times the test of each loop of the function may be evaluated
+module _ (tests : ℕ → ℕ) where
+  abbrev mutual
+    pub statement_linear : (times : ℕ) → Statement → Linear → Linear
+    statement_linear n (block items) s = items_linear n items (counted n s)
+    statement_linear n (if_then line test a) s = statement_linear n a (expression_linear n test (counted n s))
+    statement_linear n (if_else line test a b) s = statement_linear n b (statement_linear n a (expression_linear n test (counted n s)))
+    statement_linear n (evaluate e) s = expression_linear n e (counted n s)
+    statement_linear n (returns line e) s = expression_linear n e (counted n s)
+    statement_linear n (returns_structure line a) s = structure_linear n a (counted n s)
+    statement_linear n (returns_nothing line) s = counted n s
+    statement_linear n (for_loop line l first test last a) s =
+        optional_linear (cut (n * (tests l - 1))) 0 last
+        (statement_linear (cut (n * (tests l - 1))) a
+        (optional_linear (cut (n * tests l)) (cut (n * tests l)) test
+        (optional_linear n 0 first (counted n s))))
+    statement_linear n (do_loop line l a test) s = expression_linear (cut (n * tests l)) test (statement_linear (cut (n * tests l)) a (counted n s))
+    statement_linear n (switch line e items) s = items_linear n items (expression_linear n e (counted n s))
+    statement_linear n (breaks line) s = counted n s
+    statement_linear n (continues line) s = counted n s
+    statement_linear n (jumps line k) s = counted n s
+    statement_linear n (stray line a) s = statement_linear n a (counted n s)
+
+    pub items_linear : (times : ℕ) → Items → Linear → Linear
+    items_linear n done s = s
+    items_linear n (declares line v rest) s = items_linear n rest (counted n s)
+    items_linear n (initializes line v drawn e rest) s = items_linear n rest (expression_linear n e (counted n s))
+    items_linear n (initializes_structure line v drawn a rest) s = items_linear n rest (structure_linear n a (counted n s))
+    items_linear n (does a rest) s = items_linear n rest (statement_linear n a s)
+    items_linear n (label k rest) s = items_linear n rest (counted n s)
+    items_linear n (case_at line t bits rest) s = items_linear n rest (counted n s)
+    items_linear n (default_at line rest) s = items_linear n rest (counted n s)
+
+abbrev pub body_linear : (tests : ℕ → ℕ) → Option Statement → Linear
+body_linear tests None = nothing
+body_linear tests (Some a) = statement_linear tests 1 a nothing
+
+-- a function's places
+abbrev pub function_linear : Limits → Procedure → Linear
+function_linear bounds f = body_linear (tests_in bounds.set bounds.unwind f.name) f.body
+
+-- ---- their sums
+
+-- what calls add
+abbrev pub calls_value : (ℕ → ℕ) → List Called → ℕ
+calls_value calls [] = 0
+calls_value calls (c ∷ cs) = c.times * calls c.callee + calls_value calls cs
+
+-- the places, where a call of each function adds so many
+abbrev pub value : (ℕ → ℕ) → Linear → ℕ
+value calls s = s.places + calls_value calls s.calls
+
+-- ---- over the places of all functions
+
+abbrev pub or_nothing : Option Linear → Linear
+or_nothing None = nothing
+or_nothing (Some s) = s
+
+abbrev pub linear_of : List Linear → ℕ → Linear
+linear_of table f = or_nothing (slice_get table f)
+
+module _ (table : List Linear) where
+  -- what a call of each function adds, where so many activations of each may still be opened
+  abbrev pub linear_places : (fuel : ℕ) (left : List ℕ) → ℕ → ℕ
+  linear_places zero left f = 0
+  linear_places (suc fuel) left f = if slice_index left f == 0 then 0 else value (linear_places fuel (opened left f)) (linear_of table f)
+
+  abbrev pub added : (left : List ℕ) → ℕ → ℕ
+  added left f = linear_places (suc (total left)) left f
+
+  -- what is still to be added in activations, the innermost first: each has seen so many of its calls, and when it ends so many activations of its function may be opened again
+  abbrev pub pending : (left : List ℕ) → List Visit → ℕ
+  pending left [] = 0
+  pending left (v ∷ below) = v.times * calls_value (added left) (drop v.next (linear_of table v.function).calls) + pending (slice_set left v.function v.left) below
+
+  -- in how many steps that is done
+  abbrev pub calls_steps : (ℕ → ℕ) → List Called → ℕ
+  calls_steps steps [] = 0
+  calls_steps steps (c ∷ cs) = (1 + steps c.callee) + calls_steps steps cs
+
+  abbrev pub linear_steps : (fuel : ℕ) (left : List ℕ) → ℕ → ℕ
+  linear_steps zero left f = 0
+  linear_steps (suc fuel) left f = if slice_index left f == 0 then 0 else 1 + calls_steps (linear_steps fuel (opened left f)) (linear_of table f).calls
+
+  abbrev pub steps_added : (left : List ℕ) → ℕ → ℕ
+  steps_added left f = linear_steps (suc (total left)) left f
+
+  abbrev pub pending_steps : (left : List ℕ) → List Visit → ℕ
+  pending_steps left [] = 0
+  pending_steps left (v ∷ below) = (1 + calls_steps (steps_added left) (drop v.next (linear_of table v.function).calls)) + pending_steps (slice_set left v.function v.left) below
+
+-- ---- a walk through the calls: how many activations of each function may still be opened, those that are open, the innermost first, and what is counted
+pub record Walking : Type 0 where
+  pub table : List Linear
+  pub left : List ℕ
+  pub visits : List Visit
+  pub counted : ℕ
+
+-- what it comes to
+abbrev pub outcome : Walking → ℕ
+outcome w = cut (w.counted + pending w.table w.left w.visits)
+
+-- in how many steps
+abbrev pub steps_left : Walking → ℕ
+steps_left w = pending_steps w.table w.left w.visits
+
+-- an activation that counts so many times
+abbrev pub opens : (function times : ℕ) → Walking → Walking
+opens f n w = record {
+  table = w.table;
+  left = opened w.left f;
+  visits = record { function = f; left = slice_index w.left f; times = n; next = 0 } ∷ w.visits;
+  counted = cut (w.counted + cut (n * (linear_of w.table f).places));
+}
+
+-- where one may be opened
+abbrev pub arrives : (function times : ℕ) → Walking → Walking
+arrives f n w = if (slice_index w.left f == 0) || (n == 0) then w else opens f n w
+
+-- a step of an activation that was the innermost: it ends, or its next call is seen
+abbrev pub walked_by : Visit → Option Called → Walking → Walking
+walked_by v None w = record w { left = slice_set w.left v.function v.left }
+walked_by v (Some c) w = arrives c.callee (cut (v.times * c.times)) (record w { visits = record v { next = v.next + 1 } ∷ w.visits })
+
+abbrev pub walked : Visit → Walking → Walking
+walked v w = walked_by v (slice_get (linear_of w.table v.function).calls v.next) w
+
+-- the innermost activation, and the others
+abbrev pub Pops : Walking → Walking → Option Visit → Type 0
+Pops old new None = (old.visits ≡ []) × (new ≡ old)
+Pops old new (Some v) = (old.visits ≡ v ∷ new.visits) × (new ≡ record old { visits = new.visits })
+
+-- before the first call
+abbrev pub starting : List Linear → (activations : ℕ) → Walking
+starting table k = record { table = table; left = replicate (length table) k; visits = []; counted = 0 }
