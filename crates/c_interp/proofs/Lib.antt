@@ -6,7 +6,6 @@ pub mod TypeWidths
 pub mod FitsKept
 pub mod DrawnBits
 pub mod Threads
-pub mod PushedItems
 pub mod SourceRuns
 pub mod StaticObjects
 pub mod Finishes
@@ -19,5 +18,4 @@ pub mod OpenLeft
 pub mod Sound
 pub mod Returns
 pub mod Starts
-pub mod TypedFiles
 pub mod Unlimited

@@ -14,5 +14,4 @@ pub mod Answered
 pub mod Halts
 pub mod View
 pub mod Quiet
-pub mod Ints
 pub mod Unlimited

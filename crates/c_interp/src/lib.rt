@@ -6,18 +6,12 @@ mod activations;
 mod answered;
 mod calls;
 mod functions;
-#[cfg(test)]
-mod object_tests;
 mod objects;
 mod plan;
-#[cfg(test)]
-mod program_tests;
 mod replay;
 mod stacks;
 mod structures;
 mod task;
-#[cfg(test)]
-mod tests;
 mod thread;
 mod variables;
 

@@ -11,8 +11,6 @@ mod slices;
 mod specifying;
 mod stating;
 mod table;
-#[cfg(test)]
-mod tests;
 
 pub use fault::ParseError;
 pub use file::{no_proper_prefix, one_file, one_place, parse};

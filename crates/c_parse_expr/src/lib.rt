@@ -10,8 +10,6 @@ mod place;
 mod reading;
 mod slices;
 mod table;
-#[cfg(test)]
-mod tests;
 mod words;
 
 pub use fault::{ExpressionError, Refused};

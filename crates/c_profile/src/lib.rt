@@ -4,7 +4,5 @@
 mod admitted;
 mod breach;
 mod breaches;
-#[cfg(test)]
-mod tests;
 
 pub use admitted::{Admitted, Refusal, admit};

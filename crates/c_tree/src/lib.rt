@@ -7,8 +7,6 @@ mod file_levels;
 mod levels;
 mod specifier;
 mod statement;
-#[cfg(test)]
-mod tests;
 
 pub use declaration::{
     Declaration, DeclaratorSuffix, Enumerator, FullDeclarator, FunctionSpecifier, InitDeclarator,

@@ -11,6 +11,3 @@ mod trail;
 mod watches;
 
 pub use search::{Answer, solve};
-
-#[cfg(test)]
-mod tests;

@@ -8,8 +8,6 @@ mod functions;
 mod operators;
 mod refusal;
 mod statement;
-#[cfg(test)]
-mod tests;
 mod typing;
 
 pub use bounds::{Bounds, LoopBound};

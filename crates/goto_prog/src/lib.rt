@@ -15,8 +15,6 @@ mod program;
 mod runner;
 mod space;
 mod steps;
-#[cfg(test)]
-mod tests;
 mod threads;
 mod walker;
 

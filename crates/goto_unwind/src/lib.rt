@@ -8,8 +8,6 @@ mod loop_bounds;
 mod moving;
 mod objects;
 mod tally;
-#[cfg(test)]
-mod tests;
 mod trees;
 mod unroller;
 mod unrolling;

@@ -14,6 +14,3 @@ mod values;
 
 pub use forming::threads;
 pub use forms::{Event, EventId, EventKind, Nodes, ThreadForm};
-
-#[cfg(test)]
-mod tests;
