@@ -1,6 +1,27 @@
 //! The program `cbmc`: gives the checker the words of the command line, the files of the system and standard output.
 #![tactic(auto)]
 
+#[cfg(test)]
+mod equation_tests;
+#[cfg(test)]
+mod machines;
+#[cfg(test)]
+mod parse_expression_tests;
+#[cfg(test)]
+mod parse_tests;
+#[cfg(test)]
+mod program_tests;
+#[cfg(test)]
+mod run_tests;
+#[cfg(test)]
+mod solver_tests;
+#[cfg(test)]
+mod spelled;
+#[cfg(test)]
+mod tests;
+#[cfg(test)]
+mod typing_tests;
+
 use cbmc_top::top;
 use outside::{FileSource, StdSink};
 use std::alloc::Global;

@@ -9,25 +9,13 @@
 
 mod accepting;
 mod call;
-#[cfg(test)]
-mod declaration_tests;
-#[cfg(test)]
-mod expression_tests;
 mod failing;
 mod finding;
 mod laws;
-#[cfg(test)]
-mod machines;
 mod options;
-#[cfg(test)]
-mod program_tests;
 mod report;
-#[cfg(test)]
-mod run_tests;
 mod searching;
 mod stop;
-#[cfg(test)]
-mod tests;
 mod used;
 mod verdict;
 

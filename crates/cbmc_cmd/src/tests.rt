@@ -2,8 +2,7 @@
 
 ghost use Rattle.std.specs.Prelude.{◌≡◌, ◌≤◌, IfOk};
 
-use crate::report::used_up;
-use crate::{
+use cbmc_top::{
     Job, Options, Task, Used, Verdict, check_bytes, one_answer, one_program, one_reading,
     one_verdict, runs_answer, top,
 };
@@ -635,7 +634,5 @@ fn budgets_are_used_up(rt: HostRuntime) -> Result<(), Fail> {
         Verdict::Successful(used) => assert!(rt; is_refuted(alloc, &used)?),
         _ => assert!(rt; false),
     }
-    let text = used_up(alloc, 1_000_000)?;
-    assert_eq!(rt; text.as_str(), "budget 1000000\n");
     Ok(())
 }

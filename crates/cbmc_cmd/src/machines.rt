@@ -16,7 +16,7 @@ use std::alloc::{AllocError, Global};
 use std::test::Fail;
 
 // The typed file of a text.
-fn admitted(alloc: Global, text: &[u8]) -> Result<Admitted, Fail> {
+pub fn admitted(alloc: Global, text: &[u8]) -> Result<Admitted, Fail> {
     if text.len() > 10_000_000 {
         return Err(Fail::from("too long"));
     }

@@ -217,7 +217,29 @@ x=0,y=0,z=12@@sizeof(int[3])
 x=0,y=0,z=10@@sizeof(char[2][5])
 x=8,y=0,z=1@@sizeof 1<x
 x=0,y=0,z=0@@-sizeof(int)<0
-x=0,y=0,z=8@@sizeof(sizeof(int))";
+x=0,y=0,z=8@@sizeof(sizeof(int))
+x=0,y=0,z=2@@sizeof(signed short)
+x=0,y=0,z=4@@sizeof(const unsigned volatile)
+x=0,y=0,z=8@@sizeof(long int long unsigned)
+x=0,y=0,z=15@@sizeof(char([3])[5])
+x=0,y=0,z=8@@sizeof(size_t)
+x=0,y=0,z=4@@sizeof(pthread_mutex_t)
+x=0,y=0,z=8@@sizeof(int[1?2:1/0])
+x=0,y=0,z=6@@sizeof(\"a\\x41\\1234\\n\" \"\")
+x=0,y=0,z=44@typedef unsigned char U;@sizeof(char[(U)300])
+x=0,y=0,z=2147483640@typedef int A[3];@sizeof(A[536870912/3])
+x=0,y=0,z=12@typedef int T[3];typedef int T[3];#@sizeof(T)
+x=0,y=0,z=48@typedef int T[2][3];T b[2];@sizeof b
+x=0,y=0,z=4@typedef struct S T;struct S{int a;};#@sizeof(T)
+x=0,y=0,z=24@struct S{char a;long b;short c;};#@sizeof(struct S)
+x=0,y=0,z=36@struct S{int a[2][3];union{char c[9];int i;};};#@sizeof(struct S)
+x=0,y=0,z=4@union U{struct{char a,b,c;}s;short t;};#@sizeof(union U)
+x=0,y=0,z=16@struct S{enum{A=3}e;int a[A];};#@sizeof(struct S)
+x=0,y=0,z=12@typedef struct{char a;}T;struct S{T a[5],b;int c;};#@sizeof(struct S)
+x=0,y=0,z=4@struct S{int;int a;};#@sizeof(struct S)
+x=0,y=0,z=1@struct S{int a;};#struct S{char c;};@sizeof(struct S)
+x=0,y=0,z=32@struct{int c,a;const char b;int n[3];struct{int a,b;}s;}r;@sizeof r
+x=0,y=0,z=20@struct{int a,n[3];struct{char b;}i;}v,w;@sizeof(v=w)";
 
 // The same of members (C11 6.5.2.3, 6.7.2.1).
 const MEMBERS: &str = "\
@@ -307,7 +329,19 @@ x=0,y=0,z=75@static int g=7;#{static int g=5;x=g;}@g*10+x
 x=0,y=0,z=6@struct P{int a,b;};struct P p={2,3};struct P q;#q=p;@q.a*q.b
 x=0,y=0,z=12@extern int a[];int a[3];#@sizeof a
 x=0,y=0,z=3@const int g=3;#@g
-x=4,y=0,z=4@int g=1;#g=x;{int g=9;g++;}@g";
+x=4,y=0,z=4@int g=1;#g=x;{int g=9;g++;}@g
+x=0,y=0,z=-1@const int g=-1;#@g
+x=0,y=0,z=3@int g;int g;int g=3;#@g
+x=0,y=0,z=2@extern int g=2;#@g
+x=0,y=0,z=4@int g=sizeof g;#@g
+x=0,y=0,z=8@int g[]={1,2};#@sizeof g
+x=0,y=0,z=3@char g[]=\"ab\";#@sizeof g
+x=0,y=0,z=12@struct{char a;int b;}g={1,2};#@g.a*10+g.b
+x=0,y=0,z=9@enum{A,B=5,C};@B+C-2*A-2
+x=0,y=0,z=-1@enum{A=-1,B};#@A-B
+x=0,y=0,z=44@enum{A=(unsigned char)300};#@A
+x=0,y=0,z=2@enum{A=1?2:1/0,B=0&&1/0};#@A+B
+x=0,y=0,z=7@enum{A}f;enum{B=7};@B+f*0";
 
 // An expression over x and y, their numbers, and the check that it breaks.
 const BREAKS: [(&str, i32, i32, Class); 22] = [

@@ -3,9 +3,10 @@
 
 ghost use Rattle.std.specs.Prelude.{◌≡◌, IfOk, IfSome};
 
-use crate::machines::outcomes_within;
-use crate::{Job, Options, Task, Verdict, check_bytes};
+use crate::machines::{admitted, outcomes_within};
+use cbmc_top::{Job, Options, Task, Verdict, check_bytes};
 use core_tree::{Bounds, Limit, Refusal};
+use goto_unwind::count;
 use interleave::Outcome;
 use std::alloc::{AllocError, Global};
 use std::test::*;
@@ -13,7 +14,7 @@ use words::{Check, Class};
 
 // Texts with the greatest number of tests of a loop and of activations of a function, the word that they
 // draw, and the class, the line and the function of the check that breaks.
-static RUNS: [(&str, u32, i32, Option<(Class, u32, u32)>); 34] = [
+static RUNS: [(&str, u32, i32, Option<(Class, u32, u32)>); 44] = [
     (
         "int main(void){int i=0;while(i<3)i++;\nassert(i!=3);return 0;}",
         4,
@@ -213,6 +214,66 @@ static RUNS: [(&str, u32, i32, Option<(Class, u32, u32)>); 34] = [
         0,
         None,
     ),
+    (
+        "int main(void){goto L;int x=1;L:\nassert(x!=7);return 0;}",
+        1,
+        7,
+        Some((Class::Assertion, 2, 0)),
+    ),
+    (
+        "int main(void){switch(2){case 1:;int t=3;case 2:\nassert(t!=7);}return 0;}",
+        1,
+        7,
+        Some((Class::Assertion, 2, 0)),
+    ),
+    (
+        "int main(void){unsigned char c=1;int s=0;switch(c){case 257:s=1;break;case 1:s=2;}assert(s==2);return 0;}",
+        1,
+        0,
+        None,
+    ),
+    (
+        "int main(void){unsigned x=-1;int s=0;switch(x){case 1:s=1;break;case -1:s=2;}assert(s==2);return 0;}",
+        1,
+        0,
+        None,
+    ),
+    (
+        "int f(int n){return f(n\n/0);}int main(void){return f(1);}",
+        1,
+        0,
+        Some((Class::Division, 2, 0)),
+    ),
+    (
+        "int f(int a,int b){return a-b;}int main(void){int x=9;assert(f(x=5,x)==0);return 0;}",
+        1,
+        0,
+        None,
+    ),
+    (
+        "int main(void){union{struct{long a,b;char c;};int w;}s;\nassert(!(s.w==7&&s.b==0&&s.c==0));return 0;}",
+        1,
+        7,
+        Some((Class::Assertion, 2, 0)),
+    ),
+    (
+        "int main(void){struct{short a;char b;}s;\nassert(!(s.a==513&&s.b==3));return 0;}",
+        1,
+        197121,
+        Some((Class::Assertion, 2, 0)),
+    ),
+    (
+        "const int c=1;int n;int f(void){return n++;}int main(void){assert(f()==0&&f()==c&&n==2);return 0;}",
+        1,
+        0,
+        None,
+    ),
+    (
+        "int main(void){int n=0;for(int i=0;i<2;i++){int x;if(i==0)continue;n=x;}\nassert(n!=7);return 0;}",
+        3,
+        7,
+        None,
+    ),
 ];
 
 #[test]
@@ -364,6 +425,62 @@ fn programs_are_refused(rt: HostRuntime) -> Result<(), Fail> {
             Verdict::Limited(limit) => assert_eq!(rt; limit, Limit::Places),
             _ => assert!(rt; false),
         }
+    }
+    Ok(())
+}
+
+// Texts with a bound and the places that they count, at most one more than 2,000,000: each node of the typed
+// tree is one, a loop's body counts once less than its test, and a call counts the body that it may open.
+static PLACES: [(&str, u32, u32); 20] = [
+    ("int main(void){for(;;)1;}", 1, 3),
+    ("int main(void){for(;;)1;}", 2, 6),
+    ("int main(void){for(;;)1;}", 1_000, 3_000),
+    ("int main(void){for(;;)for(;;)1;}", 3, 21),
+    ("int main(void){for(;;)for(;;)1;}", 1_000, 2_000_001),
+    ("int main(void){do 1;while(1);}", 3, 11),
+    ("int main(void){do 1;while(1);}", 1_000, 3_002),
+    ("int main(void){int x=1;int y;return x;}", 8, 7),
+    ("int main(void){char c=1;return c;}", 8, 8),
+    ("int main(void){int i=0;while(i<3)i++;return 0;}", 2, 17),
+    ("int main(void){int i=0;while(i<3)i++;return 0;}", 8, 59),
+    ("void f(void){1;}int main(void){f();f();}", 1, 11),
+    ("void f(void){f();}int main(void){f();}", 1, 6),
+    ("void f(void){f();}int main(void){f();}", 1_000, 3_003),
+    ("void f(void){f();f();}int main(void){f();}", 2, 18),
+    ("void f(void){f();f();}int main(void){f();}", 3, 38),
+    (
+        "void f(void){f();f();}int main(void){f();}",
+        1_000,
+        2_000_001,
+    ),
+    (
+        "void g(void);void f(void){g();}void g(void){f();}int main(void){f();}",
+        3,
+        21,
+    ),
+    (
+        "void g(void);void f(void){g();}void g(void){f();}int main(void){f();}",
+        1_000,
+        6_003,
+    ),
+    ("int main(void){switch(1){case 1:;default:break;}}", 8, 7),
+];
+
+// The places of a text.
+fn places_of(alloc: Global, text: &str, unwind: u32) -> Result<u32, Fail> {
+    if unwind == 0 || unwind > 1_000 {
+        return Err(Fail::from("no bound"));
+    }
+    let bounds = Bounds::new(unwind, Vec::new(alloc), true, 1, false);
+    let file = admitted(alloc, text.as_bytes())?;
+    Ok(count(alloc, &file, &bounds)?.places)
+}
+
+#[test]
+fn places_are_counted(rt: HostRuntime) -> Result<(), Fail> {
+    for (text, unwind, places) in PLACES {
+        let found = places_of(rt.alloc(), text, unwind)?;
+        assert_eq!(rt; found, places, "{text} within {unwind}");
     }
     Ok(())
 }

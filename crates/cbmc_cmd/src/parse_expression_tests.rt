@@ -1,0 +1,482 @@
+// Expressions and type names, with the trees that they have (C11 6.5, 6.7.7).
+
+use crate::spelled::{lexed, put, show_type};
+use c_lexer::Tokens;
+use c_parse_expr::{ExpressionError, Level, TypeNames, expression};
+use c_tree::{
+    ArraySuffix, BinaryOp, Declarator, DeclaratorCore, Expr, Name, StepOp, TypeName, UnaryOp,
+};
+use std::alloc::{AllocError, Global};
+use std::test::*;
+
+fn binary_text(operator: BinaryOp) -> &'static [u8] {
+    match operator {
+        BinaryOp::LogicalOr => b"||",
+        BinaryOp::LogicalAnd => b"&&",
+        BinaryOp::Or => b"|",
+        BinaryOp::Xor => b"^",
+        BinaryOp::And => b"&",
+        BinaryOp::Equal => b"==",
+        BinaryOp::NotEqual => b"!=",
+        BinaryOp::Less => b"<",
+        BinaryOp::Greater => b">",
+        BinaryOp::LessEqual => b"<=",
+        BinaryOp::GreaterEqual => b">=",
+        BinaryOp::ShiftLeft => b"<<",
+        BinaryOp::ShiftRight => b">>",
+        BinaryOp::Add => b"+",
+        BinaryOp::Subtract => b"-",
+        BinaryOp::Multiply => b"*",
+        BinaryOp::Divide => b"/",
+        BinaryOp::Remainder => b"%",
+    }
+}
+
+fn unary_text(operator: UnaryOp) -> &'static [u8] {
+    match operator {
+        UnaryOp::Increment => b"++",
+        UnaryOp::Decrement => b"--",
+        UnaryOp::Plus => b"+",
+        UnaryOp::Minus => b"-",
+        UnaryOp::Complement => b"~",
+        UnaryOp::Not => b"!",
+    }
+}
+
+fn put_suffixes(out: &mut Vec<u8>, suffixes: &[ArraySuffix]) -> Result<(), AllocError> {
+    for suffix in suffixes {
+        match suffix {
+            ArraySuffix::Bounded { line: _, bound: _ } => put(out, b"[#]")?,
+            ArraySuffix::Open { line: _ } => put(out, b"[]")?,
+        }
+    }
+    Ok(())
+}
+
+/// Writes a declarator; a bound is `#`.
+fn put_declarator(out: &mut Vec<u8>, declarator: &Declarator) -> Result<(), AllocError> {
+    match &declarator.core {
+        DeclaratorCore::Absent => {}
+        DeclaratorCore::Named { line: _, name } => put(out, &name.bytes)?,
+        DeclaratorCore::Inside { line: _, inner } => {
+            put(out, b"(")?;
+            put_declarator(out, inner)?;
+            put(out, b")")?;
+        }
+    }
+    put_suffixes(out, &declarator.suffixes)
+}
+
+/// Writes a type name in parentheses, with a comma behind each specifier.
+fn put_type(out: &mut Vec<u8>, type_name: &TypeName) -> Result<(), AllocError> {
+    put(out, b"(")?;
+    for specifier in &type_name.specifiers {
+        show_type(out, specifier)?;
+        put(out, b",")?;
+    }
+    put_declarator(out, &type_name.declarator)?;
+    put(out, b")")
+}
+
+fn put_strings(out: &mut Vec<u8>, parts: &[Name]) -> Result<(), AllocError> {
+    for part in parts {
+        put(out, &part.bytes)?;
+    }
+    Ok(())
+}
+
+/// Writes a tree with brackets round each operator and its operands. A constant is `1`, a character constant
+/// `c`, and of a call the name and the number of its arguments are written.
+fn show(out: &mut Vec<u8>, expr: &Expr) -> Result<(), AllocError> {
+    match expr {
+        Expr::Constant {
+            line: _,
+            constant: _,
+        } => put(out, b"1"),
+        Expr::Character { line: _, value: _ } => put(out, b"c"),
+        Expr::Strings { line: _, parts } => put_strings(out, parts),
+        Expr::Name { line: _, name } => put(out, &name.bytes),
+        Expr::Parens { line: _, inner } => {
+            put(out, b"(")?;
+            show(out, inner)?;
+            put(out, b")")
+        }
+        Expr::Unary {
+            line: _,
+            operator,
+            operand,
+        } => {
+            put(out, b"[")?;
+            put(out, unary_text(*operator))?;
+            show(out, operand)?;
+            put(out, b"]")
+        }
+        Expr::Cast {
+            line: _,
+            type_name,
+            operand,
+        } => {
+            put(out, b"[")?;
+            put_type(out, type_name)?;
+            show(out, operand)?;
+            put(out, b"]")
+        }
+        Expr::SizeofExpr { line: _, operand } => {
+            put(out, b"[sizeof ")?;
+            show(out, operand)?;
+            put(out, b"]")
+        }
+        Expr::SizeofType { line: _, type_name } => {
+            put(out, b"[sizeof")?;
+            put_type(out, type_name)?;
+            put(out, b"]")
+        }
+        Expr::Step {
+            line: _,
+            operator,
+            operand,
+        } => {
+            put(out, b"[")?;
+            show(out, operand)?;
+            match operator {
+                StepOp::Increment => put(out, b"++]"),
+                StepOp::Decrement => put(out, b"--]"),
+            }
+        }
+        Expr::Member {
+            line: _,
+            left,
+            name,
+        } => {
+            put(out, b"[")?;
+            show(out, left)?;
+            put(out, b".")?;
+            put(out, &name.bytes)?;
+            put(out, b"]")
+        }
+        Expr::Binary {
+            line: _,
+            operator,
+            left,
+            right,
+        } => {
+            put(out, b"[")?;
+            show(out, left)?;
+            put(out, binary_text(*operator))?;
+            show(out, right)?;
+            put(out, b"]")
+        }
+        Expr::Choice {
+            line: _,
+            test,
+            yes,
+            no,
+        } => {
+            put(out, b"[")?;
+            show(out, test)?;
+            put(out, b"?")?;
+            show(out, yes)?;
+            put(out, b":")?;
+            show(out, no)?;
+            put(out, b"]")
+        }
+        Expr::Assign {
+            line: _,
+            operator,
+            place,
+            value,
+        } => {
+            put(out, b"[")?;
+            show(out, place)?;
+            if let Some(operator) = operator {
+                put(out, binary_text(*operator))?;
+            }
+            put(out, b"=")?;
+            show(out, value)?;
+            put(out, b"]")
+        }
+        Expr::Comma {
+            line: _,
+            left,
+            right,
+        } => {
+            put(out, b"[")?;
+            show(out, left)?;
+            put(out, b",")?;
+            show(out, right)?;
+            put(out, b"]")
+        }
+        Expr::Call {
+            function,
+            arguments,
+        } => {
+            show(out, function)?;
+            for _ in arguments {
+                put(out, b"@")?;
+            }
+            Ok(())
+        }
+    }
+}
+
+/// The names where `T` is a type, and `U` one that a variable hides.
+fn some_names(alloc: Global) -> Result<TypeNames, AllocError> {
+    let mut names = TypeNames::new(alloc);
+    names.declare(alloc, b"T", true)?;
+    names.declare(alloc, b"U", true)?;
+    names.declare(alloc, b"U", false)?;
+    Ok(names)
+}
+
+/// The tree of a whole text, written out, or nothing.
+fn shown(
+    alloc: Global,
+    names: &TypeNames,
+    text: &[u8],
+    level: Level,
+) -> Result<Vec<u8>, AllocError> {
+    let mut out = Vec::new(alloc);
+    let Ok(tokens) = lexed(alloc, text) else {
+        return Ok(out);
+    };
+    if let Ok((expr, end)) = expression(alloc, &tokens, 0, level, names) {
+        if end == tokens.tokens.len() {
+            show(&mut out, &expr)?;
+        }
+    }
+    Ok(out)
+}
+
+/// Why no expression stands at a place.
+fn error_at(
+    alloc: Global,
+    names: &TypeNames,
+    tokens: &Tokens,
+    at: usize,
+) -> Option<ExpressionError> {
+    if at <= tokens.tokens.len() {
+        expression(alloc, tokens, at, Level::Comma, names).err()
+    } else {
+        None
+    }
+}
+
+const TREES: [(&[u8], &[u8]); 53] = [
+    (b"a", b"a"),
+    (b"a-b-c", b"[[a-b]-c]"),
+    (b"a+b*c", b"[a+[b*c]]"),
+    (b"a*b+c", b"[[a*b]+c]"),
+    (
+        b"a||b&&c|d^e&f==g<h<<i+j*k",
+        b"[a||[b&&[c|[d^[e&[f==[g<[h<<[i+[j*k]]]]]]]]]]",
+    ),
+    (b"a/b%c>>d>e>=f<=g!=h", b"[[[[[[[a/b]%c]>>d]>e]>=f]<=g]!=h]"),
+    (b"a=b=c", b"[a=[b=c]]"),
+    (b"a=b,c=d", b"[[a=b],[c=d]]"),
+    (b"a+b=c+d", b""),
+    (b"-a=b", b"[[-a]=b]"),
+    (b"a+++b", b"[[a++]+b]"),
+    (b"- - -a--", b"[-[-[-[a--]]]]"),
+    (b"++a++", b"[++[a++]]"),
+    (b"!~+a", b"[![~[+a]]]"),
+    (b"a?b:c?d:e", b"[a?b:[c?d:e]]"),
+    (b"a?b,c:d", b"[a?[b,c]:d]"),
+    (b"a?b:c=d", b""),
+    (b"(a,1)*b", b"[([a,1])*b]"),
+    (b"f()", b"f"),
+    (b"f(a,b=c)+g(a,b,c)", b"[f@@+g@@@]"),
+    (b"f(a,)", b""),
+    (b"main()", b""),
+    (b"main+1", b"[main+1]"),
+    (b"f()()", b""),
+    (b"'a'+1", b"[c+1]"),
+    (b"\"a\" \"b\"+c", b"[\"a\"\"b\"+c]"),
+    (b"-s.a.b++", b"[-[[[s.a].b]++]]"),
+    (b"s.(a)", b""),
+    (b"sizeof(T)-1", b"[[sizeof(:T,)]-1]"),
+    (b"sizeof(a)-1", b"[[sizeof (a)]-1]"),
+    (b"sizeof(U)-1", b"[[sizeof (U)]-1]"),
+    (b"sizeof a++", b"[sizeof [a++]]"),
+    (b"sizeof(int)a", b""),
+    (
+        b"sizeof(unsigned long[2][])",
+        b"[sizeof(unsigned,long,[#][])]",
+    ),
+    (b"(T)(a)", b"[(:T,)(a)]"),
+    (b"(T)+1", b"[(:T,)[+1]]"),
+    (b"(a)+1", b"[(a)+1]"),
+    (b"(U)+1", b"[(U)+1]"),
+    (b"(U)(a)", b""),
+    (b"(T)(int)a+b", b"[[(:T,)[(int,)a]]+b]"),
+    (b"-(T)a", b"[-[(:T,)a]]"),
+    (b"++(T)a", b""),
+    (b"(T)a=b", b""),
+    (b"(T const)a", b"[(:T,const,)a]"),
+    (b"(const T([a=b]))a", b""),
+    (b"(const T([1]))a", b"[(const,:T,([#]))a]"),
+    (b"(T())a", b""),
+    (b"(struct T)a", b"[(struct T,)a]"),
+    (b"(struct)a", b""),
+    (b"(T T)a", b""),
+    (b"(T b)a", b""),
+    (b"a+T", b""),
+    (b"(T)", b""),
+];
+
+/// Texts that are read from another level than the lowest.
+const LEVELS: [(Level, &[u8], &[u8]); 4] = [
+    (Level::Assignment, b"a=b", b"[a=b]"),
+    (Level::Assignment, b"a,b", b""),
+    (Level::Conditional, b"a?b:c", b"[a?b:c]"),
+    (Level::Conditional, b"a=b", b""),
+];
+
+#[test]
+fn trees_and_refusals(rt: HostRuntime) -> Result<(), Fail> {
+    let names = some_names(rt.alloc())?;
+    for (text, expected) in TREES {
+        let found = shown(rt.alloc(), &names, text, Level::Comma)?;
+        assert_eq!(rt; found.as_slice(), expected);
+    }
+    for (level, text, expected) in LEVELS {
+        let found = shown(rt.alloc(), &names, text, level)?;
+        assert_eq!(rt; found.as_slice(), expected);
+    }
+    Ok(())
+}
+
+#[test]
+fn lines_of_refusals(rt: HostRuntime) -> Result<(), Fail> {
+    let names = some_names(rt.alloc())?;
+    let tokens = lexed(rt.alloc(), b"a;\n(b\n")
+        .ok()
+        .ok_or("the text is cut")?;
+    for (at, line) in [(2, 2), (4, 3)] {
+        let error = error_at(rt.alloc(), &names, &tokens, at);
+        assert_eq!(rt; error, Some(ExpressionError::Syntax { line }));
+    }
+    Ok(())
+}
+
+/// So many parentheses round a name.
+fn nested(alloc: Global, count: u32) -> Result<Vec<u8>, AllocError> {
+    let mut text = Vec::new(alloc);
+    for _ in 0..count {
+        text.push(b'(')?;
+    }
+    text.push(b'a')?;
+    for _ in 0..count {
+        text.push(b')')?;
+    }
+    Ok(text)
+}
+
+/// A sum with so many plus signs.
+fn chain(alloc: Global, count: u32) -> Result<Vec<u8>, AllocError> {
+    let mut text = Vec::new(alloc);
+    text.push(b'a')?;
+    for _ in 0..count {
+        put(&mut text, b"+a")?;
+    }
+    Ok(text)
+}
+
+/// So many casts of a name.
+fn casts(alloc: Global, count: u32) -> Result<Vec<u8>, AllocError> {
+    let mut text = Vec::new(alloc);
+    for _ in 0..count {
+        put(&mut text, b"(int)")?;
+    }
+    text.push(b'a')?;
+    Ok(text)
+}
+
+/// The size of an array type whose declarator stands in so many parentheses.
+fn declarators(alloc: Global, count: u32) -> Result<Vec<u8>, AllocError> {
+    let mut text = Vec::new(alloc);
+    put(&mut text, b"sizeof(int")?;
+    for _ in 0..count {
+        text.push(b'(')?;
+    }
+    put(&mut text, b"[]")?;
+    for _ in 0..count {
+        text.push(b')')?;
+    }
+    text.push(b')')?;
+    Ok(text)
+}
+
+/// What is repeated in a text.
+#[derive(Clone, Copy, Debug)]
+enum Nesting {
+    Parentheses,
+    Sums,
+    Casts,
+    Declarators,
+}
+
+/// A text with so many levels but one or two.
+fn nested_text(alloc: Global, nesting: Nesting, count: u32) -> Result<Vec<u8>, AllocError> {
+    match nesting {
+        Nesting::Parentheses => nested(alloc, count),
+        Nesting::Sums => chain(alloc, count),
+        Nesting::Casts => casts(alloc, count),
+        Nesting::Declarators => declarators(alloc, count),
+    }
+}
+
+/// Nestings of 400 and of 401 levels, and how long their trees are, written out.
+const NESTINGS: [(Nesting, u32, usize); 8] = [
+    (Nesting::Parentheses, 399, 799),
+    (Nesting::Parentheses, 400, 0),
+    (Nesting::Sums, 399, 1597),
+    (Nesting::Sums, 400, 0),
+    (Nesting::Casts, 399, 3193),
+    (Nesting::Casts, 400, 0),
+    (Nesting::Declarators, 398, 812),
+    (Nesting::Declarators, 399, 0),
+];
+
+#[test]
+fn at_most_400_levels(rt: HostRuntime) -> Result<(), Fail> {
+    let names = TypeNames::new(rt.alloc());
+    for (nesting, count, length) in NESTINGS {
+        let text = nested_text(rt.alloc(), nesting, count)?;
+        let found = shown(rt.alloc(), &names, &text, Level::Comma)?;
+        assert_eq!(rt; found.len(), length, "{nesting:?} {count}");
+    }
+    Ok(())
+}
+
+#[test]
+fn names_are_left_with_their_scope(rt: HostRuntime) -> Result<(), Fail> {
+    let mut names = some_names(rt.alloc())?;
+    let mark = names.mark();
+    assert_eq!(rt; mark, 3);
+    names.declare(rt.alloc(), b"T", false)?;
+    names.declare(rt.alloc(), b"a", true)?;
+    assert_eq!(rt;
+        (
+            names.is_type(b"T"),
+            names.is_type(b"U"),
+            names.is_type(b"a")
+        ),
+        (false, false, true)
+    );
+    if mark <= names.mark() {
+        names.leave(mark);
+    }
+    assert_eq!(rt;
+        (
+            names.is_type(b"T"),
+            names.is_type(b"U"),
+            names.is_type(b"a")
+        ),
+        (true, false, false)
+    );
+    if 2 <= names.mark() {
+        names.leave(2);
+    }
+    assert_eq!(rt; names.is_type(b"U"), true);
+    Ok(())
+}
