@@ -58,31 +58,26 @@ fn words_of(alloc: Global, ints: &[i32]) -> Result<Words, AllocError> {
     Ok(Words::new(words))
 }
 
-// How the runs of a text end that draw these ints, in 24 turns of thread 0, where each loop's test may be
-// evaluated so many times at an arrival and each function may have so many activations: the source's, and
-// those of its strict, its checked and its unrolled code.
-pub fn outcomes_within(
+// How the runs of a text end that draw these ints, in 24 turns of thread 0, under these bounds: the source's,
+// and those of its strict, its checked and its unrolled code.
+pub fn outcomes_under(
     alloc: Global,
     text: &[u8],
     ints: &[i32],
-    bound: u32,
+    bounds: &Bounds,
 ) -> Result<[Outcome; 4], Fail> {
-    if bound == 0 || bound > 1_000 {
-        return Err(Fail::from("no bound"));
-    }
     let file = admitted(alloc, text)?;
     if !are_storable(&file) {
         return Err(Fail::from("too large objects"));
     }
-    let bounds = Bounds::new(bound, Vec::new(alloc), true, 1, false);
     let mut inputs = Inputs::new(alloc);
     inputs.insert(0, words_of(alloc, ints)?)?;
     let schedule = Schedule::new(vec![in alloc; 0; 24]?);
-    let source = run(alloc, &file, &bounds, &inputs, &schedule)?;
+    let source = run(alloc, &file, bounds, &inputs, &schedule)?;
     let goto = lower(alloc, &file)?;
     let strict = end_of(
         alloc,
-        StrictThread::new(alloc, &goto, &bounds)?,
+        StrictThread::new(alloc, &goto, bounds)?,
         goto.store(),
         &inputs,
         &schedule,
@@ -90,12 +85,12 @@ pub fn outcomes_within(
     let checked = insert(alloc, goto)?;
     let plain = end_of(
         alloc,
-        PlainThread::new(alloc, &checked, &bounds)?,
+        PlainThread::new(alloc, &checked, bounds)?,
         checked.store(),
         &inputs,
         &schedule,
     )?;
-    match unwind(alloc, &file, &checked, &bounds) {
+    match unwind(alloc, &file, &checked, bounds) {
         Ok(unrolled) => {
             let first = UnrolledThread::new(alloc, &unrolled)?;
             Ok([
@@ -107,6 +102,21 @@ pub fn outcomes_within(
         }
         Err(_) => Err(Fail::from("too many places")),
     }
+}
+
+// The same, where each loop's test may be evaluated so many times at an arrival and each function may have so
+// many activations.
+pub fn outcomes_within(
+    alloc: Global,
+    text: &[u8],
+    ints: &[i32],
+    bound: u32,
+) -> Result<[Outcome; 4], Fail> {
+    if bound == 0 || bound > 1_000 {
+        return Err(Fail::from("no bound"));
+    }
+    let bounds = Bounds::new(bound, Vec::new(alloc), true, 1, false);
+    outcomes_under(alloc, text, ints, &bounds)
 }
 
 // The same, where each loop's test may be evaluated once and each function has one activation.

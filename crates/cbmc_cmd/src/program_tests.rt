@@ -3,9 +3,9 @@
 
 ghost use Rattle.std.specs.Prelude.{◌≡◌, IfOk, IfSome};
 
-use crate::machines::{admitted, outcomes_within};
+use crate::machines::{admitted, outcomes_under, outcomes_within};
 use cbmc_top::{Job, Options, Task, Verdict, check_bytes};
-use core_tree::{Bounds, Limit, Refusal};
+use core_tree::{Bounds, Limit, LoopBound, Name, Refusal};
 use goto_unwind::count;
 use interleave::Outcome;
 use std::alloc::{AllocError, Global};
@@ -399,18 +399,34 @@ fn programs_have_their_verdicts(rt: HostRuntime) -> Result<(), Fail> {
     Ok(())
 }
 
+// Texts outside of the profile, with the line and the rule: the lowest line, and on it the lowest rule.
+static REFUSED: [(&str, u32, u32); 8] = [
+    ("int f(void){return 1;}", 1, 1),
+    ("char\nmain(void){return 0;}", 2, 1),
+    ("int f(void);int main(void){\nf;return 0;}", 2, 3),
+    ("int main(void){a:;\ngoto a;}", 2, 6),
+    ("int main(void){switch(1){{\ncase 1:;}}}", 2, 7),
+    ("int\nf(int,...);int main(void){return 0;}", 2, 10),
+    (
+        "int f(void);int main(void){\nswitch(1){{case 1:;}}\nf;}",
+        2,
+        7,
+    ),
+    (
+        "int f(void);int main(void){\nswitch(1){{case 1:;}}f;}",
+        2,
+        3,
+    ),
+];
+
 #[test]
 fn programs_are_refused(rt: HostRuntime) -> Result<(), Fail> {
     let alloc = rt.alloc();
-    let wanted = [
-        ("int f(void){return 1;}", 12, 1),
-        ("int main(void){a:;goto a;}", 12, 6),
-    ];
     if let Some(options) = options_within(alloc, 8, true)? {
-        for (text, number, rule) in wanted {
+        for (text, line, rule) in REFUSED {
             match check_bytes(alloc, text.as_bytes(), &options)? {
                 Verdict::Refused(refused) => {
-                    assert_eq!(rt; refused, Refusal::new(number, 1, Some(rule)))
+                    assert_eq!(rt; refused, Refusal::new(12, line, Some(rule)))
                 }
                 _ => assert!(rt; false, "{text}"),
             }
@@ -481,6 +497,41 @@ fn places_are_counted(rt: HostRuntime) -> Result<(), Fail> {
     for (text, unwind, places) in PLACES {
         let found = places_of(rt.alloc(), text, unwind)?;
         assert_eq!(rt; found, places, "{text} within {unwind}");
+    }
+    Ok(())
+}
+
+// The bounds where the loop 0 of a function has a bound of 4, and all else has 1.
+fn loop_bounds(alloc: Global, function: &[u8]) -> Result<Bounds, AllocError> {
+    let bound = LoopBound {
+        function: Name {
+            bytes: Vec::from_slice(alloc, function)?,
+        },
+        number: 0,
+        unwind: 4,
+    };
+    let set = vec![in alloc; bound]?;
+    Ok(Bounds::new(1, set, true, 1, false))
+}
+
+#[test]
+fn loops_have_bounds_of_their_own(rt: HostRuntime) -> Result<(), Fail> {
+    let alloc = rt.alloc();
+    let text = b"int main(void){int i=0;while(i<3)i++;\nassert(i!=3);return 0;}".as_slice();
+    let rows = [
+        (b"main".as_slice(), Class::Assertion, 2),
+        (b"f".as_slice(), Class::Unwind, 1),
+    ];
+    for (function, class, line) in rows {
+        let bounds = loop_bounds(alloc, function)?;
+        let wanted = Outcome::Broken(Check {
+            class,
+            line,
+            function: 0,
+            thread: 0,
+        });
+        let found = outcomes_under(alloc, text, &[0], &bounds)?;
+        assert!(rt; found == [wanted; 4], "{found:?}");
     }
     Ok(())
 }
