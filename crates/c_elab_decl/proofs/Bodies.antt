@@ -32,10 +32,10 @@ use Rattle.std.specs.Prelude.{OnOk}
 use Rattle.c_elab_expr.proofs.Variables.{both, and, are_there_wider, complete_sized}
 use Rattle.c_elab_expr.proofs.Types.{one_integer_type, same_integer_refl}
 use Rattle.c_elab_expr.proofs.WellTyped.{Holds, bind, given, refused, on_same_line}
-use Rattle.c_elab_decl.specs.Regions.{earlier}
+use Rattle.c_elab_decl.specs.Regions.{built_in_function, earlier}
 use Rattle.c_elab_decl.specs.Derivations.{Parameter, Derived, counted, called, Shape, object, function as function_shaped, shape_of, is_array, has_void, parameter_types, function_of, function_shape, derived, Derivation, lengths, callable, function_made, plain_lengths, derivation_by, derivation, full_line}
 use Rattle.c_elab_decl.specs.Declarators.{Typed, same_ctype, same_flag, same_types, same_function}
-use Rattle.c_elab_decl.specs.Functions.{is_function_again, function_again, built_in_function, is_own_function, is_own_built_in, is_built_in_type, function_node, first_callable, callable_again, changed_callable, declared_callable, have_names, definition_node}
+use Rattle.c_elab_decl.specs.Functions.{is_function_again, function_again, is_own_function, is_own_built_in, is_built_in_type, function_node, first_callable, callable_again, changed_callable, declared_callable, have_names, definition_node}
 use Rattle.c_elab_decl.specs.Functions as functions
 use Rattle.c_elab_decl.specs.Specifiers.{Passed, are_several, inner_region, parted, named_parts, typed_parts, typed_full, typed_parameters, typed_specifiers}
 use Rattle.c_elab_decl.specs.Listed.{typed_others}

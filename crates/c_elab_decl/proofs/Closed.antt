@@ -13,7 +13,7 @@ use Rattle.c_elab_expr.specs.Nodes.{◌>>=◌}
 use Rattle.c_elab_expr.specs.Types.{Said, nothing_said, with_part, with_parts, specified_type, type_size, array_of, declared_line, parts_line}
 use Rattle.c_elab_expr.specs.Strings.{strings_of, strings_length}
 use Rattle.c_elab_expr.specs.Operands.{Operand, value, object, structure, OperandNode, used, function_node, name_node, member_node, cast_operand, unary_operand, postfix_operand, binary_operand, choice_operand, assign_operand, comma_operand, arguments_in, extra_arguments, given_size, given_operand, behind_extra, function_call, drawn_or_called, callable_call, call_node, operand_bytes}
-use Rattle.c_elab_expr.specs.Typing.{Fault, on_line, bare_line, used_on, no_function, callee, called, is_wanted, type_name, sized, operand_size, bound, typed, typed_arguments, lengths, suffix_lengths, operand_by}
+use Rattle.c_elab_expr.specs.Typing.{Fault, on_line, bare_line, used_on, no_function, callee, is_used, called, is_wanted, type_name, sized, operand_size, bound, typed, typed_arguments, lengths, suffix_lengths, operand_by}
 use Rattle.c_elab_decl.proofs.Signatures.{is_given, closed_gives, closed_type, closed, closed_scope}
 
 -- what the one gives, the other gives too
@@ -195,7 +195,7 @@ module _ (s : Scoped) where
         keep_bind _ _ _ _ (used_keeps (bare_line b) (typed s w b) (typed (closed_scope s) w b) (typed_keeps w b)) (λ y. keep_same _))
     typed_keeps w (call f args) =
         keep_bind _ _ _ _ (callee_keeps f _ _ (used_keeps (bare_line f) (typed s true f) (typed (closed_scope s) true f) (typed_keeps true f))) (λ m.
-        keep_bind _ _ _ _ (arguments_keep args) (λ xs. keep_line (first_line f) _ _ (called_keeps w m xs)))
+        keep_bind _ _ _ _ (arguments_keep args) (λ xs. keep_line (first_line f) _ _ (called_keeps (is_used f w) m xs)))
 
     arguments_keep : (ts : Trees) → Keeps (typed_arguments s ts) (typed_arguments (closed_scope s) ts)
     arguments_keep none = keep_same _

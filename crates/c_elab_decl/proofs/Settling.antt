@@ -24,12 +24,12 @@ use Rattle.c_elab_expr.proofs.WellTyped.{Holds, bind, given, refused, on_same_li
 use Rattle.c_elab_decl.specs.declared.regions.Region.{Region}
 use Rattle.c_elab_decl.specs.declared.regions.Role.{Role}
 use Rattle.c_elab_decl.specs.declared.regions.Role.TheVariants as roles
-use Rattle.c_elab_decl.specs.Regions.{earlier, earlier_tag}
+use Rattle.c_elab_decl.specs.Regions.{is_built_in_function, built_in_only, built_in_function, earlier, earlier_tag}
 use Rattle.c_elab_decl.specs.Derivations.{Parameter, Derived, counted, called, Shape, object, function as function_shaped, shape_by, shape_of, type_numbered, array_shape, is_void, is_array, has_void, parameter_types, function_of, function_shape, derived, Derivation, lengths, callable, function_in, function_made, callable_by, plain_lengths, derivation_by, derivation, full_line, parameter_line}
 use Rattle.c_elab_decl.specs.Initializers.{Value, bytes_said, initializer_of, no_initializer}
 use Rattle.c_elab_decl.specs.Enumerations.{enumerator_value, enumerator_node, typed_enumerator, typed_enumerators}
 use Rattle.c_elab_decl.specs.Declarators.{with_variable, sized_type, complete_type, typedef_node, with_typedef, typed_typedef, is_typedef_of_function, function_typedef_node, with_function_type, with_function_typedef, typed_function_typedef, is_open, lasting_type, is_again, is_linked_to, linked_object, earlier_linked, may_again, lasting_again, lasting_node, declared_again, first_declared, with_object, changed_object, added_object, declared_object, initialized_object, may_define, counted_by, element_of, with_initializer, typed_object}
-use Rattle.c_elab_decl.specs.Functions.{is_built_in_function, built_in_only, built_in_function, is_own_function, is_function_again, function_again, is_own_built_in, is_built_in_type, built_in_again, function_node, declared_callable, with_meaning, declared_function, declared_or_built_in, typed_function, is_named_so, have_names}
+use Rattle.c_elab_decl.specs.Functions.{is_own_function, is_function_again, function_again, is_own_built_in, is_built_in_type, built_in_again, function_node, declared_callable, with_meaning, declared_function, declared_or_built_in, typed_function, is_named_so, have_names}
 use Rattle.c_elab_decl.specs.Functions as functions
 use Rattle.c_elab_decl.specs.Tags.{kind_of, is_kind, with_record, with_tagged, new_tag, found_tag, forward_tag, Opened, new_record, open_tag, opened, reopened, fitting, members_fit, already, completed, closed, closed_scope, enumeration_tag, enumeration_closed}
 use Rattle.c_elab_decl.specs.Specifiers.{Fields, member_type, with_member, is_none, has_untagged, with_anonymous, is_anonymous, Parted, with_type_part, fields_within, fields_out, with_members, typed_enumeration, said_before, fields_behind, Derivations, Passed, plain_parameter, array_parameter, parameter_made, parameter_node, declared_parameter, with_parameter, judged_parameter, are_several, ended, inner_region, parted, named_parts, counted_in_front, called_in_front, said_bound, typed_part, typed_parts, typed_members, typed_fields, typed_full, typed_suffixes, typed_parameters, lone_tag, with_lone, Specification, typed_specifiers}

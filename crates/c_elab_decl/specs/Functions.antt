@@ -8,12 +8,12 @@ use Rattle.c_types.specs.Integers.{same_integer}
 use Rattle.c_types.specs.Types.{CType, void, integer, aggregate, array, Completed}
 use Rattle.c_elab_expr.specs.declared.meaning.Meaning.{Meaning}
 use Rattle.c_elab_expr.specs.declared.meaning.Meaning.TheVariants.{Variable, Object, Incomplete, Assert, Assume, Draw, Function, Typedef, Enumerator, Record, Enumeration}
-use Rattle.c_elab_expr.specs.Scopes.{binding, built_in, Named, FunctionType, Callable, FunctionTable, Scoped, linked_to, is_defined, with_callable}
+use Rattle.c_elab_expr.specs.Scopes.{binding, Named, FunctionType, Callable, FunctionTable, Scoped, linked_to, is_defined, with_callable}
 use Rattle.c_elab_expr.specs.Nodes.{◌>>=◌}
 use Rattle.c_elab_expr.specs.Operands.{given_size}
 use Rattle.c_elab_expr.specs.Typing.{Fault, on_line}
 use Rattle.c_elab_decl.specs.declared.regions.Region.{Region}
-use Rattle.c_elab_decl.specs.Regions.{earlier}
+use Rattle.c_elab_decl.specs.Regions.{is_built_in_function, built_in_function, earlier}
 use Rattle.c_elab_decl.specs.Derivations.{Parameter, full_line, name_line}
 use Rattle.c_elab_decl.specs.Declarators.{same_function}
 use Rattle.c_elab_decl.specs.Initializers.{no_initializer}
@@ -53,20 +53,6 @@ is_no_parameter (t ∷ ts) = false
 abbrev pub is_draw_type : IntegerType → FunctionType → Bool
 is_draw_type t f = is_integer_type t f.gives.type && not f.gives.constant && not f.ellipsis && is_no_parameter f.parameters
 
--- what a built-in function means
-abbrev pub is_built_in_function : Meaning → Bool
-is_built_in_function (Variable v) = false
-is_built_in_function (Object k) = false
-is_built_in_function Incomplete = false
-is_built_in_function Assert = true
-is_built_in_function Assume = true
-is_built_in_function (Draw t) = true
-is_built_in_function (Function f) = false
-is_built_in_function (Typedef n) = false
-is_built_in_function (Enumerator bits) = false
-is_built_in_function (Record p) = false
-is_built_in_function Enumeration = false
-
 -- it has this type
 abbrev pub is_built_in_type : Meaning → FunctionType → Bool
 is_built_in_type (Variable v) f = false
@@ -80,14 +66,6 @@ is_built_in_type (Typedef n) f = false
 is_built_in_type (Enumerator bits) f = false
 is_built_in_type (Record p) f = false
 is_built_in_type Enumeration f = false
-
-abbrev pub built_in_only : Option Meaning → Option Meaning
-built_in_only None = None
-built_in_only (Some m) = if is_built_in_function m then Some m else None
-
--- the built-in function of this name
-abbrev pub built_in_function : List ℕ → Option Meaning
-built_in_function name = built_in_only (built_in name)
 
 -- ---- draws from the inputs
 

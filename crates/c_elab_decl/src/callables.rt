@@ -6,14 +6,15 @@ ghost use Rattle.c_types.specs.Types.{view, views};
 ghost use Rattle.c_elab_expr.specs.Scopes.{FunctionType, view_function_type, view_callable, is_known, linked_to};
 ghost use Rattle.c_elab_expr.specs.Typing.{Gives, on_line};
 ghost use Rattle.c_elab_decl.specs.Derivations.{full_line, view_made, view_parameters};
-ghost use Rattle.c_elab_decl.specs.Functions.{is_one_scalar, is_nothing, is_integer_type, is_statement_type, is_no_parameter, is_draw_type, is_built_in_function, is_built_in_type, built_in_function, drawn_type, draws_of, is_own_function, is_function_again, function_again, is_own_built_in, built_in_again, function_made, function_node, first_callable, callable_again, declared_callable, declared_function, declared_or_built_in, typed_function, is_named_so, have_names, definition_node};
+ghost use Rattle.c_elab_decl.specs.Regions.{is_built_in_function, built_in_function};
+ghost use Rattle.c_elab_decl.specs.Functions.{is_one_scalar, is_nothing, is_integer_type, is_statement_type, is_no_parameter, is_draw_type, is_built_in_type, drawn_type, draws_of, is_own_function, is_function_again, function_again, is_own_built_in, built_in_again, function_made, function_node, first_callable, callable_again, declared_callable, declared_function, declared_or_built_in, typed_function, is_named_so, have_names, definition_node};
 
 use crate::derivations::{Parameter, copied_function, full_line, name_line};
 use crate::initializing::no_initializer;
 use crate::naming::{name_of, same_function};
-use crate::regions::{Region, earlier};
+use crate::regions::{Region, built_in_function, earlier, is_built_in_function};
 use c_elab_expr::{
-    Broken, Callable, FunctionType, Functions, Meaning, Scope, TypingError, built_in, type_size,
+    Broken, Callable, FunctionType, Functions, Meaning, Scope, TypingError, type_size,
 };
 use c_tree::{FullDeclarator, InitDeclarator};
 use c_types::{IntegerType, Layouts, Ty};
@@ -69,22 +70,6 @@ fn is_draw_type(integer: IntegerType, type_: &FunctionType) -> bool
         && type_.parameters.is_empty()
 }
 
-fn is_built_in_function(meaning: Meaning) -> bool
-    ensures { result ≡ is_built_in_function meaning }
-{
-    match meaning {
-        Meaning::Assert | Meaning::Assume | Meaning::Draw { type_: _ } => true,
-        Meaning::Variable { variable: _ }
-        | Meaning::Object { object: _ }
-        | Meaning::Incomplete
-        | Meaning::Function { function: _ }
-        | Meaning::Typedef { number: _ }
-        | Meaning::Enumerator { bits: _ }
-        | Meaning::Record { place: _ }
-        | Meaning::Enumeration => false,
-    }
-}
-
 fn is_built_in_type(meaning: Meaning, type_: &FunctionType) -> bool
     ensures { result ≡ is_built_in_type meaning (view_function_type type_.now) }
 {
@@ -99,23 +84,6 @@ fn is_built_in_type(meaning: Meaning, type_: &FunctionType) -> bool
         | Meaning::Enumerator { bits: _ }
         | Meaning::Record { place: _ }
         | Meaning::Enumeration => false,
-    }
-}
-
-/// The built-in function of a name.
-fn built_in_function(name: &[u8]) -> Option<Meaning>
-    ensures is { result ≡ built_in_function name.now }
-    ensures known { (scope : Rattle.c_elab_expr.specs.Scopes.Scoped) → Rattle.std.specs.Prelude.IfSome result (λ m. is_known scope m ≡ true) }
-{
-    match built_in(name) {
-        Some(meaning) => {
-            if is_built_in_function(meaning) {
-                Some(meaning)
-            } else {
-                None
-            }
-        }
-        None => None,
     }
 }
 

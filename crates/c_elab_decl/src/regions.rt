@@ -2,9 +2,9 @@
 
 ghost use Rattle.std.specs.Prelude.{◌≡◌, ◌≤◌, true, length, IfSome};
 ghost use Rattle.c_elab_expr.specs.Scopes.{is_known};
-ghost use Rattle.c_elab_decl.specs.Regions.{earlier, earlier_tag};
+ghost use Rattle.c_elab_decl.specs.Regions.{is_built_in_function, built_in_function, earlier, earlier_tag};
 
-use c_elab_expr::{Meaning, Scope};
+use c_elab_expr::{Meaning, Scope, built_in};
 
 /// A scope (C11 6.2.1p4): the block that began with so many names and tags in scope, or outside of functions.
 #[derive(Clone, Copy, Debug, PartialEq, Eq)]
@@ -26,13 +26,51 @@ pub enum Role {
     Automatic,
 }
 
-/// What a name is declared as in this scope already; outside of functions the built-in names are declared too.
+/// Whether this is what a built-in function means.
+pub fn is_built_in_function(meaning: Meaning) -> bool
+    ensures { result ≡ is_built_in_function meaning }
+{
+    match meaning {
+        Meaning::Assert | Meaning::Assume | Meaning::Draw { type_: _ } => true,
+        Meaning::Variable { variable: _ }
+        | Meaning::Object { object: _ }
+        | Meaning::Incomplete
+        | Meaning::Function { function: _ }
+        | Meaning::Typedef { number: _ }
+        | Meaning::Enumerator { bits: _ }
+        | Meaning::Record { place: _ }
+        | Meaning::Enumeration => false,
+    }
+}
+
+/// The built-in function of a name.
+pub fn built_in_function(name: &[u8]) -> Option<Meaning>
+    ensures is { result ≡ built_in_function name.now }
+    ensures known { (scope : Rattle.c_elab_expr.specs.Scopes.Scoped) → IfSome result (λ m. is_known scope m ≡ true) }
+{
+    match built_in(name) {
+        Some(meaning) => {
+            if is_built_in_function(meaning) {
+                Some(meaning)
+            } else {
+                None
+            }
+        }
+        None => None,
+    }
+}
+
+/// What a name is declared as in this scope already; outside of functions the built-in functions are declared too, but a
+/// built-in type is hidden by what the file declares.
 pub fn earlier(name: &[u8], region: Region, scope: &Scope) -> Option<Meaning>
     requires { region.outer ≤ length scope.now.bindings }
     ensures { result ≡ earlier region scope.now name.now }
 {
-    if region.is_file || scope.is_declared(name, region.outer) {
-        scope.meaning(name)
+    if scope.is_declared(name, region.outer) {
+        return scope.meaning(name);
+    }
+    if region.is_file {
+        built_in_function(name)
     } else {
         None
     }

@@ -11,7 +11,7 @@ use Rattle.c_elab_expr.specs.declared.fault.TypingError.TheVariants as errors
 use Rattle.c_elab_expr.specs.Scopes.{Scoped}
 use Rattle.c_elab_expr.specs.Nodes.{◌>>=◌}
 use Rattle.c_tree.specs.Tree.{first_line}
-use Rattle.c_elab_expr.specs.Typing.{Fault, fault, on_line, callee, called, typed, typed_arguments, operand, Fails}
+use Rattle.c_elab_expr.specs.Typing.{Fault, fault, on_line, callee, is_used, called, typed, typed_arguments, operand, Fails}
 
 -- a fault of a part is one of the whole
 pub fails_on : {Y Z : Type 0} (e : TypingError) (r : Result Y Fault) (s : Result Z Fault) → ((f : Fault) → r ≡ Err f → s ≡ Err f) → Fails e r → Fails e s
@@ -49,10 +49,10 @@ argument_typed scope es i e xs all x h is so_far good =
 -- a call whose callee is typed
 pub call_fails : (scope : Scoped) (f : Tree) (args : Trees) (w : Bool) (m : Option (ℕ × Meaning)) (bad : Fault) → callee scope f (operand scope f) ≡ Ok m → typed_arguments scope args ≡ Err bad → typed scope w (call f args) ≡ Err bad
 call_fails scope f args w m bad e g =
-    ap (λ (r : Result (Option (ℕ × Meaning)) Fault). r >>= λ n. typed_arguments scope args >>= λ xs. on_line (first_line f) (called scope w n xs)) e
-    ∙ ap (λ (r : Result (List Operand) Fault). r >>= λ xs. on_line (first_line f) (called scope w m xs)) g
+    ap (λ (r : Result (Option (ℕ × Meaning)) Fault). r >>= λ n. typed_arguments scope args >>= λ xs. on_line (first_line f) (called scope (is_used f w) n xs)) e
+    ∙ ap (λ (r : Result (List Operand) Fault). r >>= λ xs. on_line (first_line f) (called scope (is_used f w) m xs)) g
 
-pub call_typed : (scope : Scoped) (f : Tree) (args : Trees) (w : Bool) (m : Option (ℕ × Meaning)) (xs : List Operand) → callee scope f (operand scope f) ≡ Ok m → typed_arguments scope args ≡ Ok xs → typed scope w (call f args) ≡ on_line (first_line f) (called scope w m xs)
+pub call_typed : (scope : Scoped) (f : Tree) (args : Trees) (w : Bool) (m : Option (ℕ × Meaning)) (xs : List Operand) → callee scope f (operand scope f) ≡ Ok m → typed_arguments scope args ≡ Ok xs → typed scope w (call f args) ≡ on_line (first_line f) (called scope (is_used f w) m xs)
 call_typed scope f args w m xs e g =
-    ap (λ (r : Result (Option (ℕ × Meaning)) Fault). r >>= λ n. typed_arguments scope args >>= λ xs. on_line (first_line f) (called scope w n xs)) e
-    ∙ ap (λ (r : Result (List Operand) Fault). r >>= λ xs. on_line (first_line f) (called scope w m xs)) g
+    ap (λ (r : Result (Option (ℕ × Meaning)) Fault). r >>= λ n. typed_arguments scope args >>= λ xs. on_line (first_line f) (called scope (is_used f w) n xs)) e
+    ∙ ap (λ (r : Result (List Operand) Fault). r >>= λ xs. on_line (first_line f) (called scope (is_used f w) m xs)) g

@@ -43,7 +43,7 @@ use Rattle.c_elab_expr.specs.Nodes.{Node, ◌>>=◌, required, integer_of, integ
 use Rattle.c_elab_expr.specs.Operands.{Operand, value, object, structure, number_place, held_value, put_value, is_home, computed, valued, number, same_record, record_value, dropped, is_array, used, place_operand, variable_node, lasting_node, function_node, name_node, part_operand, member_node, operand_bytes, cast_record, cast_operand, unary_operand, postfix_operand, binary_operand, choice_record, choice_value, choice_operand, assign_record, assign_value, assign_operand, comma_operand, one_integer, no_arguments, argument_in, arguments_in, extra_arguments, given_size, given_operand, behind_extra, function_call, drawn_or_called, callable_call, assertion_call, assumption_call, call_node, is_typed_operand}
 use Rattle.c_elab_expr.specs.Types.{type_size}
 use Rattle.c_elab_expr.specs.Strings.{strings_of, strings_length}
-use Rattle.c_elab_expr.specs.Typing.{Fault, on_line, bare_line, sized, used_on, callee, called, is_wanted, type_name, operand_size, typed, typed_arguments, operand_by, lengths}
+use Rattle.c_elab_expr.specs.Typing.{Fault, on_line, bare_line, sized, used_on, callee, is_used, called, is_wanted, type_name, operand_size, typed, typed_arguments, operand_by, lengths}
 use Rattle.c_elab_expr.proofs.Variables.{both, and}
 use Rattle.c_elab_expr.proofs.Types.{same_integer_refl, same_type_refl, promoted_is, common_promoted, operands_fit, type_as, typed_as}
 use Rattle.c_elab_expr.proofs.Parted.{part_within}
@@ -787,7 +787,7 @@ module _ (scope : Scoped) where
           given Fits _ (comma_fits line x y good fine)))
       well_typed w (call f args) =
           bind (λ (m : Option (ℕ × Meaning)). Unit {0}) Fits (callee scope f (operand_by scope true f)) _ (λ m e. tt) (λ m _.
-          bind AllFit Fits (typed_arguments scope args) _ (well_typed_arguments args) (λ xs good. on_same_line Fits (first_line f) _ (called_fits w m xs good)))
+          bind AllFit Fits (typed_arguments scope args) _ (well_typed_arguments args) (λ xs good. on_same_line Fits (first_line f) _ (called_fits (is_used f w) m xs good)))
 
       pub well_typed_arguments : (ts : Trees) → Holds AllFit (typed_arguments scope ts)
       well_typed_arguments none = given AllFit [] refl

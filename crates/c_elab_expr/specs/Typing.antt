@@ -1,6 +1,7 @@
 -- The typed operand of an expression, or the first broken rule: parts come before the node, from left to right, so it is the node
 -- whose last token comes first among those that break a rule and whose parts are all typed (C11 6.5).
-use Rattle.std.specs.Prelude.{◌≡◌, ℕ, ◌+◌, ◌++◌, Bool, true, false, List, [], ◌∷◌, Option, Some, None, Result, Ok, Err}
+use Rattle.std.specs.Prelude.{◌≡◌, ℕ, ◌+◌, ◌++◌, ◌&&◌, Bool, true, false, not, codes, List, [], ◌∷◌, Option, Some, None, Result, Ok, Err}
+use Rattle.std.specs.Str.{bytes_eq}
 use Rattle.c_tree.specs.Tree.{TypePart, Tree, Trees, Declared, Suffixes, unnamed, named, inside, no_suffix, bounded, unbounded, constant, character, strings, name, parens, unary, cast, sizeof_expr, sizeof_type, step, member, binary, choice, assign, comma, call, none, more, first_line}
 use Rattle.c_elab_expr.specs.declared.meaning.Meaning.{Meaning}
 use Rattle.c_elab_expr.specs.declared.fault.TypingError.{TypingError}
@@ -46,6 +47,16 @@ abbrev pub callee : Scoped → Tree → Result Operand Fault → Result (Option 
 callee s (name line n) typed_callee = on_line line (required 1 (meaning_of s.bindings n)) >>= λ m. Ok (Some (line, m))
 callee s (parens line e) typed_callee = callee s e typed_callee
 callee s _ typed_callee = no_function typed_callee
+
+-- the callee is the name `main`, also in parentheses
+abbrev pub is_main : Tree → Bool
+is_main (name line n) = bytes_eq n (codes "main")
+is_main (parens line e) = is_main e
+is_main _ = false
+
+-- Whether a call uses what the function hands over: where the value is wanted, but for `main`, whose end gives 0 (C11 5.1.2.2.3).
+abbrev pub is_used : Tree → Bool → Bool
+is_used f wanted = wanted && not (is_main f)
 
 abbrev pub called : Scoped → Bool → Option (ℕ × Meaning) → List Operand → OperandNode
 called s wanted None arguments = Err 10
@@ -129,7 +140,7 @@ abbrev mutual
   typed s w (call f arguments) = do
     m ← callee s f (used_on (bare_line f) (typed s true f))
     xs ← typed_arguments s arguments
-    on_line (first_line f) (called s w m xs)
+    on_line (first_line f) (called s (is_used f w) m xs)
 
   pub typed_arguments : Scoped → Trees → Result (List Operand) Fault
   typed_arguments s none = Ok []

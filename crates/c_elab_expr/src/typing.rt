@@ -6,7 +6,7 @@ ghost use Rattle.c_tree.specs.Tree.{view as tree, views_of as trees};
 ghost use Rattle.c_types.specs.Types.{view as type_view};
 ghost use Rattle.c_elab_expr.specs.Strings.{strings_of};
 ghost use Rattle.c_elab_expr.specs.Operands.{Operand, view_operand, is_typed_operand};
-ghost use Rattle.c_elab_expr.specs.Typing.{Gives, GivesNode, Adds, on_line, bare_line, Fault, sized, used_on, no_function, callee, bound, type_name, operand_size, is_wanted, typed, typed_arguments, operand_by, operand, lengths, suffix_lengths};
+ghost use Rattle.c_elab_expr.specs.Typing.{Gives, GivesNode, Adds, on_line, bare_line, Fault, sized, used_on, no_function, callee, is_main, is_used, bound, type_name, operand_size, is_wanted, typed, typed_arguments, operand_by, operand, lengths, suffix_lengths};
 
 use crate::calls::called;
 use crate::constants::length_said;
@@ -237,6 +237,24 @@ fn callee(
     }
 }
 
+// The callee is the name `main`, also in parentheses.
+fn is_main(function: &Expr) -> bool
+    ensures { result ≡ is_main (tree function.now) }
+{
+    match function {
+        Expr::Name { line: _, name } => name.bytes.as_slice() == b"main".as_slice(),
+        Expr::Parens { line: _, inner } => is_main(inner),
+        _ => false,
+    }
+}
+
+// A call whose value is wanted uses what the function hands over, but for `main`, whose end gives 0.
+fn is_used(function: &Expr, wanted: bool) -> bool
+    ensures { result ≡ is_used (tree function.now) wanted }
+{
+    wanted && !is_main(function)
+}
+
 /// How many elements a bound says, which is an integer constant expression, else rule 13 is broken on its first line.
 #[cycle(typing)]
 pub fn bound(alloc: Global, expr: &Expr, scope: &Scope) -> Result<u64, TypingError>
@@ -464,7 +482,8 @@ fn typed_expr(
         } => {
             let callee = callee(alloc, function, scope)?;
             let arguments = typed_arguments(alloc, arguments, scope)?;
-            placed(called(alloc, wanted, callee, arguments, scope), function)
+            let used = is_used(function, wanted);
+            placed(called(alloc, used, callee, arguments, scope), function)
         }
     }
 }

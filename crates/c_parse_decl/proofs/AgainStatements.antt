@@ -9,10 +9,9 @@ use Rattle.c_lexer.specs.Kinds.{text_of}
 use Rattle.c_lexer.specs.declared.token.Mark.{Mark}
 use Rattle.c_lexer.specs.declared.token.Mark.TheVariants as marks
 use Rattle.c_tree.specs.Tree.{Tree, name, depth}
-use Rattle.c_tree.specs.Tables.{level_of, name_level}
+use Rattle.c_tree.specs.Tables.{level_of}
 use Rattle.c_tree.specs.Names.{Scope, is_type}
-use Rattle.std.specs.Prelude.{◌&&◌, codes}
-use Rattle.std.specs.Str.{bytes_eq}
+use Rattle.std.specs.Prelude.{◌&&◌}
 use Rattle.c_tree.specs.Spelling.{Single, Behind, Then, IsMark, Spells, IsWell}
 use Rattle.c_tree.specs.Declarations.{Parts, Declarators, value_depth, parts_depth, declarators_depth, with_declaration}
 use Rattle.c_tree.specs.Statements.{Statement, block, if_then, if_else, evaluate, return_nothing, return_value, empty, while_loop, do_loop, for_loop, for_declared, switch_on, case_of, default_of, labelled, goto_label, break_off, continue_on, Items, done, declares, does, statement_depth, items_depth}
@@ -217,15 +216,11 @@ closed_read bytes names n e own left right rest tok is end closes s w l d =
 head_is : {x y : Token} {xs ys : List Token} → (x ∷ xs) ≡ (y ∷ ys) → x ≡ y
 head_is e = cc
 
-name_low : (b : Bool) → 1 ≤ cond b 17 18
-name_low true = omega arith
-name_low false = omega arith
-
 -- A name before a colon is an expression of its own.
 name_read : (bytes : List ℕ) (names : Scope) (n : ℕ) (t colon : Token) (mid : List Token) → t.kind ≡ kinds.Identifier → is_type names (text_of bytes t) ≡ false → colon.kind ≡ kinds.Mark marks.Colon → 1 ≤ n → reader bytes names n 1 (t ∷ (colon ∷ mid)) ≡ Some (name t.line (text_of bytes t), colon ∷ mid)
 name_read bytes names n t colon mid is untyped so d =
     expression_read bytes names n 1 (name t.line (text_of bytes t)) (t ∷ []) mid colon (stops_by_none 1 colon (ap suffix_of so))
-    (record { token = t; is = record { kind = is; line = refl; text = refl }; whole = refl }) untyped d (name_low (bytes_eq (text_of bytes t) (codes "main")))
+    (record { token = t; is = record { kind = is; line = refl; text = refl }; whole = refl }) untyped d (omega arith)
 
 colon_ends : {P : Type 0} (k : Kind) → k ≡ kinds.Mark marks.Colon → k ≡ kinds.Mark marks.Semicolon → P
 colon_ends k e f =

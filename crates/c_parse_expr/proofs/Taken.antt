@@ -15,7 +15,7 @@ use Rattle.c_tree.specs.declared.expr.UnaryOp.{UnaryOp}
 use Rattle.c_tree.specs.declared.expr.StepOp.{StepOp}
 use Rattle.c_tree.specs.Tree.{TypePart, qualified, word, tagged, typedef_name, Tree, Trees, Declared, Suffixes, constant, character, strings, name, parens, unary, cast, sizeof_expr, sizeof_type, step, member, binary, choice, assign, comma, call, none, more, unnamed, named, inside, no_suffix, bounded, unbounded, depth, depth_of, declared_depth, suffixes_depth}
 use Rattle.c_tree.specs.Names.{Scope, is_type}
-use Rattle.c_tree.specs.Tables.{strength_of, operand_level, level_of, name_level, binary_mark, unary_mark, step_mark}
+use Rattle.c_tree.specs.Tables.{strength_of, operand_level, level_of, binary_mark, unary_mark, step_mark}
 use Rattle.c_tree.specs.Spelling.{Spells, SpellsArguments, SpellsRest, SpellsTypeParts, AreSpecifiers, IsWell, AreWell}
 use Rattle.c_parse_expr.specs.declared.table.Lead.{Lead}
 use Rattle.c_parse_expr.specs.declared.table.Lead.TheVariants as leads
@@ -57,12 +57,8 @@ colon_takes = behind_takes marks.Colon colon_is
 comma_takes : (ts rest : List Token) → behind marks.Comma ts ≡ Some rest → Heads marks.Comma ts rest
 comma_takes = behind_takes marks.Comma comma_is
 
-name_high : (n : List ℕ) → 17 ≤ name_level n
-name_high n = grind arith
-
 begun_name : (bytes : List ℕ) (names : Scope) (n : ℕ) (t : Token) (ts : List Token) → t.kind ≡ kinds.Identifier → is_type names (text_of bytes t) ≡ false → Begun bytes names (suc n) 15 (name t.line (text_of bytes t)) (t ∷ ts) ts
 begun_name bytes names n t ts e value =
-    let high = name_high (text_of bytes t) in
     record {
       own = t ∷ [];
       spelled = record { token = t; is = record { kind = e; line = refl; text = refl }; whole = refl };
@@ -427,7 +423,7 @@ begun_member bytes names n k t left tokens ts y is f g d l e =
       deep = omega arith;
     }
 
-begun_call : (bytes : List ℕ) (names : Scope) (n k : ℕ) (t : Token) (left : Tree) (args : Trees) (tokens ts rest : List Token) → t.kind ≡ kinds.Mark marks.LeftParenthesis → k ≤ 16 → 18 ≤ level_of left → depth left ≤ n → Begun bytes names (suc n) k left tokens (t ∷ ts) → Listed bytes names n (SpellsArguments bytes args) args ts rest → Begun bytes names (suc n) k (call left args) tokens rest
+begun_call : (bytes : List ℕ) (names : Scope) (n k : ℕ) (t : Token) (left : Tree) (args : Trees) (tokens ts rest : List Token) → t.kind ≡ kinds.Mark marks.LeftParenthesis → k ≤ 16 → 16 ≤ level_of left → depth left ≤ n → Begun bytes names (suc n) k left tokens (t ∷ ts) → Listed bytes names n (SpellsArguments bytes args) args ts rest → Begun bytes names (suc n) k (call left args) tokens rest
 begun_call bytes names n k t left args tokens ts rest is f g d l s = record {
   own = l.own ++ (t ∷ s.own);
   spelled = record { left = l.own; right = t ∷ s.own; first = l.spelled; second = record { token = t; rest = s.own; is = is; behind = s.spelled; whole = refl }; whole = refl };

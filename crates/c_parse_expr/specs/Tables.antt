@@ -225,6 +225,6 @@ least_left (suffixes.Becomes op) = 15
 least_left suffixes.Choice = 4
 least_left suffixes.Then = 1
 least_left (suffixes.Step op) = 16
-least_left suffixes.Arguments = 18
+least_left suffixes.Arguments = 16
 least_left suffixes.Member = 16
 least_left suffixes.Another = 19

@@ -2,7 +2,6 @@
 
 ghost use Rattle.std.specs.Prelude.{◌≡◌, ◌<◌, ◌≤◌, [], ◌∷◌, MatchOption, IfSome, IfOk, length, option_map};
 ghost use Rattle.c_lexer.specs.Kinds.{text_of};
-ghost use Rattle.c_tree.specs.Tables.{name_level};
 ghost use Rattle.c_tree.specs.Tree.{view};
 ghost use Rattle.c_tree.specs.Tables.{level_of};
 ghost use Rattle.c_parse_expr.specs.Reading.{behind, is_mark, is_identifier, is_string, identifier_at, string, bracket, next_at, goes_on};
@@ -192,18 +191,7 @@ pub fn name_of(alloc: Global, bytes: &[u8], token: Token) -> Result<Name, AllocE
     text_name(alloc, token_text(bytes, token))
 }
 
-fn name_level(name: &Name) -> u8
-    ensures { result ≡ name_level name.now.bytes.items }
-{
-    if name.bytes.as_slice() == b"main".as_slice() {
-        17
-    } else {
-        18
-    }
-}
-
-/// The level of a tree: comma 1, assignment 2, `?:` 3, the binary operators 4 to 13, cast 14, unary 15, postfix 16, primary 17,
-/// and 18 for a name that can be called.
+/// The level of a tree: comma 1, assignment 2, `?:` 3, the binary operators 4 to 13, cast 14, unary 15, postfix 16, primary 17.
 pub fn level_of(expr: &Expr) -> u8
     ensures { result ≡ level_of (view expr.now) }
 {
@@ -214,7 +202,7 @@ pub fn level_of(expr: &Expr) -> u8
         } => 17,
         Expr::Character { line: _, value: _ } => 17,
         Expr::Strings { line: _, parts: _ } => 17,
-        Expr::Name { line: _, name } => name_level(name),
+        Expr::Name { line: _, name: _ } => 17,
         Expr::Parens { line: _, inner: _ } => 17,
         Expr::Unary {
             line: _,

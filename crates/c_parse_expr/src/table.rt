@@ -338,7 +338,7 @@ pub fn least_left(suffix: Suffix) -> u8
         Suffix::Choice => 4,
         Suffix::Then => 1,
         Suffix::Step(_) => 16,
-        Suffix::Arguments => 18,
+        Suffix::Arguments => 16,
         Suffix::Member => 16,
         Suffix::Another => 19,
     }

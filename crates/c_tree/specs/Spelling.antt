@@ -200,7 +200,7 @@ abbrev mutual
   IsWell names (choice line a b c) = (4 ≤ level_of a) × (1 ≤ level_of b) × (3 ≤ level_of c) × IsWell names a × IsWell names b × IsWell names c
   IsWell names (assign line op a b) = (15 ≤ level_of a) × (2 ≤ level_of b) × IsWell names a × IsWell names b
   IsWell names (comma line a b) = (1 ≤ level_of a) × (2 ≤ level_of b) × IsWell names a × IsWell names b
-  IsWell names (call f args) = (18 ≤ level_of f) × IsWell names f × AreWell names args
+  IsWell names (call f args) = (16 ≤ level_of f) × IsWell names f × AreWell names args
 
   pub AreWell : Scope → Trees → Type 0
   AreWell names none = Unit {0}

@@ -1,6 +1,5 @@
 -- The operators of C: how strongly each binds, and its mark (C11 6.5); and the keywords of specifiers (C11 6.7).
-use Rattle.std.specs.Prelude.{ℕ, Option, Some, None, List, codes, if◌then◌else◌}
-use Rattle.std.specs.Str.{bytes_eq}
+use Rattle.std.specs.Prelude.{ℕ, Option, Some, None}
 use Rattle.c_lexer.specs.declared.token.Keyword.{Keyword}
 use Rattle.c_lexer.specs.declared.token.Keyword.TheVariants as keywords
 use Rattle.c_lexer.specs.declared.token.Mark.{Mark}
@@ -26,7 +25,7 @@ use Rattle.c_tree.specs.declared.declaration.RecordKind.TheVariants as record_ki
 use Rattle.c_tree.specs.Tree.{Tree, constant, character, strings, name, parens, unary, cast, sizeof_expr, sizeof_type, step, member, binary, choice, assign, comma, call}
 
 -- The levels, lowest first: comma 1, assignment 2, ?: 3, the binary operators 4 to 13, cast 14, unary 15, postfix 16, primary
--- 17, and 18 for a name that can be called.
+-- 17.
 abbrev pub strength_of : BinaryOp → ℕ
 strength_of binaries.LogicalOr = 4
 strength_of binaries.LogicalAnd = 5
@@ -113,15 +112,11 @@ abbrev pub step_mark : StepOp → Mark
 step_mark steps.Increment = marks.PlusPlus
 step_mark steps.Decrement = marks.MinusMinus
 
--- a name but `main` can be called
-abbrev pub name_level : List ℕ → ℕ
-name_level bytes = if bytes_eq bytes (codes "main") then 17 else 18
-
 abbrev pub level_of : Tree → ℕ
 level_of (constant line c) = 17
 level_of (character line c) = 17
 level_of (strings line parts) = 17
-level_of (name line n) = name_level n
+level_of (name line n) = 17
 level_of (parens line e) = 17
 level_of (unary line op e) = 15
 level_of (cast line parts d e) = 14

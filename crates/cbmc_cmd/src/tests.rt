@@ -102,7 +102,7 @@ static OBJECTS: [(&str, u8, &str); 5] = [
 ];
 
 /// Files with functions, loops, switches and jumps, with their answers.
-static PROGRAMS: [(&str, u8, &str); 11] = [
+static PROGRAMS: [(&str, u8, &str); 13] = [
     (
         "int f(int n){if(n==0)return 0;\nreturn f(n-1);}\nint main(void){return f(8);}",
         10,
@@ -114,6 +114,16 @@ static PROGRAMS: [(&str, u8, &str); 11] = [
         "file a.c unwind 8\nviolated return line 2 function main thread 0\nschedule 0x1\nVERIFICATION FAILED\n",
     ),
     ("int f(void){}\nint main(void){f();return 0;}", 0, SAFE),
+    (
+        "int d;int main(void){if(d<2){d++;int x=(main)();assert(x==0);}}",
+        0,
+        SAFE,
+    ),
+    (
+        "int d;int main(void){\nif(d<2){d++;\nint x=main();assert(x!=3);}else return 3;}",
+        10,
+        "file a.c unwind 8\nviolated assertion line 3 function main thread 0\nschedule 0x8\nVERIFICATION FAILED\n",
+    ),
     (
         "int main(void){a:;goto a;}",
         6,

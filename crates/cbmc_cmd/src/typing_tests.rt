@@ -73,9 +73,13 @@ typedef int T=1;int main(void){}@1 12
 typedef int T=y;int main(void){}@1 1
 int main(void){typedef int T=sizeof(T);}@1 12
 typedef unsigned long size_t;int main(void){}@
-typedef unsigned size_t;int main(void){}@1 2
+typedef unsigned size_t;int main(void){size_t x;}@
 int main(void){typedef char size_t;size_t x;}@
-typedef struct{unsigned m;} pthread_mutex_t;int main(void){}@1 2
+typedef struct{unsigned m;} pthread_mutex_t;int main(void){pthread_mutex_t x;x.m=1;}@
+int size_t;int main(void){size_t=1;}@
+enum{int8_t=3};int main(void){return int8_t;}@
+int uint8_t(void);int main(void){return 0;}@
+typedef int size_t;$typedef long size_t;int main(void){}@2 2
 typedef pthread_mutex_t pthread_mutex_t;int main(void){return sizeof(pthread_mutex_t);}@
 typedef int assert;int main(void){}@1 2
 int main(void){typedef int assert;assert x;}@
@@ -328,6 +332,11 @@ int f(int);int main(void){$f();}@2 10
 int f(int);int main(void){f(1,2);}@1 10
 struct S{int a;}s;int f(int);int main(void){f(s);}@1 8
 int f(int);int x;int main(void){x(1);}@1 10
+int f(int);int main(void){(f)(1);((f))(2);}@
+int f(int);int main(void){f(1)(2);}@1 10
+int main(void){1(2);}@1 10
+int main(void){return main();}@
+int main(void){main(1);}@1 10
 int f(int);int main(void){f(f);}@1 8
 int f(int);int main(void){f;1,f;(void)f;return 0;}@
 int f(int);int main(void){return -f;}@1 7

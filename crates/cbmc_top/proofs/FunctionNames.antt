@@ -22,13 +22,13 @@ use Rattle.c_elab_expr.specs.Operands.{Operand}
 use Rattle.c_elab_decl.specs.declared.regions.Region.{Region}
 use Rattle.c_elab_decl.specs.declared.regions.Role.{Role}
 use Rattle.c_elab_decl.specs.declared.regions.Role.TheVariants as roles
-use Rattle.c_elab_decl.specs.Regions.{earlier, earlier_tag}
+use Rattle.c_elab_decl.specs.Regions.{built_in_function, earlier, earlier_tag}
 use Rattle.c_elab_decl.specs.Derivations.{Derived, Derivation, lengths, callable, derivation, full_line}
 use Rattle.c_elab_decl.specs.Initializers.{Value, no_initializer, initializer_of}
 use Rattle.c_elab_decl.specs.Enumerations.{enumerator_value, enumerator_node, with_enumerator, typed_enumerator, typed_enumerators}
 use Rattle.c_elab_decl.specs.Tags.{kind_of, is_kind, with_record, with_tagged, new_tag, found_tag, tag_named, forward_tag, Opened, new_record, open_tag, opened, reopened, closed_scope, completed, closed, members_fit, enumeration_tag, enumeration_closed}
 use Rattle.c_elab_decl.specs.Declarators.{Typed, typed_typedef, typed_function_typedef, typed_object, typed_variable, with_typedef, with_function_typedef, with_object, changed_object, added_object, declared_object, initialized_object, in_front, within_initializer, typedef_node, function_typedef_node, lasting_node, earlier_linked, linked_object, lasting_type, may_define, counted_by, is_open, element_of, declared_again, variable_type, of_type, with_variable, declared_item}
-use Rattle.c_elab_decl.specs.Functions.{built_in_function, function_node, first_callable, callable_again, changed_callable, declared_callable, declared_function, declared_or_built_in, with_meaning, typed_function}
+use Rattle.c_elab_decl.specs.Functions.{function_node, first_callable, callable_again, changed_callable, declared_callable, declared_function, declared_or_built_in, with_meaning, typed_function}
 use Rattle.c_elab_decl.specs.Specifiers.{Fields, Parted, Passed, Specification, with_named, with_type_part, fields_within, fields_out, with_members, typed_enumeration, said_before, fields_behind, with_anonymous, has_untagged, is_none, is_anonymous, with_member, with_field, judged_parameter, declared_parameter, ended, inner_region, are_several, parted, named_parts, counted_in_front, called_in_front, said_bound, typed_part, typed_parts, typed_members, typed_fields, typed_full, typed_suffixes, typed_parameters, lone_tag, with_lone, typed_specifiers, role_of}
 use Rattle.c_elab_decl.specs.Listed.{typedef_by, typed_typedefs, object_by, typed_objects, variable_by, typed_variables, typed_others, typed_by, typed_declaration}
 use Rattle.c_elab_decl.specs.Jumps.{jumps_in, is_passed}

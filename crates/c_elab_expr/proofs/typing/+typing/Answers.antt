@@ -15,7 +15,7 @@ use Rattle.c_types.specs.Types.{view as type_view}
 use Rattle.c_elab_expr.specs.declared.operands.CoreOperand.{CoreOperand}
 use Rattle.c_elab_expr.specs.Operands.{Operand, view_operand, cast_operand}
 use Rattle.c_elab_expr.specs.Scopes.{Scoped}
-use Rattle.c_elab_expr.specs.Typing.{Fault, Gives, GivesNode, Adds, on_line, called, callee, typed, typed_arguments, operand_by, operand, lengths, suffix_lengths, behind}
+use Rattle.c_elab_expr.specs.Typing.{Fault, Gives, GivesNode, Adds, on_line, is_used, called, callee, typed, typed_arguments, operand_by, operand, lengths, suffix_lengths, behind}
 use Rattle.c_elab_expr.proofs.Arguments.{fails_on, front, argument_fails, argument_typed, call_fails, call_typed}
 use Rattle.c_elab_expr.specs.Nodes.{◌>>=◌}
 use Rattle.c_elab_expr.specs.Types.{type_size}
@@ -89,9 +89,10 @@ typed_expr-returns-in_ok-arguments-in-Call t c =
     let xs = map view_operand c.in_ok-arguments-in-Call.arguments.items in
     let means : callee scope f (operand scope f) ≡ Ok m = ap (λ (x : Tree). callee scope x (operand scope x)) (sym same_f) ∙ c.in_ok-callee-in-Call.ensures in
     let typing : typed_arguments scope args ≡ Ok xs = ap (typed_arguments scope) (sym same_args) ∙ c.in_ok-arguments-in-Call.ensures in
-    let node = called scope c.args.wanted m xs in
-    let line : on_line (first_line (tree c.deref-in-Call-3.result.now)) node ≡ on_line (first_line f) node = ap (λ (e : Expr). on_line (first_line (tree e)) node) c.deref-in-Call-3.ensures in
-    let same : on_line (first_line (tree c.deref-in-Call-3.result.now)) node ≡ typed scope c.args.wanted (tree c.args.expr.now) = line ∙ sym (ap (typed scope c.args.wanted) shape ∙ call_typed scope f args c.args.wanted m xs means typing) in
+    let used : c.is_used-used.result ≡ is_used f c.args.wanted = c.is_used-used.ensures ∙ ap (λ (e : Expr). is_used (tree e) c.args.wanted) c.deref-in-Call-3.ensures in
+    let node = called scope c.is_used-used.result m xs in
+    let line : on_line (first_line (tree c.deref-in-Call-4.result.now)) node ≡ on_line (first_line f) node = ap (λ (e : Expr). on_line (first_line (tree e)) node) c.deref-in-Call-4.ensures in
+    let same : on_line (first_line (tree c.deref-in-Call-4.result.now)) node ≡ typed scope c.args.wanted (tree c.args.expr.now) = line ∙ ap (λ (b : Bool). on_line (first_line f) (called scope b m xs)) used ∙ sym (ap (typed scope c.args.wanted) shape ∙ call_typed scope f args c.args.wanted m xs means typing) in
     subst (λ (r : Result Operand Fault). Gives view_operand c.placed-in-Call.result r) same (c.placed-in-Call.ensures node c.called.ensures)
 
 -- ---- measures
