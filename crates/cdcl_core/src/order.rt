@@ -5,16 +5,20 @@ use crate::trail::Trail;
 use std::alloc::{AllocError, Global};
 use std::collections::BinaryHeap;
 
-/// The order in which variables are decided: those of the latest conflicts first, and else the first
-/// of the form.
+/// How much later than the one before it a conflict is.
+const STEP: u64 = 1_048_576;
+
+/// The order in which variables are decided: by a score that each conflict brings half of the way to its own time, for the
+/// variables that it comes from (averaged conflict numbers; Biere and Froehlich, SAT 2015), and else the first of the form.
 #[derive(Drop)]
 pub struct Order {
-    /// Variables that wait to be decided, each after its stamp.
+    /// Variables that wait to be decided, each after its score.
     heap: BinaryHeap<(u64, usize)>,
-    /// When each variable stood in a conflict last.
-    stamps: Vec<u64>,
-    /// The stamp with which each variable waits, or 0.
+    /// The score of each variable.
+    scores: Vec<u64>,
+    /// The score with which each variable waits, or 0.
     waiting: Vec<u64>,
+    /// The time of the last conflict.
     now: u64,
 }
 
@@ -23,27 +27,36 @@ impl Order {
     pub fn new(alloc: Global, variables: u32) -> Result<Self, AllocError> {
         let mut order = Order {
             heap: BinaryHeap::new(alloc),
-            stamps: vec![in alloc; 0; variables as usize]?,
+            scores: vec![in alloc; 0; variables as usize]?,
             waiting: vec![in alloc; 0; variables as usize]?,
             now: 0,
         };
         for variable in (0..variables as usize).rev() {
-            order.raise(variable);
+            order.begin(variable);
             order.offer(variable)?;
         }
         Ok(order)
     }
 
-    /// Puts a variable before all others, for the next time that it waits.
-    fn raise(&mut self, variable: usize) {
-        if variable < self.stamps.len() {
+    /// Puts a variable before all others so far.
+    fn begin(&mut self, variable: usize) {
+        if variable < self.scores.len() {
             self.now = self.now.saturating_add(1);
-            self.stamps[variable] = self.now;
+            self.scores[variable] = self.now;
         }
     }
 
-    /// Puts these variables before all others, for the next time that they wait.
+    /// Brings a variable's score half of the way to now, for the next time that it waits.
+    fn raise(&mut self, variable: usize) {
+        if variable < self.scores.len() {
+            let half = self.scores[variable] / 2;
+            self.scores[variable] = half.saturating_add(self.now / 2);
+        }
+    }
+
+    /// A conflict comes from these variables.
     pub fn raise_all(&mut self, variables: &[usize]) {
+        self.now = self.now.saturating_add(STEP);
         for variable in variables {
             self.raise(*variable);
         }
@@ -51,13 +64,13 @@ impl Order {
 
     /// Lets a variable wait.
     pub fn offer(&mut self, variable: usize) -> Result<(), AllocError> {
-        if variable < self.stamps.len()
+        if variable < self.scores.len()
             && variable < self.waiting.len()
-            && self.waiting[variable] != self.stamps[variable]
+            && self.waiting[variable] != self.scores[variable]
         {
-            let stamp = self.stamps[variable];
-            self.heap.push((stamp, variable))?;
-            self.waiting[variable] = stamp;
+            let score = self.scores[variable];
+            self.heap.push((score, variable))?;
+            self.waiting[variable] = score;
         }
         Ok(())
     }
@@ -67,8 +80,8 @@ impl Order {
         ensures found { IfSome result (λ v. (v < trail.now.variables) × (known_value trail.now.steps v ≡ None)) }
         ensures limit { IfSome result (λ v. v < 2 ^ 31) }
     {
-        while let Some((stamp, variable)) = self.heap.pop() {
-            if variable < self.waiting.len() && self.waiting[variable] == stamp {
+        while let Some((score, variable)) = self.heap.pop() {
+            if variable < self.waiting.len() && self.waiting[variable] == score {
                 self.waiting[variable] = 0;
                 if trail.is_open(variable) {
                     return Some(variable);

@@ -1,5 +1,5 @@
 -- The steps of a long division, and the signs of its results.
-use Rattle.std.proofs.Common.{◌≡◌, ℕ, suc, ◌+◌, ◌-◌, ◌*◌, ◌%◌, ◌^◌, ◌<◌, ◌≤◌, Bool, true, false, not, nat_eq, List, [], ◌∷◌, ◌++◌, map, take, set, replicate, length, refl, sym, ap, ◌∙◌, subst, arith, inl, inr}
+use Rattle.std.proofs.Common.{◌≡◌, ℕ, zero, suc, get_or, ◌+◌, ◌-◌, ◌*◌, ◌%◌, ◌^◌, ◌<◌, ◌≤◌, Bool, true, false, not, nat_eq, List, [], ◌∷◌, ◌++◌, map, take, set, replicate, length, refl, sym, ap, ◌∙◌, subst, arith, inl, inr}
 use Rattle.std.specs.Prelude.{if◌then◌else◌}
 use Rattle.std.proofs.Math.Nat.{mod-eq_of_lt, mod_self}
 use Rattle.std.proofs.lemmas.Bool.{cases_lt}
@@ -9,7 +9,8 @@ use Rattle.std.proofs.lemmas.List.Elements.{All-from_recursion, recursion_from_A
 use Rattle.sat_form.specs.Satisfaction.{Literal, Form, literal_value, inverse_of, Satisfies, IsWithin}
 use Rattle.sat_form.specs.Numbers.{bit_value, number_of, value_of}
 use Rattle.sat_form.proofs.Truth.{literal_value-inverse_of}
-use Rattle.sat_form.proofs.Numbering.{value_of-below}
+use Rattle.sat_form.proofs.Numbering.{value_of-below, value_of-append}
+use Rattle.sat_form.proofs.Within.{IsWithin-append}
 use Rattle.words.specs.Operators.{word_negation, unsigned_quotient, unsigned_remainder, signed_quotient, signed_remainder}
 use Rattle.words.proofs.Division.{unsigned_quotient_zero, unsigned_remainder_zero, quotient_unique, signed_remainder_zero, signed_quotient_low_low, signed_quotient_low_high, signed_quotient_high_low, signed_quotient_high_high, signed_remainder_low_low, signed_remainder_low_high, signed_remainder_high_low, signed_remainder_high_high}
 use Rattle.gate_arith.specs.Growth.{GrowsFreely}
@@ -287,3 +288,65 @@ Signed_remainder_is f g h j a b dividend divisor rest result low_a low_b s t pos
           ∙ (λ k. negated_if (literal_value x s) (width k) (numbers k))
           ∙ remainder_of_signs w (value_of a x) (value_of b x) (literal_value x s) (literal_value x t) positive (value_of-below x a) below_b (sign_is x low_a a s whole_a) sign_b;
     }
+
+-- ---- numbers with zeros above them
+
+widened_value : (x : ℕ → Bool) (ls : List Literal) (k : ℕ) (off : Literal) → literal_value x off ≡ false → value_of (ls ++ replicate k off) x ≡ value_of ls x
+widened_value x ls k off none =
+    let filled : 2 ^ length ls * value_of (replicate k off) x ≡ 2 ^ length ls * 0 = ap (λ (n : ℕ). 2 ^ length ls * n) (value_of-fill x k off none) in
+    let nothing : 2 ^ length ls * 0 ≡ 0 = omega arith in
+    omega (arith, value_of-append x ls (replicate k off), filled, nothing)
+
+-- what is calculated of the low bits alone
+pub Trimmed_is : (f : Form) (n w m : ℕ) (a b low_a low_b result wide : List Literal) (off : Literal) (g : ℕ → ℕ → ℕ) → IsTruth f off (λ x. false) → m ≤ n → a ≡ low_a ++ replicate (n - w) off
+    → b ≡ low_b ++ replicate (n - w) off → IsNumber f m result (λ x. g (value_of low_a x) (value_of low_b x)) → wide ≡ result ++ replicate (n - length result) off
+    → IsNumber f n wide (λ x. g (value_of a x) (value_of b x))
+Trimmed_is f n w m a b low_a low_b result wide off g none within a_is b_is is wide_is =
+    record {
+      count = ap (λ (ls : List Literal). length ls) wide_is ∙ joined result (replicate (n - length result) off) ∙ omega (arith, is.count, within, length-replicate (n - length result) off);
+      within = subst (λ (ls : List Literal). IsWithin f.variables ls) (sym wide_is) (IsWithin-append f.variables result (replicate (n - length result) off) is.within (IsWithin-replicate f.variables (n - length result) off none.within));
+      is = λ x all.
+          let no = none.is x all in
+          let first : value_of a x ≡ value_of low_a x = ap (λ (ls : List Literal). value_of ls x) a_is ∙ widened_value x low_a (n - w) off no in
+          let second : value_of b x ≡ value_of low_b x = ap (λ (ls : List Literal). value_of ls x) b_is ∙ widened_value x low_b (n - w) off no in
+          ap (λ (ls : List Literal). value_of ls x) wide_is ∙ widened_value x result (n - length result) off no ∙ is.is x all
+          ∙ ap (λ (m : ℕ). g m (value_of low_b x)) (sym first) ∙ ap (g (value_of a x)) (sym second);
+    }
+  where
+    joined : (xs ys : List Literal) → length (xs ++ ys) ≡ length xs + length ys
+    joined [] ys = omega arith
+    joined (z ∷ xs) ys = omega (arith, joined xs ys)
+
+-- a zero more above the low bits
+pub one_trimmed : (ls : List Literal) (w now n : ℕ) (off x : Literal) → now ≡ suc w → suc w ≤ n → n ≡ length ls → x ≡ get_or ls w x → x ≡ off → ls ≡ take now ls ++ replicate (n - now) off → ls ≡ take w ls ++ replicate (n - w) off
+one_trimmed ls w now n off x next fits long found same before =
+    let at : get_or ls w off ≡ off = sym (subst (λ (y : Literal). y ≡ get_or ls w y) same found) in
+    let is : ls ≡ take (suc w) ls ++ replicate (n - suc w) off = before ∙ ap (λ (k : ℕ). take k ls ++ replicate (n - k) off) next in
+    let more : n - w ≡ suc (n - suc w) = omega (arith, fits) in
+    is ∙ ap (λ (ys : List Literal). ys ++ replicate (n - suc w) off) (take_more ls w (omega (arith, fits, long)) at)
+    ∙ assoc (take w ls) (n - suc w) ∙ ap (λ (k : ℕ). take w ls ++ replicate k off) (sym more)
+  where
+    take_more : (xs : List Literal) (k : ℕ) → k < length xs → get_or xs k off ≡ off → take (suc k) xs ≡ take k xs ++ off ∷ []
+    take_more [] k h e = absurd (omega (arith, h))
+    take_more (x ∷ xs) zero h e = ap (λ (y : Literal). y ∷ []) e
+    take_more (x ∷ xs) (suc k) h e = ap (λ (ys : List Literal). x ∷ ys) (take_more xs k (omega (arith, h)) e)
+
+    assoc : (xs : List Literal) (k : ℕ) → (xs ++ off ∷ []) ++ replicate k off ≡ xs ++ replicate (suc k) off
+    assoc [] k = refl
+    assoc (x ∷ xs) k = ap (λ (ys : List Literal). x ∷ ys) (assoc xs k)
+
+-- literals with the same code
+pub same_literal : (l m : Literal) → true ≡ nat_eq (2 * l.variable + (if l.negated then 1 else 0)) (2 * m.variable + (if m.negated then 1 else 0)) → l ≡ m
+same_literal l m h = by l.negated m.negated l.variable m.variable (equal _ _ (sym h))
+  where
+    equal : (a b : ℕ) → nat_eq a b ≡ true → a ≡ b
+    equal a b e = grind (arith, nat_tests)
+
+    literal : ℕ → Bool → Literal
+    literal v b = record { variable = v; negated = b }
+
+    by : (b c : Bool) (v w : ℕ) → 2 * v + (if b then 1 else 0) ≡ 2 * w + (if c then 1 else 0) → literal v b ≡ literal w c
+    by true true v w e = let same : v ≡ w = omega (arith, e) in ap (λ (n : ℕ). literal n true) same
+    by false false v w e = let same : v ≡ w = omega (arith, e) in ap (λ (n : ℕ). literal n false) same
+    by true false v w e = absurd (omega (arith, e))
+    by false true v w e = absurd (omega (arith, e))

@@ -1,6 +1,6 @@
 #![tactic(auto, using(crate::proofs::Growing::growth))]
 
-ghost use Rattle.std.specs.Prelude.{◌≡◌, ◌+◌, ◌<◌, ◌≤◌, [], ◌∷◌, ◌++◌, false, true, IfOk, length, map};
+ghost use Rattle.std.specs.Prelude.{◌≡◌, ◌+◌, ◌-◌, ◌<◌, ◌≤◌, [], ◌∷◌, ◌++◌, false, true, IfOk, length, map, take, replicate};
 ghost use Rattle.sat_form.specs.Satisfaction.{literal_value, inverse_of, IsWithin};
 ghost use Rattle.sat_form.specs.Numbers.{value_of};
 ghost use Rattle.words.specs.Operators.{word_negation, unsigned_quotient, unsigned_remainder, signed_quotient, signed_remainder};
@@ -106,6 +106,59 @@ fn unsigned_division(
     Ok((quotient, rest))
 }
 
+// How many of the lowest bits stand below those that are `zero` in both numbers, one at least.
+fn low_width(a: &[Lit], b: &[Lit], zero: Lit) -> usize
+    requires same_width { length a.now ≡ length b.now }
+    requires positive { 1 ≤ length a.now }
+    ensures positive { 1 ≤ result }
+    ensures within { result ≤ length a.now }
+    ensures a { a.now ≡ take result a.now ++ replicate (length a.now - result) zero }
+    ensures b { b.now ≡ take result b.now ++ replicate (length a.now - result) zero }
+{
+    let mut width = a.len();
+    while width > 1 && a[width - 1] == zero && b[width - 1] == zero {
+        width -= 1;
+    }
+    width
+}
+
+// The bits, with `zero` above them up to a width.
+fn widened(alloc: Global, bits: Vec<Lit>, width: usize, zero: Lit) -> Result<Vec<Lit>, AllocError>
+    requires { length bits.items ≤ width }
+    ensures { IfOk result (λ r. r.items ≡ bits.items ++ replicate (width - length bits.items) zero) }
+{
+    let mut wide = bits;
+    let zeros = vec![in alloc; zero; width - wide.len()]?;
+    wide.extend_from_slice(&zeros)?;
+    Ok(wide)
+}
+
+// The same, by a division of the bits alone that are known to be other than 0 in one of the two numbers. So the quotient of
+// two bytes as words of 32 bits has 8 steps and not 32.
+fn trimmed_division(
+    alloc: Global,
+    cnf: &mut Cnf,
+    a: &[Lit],
+    b: &[Lit],
+    zero: Lit,
+) -> Result<(Vec<Lit>, Vec<Lit>), AllocError>
+    requires same_width { length a.now ≡ length b.now }
+    requires positive { 1 ≤ length a.now }
+    requires at_most_64 { length a.now ≤ 64 }
+    requires a { IsWithin cnf.old.variables a.now }
+    requires b { IsWithin cnf.old.variables b.now }
+    requires zero { IsTruth cnf.old zero (λ _. false) }
+    ensures grows { GrowsFreely cnf.old cnf.new }
+    ensures quotient { IfOk result (λ r. IsNumber cnf.new (length a.now) r.0.items (λ x. unsigned_quotient (value_of a.now x) (value_of b.now x))) }
+    ensures remainder { IfOk result (λ r. IsNumber cnf.new (length a.now) r.1.items (λ x. unsigned_remainder (value_of a.now x) (value_of b.now x))) }
+{
+    let width = low_width(a, b, zero);
+    let (quotient, rest) = unsigned_division(alloc, cnf, &a[..width], &b[..width], zero)?;
+    let quotient = widened(alloc, quotient, a.len(), zero)?;
+    let rest = widened(alloc, rest, a.len(), zero)?;
+    Ok((quotient, rest))
+}
+
 // The number, or its negation modulo 2 to the width where `by` is true.
 pub fn negated(
     alloc: Global,
@@ -160,7 +213,7 @@ fn signed_division(
     let sign_of_b = b[b.len() - 1];
     let dividend = negated(alloc, cnf, a, sign_of_a, zero)?;
     let divisor = negated(alloc, cnf, b, sign_of_b, zero)?;
-    let (quotient, rest) = unsigned_division(alloc, cnf, &dividend, &divisor, zero)?;
+    let (quotient, rest) = trimmed_division(alloc, cnf, &dividend, &divisor, zero)?;
     let apart = xor(alloc, cnf, sign_of_a, sign_of_b)?;
     let quotient = negated(alloc, cnf, &quotient, apart, zero)?;
     let rest = negated(alloc, cnf, &rest, sign_of_a, zero)?;
@@ -190,7 +243,7 @@ pub fn divider(
         let (quotient, rest) = signed_division(alloc, cnf, a, b, zero)?;
         Ok((Lits::new(quotient), Lits::new(rest)))
     } else {
-        let (quotient, rest) = unsigned_division(alloc, cnf, a, b, zero)?;
+        let (quotient, rest) = trimmed_division(alloc, cnf, a, b, zero)?;
         Ok((Lits::new(quotient), Lits::new(rest)))
     }
 }
