@@ -3,8 +3,8 @@
 ghost use Rattle.std.specs.Prelude.{◌≡◌, ◌≤◌, IfOk};
 
 use cbmc_top::{
-    Job, Options, Task, Used, Verdict, check_bytes, one_answer, one_program, one_reading,
-    one_verdict, runs_answer, top,
+    Job, Options, Settings, Task, Used, Verdict, check_bytes, one_answer, one_program, one_reading,
+    one_verdict, runs_answer, success, top,
 };
 use core_tree::{Bounds, Refusal};
 use outside::{HeldFile, MemSink, MemSource, SureSink, SureSource};
@@ -617,6 +617,26 @@ fn bytes_are_checked(rt: HostRuntime) -> Result<(), Fail> {
     one_verdict();
     runs_answer();
     one_reading();
+    Ok(())
+}
+
+/// The texts of a success under these settings.
+static SETTINGS: [(u32, bool, &str); 2] = [
+    (8, true, SAFE),
+    (
+        2,
+        false,
+        "file a.c unwind 2\nunwinding assertions off\nVERIFICATION SUCCESSFUL\n",
+    ),
+];
+
+#[test]
+fn settings_stand_in_the_text(rt: HostRuntime) -> Result<(), Fail> {
+    for (unwind, assertions, wanted) in SETTINGS {
+        let settings = Settings { unwind, assertions };
+        let text = success(rt.alloc(), "a.c", settings)?;
+        assert_eq!(rt; text.as_str(), wanted);
+    }
     Ok(())
 }
 

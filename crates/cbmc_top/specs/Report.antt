@@ -4,6 +4,7 @@ use Rattle.std.specs.List.{flat_map}
 use Rattle.std.specs.Fmt.{decimal}
 use Rattle.words.specs.declared.check.Class.{Class}
 use Rattle.words.specs.declared.check.Class.TheVariants.{Assertion, Overflow, Division, Shift, Null, InvalidPointer, Lifetime, Bounds, Readonly, MixedSize, Pointer, Free, MallocLimit, Mutex, Join, Return, Unwind, Recursion}
+use Rattle.cbmc_top.specs.declared.report.Settings.{Settings}
 use Rattle.cbmc_top.specs.FileNames.{all_name_bytes}
 use Rattle.cbmc_top.specs.Identifiers.{is_identifier}
 use Rattle.core_tree.specs.declared.refusal.Limit.{Limit}
@@ -38,6 +39,9 @@ pub record Head : Type 0 where
   pub name : List ℕ
   pub unwind : ℕ
   pub assertions : Bool
+
+abbrev pub head_under : List ℕ → Settings → Head
+head_under name s = record { name = name; unwind = s.unwind; assertions = s.assertions }
 
 abbrev pub head_text : Head → List ℕ
 head_text h = codes "file " ++ (h.name ++ (codes " unwind " ++ (decimal h.unwind ++ (10 ∷ (if h.assertions then [] else line_of (codes "unwinding assertions off"))))))

@@ -19,7 +19,7 @@ ghost use Rattle.cbmc_top.specs.Calls.{WasRead, HasReadMore};
 use crate::finding::{Finding, examine};
 use crate::laws::{one_answer, runs_answer};
 use crate::options::command;
-use crate::report::{failure, limit, refusal, success, used_up};
+use crate::report::{Settings, failure, limit, refusal, success, used_up};
 use crate::used::Used;
 use core_tree::Bounds;
 use outside::{Failed, ReadError, Sink, Source};
@@ -39,6 +39,12 @@ struct Report {
     text: String,
     spent: Option<Used>,
 }
+
+/// The bounds of a command without options, as its texts tell them.
+const STANDARD: Settings = Settings {
+    unwind: 8,
+    assertions: true,
+};
 
 /// The greatest number of conflicts of a command without options.
 const BUDGET: u32 = 1_000_000;
@@ -180,7 +186,7 @@ fn report_finding(alloc: Global, name: &str, finding: Finding) -> Result<Report,
 {
     match finding {
         Finding::Successful(used) => {
-            let text = success(alloc, name)?;
+            let text = success(alloc, name, STANDARD)?;
             Ok(Report {
                 status: 0,
                 text,
@@ -188,7 +194,7 @@ fn report_finding(alloc: Global, name: &str, finding: Finding) -> Result<Report,
             })
         }
         Finding::Failed(failing) => {
-            let text = failure(alloc, name, &failing)?;
+            let text = failure(alloc, name, STANDARD, &failing)?;
             Ok(plain(10, text))
         }
         Finding::Refused(refused) => {

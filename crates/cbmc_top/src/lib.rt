@@ -22,5 +22,6 @@ mod verdict;
 pub use call::{Done, top};
 pub use laws::{one_answer, one_program, one_reading, one_verdict, runs_answer};
 pub use options::{Job, Options, Task};
+pub use report::{Settings, success};
 pub use used::Used;
 pub use verdict::{Verdict, check_bytes};

@@ -2,8 +2,7 @@
 
 ghost use Rattle.std.specs.Prelude.{◌≡◌, ◌++◌, map, IfOk, OnOk, string_bytes};
 ghost use Rattle.std.specs.List.{flat_map};
-ghost use Rattle.cbmc_top.specs.Report.{head_text, success_text, failure_text, violated_line, class_name, spaced_words, inputs_line, spaced_row, schedule_line, refusal_name, refusal_text, limit_name, limit_value, limit_text, budget_text};
-ghost use Rattle.cbmc_top.specs.Answers.{head_of};
+ghost use Rattle.cbmc_top.specs.Report.{head_under, head_text, success_text, failure_text, violated_line, class_name, spaced_words, inputs_line, spaced_row, schedule_line, refusal_name, refusal_text, limit_name, limit_value, limit_text, budget_text};
 ghost use Rattle.cbmc_top.specs.Verdicts.{entry_of, row_of, failure_of};
 
 use crate::failing::{Drawn, Failing, Row};
@@ -12,19 +11,30 @@ use std::alloc::{AllocError, Global};
 use std::fmt::Write;
 use words::Class;
 
-/// The first lines of a verdict on a file, under the bounds of a command without options.
-fn head(alloc: Global, name: &str) -> Result<String, AllocError>
-    ensures { IfOk result (λ text. string_bytes text ≡ head_text (head_of name.now)) }
+/// What the first lines of a verdict say beside the name of the file: the unwinding, and whether unwinding assertions are on.
+#[derive(Clone, Copy)]
+pub struct Settings {
+    pub unwind: u32,
+    pub assertions: bool,
+}
+
+/// The first lines of a verdict on a file.
+fn head(alloc: Global, name: &str, settings: Settings) -> Result<String, AllocError>
+    ensures { IfOk result (λ text. string_bytes text ≡ head_text (head_under name.now settings)) }
 {
-    let unwind: u32 = 8;
-    format!(in alloc; "file {name} unwind {unwind}\n")
+    let unwind = settings.unwind;
+    if settings.assertions {
+        format!(in alloc; "file {name} unwind {unwind}\n")
+    } else {
+        format!(in alloc; "file {name} unwind {unwind}\nunwinding assertions off\n")
+    }
 }
 
 /// The text of a success.
-pub fn success(alloc: Global, name: &str) -> Result<String, AllocError>
-    ensures { IfOk result (λ text. string_bytes text ≡ success_text (head_of name.now)) }
+pub fn success(alloc: Global, name: &str, settings: Settings) -> Result<String, AllocError>
+    ensures { IfOk result (λ text. string_bytes text ≡ success_text (head_under name.now settings)) }
 {
-    let mut text = head(alloc, name)?;
+    let mut text = head(alloc, name, settings)?;
     text.push_str("VERIFICATION SUCCESSFUL\n")?;
     Ok(text)
 }
@@ -130,10 +140,15 @@ fn push_schedule(text: &mut String, rows: &[Row]) -> Result<(), AllocError>
 }
 
 /// The text of a failure.
-pub fn failure(alloc: Global, name: &str, failing: &Failing) -> Result<String, AllocError>
-    ensures { IfOk result (λ text. string_bytes text ≡ failure_text (head_of name.now) (failure_of failing.now)) }
+pub fn failure(
+    alloc: Global,
+    name: &str,
+    settings: Settings,
+    failing: &Failing,
+) -> Result<String, AllocError>
+    ensures { IfOk result (λ text. string_bytes text ≡ failure_text (head_under name.now settings) (failure_of failing.now)) }
 {
-    let mut text = head(alloc, name)?;
+    let mut text = head(alloc, name, settings)?;
     push_violated(&mut text, failing)?;
     push_inputs(&mut text, &failing.inputs)?;
     push_schedule(&mut text, &failing.rows)?;
