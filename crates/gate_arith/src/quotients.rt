@@ -133,8 +133,8 @@ fn widened(alloc: Global, bits: Vec<Lit>, width: usize, zero: Lit) -> Result<Vec
     Ok(wide)
 }
 
-// The same, by a division of the bits alone that are known to be other than 0 in one of the two numbers. So the quotient of
-// two bytes as words of 32 bits has 8 steps and not 32.
+// The same, by a division without the upper bits that are known to be 0 in both numbers. So the quotient of two bytes as
+// words of 32 bits has 8 steps and not 32.
 fn trimmed_division(
     alloc: Global,
     cnf: &mut Cnf,
