@@ -1,8 +1,7 @@
 -- What stands for a call does what the call does: its function's own registers and blocks are fresh.
-use Rattle.std.proofs.Common.{◌≡◌, ℕ, zero, suc, ◌+◌, ◌-◌, ◌<◌, ◌≤◌, Bool, true, false, take, drop, List, [], ◌∷◌, ◌++◌, length, map, Option, Some, None, refl, sym, ap, ◌∙◌, subst, arith, append-nil, append_assoc, length-append}
-use Rattle.std.specs.Prelude.{not, ◌==◌, ◌&&◌, nat_lt, nat_le, min, slice_index, slice_get, slice_set, if◌then◌else◌}
-use Rattle.std.proofs.lemmas.Bool.{false≢true}
-use Rattle.std.proofs.lemmas.List.{get_or-set_same, get_or-set_other, length-set, length-replicate, length-take-le, length-drop}
+use Rattle.std.proofs.Common.{◌≡◌, ℕ, zero, suc, ◌+◌, ◌<◌, ◌≤◌, Bool, true, false, take, drop, List, [], ◌∷◌, ◌++◌, length, map, Option, Some, None, refl, sym, ap, ◌∙◌, subst, arith, append_assoc, length-append}
+use Rattle.std.specs.Prelude.{◌==◌, nat_le, min, slice_index, slice_get, if◌then◌else◌}
+use Rattle.std.proofs.lemmas.List.{get_or-set_same, get_or-set_other, length-set, length-replicate, length-drop}
 use Rattle.std.proofs.lemmas.Bool.Decides.{nat_tests}
 use Rattle.words.specs.declared.check.Class.TheVariants.{Recursion}
 use Rattle.c_types.specs.declared.integers.IntegerType.{IntegerType}
@@ -10,17 +9,15 @@ use Rattle.core_tree.specs.Ranges.{Limits}
 use Rattle.c_values.specs.Variables.{Variables, block_of, put_at, put_bytes, zeros, first_variables}
 use Rattle.actions.specs.declared.action.Next.TheVariants.{Blocked}
 use Rattle.actions.specs.Behaviour.{Behaviour}
-use Rattle.goto_prog.specs.declared.code.Operation.TheVariants as operations
 use Rattle.goto_prog.specs.declared.code.Instruction.{Instruction}
-use Rattle.goto_prog.specs.Fitting.{is_some_block}
 use Rattle.goto_prog.specs.Meaning.{Memory, Given, Reading, register, with_register, with_blocks, bytes_of, filled, arguments_of, received, given_by}
 use Rattle.goto_prog.specs.Meaning as flat_meaning
 use Rattle.goto_prog.specs.Threads.{Calls, acting, behaving, final}
-use Rattle.goto_prog.specs.Nodes.{Nodes, Routine, nodes_fit, routine_fits, routines_fit, node_count}
-use Rattle.goto_prog.specs.Structured.{Bounded, passed, nodes_before, does_nodes, with_arguments, entry_memory, enters, opened, activation}
-use Rattle.goto_unwind.specs.Unrolled.{Space, with_frame, Site, Piece, piece, at, jump, passed_code, hand_code, argument_code, Inline, nodes_code, body_code, inlined, inline_at}
-use Rattle.goto_unwind.proofs.Frames.{left_of, right_of, Shows, Elsewhere, sets_register, puts, short, block_size, on, begin, from_end, InFront, from_end_front, from_end_begin, itself, some_front, then_front, Below, Clean, Good, good_before, good_does, test_less, test_most}
-use Rattle.goto_unwind.proofs.Growth.{Extends, same_space, then_space, with_frame_extends, register_room, block_room, Within, within_less, Grown, InlineGrows, nodes_grow, inline_grows}
+use Rattle.goto_prog.specs.Nodes.{Routine, routine_fits, routines_fit}
+use Rattle.goto_prog.specs.Structured.{Bounded, does_nodes, with_arguments, entry_memory, enters, opened, activation}
+use Rattle.goto_unwind.specs.Unrolled.{Space, with_frame, Site, Piece, jump, hand_code, argument_code, Inline, body_code, inlined, inline_at}
+use Rattle.goto_unwind.proofs.Frames.{left_of, right_of, sets_register, puts, short, block_size, on, begin, from_end, InFront, from_end_front, from_end_begin, itself, some_front, Below, Good, good_before, good_does, test_less, test_most}
+use Rattle.goto_unwind.proofs.Growth.{Extends, same_space, then_space, with_frame_extends, register_room, block_room, Within, within_less, InlineGrows, nodes_grow, inline_grows}
 use Rattle.goto_unwind.proofs.CodeMeaning.{grows, passing, LeadAll, goes, Hands, Inlines, places_count, nodes_lead}
 
 -- ---- lists

@@ -1,5 +1,5 @@
 -- The places of a file are what its functions' linear sums come to.
-use Rattle.std.proofs.Common.{◌≡◌, ℕ, zero, suc, ◌+◌, ◌*◌, ◌-◌, Bool, true, false, List, [], ◌∷◌, length, map, Option, Some, None, refl, sym, ap, ◌∙◌, arith}
+use Rattle.std.proofs.Common.{◌≡◌, ℕ, zero, suc, ◌+◌, ◌*◌, Bool, true, false, List, [], ◌∷◌, length, map, Option, Some, None, refl, sym, ap, ◌∙◌, arith}
 use Rattle.std.specs.Prelude.{min, ◌==◌, replicate, slice_get, slice_index, option_map, if◌then◌else◌}
 use Rattle.std.proofs.lemmas.Option.{slice_get-map}
 use Rattle.std.proofs.lemmas.List.{length-map}
@@ -10,7 +10,7 @@ use Rattle.goto_prog.specs.Walks.{total}
 use Rattle.goto_unwind.specs.declared.tally.Called.{Called}
 use Rattle.goto_unwind.specs.Places.{name_of, tests, body_places, body_of, call_places, main_number, places}
 use Rattle.goto_unwind.specs.Linear.{cut, Linear, nothing, body_linear, function_linear, calls_value, value, or_nothing, linear_of, linear_places, added}
-use Rattle.goto_unwind.proofs.TreeSums.{Adds, statement_adds, cut_front, cut_both, cut_factor}
+use Rattle.goto_unwind.proofs.TreeSums.{statement_adds, cut_front, cut_both, cut_factor}
 
 total_same : (n k : ℕ) → total (replicate n k) ≡ n * k
 total_same zero k = omega arith

@@ -1,6 +1,6 @@
 -- The unrolled code of a function does what its nodes do, if what stands for its calls does what the calls do.
-use Rattle.std.proofs.Common.{◌≡◌, ℕ, zero, suc, ◌+◌, ◌-◌, ◌<◌, ◌≤◌, Bool, true, false, take, drop, List, [], ◌∷◌, ◌++◌, length, Option, Some, None, refl, sym, ap, ◌∙◌, subst, arith, length-append}
-use Rattle.std.specs.Prelude.{not, ◌==◌, ◌&&◌, nat_lt, nat_le, slice_index, slice_get, if◌then◌else◌}
+use Rattle.std.proofs.Common.{◌≡◌, ℕ, zero, suc, ◌+◌, ◌<◌, ◌≤◌, Bool, true, false, take, drop, List, [], ◌∷◌, ◌++◌, length, Option, Some, None, refl, sym, ap, ◌∙◌, arith}
+use Rattle.std.specs.Prelude.{◌==◌, nat_lt, nat_le, slice_index, if◌then◌else◌}
 use Rattle.std.proofs.lemmas.Bool.{false≢true}
 use Rattle.std.proofs.lemmas.Bool.Decides.{nat_tests}
 use Rattle.words.specs.declared.check.Class.{Class}
@@ -8,15 +8,14 @@ use Rattle.words.specs.declared.check.Class.TheVariants as classes
 use Rattle.words.specs.declared.check.Class.TheVariants.{Unwind}
 use Rattle.c_types.specs.declared.integers.IntegerType.{IntegerType}
 use Rattle.core_tree.specs.Ranges.{Limits}
-use Rattle.core_tree.specs.Typed.{is_within}
-use Rattle.c_values.specs.Variables.{block_of, pointer_to, put_bytes}
+use Rattle.c_values.specs.Variables.{pointer_to}
 use Rattle.actions.specs.declared.action.Action.{Action}
-use Rattle.actions.specs.declared.action.Action.TheVariants.{Read, Write, Draw, Exit}
+use Rattle.actions.specs.declared.action.Action.TheVariants.{Read, Write, Draw}
 use Rattle.actions.specs.declared.action.Answer.{Answer}
 use Rattle.actions.specs.declared.action.Answer.TheVariants as answers
 use Rattle.actions.specs.declared.action.Next.{Next}
-use Rattle.actions.specs.declared.action.Next.TheVariants.{Ended, Blocked, Broken}
-use Rattle.actions.specs.Behaviour.{Behaviour, shape_of, has_shape, word_64}
+use Rattle.actions.specs.declared.action.Next.TheVariants.{Blocked, Broken}
+use Rattle.actions.specs.Behaviour.{Behaviour, shape_of, has_shape}
 use Rattle.goto_prog.specs.declared.code.Operation.{Operation}
 use Rattle.goto_prog.specs.declared.code.Operation.TheVariants as operations
 use Rattle.goto_prog.specs.declared.code.Instruction.{Instruction}
@@ -26,9 +25,9 @@ use Rattle.goto_prog.specs.Meaning as flat_meaning
 use Rattle.goto_prog.specs.Threads.{Calls, acting, behaving, final, ask}
 use Rattle.goto_prog.specs.Nodes.{Nodes, done, plain, repeats, node_count, nodes_fit, Routine}
 use Rattle.goto_prog.specs.Structured.{Bounded, tests, round_count, rounds, passed, nodes_before}
-use Rattle.goto_unwind.specs.Unrolled.{Space, with_frame, Site, Piece, piece, at, jump, moved, moved_check, passed_code, hand_code, Inline, round_codes, instruction_code, nodes_code}
-use Rattle.goto_unwind.proofs.Frames.{left_of, right_of, test_less, test_most, Shows, Elsewhere, sets_register, puts, calculates, checks_same, Places, on, begin, from_end, InFront, from_end_front, from_end_begin, front_length, itself, one_front, then_front, Below, Clean, Good, Grows, good_before, good_does}
-use Rattle.goto_unwind.proofs.Growth.{Extends, same_space, then_space, register_room, block_room, Within, within_less, Grown, grown_then, InlineGrows, operation_grows, rounds_grow, nodes_grow}
+use Rattle.goto_unwind.specs.Unrolled.{Space, Site, Piece, at, jump, moved, passed_code, hand_code, Inline, round_codes, instruction_code, nodes_code}
+use Rattle.goto_unwind.proofs.Frames.{left_of, right_of, test_less, test_most, Shows, Elsewhere, sets_register, puts, calculates, checks_same, on, begin, from_end, InFront, from_end_front, from_end_begin, front_length, then_front, Below, Good, Grows, good_before, good_does}
+use Rattle.goto_unwind.proofs.Growth.{Extends, then_space, register_room, block_room, Within, within_less, Grown, InlineGrows, operation_grows, rounds_grow, nodes_grow}
 
 pub grows : (s t : Space) → Extends s t → (all : List ℕ) (types : List IntegerType) (sizes : List ℕ) (r0 b0 : ℕ) (Holds : Memory → Type 0) → Grows all types sizes r0 b0 Holds s t
 grows s t e all types sizes r0 b0 Holds = record { registers = register_room s t e; blocks = block_room s t e }

@@ -17,7 +17,7 @@ use Rattle.goto_prog.specs.declared.code.Condition.TheVariants as checks
 use Rattle.goto_prog.specs.declared.code.Operation.{Operation}
 use Rattle.goto_prog.specs.declared.code.Operation.TheVariants as operations
 use Rattle.goto_prog.specs.declared.code.Instruction.{Instruction}
-use Rattle.goto_prog.specs.Fitting.{is_there, is_register, has_bytes, is_block, is_wide, is_ranged, check_fits, is_some_block, operation_fits, code_fits}
+use Rattle.goto_prog.specs.Fitting.{is_there, is_register, is_wide, is_ranged, check_fits, is_some_block, operation_fits, code_fits}
 use Rattle.goto_prog.specs.Nodes.{Nodes, done, plain, repeats, node_count, nodes_fit, Routine, routine_fits, routines_fit}
 use Rattle.goto_prog.specs.Structured.{Bounded, tests, round_count, opened, first_left, first_fuel}
 use Rattle.goto_prog.specs.UnrolledCode.{is_flat}

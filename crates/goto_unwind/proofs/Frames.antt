@@ -1,5 +1,5 @@
 -- The registers and blocks of an activation among all, and what its operations do there.
-use Rattle.std.proofs.Common.{◌≡◌, ◌≢◌, ℕ, zero, suc, ◌+◌, ◌-◌, ◌<◌, ◌≤◌, Bool, true, false, take, drop, List, [], ◌∷◌, ◌++◌, length, map, Option, Some, None, refl, sym, ap, ◌∙◌, subst, arith}
+use Rattle.std.proofs.Common.{◌≡◌, ◌≢◌, ℕ, zero, suc, ◌+◌, ◌-◌, ◌<◌, ◌≤◌, Bool, true, false, take, drop, List, [], ◌∷◌, ◌++◌, length, map, None, refl, sym, ap, ◌∙◌, subst, arith}
 use Rattle.std.specs.Prelude.{not, ◌==◌, ◌&&◌, nat_lt, nat_le, slice_index, slice_set, if◌then◌else◌}
 use Rattle.std.proofs.lemmas.Bool.{false≢true}
 use Rattle.std.proofs.lemmas.Bool.Decides.{nat_tests}
@@ -7,15 +7,13 @@ use Rattle.std.proofs.Math.Seq.{map-set_same}
 use Rattle.std.proofs.Math.ListN.{get_or-map}
 use Rattle.std.proofs.lemmas.List.{get_or-set_same, get_or-set_other, length-set, length-replicate, length-take-le, length-drop}
 use Rattle.c_types.specs.declared.integers.IntegerType.{IntegerType}
-use Rattle.c_types.specs.Integers.{bytes}
-use Rattle.core_tree.specs.Typed.{is_within}
 use Rattle.core_tree.specs.Operations.{unless, division_check, count_check, left_shift_check, arithmetic_check, sign_check, truth_bits, converted, arithmetic_value, sign_value, compared}
-use Rattle.c_values.specs.Variables.{Variables, block_of, put_at, put_bytes, cleared, zeros, low_bytes, number_at, read_variable}
+use Rattle.c_values.specs.Variables.{Variables, block_of, put_at, put_bytes, zeros, low_bytes, number_at, read_variable}
 use Rattle.goto_prog.specs.declared.code.Condition.{Condition}
 use Rattle.goto_prog.specs.declared.code.Condition.TheVariants as checks
 use Rattle.goto_prog.specs.declared.code.Operation.{Operation}
 use Rattle.goto_prog.specs.declared.code.Operation.TheVariants as operations
-use Rattle.goto_prog.specs.Fitting.{is_there, is_register, has_bytes, is_block, check_fits, operation_fits}
+use Rattle.goto_prog.specs.Fitting.{check_fits, operation_fits}
 use Rattle.core_tree.specs.declared.operators.SignOperator.TheVariants as signs
 use Rattle.words.specs.declared.check.Class.TheVariants as classes
 use Rattle.actions.specs.Behaviour.{Behaviour}
@@ -24,11 +22,7 @@ use Rattle.goto_prog.specs.Threads.{behaving}
 use Rattle.goto_prog.specs.Meaning.{Memory, Reading, register, with_register, with_blocks, bytes_of, calculated, check_class, return_check, operates}
 use Rattle.goto_prog.specs.Meaning as flat_meaning
 use Rattle.std.specs.Int.{to_le_bytes, w64}
-use Rattle.goto_prog.specs.Nodes.{Routine}
-use Rattle.goto_unwind.specs.Unrolled.{Space, first_space, Site, moved, moved_check}
-
-pub stub_lemma : first_space ≡ first_space
-stub_lemma = refl
+use Rattle.goto_unwind.specs.Unrolled.{Space, moved, moved_check}
 
 pub left_of : (a b : Bool) → (a && b) ≡ true → a ≡ true
 left_of true b h = refl

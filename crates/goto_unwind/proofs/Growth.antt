@@ -1,15 +1,14 @@
 -- Unrolled code grows at its front, and its registers and blocks grow at their end.
-use Rattle.std.proofs.Common.{◌≡◌, ℕ, zero, suc, ◌+◌, ◌-◌, ◌<◌, ◌≤◌, Bool, true, false, List, [], ◌∷◌, ◌++◌, length, Option, Some, None, refl, sym, ap, ◌∙◌, arith, append_assoc, append-nil, length-append}
+use Rattle.std.proofs.Common.{◌≡◌, ℕ, zero, suc, ◌+◌, ◌≤◌, Bool, true, false, List, [], ◌∷◌, ◌++◌, length, Option, Some, None, refl, sym, ap, ◌∙◌, arith, append_assoc, append-nil, length-append}
 use Rattle.std.specs.Prelude.{◌==◌, slice_get, slice_index, if◌then◌else◌}
 use Rattle.c_types.specs.declared.integers.IntegerType.{IntegerType}
-use Rattle.words.specs.declared.check.Class.TheVariants.{Unwind, Recursion}
 use Rattle.goto_prog.specs.declared.code.Operation.{Operation}
 use Rattle.goto_prog.specs.declared.code.Operation.TheVariants as operations
 use Rattle.goto_prog.specs.declared.code.Instruction.{Instruction}
 use Rattle.goto_prog.specs.Nodes.{Nodes, done, plain, repeats, Routine}
 use Rattle.goto_prog.specs.Structured.{Bounded, tests, round_count, opened}
-use Rattle.goto_unwind.specs.Unrolled.{Space, with_frame, Site, Piece, piece, at, passed_code, hand_code, argument_code, Inline, round_codes, instruction_code, nodes_code, body_code, inlined, inline_at}
-use Rattle.goto_unwind.proofs.Frames.{InFront, itself, one_front, some_front, then_front, Grows}
+use Rattle.goto_unwind.specs.Unrolled.{Space, with_frame, Site, Piece, piece, at, hand_code, Inline, round_codes, instruction_code, nodes_code, body_code, inlined, inline_at}
+use Rattle.goto_unwind.proofs.Frames.{InFront, itself, one_front, some_front, then_front}
 
 -- a space with more behind it
 pub record Extends (s t : Space) : Type 0 where

@@ -14,3 +14,4 @@ pub mod Growth
 pub mod CodeMeaning
 pub mod CallMeaning
 pub mod SameCode
+pub mod LocalRuns

@@ -1,8 +1,8 @@
 -- A step that puts a node in front leaves fewer steps.
-use Rattle.std.proofs.Common.{◌≡◌, ℕ, zero, suc, ◌+◌, ◌*◌, ◌-◌, ◌<◌, ◌≤◌, Bool, true, false, List, [], ◌∷◌, ◌++◌, Option, Some, None, refl, sym, ap, ◌∙◌, subst, arith}
+use Rattle.std.proofs.Common.{◌≡◌, ℕ, zero, suc, ◌+◌, ◌*◌, ◌-◌, ◌<◌, Bool, true, false, List, [], ◌∷◌, Option, Some, None, refl, sym, ap, ◌∙◌, subst, arith}
 use Rattle.std.specs.Prelude.{◌==◌, slice_get, slice_index, slice_set, if◌then◌else◌}
 use Rattle.std.proofs.lemmas.Bool.Decides.{nat_tests}
-use Rattle.words.specs.declared.check.Class.TheVariants.{Unwind, Recursion}
+use Rattle.words.specs.declared.check.Class.TheVariants.{Recursion}
 use Rattle.goto_prog.specs.declared.code.Operation.{Operation}
 use Rattle.goto_prog.specs.declared.code.Operation.TheVariants as operations
 use Rattle.goto_prog.specs.declared.code.Instruction.{Instruction}
@@ -15,7 +15,7 @@ use Rattle.goto_unwind.specs.declared.level.Kind.TheVariants as kinds
 use Rattle.goto_unwind.specs.declared.level.Turn.{Turn}
 use Rattle.goto_unwind.specs.declared.level.Turn.TheVariants as turns
 use Rattle.goto_unwind.specs.Unrolled.{at, passed_code}
-use Rattle.goto_unwind.specs.Unroller.{Level, Making, bounded, placed, taken, with_level, own_marks, front_of, function_level, opens, calls_by, calls, does, loops, puts, closes, followed, with_kind, operation_weight, nodes_weight, turn_weight, level_weight, routine_weight, call_weight, calls_weight, left_after, levels_weight, weight}
+use Rattle.goto_unwind.specs.Unroller.{Level, Making, bounded, placed, taken, with_level, own_marks, front_of, opens, calls_by, calls, does, loops, puts, closes, followed, with_kind, nodes_weight, turn_weight, routine_weight, call_weight, calls_weight, left_after, levels_weight, weight}
 
 module _ (b : Bounded) (w : ℕ → ℕ) where
   followed_weight : (ns more : Nodes) → nodes_weight b w (followed ns more) ≡ nodes_weight b w ns + nodes_weight b w more

@@ -1,31 +1,29 @@
 -- Unrolled code as a thread does what the code of functions does under the bounds.
-use Rattle.std.proofs.Common.{◌≡◌, ◌≢◌, ℕ, zero, suc, ◌+◌, ◌-◌, ◌*◌, ◌<◌, ◌≤◌, Bool, true, false, List, [], ◌∷◌, ◌++◌, length, map, Option, Some, None, refl, sym, ap, ◌∙◌, subst, arith, append_assoc, length-append}
-use Rattle.std.specs.Prelude.{not, ◌==◌, ◌&&◌, replicate, slice_index, slice_get, if◌then◌else◌}
-use Rattle.std.specs.List.{list_all}
+use Rattle.std.proofs.Common.{◌≡◌, ℕ, zero, suc, ◌+◌, ◌-◌, ◌*◌, ◌<◌, ◌≤◌, Bool, true, false, List, [], ◌∷◌, ◌++◌, length, Option, Some, None, refl, sym, ap, ◌∙◌, arith, length-append}
+use Rattle.std.specs.Prelude.{not, ◌==◌, replicate, slice_index, slice_get, if◌then◌else◌}
 use Rattle.std.proofs.lemmas.Bool.{false≢true}
 use Rattle.std.proofs.lemmas.Bool.Decides.{nat_tests}
-use Rattle.c_types.specs.declared.integers.IntegerType.{IntegerType}
 use Rattle.core_tree.specs.Ranges.{Limits}
-use Rattle.c_values.specs.Variables.{Variables, block_of, zeros, first_variables}
+use Rattle.c_values.specs.Variables.{block_of, zeros, first_variables}
 use Rattle.actions.specs.Behaviour.{Behaviour}
 use Rattle.goto_prog.specs.declared.code.Operation.{Operation}
 use Rattle.goto_prog.specs.declared.code.Operation.TheVariants as operations
 use Rattle.goto_prog.specs.declared.code.Instruction.{Instruction}
 use Rattle.goto_prog.specs.Meaning.{Memory, Given, register, given_by, operates}
 use Rattle.goto_prog.specs.Meaning as flat_meaning
-use Rattle.goto_prog.specs.Threads.{Calls, acting, behaving}
-use Rattle.goto_prog.specs.CodeThread.{Listing, first_memory, is_startable}
+use Rattle.goto_prog.specs.Threads.{Calls, behaving}
+use Rattle.goto_prog.specs.CodeThread.{first_memory}
 use Rattle.goto_prog.specs.Flat as flat
 use Rattle.goto_prog.specs.GotoThreads.{GotoFile, bounded_file}
 use Rattle.goto_prog.specs.GotoThreads as structured
-use Rattle.goto_prog.specs.Nodes.{Routine, routine_fits, routines_fit, view_procedures}
+use Rattle.goto_prog.specs.Nodes.{Routine, routines_fit, view_procedures}
 use Rattle.goto_prog.specs.Same.{DoSame}
 use Rattle.words.specs.declared.check.Class.TheVariants.{Recursion}
-use Rattle.goto_prog.specs.Structured.{Bounded, passed, enters, opened, activation, first_left, first_fuel, first_call, leaves, runs_at, entry_memory, can_start}
+use Rattle.goto_prog.specs.Structured.{Bounded, passed, enters, opened, activation, first_left, first_fuel, leaves, runs_at, entry_memory, can_start}
 use Rattle.goto_unwind.specs.Unrolled.{Space, first_space, with_frame, Site, Piece, at, inline_at, nodes_code}
 use Rattle.goto_unwind.specs.Program.{first_site, first_piece, listing_of, first_listing, unrolled, starts_none}
-use Rattle.goto_unwind.proofs.Frames.{left_of, right_of, Below, Good, on, begin, InFront, from_end, from_end_begin, from_end_front, itself}
-use Rattle.goto_unwind.proofs.Growth.{Extends, same_space, with_frame_extends, register_room, block_room, Within, inline_grows, nodes_grow, then_space}
+use Rattle.goto_unwind.proofs.Frames.{left_of, right_of, Below, Good, on, begin, from_end_begin, from_end_front, itself}
+use Rattle.goto_unwind.proofs.Growth.{Extends, same_space, register_room, block_room, Within, inline_grows, nodes_grow}
 use Rattle.goto_unwind.proofs.CodeMeaning.{LeadAll, goes, Hands, Inlines, places_count, nodes_lead}
 use Rattle.goto_unwind.proofs.CallMeaning.{zeros_at, none_given, entry_extents, zero_register, as_many_registers, front_sizes, fits_at, calls_agree}
 

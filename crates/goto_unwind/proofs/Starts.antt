@@ -1,5 +1,5 @@
 -- From the start to the end of unrolling.
-use Rattle.std.proofs.Common.{◌≡◌, ℕ, zero, suc, ◌+◌, ◌*◌, ◌-◌, ◌<◌, ◌≤◌, Bool, true, false, List, [], ◌∷◌, ◌++◌, length, Option, Some, None, refl, sym, ap, ◌∙◌, subst, arith}
+use Rattle.std.proofs.Common.{◌≡◌, ℕ, zero, suc, ◌+◌, ◌*◌, ◌-◌, ◌<◌, true, false, List, [], ◌∷◌, length, Option, Some, None, refl, sym, ap, ◌∙◌, subst, arith}
 use Rattle.std.specs.Prelude.{replicate, slice_get, slice_index, slice_set}
 use Rattle.std.proofs.lemmas.Option.{slice_get_within, none-some}
 use Rattle.core_tree.specs.Ranges.{Limits}
@@ -7,7 +7,6 @@ use Rattle.goto_prog.specs.declared.code.Operation.TheVariants as operations
 use Rattle.goto_prog.specs.declared.code.Instruction.{Instruction}
 use Rattle.std.specs.List.{list_all}
 use Rattle.goto_prog.specs.UnrolledCode.{is_flat}
-use Rattle.goto_prog.specs.CodeThread.{Listing}
 use Rattle.goto_prog.specs.Nodes.{Routine, view_procedure, view_procedures, routine_fits, routines_fit}
 use Rattle.goto_prog.specs.Fitting.{code_fits}
 use Rattle.goto_prog.specs.declared.nodes.Procedure.{Procedure}
@@ -16,8 +15,8 @@ use Rattle.goto_unwind.proofs.Fits.{piece_fits, piece_flat}
 use Rattle.goto_prog.specs.Structured.{Bounded, opened, first_left, first_fuel}
 use Rattle.goto_prog.specs.Walks.{total}
 use Rattle.goto_prog.proofs.WalkerSteps.{sum_opened}
-use Rattle.goto_unwind.specs.Unrolled.{Space, Piece, at, first_space, with_frame, inline_at, body_code}
-use Rattle.goto_unwind.specs.Program.{first_site, first_piece, listing_of, first_listing}
+use Rattle.goto_unwind.specs.Unrolled.{Space, at, first_space, with_frame, inline_at, body_code}
+use Rattle.goto_unwind.specs.Program.{first_site, first_piece, first_listing}
 use Rattle.goto_unwind.specs.Unroller.{Level, Making, with_level, starting, Ended, ended, finish, outcome, weight}
 
 -- ---- a level taken off

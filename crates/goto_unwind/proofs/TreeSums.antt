@@ -1,12 +1,13 @@
 -- The places of a tree are what its linear sum comes to.
-use Rattle.std.proofs.Common.{◌≡◌, ℕ, zero, suc, ◌+◌, ◌*◌, ◌-◌, ◌<◌, ◌≤◌, ◌⊎◌, inl, inr, List, [], ◌∷◌, ◌++◌, Option, Some, None, refl, sym, ap, ◌∙◌, arith}
-use Rattle.std.specs.Prelude.{min}
+use Rattle.std.proofs.Common.{◌≡◌, ℕ, Bool, true, false, cond, zero, suc, ◌+◌, ◌*◌, ◌-◌, ◌≤◌, inl, inr, List, [], ◌∷◌, ◌++◌, Option, Some, None, refl, sym, ap, ◌∙◌, arith}
+use Rattle.std.specs.Prelude.{◌==◌}
+use Rattle.std.proofs.lemmas.Bool.Decides.{nat_tests}
 use Rattle.std.proofs.Math.Nat.{mul_comm}
 use Rattle.std.proofs.lemmas.Bool.{cases_lt}
 use Rattle.core_tree.specs.Trees.{call, function_name, give, Arguments, no_argument, number_argument, structure_argument, returns_structure, returns_nothing, for_loop, do_loop, switch, breaks, continues, jumps, stray, label, case_at, default_at, Expression, constant, read, convert, sign, is_zero, arithmetic, compare, logical, choice, assign, update, step, comma, assertion, assumption, draw, part, discard, discard_structure, Structure, copy, load, choose, put, store, follow, section, list, string, Parts, no_part, number_part, structure_part, Statement, block, if_then, if_else, evaluate, returns, Items, done, declares, initializes, initializes_structure, does}
 use Rattle.goto_unwind.specs.declared.tally.Called.{Called}
 use Rattle.goto_unwind.specs.Places.{optional, expression_places, structure_places, parts_places, argument_places, statement_places, items_places}
-use Rattle.goto_unwind.specs.Linear.{cut, Linear, nothing, counted, called, expression_linear, structure_linear, parts_linear, arguments_linear, optional_linear, statement_linear, items_linear, calls_value, value}
+use Rattle.goto_unwind.specs.Linear.{cut, Linear, counted, called, expression_linear, structure_linear, parts_linear, arguments_linear, optional_linear, statement_linear, items_linear, calls_value, value}
 
 -- ---- sums and products that are cut
 
@@ -73,10 +74,26 @@ module _ (calls : ℕ → ℕ) where
       by_parts a b c k i j one two = omega (arith, one, two)
 
   called_adds : (n f : ℕ) (s : Linear) → Adds n (calls f) s (called f n s)
-  called_adds n f s = record { adds = by_parts s.places (calls_value calls s.calls) n (calls f) (calls_value calls (called f n s).calls) (calls_more s.calls (record { callee = f; times = n })) }
+  called_adds n f s = by (n == 0) refl
     where
       by_parts : (p v k x w : ℕ) → w ≡ v + k * x → cut (p + w) ≡ cut (p + v + k * x)
       by_parts p v k x w is = omega (arith, is)
+
+      is_zero : (k : ℕ) → (k == 0) ≡ true → k ≡ 0
+      is_zero k h = grind (arith, nat_tests)
+
+      no_times : (p v x : ℕ) → cut (p + v) ≡ cut (p + v + 0 * x)
+      no_times p v x = omega arith
+
+      none : (p v k x : ℕ) → k ≡ 0 → cut (p + v) ≡ cut (p + v + k * x)
+      none p v k x h = no_times p v x ∙ ap (λ (j : ℕ). cut (p + v + j * x)) (sym h)
+
+      more : Linear
+      more = record { places = s.places; calls = s.calls ++ record { callee = f; times = n } ∷ [] }
+
+      by : (z : Bool) → (n == 0) ≡ z → Adds n (calls f) s (cond z s more)
+      by true h = record { adds = none s.places (calls_value calls s.calls) n (calls f) (is_zero n h) }
+      by false h = record { adds = by_parts s.places (calls_value calls s.calls) n (calls f) (calls_value calls more.calls) (calls_more s.calls (record { callee = f; times = n })) }
 
   -- so many times more
   times : {n x : ℕ} {s t : Linear} (k : ℕ) → Adds (cut (n * k)) x s t → Adds n (k * x) s t

@@ -1,6 +1,6 @@
 -- A step that puts a node in front keeps the code that it all comes to.
 use Rattle.std.proofs.Common.{◌≡◌, ℕ, zero, suc, ◌+◌, ◌-◌, ◌<◌, Bool, true, false, List, [], ◌∷◌, ◌++◌, take, drop, length, Option, Some, None, refl, sym, ap, ◌∙◌, arith, append_assoc}
-use Rattle.std.specs.Prelude.{◌==◌, slice_get, slice_index, slice_set, if◌then◌else◌}
+use Rattle.std.specs.Prelude.{◌==◌, slice_get, slice_index, if◌then◌else◌}
 use Rattle.std.proofs.lemmas.Bool.Decides.{nat_tests}
 use Rattle.words.specs.declared.check.Class.TheVariants.{Unwind, Recursion}
 use Rattle.goto_prog.specs.declared.code.Operation.{Operation}
@@ -16,8 +16,8 @@ use Rattle.goto_unwind.specs.declared.level.Kind.{Kind}
 use Rattle.goto_unwind.specs.declared.level.Kind.TheVariants as kinds
 use Rattle.goto_unwind.specs.declared.level.Turn.{Turn}
 use Rattle.goto_unwind.specs.declared.level.Turn.TheVariants as turns
-use Rattle.goto_unwind.specs.Unrolled.{Space, Site, Piece, Inline, piece, at, jump, moved, passed_code, hand_code, argument_code, round_codes, instruction_code, nodes_code, body_code, with_frame, inlined, inline_at}
-use Rattle.goto_unwind.specs.Unroller.{Level, Making, bounded, placed, taken, with_level, own_marks, front_of, function_level, opens, calls_by, calls, does, loops, puts, closes, followed, with_kind, inline_of, more_rounds, Ended, ended, level_code, turn_ends, finish, outcome}
+use Rattle.goto_unwind.specs.Unrolled.{Space, Site, Piece, Inline, piece, at, jump, passed_code, hand_code, round_codes, instruction_code, nodes_code, inlined, inline_at}
+use Rattle.goto_unwind.specs.Unroller.{Level, Making, bounded, placed, taken, with_level, own_marks, front_of, function_level, opens, calls_by, calls, does, loops, puts, closes, followed, with_kind, inline_of, more_rounds, Ended, level_code, turn_ends, finish, outcome}
 
 -- ---- nodes behind others
 

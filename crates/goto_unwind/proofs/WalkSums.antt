@@ -1,14 +1,13 @@
 -- A step of a walk through calls keeps what it comes to, and brings it nearer.
 use Rattle.std.proofs.Common.{◌≡◌, ℕ, zero, suc, ◌+◌, ◌*◌, ◌-◌, ◌<◌, ◌≤◌, Bool, true, false, List, [], ◌∷◌, drop, length, Option, Some, None, refl, sym, ap, ◌∙◌, subst, arith}
-use Rattle.std.specs.Prelude.{min, ◌==◌, ◌||◌, nat_lt, replicate, slice_get, slice_index, slice_set, if◌then◌else◌}
+use Rattle.std.specs.Prelude.{◌==◌, ◌||◌, nat_lt, replicate, slice_get, slice_index, slice_set, if◌then◌else◌}
 use Rattle.std.proofs.lemmas.Bool.Decides.{nat_tests}
 use Rattle.std.proofs.lemmas.Option.{none-some}
 use Rattle.goto_prog.specs.Structured.{opened}
-use Rattle.goto_prog.specs.Walks.{total}
 use Rattle.goto_prog.proofs.WalkerSteps.{set_back, sum_opened}
 use Rattle.goto_unwind.specs.declared.tally.Called.{Called}
 use Rattle.goto_unwind.specs.declared.walk.Visit.{Visit}
-use Rattle.goto_unwind.specs.Linear.{cut, Linear, calls_value, value, or_nothing, linear_of, linear_places, added, pending, calls_steps, linear_steps, steps_added, pending_steps, Walking, outcome, steps_left, opens, arrives, starting, walked_by, walked}
+use Rattle.goto_unwind.specs.Linear.{cut, Linear, calls_value, value, linear_of, linear_places, added, pending, calls_steps, linear_steps, steps_added, pending_steps, Walking, outcome, steps_left, opens, arrives, starting, walked_by, walked}
 use Rattle.goto_unwind.proofs.TreeSums.{cut_times, cut_front, cut_back}
 
 abbrev or_value : {A : Type 0} → A → Option A → A

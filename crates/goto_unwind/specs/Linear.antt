@@ -23,9 +23,9 @@ nothing = record { places = 0; calls = [] }
 abbrev pub counted : ℕ → Linear → Linear
 counted n s = record { places = cut (s.places + n); calls = s.calls }
 
--- a call more that counts so many times
+-- a call more that counts so many times; one that counts 0 times is left out
 abbrev pub called : (function times : ℕ) → Linear → Linear
-called f n s = record { places = s.places; calls = s.calls ++ record { callee = f; times = n } ∷ [] }
+called f n s = if n == 0 then s else record { places = s.places; calls = s.calls ++ record { callee = f; times = n } ∷ [] }
 
 -- ---- what a tree that counts so many times adds
 

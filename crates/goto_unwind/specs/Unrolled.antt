@@ -1,10 +1,9 @@
 -- The flat code of structured code under the bounds of a command: loops are copied as often as they may go on, calls are replaced by the code of what they call, each with registers and blocks of its own. All jumps lead forward.
-use Rattle.std.specs.Prelude.{ℕ, zero, suc, ◌+◌, ◌-◌, ◌==◌, min, Bool, true, false, List, [], ◌∷◌, ◌++◌, length, drop, Option, Some, None, slice_get, slice_index, slice_index_or, if◌then◌else◌}
+use Rattle.std.specs.Prelude.{ℕ, zero, suc, ◌+◌, ◌-◌, ◌==◌, min, Bool, List, [], ◌∷◌, ◌++◌, length, drop, Option, Some, None, slice_get, slice_index, if◌then◌else◌}
 use Rattle.words.specs.declared.check.Class.{Class}
 use Rattle.words.specs.declared.check.Class.TheVariants.{Unwind, Recursion}
 use Rattle.c_types.specs.declared.integers.IntegerType.{IntegerType}
 use Rattle.c_types.specs.declared.integers.IntegerType.TheVariants.{Int}
-use Rattle.core_tree.specs.Ranges.{Limits}
 use Rattle.goto_prog.specs.declared.code.Condition.{Condition}
 use Rattle.goto_prog.specs.declared.code.Condition.TheVariants as checks
 use Rattle.goto_prog.specs.declared.code.Operation.{Operation}

@@ -73,11 +73,13 @@ impl Tally {
         self.places = sum(self.places, count);
     }
 
-    /// A call more that counts so many times.
+    /// A call more that counts so many times. One that counts 0 times is left out, so that no walk visits it.
     pub(crate) fn call(&mut self, callee: u32, times: u32) -> Result<(), AllocError>
         ensures { OnOk result (self.new ≡ called callee times self.old) }
     {
-        self.calls.push(Called { callee, times })?;
+        if times > 0 {
+            self.calls.push(Called { callee, times })?;
+        }
         Ok(())
     }
 }

@@ -1,10 +1,11 @@
-ghost use Rattle.std.specs.Prelude.{◌≡◌, true, None, IfOk, IfErr};
+ghost use Rattle.std.specs.Prelude.{◌≡◌, ◌≤◌, length, true, None, IfOk, IfErr};
 ghost use Rattle.core_tree.specs.Trees.{view_core};
 ghost use Rattle.goto_prog.specs.Flat as flat;
 ghost use Rattle.goto_prog.specs.GotoThreads as structured;
 ghost use Rattle.goto_prog.specs.Nodes.{view_procedures};
 ghost use Rattle.goto_prog.specs.Same.{DoSame};
 ghost use Rattle.goto_unwind.specs.Counts.{passed, HasCause};
+ghost use Rattle.goto_unwind.specs.LocalRuns.{MakesFew};
 ghost use Rattle.goto_unwind.specs.Program.{starts_none, unrolled};
 ghost use Rattle.goto_unwind.specs.declared.unrolling.UnwindError.TheVariants as errors;
 
@@ -79,7 +80,8 @@ pub(crate) fn unrolled(alloc: Global, goto: &Goto, bounds: &Bounds) -> Result<Un
 
 /// The code of a file without loops and calls, with the same first store, under these bounds; or the first
 /// quantity of the file that passes its limit. It does what the file's code does under the bounds, where no
-/// thread is started in a function.
+/// thread is started in a function. No local run of it creates more than 64 threads, or makes more than 8,192
+/// objects with those of the store, where that has no more than the file.
 pub fn unwind(
     alloc: Global,
     file: &Admitted,
@@ -90,12 +92,14 @@ pub fn unwind(
     ensures same { IfOk result (λ u. starts_none (view_procedures goto.now.functions) ≡ true → DoSame (flat.plain_thread u) (structured.plain_thread goto.now bounds.now)) }
     ensures store { IfOk result (λ u. u.store ≡ goto.now.store) }
     ensures within { IfOk result (λ u. passed (view_core file.now) bounds.now ≡ None) }
+    ensures few { IfOk result (λ u. length goto.now.store ≤ length (view_core file.now).objects → MakesFew (length u.store) (flat.plain_thread u)) }
     ensures cause { IfErr result (HasCause (view_core file.now) bounds.now) }
 {
     let _procedures = goto.procedures();
     let _main = goto.main_number();
     let _unwind = bounds.unwind();
-    if let Some(limit) = passed_limit(alloc, file, bounds)? {
+    let passed = passed_limit(alloc, file, bounds)?;
+    if let Some(limit) = passed {
         return Err(UnwindError::Limit(limit));
     }
     Ok(unrolled(alloc, goto, bounds)?)

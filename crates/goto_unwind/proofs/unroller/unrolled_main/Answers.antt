@@ -1,4 +1,4 @@
-use Rattle.std.proofs.Common.{◌≡◌, ◌<◌, true, false, List, length, Some, slice_get, ap, sym, ◌∙◌, subst, arith}
+use Rattle.std.proofs.Common.{◌≡◌, ◌<◌, true, false, List, length, slice_get, ap, sym, ◌∙◌, subst, arith}
 use Rattle.goto_prog.specs.declared.nodes.Procedure.{Procedure}
 use Rattle.goto_prog.specs.Nodes.{view_procedure, view_procedures, routines_fit}
 use Rattle.goto_prog.specs.CodeThread.{Listing}

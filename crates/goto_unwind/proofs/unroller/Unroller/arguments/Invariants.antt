@@ -1,4 +1,4 @@
-use Rattle.std.proofs.Common.{◌≡◌, ◌+◌, ◌-◌, ◌≤◌, ◌++◌, drop, length}
+use Rattle.std.proofs.Common.{◌≡◌, ◌+◌, ◌-◌, ◌≤◌, ◌++◌, drop}
 use Rattle.goto_unwind.specs.Unrolled.{argument_code}
 use Rattle.goto_unwind.specs.Unroller.{making, level_of}
 use Rattle.goto_unwind.proofs.unroller.Unroller.arguments.Given as goal
