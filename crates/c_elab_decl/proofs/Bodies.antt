@@ -1,50 +1,45 @@
 -- What elaborating a file gives is well typed.
-use Rattle.std.proofs.Common.{◌≡◌, ◌≤◌, ◌<◌, ◌+◌, ◌-◌, ◌*◌, ◌^◌, ℕ, zero, suc, Bool, true, false, List, [], ◌∷◌, ◌++◌, length, map, take, Option, Some, None, Result, Ok, Err, refl, ap, ap₂, sym, subst, ◌∙◌, arith, eq-eqb, eqb-true}
+use Rattle.std.proofs.Common.{◌≡◌, ◌+◌, ◌-◌, ℕ, zero, suc, Bool, true, false, List, [], ◌∷◌, ◌++◌, length, map, take, Option, Some, None, Result, Ok, Err, refl, ap, ap₂, sym, subst, ◌∙◌, arith, eq-eqb, eqb-true}
 use Rattle.std.specs.Prelude.{◌==◌, ◌&&◌, ◌||◌, not, is_some, slice_get, slice_set, if◌then◌else◌}
-use Rattle.std.specs.List.{list_all, list_any}
+use Rattle.std.specs.List.{list_all}
 use Rattle.std.specs.Str.{bytes_eq}
-use Rattle.std.proofs.lemmas.List.{append_assoc, append-nil, length-append, length-map, map-append, take_at}
+use Rattle.std.proofs.lemmas.List.{append-nil, length-append}
 use Rattle.std.proofs.lemmas.Option.{same_Some}
 use Rattle.std.proofs.lemmas.Slice.Eq.{bytes_eq-Decides}
-use Rattle.c_tree.specs.Declarations.{Initial, Parts, Parameters, no_parameter, Full, Declarators, name_of}
-use Rattle.c_tree.specs.Statements.{Statement, block, if_then, if_else, evaluate, return_nothing, return_value, while_loop, do_loop, for_loop, for_declared, switch_on, case_of, default_of, labelled, goto_label, break_off, continue_on, Externals, no_more, declared, defines}
-use Rattle.c_types.specs.Integers.{bytes, same_integer}
+use Rattle.c_tree.specs.Declarations.{Parts, Parameters, Full, Declarators, name_of}
+use Rattle.c_tree.specs.Statements.{Statement, block, Externals, no_more, declared, defines}
+use Rattle.c_types.specs.Integers.{bytes}
 use Rattle.c_types.specs.Types.{CType, Completed}
 use Rattle.c_types.specs.Types as ctypes
 use Rattle.c_types.specs.Layouts.{is_complete, size_of}
 use Rattle.c_types.specs.Layouts as layouts
-use Rattle.core_tree.specs.declared.functions.PassedType.{PassedType}
-use Rattle.core_tree.specs.declared.functions.PassedType.TheVariants as passed
 use Rattle.core_tree.specs.Trees.{Procedure, Static, TypedFile}
 use Rattle.core_tree.specs.Trees as cores
-use Rattle.core_tree.specs.Typed.{Sizes, Signature, same_given, is_typed_statement, is_static, sizes_of_objects, signature, sizes_in, passed_size, have_parameters, is_typed_body, is_typed_function, are_typed}
+use Rattle.core_tree.specs.Typed.{Sizes, Signature, are_small, have_small, is_typed_statement, is_static, sizes_of_objects, signature, passed_size, have_parameters, is_typed_body, is_typed_function, are_typed}
 use Rattle.c_elab_expr.specs.declared.meaning.Meaning.{Meaning}
 use Rattle.c_elab_expr.specs.declared.meaning.Meaning.TheVariants.{Function}
 use Rattle.c_elab_expr.specs.declared.fault.TypingError.{TypingError}
-use Rattle.c_elab_expr.specs.Scopes.{Environment, binding, Named, Linked, FunctionType, Callable, FunctionTable, Flow, Lasting, Scoped, is_there, are_there, no_flow, first_scope, with_defined, sizes, sizes_of, lasting_size, passed_as, given_by, linked_to, with_callable}
-use Rattle.c_elab_expr.specs.Scopes as scopes
+use Rattle.c_elab_expr.specs.Scopes.{Environment, binding, Named, Linked, FunctionType, Callable, FunctionTable, Lasting, Scoped, is_there, are_there, first_scope, with_defined, sizes, sizes_of, lasting_size, passed_as, given_by, linked_to}
 use Rattle.c_elab_expr.specs.Nodes.{◌>>=◌}
 use Rattle.c_elab_expr.specs.Operands.{given_size}
-use Rattle.c_elab_expr.specs.Types.{type_size}
 use Rattle.c_elab_expr.specs.Typing.{Fault, Gives, on_line}
-use Rattle.c_elab_expr.specs.Typing as typing
 use Rattle.std.specs.Prelude.{OnOk}
 use Rattle.c_elab_expr.proofs.Variables.{both, and, are_there_wider, complete_sized}
-use Rattle.c_elab_expr.proofs.Types.{one_integer_type, same_integer_refl}
+use Rattle.c_elab_expr.proofs.Types.{one_integer_type}
 use Rattle.c_elab_expr.proofs.WellTyped.{Holds, bind, given, refused, on_same_line}
 use Rattle.c_elab_decl.specs.Regions.{built_in_function, earlier}
-use Rattle.c_elab_decl.specs.Derivations.{Parameter, Derived, counted, called, Shape, object, function as function_shaped, shape_of, is_array, has_void, parameter_types, function_of, function_shape, derived, Derivation, lengths, callable, function_made, plain_lengths, derivation_by, derivation, full_line}
-use Rattle.c_elab_decl.specs.Declarators.{Typed, same_ctype, same_flag, same_types, same_function}
+use Rattle.c_elab_decl.specs.Derivations.{Parameter, Derived, called, Shape, object, function as function_shaped, shape_of, is_array, has_void, parameter_types, function_of, derived, Derivation, lengths, callable, function_made, derivation_by, derivation, full_line}
+use Rattle.c_elab_decl.specs.Declarators.{same_ctype, same_flag, same_types, same_function}
 use Rattle.c_elab_decl.specs.Functions.{is_function_again, function_again, is_own_function, is_own_built_in, is_built_in_type, function_node, first_callable, callable_again, changed_callable, declared_callable, have_names, definition_node}
 use Rattle.c_elab_decl.specs.Functions as functions
 use Rattle.c_elab_decl.specs.Specifiers.{Passed, are_several, inner_region, parted, named_parts, typed_parts, typed_full, typed_parameters, typed_specifiers}
 use Rattle.c_elab_decl.specs.Listed.{typed_others}
 use Rattle.c_elab_decl.specs.Jumps.{labels_in}
-use Rattle.c_elab_decl.specs.Statements.{Around, TypedStatement, typed_items}
-use Rattle.c_elab_decl.specs.Files.{in_file, typed_outside, own_parameters, made_by, own_suffixes, definition_type, names_within, within_body, own_number, typed_body_of, Definition, outside, typed_definition, typed_externals, with_definitions, procedure_of, with_body, with_bodies, static_of, elaborated}
-use Rattle.c_elab_decl.proofs.Signatures.{Signed, signed_refl, signed_trans, Kept, Later, is_given, given_by_kept, passed_kept, complete_kept, all_passed_kept, closed_gives, closed, own_sizes, all_signed, signed_type, Called, called_later, called_added, called_changed, have_complete, parameters_at, linked_first, get_first, type_open}
-use Rattle.c_elab_decl.proofs.Growing.{take_front, Grows, grows_refl, Under, under_refl, under_trans, Wider, inner_refl, There, Follows, follows_refl, Settles, settles_trans, settles_on, declared_callable_settles}
-use Rattle.c_elab_decl.proofs.Settling.{trivially, weaken, Takes, DerivationFine, PassedDone, Stands, SuffixesDone, are_fine, full_settles, parts_settle, named_settles, parameters_done, derivation_fine, function_gives, specifiers_settle, others_settle}
+use Rattle.c_elab_decl.specs.Statements.{Around, typed_items}
+use Rattle.c_elab_decl.specs.Files.{in_file, typed_outside, own_parameters, made_by, own_suffixes, definition_type, within_body, own_number, typed_body_of, Definition, outside, typed_definition, typed_externals, with_definitions, procedure_of, with_body, with_bodies, static_of, elaborated}
+use Rattle.c_elab_decl.proofs.Signatures.{Signed, signed_trans, Later, is_given, given_by_kept, complete_kept, all_passed_kept, own_sizes, all_signed, type_open}
+use Rattle.c_elab_decl.proofs.Growing.{take_front, Under, under_refl, under_trans, Wider, There, Follows, follows_refl, Settles, settles_trans, declared_callable_settles}
+use Rattle.c_elab_decl.proofs.Settling.{weaken, Takes, DerivationFine, PassedDone, SuffixesDone, are_fine, full_settles, parts_settle, named_settles, parameters_done, derivation_fine, specifiers_settle, others_settle}
 use Rattle.c_elab_decl.proofs.WellTyped.{ItemsDone, items_done}
 
 -- ---- types that are one
@@ -118,6 +113,7 @@ pub record DefinitionDone (s : Scoped) (x : Definition) : Type 0 where
   pub given : is_given s.records.done function.type.gives.type ≡ true
   pub takes : layouts.are_complete s.records.done function.type.parameters ≡ true
   pub have : have_parameters x.variables (map (passed_as s.records.done) function.type.parameters) ≡ true
+  pub small : are_small x.variables ≡ true
   pub good : (zs : Sizes) → zs.variables ≡ x.variables → Under (own_sizes s).objects zs.objects → Signed (own_sizes s).functions zs.functions → zs.gives ≡ given_by s.records.done function.type.gives.type
       → is_typed_statement zs x.body ≡ true
 
@@ -138,6 +134,7 @@ definition_later s t x f d =
       takes = ap (λ (y : FunctionType). layouts.are_complete t.records.done y.parameters) same ∙ complete_kept f.later d.function.type.parameters d.takes;
       have = ap (λ (y : FunctionType). have_parameters x.variables (map (passed_as t.records.done) y.parameters)) same
           ∙ ap (have_parameters x.variables) (all_passed_kept f.later d.function.type.parameters d.takes) ∙ d.have;
+      small = d.small;
       good = λ zs variables objects functions gives.
           d.good zs variables (under_trans (own_sizes s).objects (own_sizes t).objects zs.objects f.objects objects)
           (signed_trans (own_sizes s).functions (own_sizes t).functions zs.functions f.functions functions)
@@ -373,6 +370,7 @@ module _ (outer s : Scoped) (d : Full) (f : FunctionType) (follows : Follows out
             ∙ there_both v o t r more (binding (name_of d) (Function k) ∷ outer.bindings) parts.0 parts.1;
         few = now.few;
         complete = now.complete;
+        small = now.small;
         built = now.built;
         calls = record { callables = now.calls.callables; types = now.calls.types; gives = fits };
       }
@@ -443,9 +441,9 @@ module _ (outer : Scoped) (d : Full) (ds : List Derived) (p : Passed) (base : Na
   variables_are : p.scope.variables ≡ map (λ (q : Parameter). q.type) p.parameters
   variables_are = own.variables bare t.names types_are.1
 
-  pub defined_done : (y : cores.Statement × Scoped) → BodyDone (within_body outer p.scope d f) y
-      → DefinedDone outer (record { number = own_number (linked_to y.1.functions.named (name_of d)); variables = sizes y.1; body = y.0 }, outside outer y.1 (name_of d))
-  defined_done y b =
+  pub defined_done : (labels : ℕ) (y : cores.Statement × Scoped) → BodyDone (within_body outer p.scope d f) y
+      → DefinedDone outer (record { number = own_number (linked_to y.1.functions.named (name_of d)); variables = sizes y.1; labels = labels; body = y.0 }, outside outer y.1 (name_of d))
+  defined_done labels y b =
       let now = b.follows.there here_there in
       let s = p.scope in
       let x = declared_callable s.functions d f true (linked_to s.functions.named (name_of d)) in
@@ -463,6 +461,7 @@ module _ (outer : Scoped) (d : Full) (ds : List Derived) (p : Passed) (base : Na
             (ap (λ (n : ℕ). are_there n (length outer.objects) (length outer.types) (length outer.records.declared) outer.bindings) (sym (ap (λ (vs : List Named). length vs) bare)) ∙ there.known);
         few = now.few;
         complete = refl;
+        small = refl;
         built = now.built;
         calls = record { callables = now.calls.callables; types = now.calls.types; gives = refl };
       } in
@@ -485,6 +484,7 @@ module _ (outer : Scoped) (d : Full) (ds : List Derived) (p : Passed) (base : Na
               ∙ ap₂ (λ (vs : List ℕ) (ts : List CType). have_parameters vs (map (passed_as s.records.done) ts))
               (wide.variables.1 ∙ ap (λ (ns : List Named). sizes_of s.records.done ns ++ wide.variables.0) variables_are) types_are.0
               ∙ have_first s.records.done p.parameters wide.variables.0;
+          small = now.small;
           good = λ zs variables objects signed given_back.
               b.good here_there zs (record {
                 variables = ([], variables ∙ sym (append-nil (sizes y.1)));
@@ -507,7 +507,7 @@ definition_done s parts d body bare there =
     (on_same_line (TypeDone p.1.scope (name_of d) p.1.parameters p.1.scope.records.done made) (full_line d) (definition_type x.1 x.0 d p.0 p.1) (type_done x.1 x.0 d p.0 p.1)) (λ g t.
     bind (BodyDone (within_body x.1 p.1.scope d g)) (DefinedDone s) (typed_body_of (length x.1.bindings + 1) (within_body x.1 p.1.scope d g) body) _
     (body_done (length x.1.bindings + 1) (within_body x.1 p.1.scope d g) body) (λ y b.
-    let done = defined_done x.1 d p.0 p.1 x.0 g none own here t y b in
+    let done = defined_done x.1 d p.0 p.1 x.0 g none own here t (length (labels_in body)) y b in
     given (DefinedDone s) _ (record {
       onward = onward_trans s x.1 (outside x.1 y.1 (name_of d)) (onward_from s x.1 f.follows there) done.onward;
       there = done.there;
@@ -543,7 +543,7 @@ externals_done s (defines parts d body rest) bare there =
     })))
 
 there_first : There first_scope
-there_first = record { known = refl; few = omega arith; complete = refl; built = (refl, refl, refl, tt); calls = record { callables = refl; types = refl; gives = refl } }
+there_first = record { known = refl; few = omega arith; complete = refl; small = refl; built = (refl, refl, refl, tt); calls = record { callables = refl; types = refl; gives = refl } }
 
 noted_there : (s : Scoped) (ds : Externals) → There s → There (with_definitions s ds)
 noted_there s no_more h = h
@@ -553,6 +553,7 @@ noted_there s (defines parts d body rest) h =
       known = h.known;
       few = h.few;
       complete = h.complete;
+      small = h.small;
       built = h.built;
       calls = record { callables = h.calls.callables; types = h.calls.types; gives = h.calls.gives };
     })
@@ -571,15 +572,15 @@ is_typed_among objects functions f = (have_parameters f.variables f.parameters |
 abbrev are_typed_among : List ℕ → List Signature → List Procedure → Bool
 are_typed_among objects functions fs = list_all (is_typed_among objects functions) fs
 
-same_signatures : (fs : List Procedure) (k : ℕ) (f : Procedure) (variables : List ℕ) (body : Option cores.Statement) → slice_get fs k ≡ Some f
-    → map signature (slice_set fs k (record f { variables = variables; body = body })) ≡ map signature fs
-same_signatures [] k f variables body e = refl
-same_signatures (g ∷ fs) zero f variables body e = ap (λ (x : Procedure). signature x ∷ map signature fs) (sym (same_Some g f e))
-same_signatures (g ∷ fs) (suc k) f variables body e = ap (λ (xs : List Signature). signature g ∷ xs) (same_signatures fs k f variables body e)
+same_signatures : (fs : List Procedure) (k : ℕ) (f : Procedure) (variables : List ℕ) (labels : ℕ) (body : Option cores.Statement) → slice_get fs k ≡ Some f
+    → map signature (slice_set fs k (record f { variables = variables; labels = labels; body = body })) ≡ map signature fs
+same_signatures [] k f variables labels body e = refl
+same_signatures (g ∷ fs) zero f variables labels body e = ap (λ (x : Procedure). signature x ∷ map signature fs) (sym (same_Some g f e))
+same_signatures (g ∷ fs) (suc k) f variables labels body e = ap (λ (xs : List Signature). signature g ∷ xs) (same_signatures fs k f variables labels body e)
 
 body_signatures : (fs : List Procedure) (x : Definition) (o : Option Procedure) → slice_get fs x.number ≡ o → map signature (with_body fs x o) ≡ map signature fs
 body_signatures fs x None e = refl
-body_signatures fs x (Some f) e = same_signatures fs x.number f x.variables (Some x.body) e
+body_signatures fs x (Some f) e = same_signatures fs x.number f x.variables x.labels (Some x.body) e
 
 pub bodies_signatures : (fs : List Procedure) (xs : List Definition) → map signature (with_bodies fs xs) ≡ map signature fs
 bodies_signatures fs [] = refl
@@ -629,7 +630,7 @@ module _ (s : Scoped) (objects : List ℕ) (under : Under (own_sizes s).objects 
       let gives : f.gives ≡ given_by done d.function.type.gives.type = ap (λ (g : Signature). g.gives) is in
       let have : have_parameters x.variables f.parameters ≡ true = ap (have_parameters x.variables) parameters ∙ d.have in
       let zs : Sizes = record { variables = x.variables; objects = objects; functions = plain_signed done s.functions.all; gives = f.gives } in
-      typed_set objects (plain_signed done s.functions.all) fs x.number (record f { variables = x.variables; body = Some x.body }) h
+      typed_set objects (plain_signed done s.functions.all) fs x.number (record f { variables = x.variables; labels = x.labels; body = Some x.body }) h
       (and _ _ (ap (λ (b : Bool). b || false) have) (d.good zs refl under (signed_open done s.functions.all) gives))
 
   all_bodies : (fs : List Procedure) (xs : List Definition) → map signature fs ≡ plain_signed s.records.done s.functions.all → AllDone s xs
@@ -638,6 +639,24 @@ module _ (s : Scoped) (objects : List ℕ) (under : Under (own_sizes s).objects 
   all_bodies fs (x ∷ xs) same d h =
       let now = with_body fs x (slice_get fs x.number) in
       all_bodies now xs (body_signatures fs x (slice_get fs x.number) refl ∙ same) d.1 (one_body fs x (slice_get fs x.number) refl same d.0 h)
+
+-- a function's variables are as small as those of its body
+called_small : (done : List Completed) (all : List Callable) → have_small (map (procedure_of done) all) ≡ true
+called_small done [] = refl
+called_small done (c ∷ all) = called_small done all
+
+small_set : (fs : List Procedure) (k : ℕ) (f : Procedure) → are_small f.variables ≡ true → have_small fs ≡ true → have_small (slice_set fs k f) ≡ true
+small_set [] k f h g = refl
+small_set (x ∷ fs) zero f h g = and (are_small f.variables) (have_small fs) h (both (are_small x.variables) (have_small fs) g).1
+small_set (x ∷ fs) (suc k) f h g = let parts = both (are_small x.variables) (have_small fs) g in and (are_small x.variables) (have_small (slice_set fs k f)) parts.0 (small_set fs k f h parts.1)
+
+small_body : (fs : List Procedure) (x : Definition) (o : Option Procedure) → are_small x.variables ≡ true → have_small fs ≡ true → have_small (with_body fs x o) ≡ true
+small_body fs x None h g = g
+small_body fs x (Some f) h g = small_set fs x.number (record f { variables = x.variables; labels = x.labels; body = Some x.body }) h g
+
+small_bodies : (s : Scoped) (fs : List Procedure) (xs : List Definition) → AllDone s xs → have_small fs ≡ true → have_small (with_bodies fs xs) ≡ true
+small_bodies s fs [] d g = g
+small_bodies s fs (x ∷ xs) d g = small_bodies s (with_body fs x (slice_get fs x.number)) xs d.1 (small_body fs x (slice_get fs x.number) d.0.small g)
 
 static_sizes : (older : List Completed) (objects : List Lasting) → sizes_of_objects (map (static_of older) objects) ≡ map (lasting_size older) objects
 static_sizes older [] = refl
@@ -673,6 +692,14 @@ pub file_typed : (ds : Externals) (xs : List Definition) (s : Scoped) (fs : List
     → are_typed (record { functions = fs; objects = objects }) ≡ true
 file_typed ds xs s fs objects e functions is fit =
     subst (λ (gs : List Procedure). are_typed (record { functions = gs; objects = objects }) ≡ true) (sym functions) (and _ _ fit (functions_typed ds xs s objects e is))
+
+-- and its variables are small
+pub file_small : (ds : Externals) (xs : List Definition) (s : Scoped) (fs : List Procedure) → typed_externals (with_definitions first_scope ds) ds ≡ Ok (xs, s)
+    → fs ≡ with_bodies (map (procedure_of s.records.done) s.functions.all) xs → have_small fs ≡ true
+file_small ds xs s fs e functions =
+    let d = externals_done (with_definitions first_scope ds) ds (noted_empty first_scope ds) (noted_there first_scope ds there_first) (xs, s) e in
+    subst (λ (gs : List Procedure). have_small gs ≡ true) (sym functions)
+    (small_bodies s (map (procedure_of s.records.done) s.functions.all) xs d.good (called_small s.records.done s.functions.all))
 
 pub file_given : (ds : Externals) (xs : List Definition) (s : Scoped) (fs : List Procedure) (objects : List Static) → typed_externals (with_definitions first_scope ds) ds ≡ Ok (xs, s)
     → fs ≡ with_bodies (map (procedure_of s.records.done) s.functions.all) xs → objects ≡ map (static_of s.records.done) s.objects → elaborated ds ≡ Ok (record { functions = fs; objects = objects })

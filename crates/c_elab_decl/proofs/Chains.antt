@@ -1,5 +1,5 @@
 -- Statements by the typings of their parts, as code makes them.
-use Rattle.std.proofs.Common.{◌≡◌, ℕ, Bool, true, false, List, Option, Some, None, Result, Ok, Err, refl, ap, sym, ◌∙◌}
+use Rattle.std.proofs.Common.{◌≡◌, ℕ, true, false, List, Option, Some, None, Result, Ok, refl, ap, sym, ◌∙◌}
 use Rattle.c_tree.specs.Tree.{Tree}
 use Rattle.c_tree.specs.declared.statement.Stmt.{Stmt}
 use Rattle.c_tree.specs.Statements.{Statement, while_loop, do_loop, for_loop, case_of, default_of, labelled, view_statement}
@@ -8,7 +8,7 @@ use Rattle.c_elab_expr.specs.declared.fault.TypingError.{TypingError}
 use Rattle.c_elab_expr.specs.Scopes.{Cases, Flow, Scoped}
 use Rattle.c_elab_expr.specs.Nodes.{◌>>=◌}
 use Rattle.c_elab_expr.specs.Operands.{Operand, number, dropped}
-use Rattle.c_elab_expr.specs.Typing.{Fault, Fails, on_line, operand_by, operand}
+use Rattle.c_elab_expr.specs.Typing.{Fault, Fails, on_line, operand}
 use Rattle.c_types.specs.declared.integers.IntegerType.{IntegerType}
 use Rattle.c_elab_decl.specs.Statements.{Around, in_loop, with_loop, with_label, with_cases, part_ignored, part_tested, test_node, case_node, default_node, label_node, TypedStatement, typed_rest, typed_statement}
 use Rattle.c_elab_decl.proofs.Flowless.{operand_flow}

@@ -1,19 +1,18 @@
 -- Typing is the same where functions that can't be called are other ones: each call asks for what it gives to be complete.
-use Rattle.std.proofs.Common.{◌≡◌, ◌+◌, ℕ, zero, suc, Bool, true, false, List, [], ◌∷◌, map, Option, Some, None, Result, Ok, Err, refl, ap, sym, subst, ◌∙◌}
-use Rattle.std.specs.Prelude.{slice_get, option_map, if◌then◌else◌}
+use Rattle.std.proofs.Common.{◌≡◌, ℕ, zero, suc, Bool, true, false, List, [], ◌∷◌, map, Option, Some, None, Result, Ok, Err, refl, ap, sym, subst, ◌∙◌}
+use Rattle.std.specs.Prelude.{slice_get, option_map}
 use Rattle.c_tree.specs.Tree.{TypePart, qualified, word, tagged, typedef_name, Tree, Trees, Declared, Suffixes, unnamed, named, inside, no_suffix, bounded, unbounded, constant, character, strings, name, parens, unary, cast, sizeof_expr, sizeof_type, step, member, binary, choice, assign, comma, call, none, more, first_line}
 use Rattle.c_types.specs.declared.integers.IntegerType.{IntegerType}
 use Rattle.c_types.specs.Types.{CType, Completed}
 use Rattle.c_types.specs.Types as ctypes
-use Rattle.c_types.specs.Layouts.{is_complete}
 use Rattle.c_elab_expr.specs.declared.meaning.Meaning.{Meaning}
 use Rattle.c_elab_expr.specs.declared.meaning.Meaning.TheVariants.{Variable, Object, Incomplete, Assert, Assume, Draw, Function, Typedef, Enumerator, Record, Enumeration}
 use Rattle.c_elab_expr.specs.Scopes.{FunctionType, Callable, Scoped, meaning_of}
 use Rattle.c_elab_expr.specs.Nodes.{◌>>=◌}
-use Rattle.c_elab_expr.specs.Types.{Said, nothing_said, with_part, with_parts, specified_type, type_size, array_of, declared_line, parts_line}
-use Rattle.c_elab_expr.specs.Strings.{strings_of, strings_length}
-use Rattle.c_elab_expr.specs.Operands.{Operand, value, object, structure, OperandNode, used, function_node, name_node, member_node, cast_operand, unary_operand, postfix_operand, binary_operand, choice_operand, assign_operand, comma_operand, arguments_in, extra_arguments, given_size, given_operand, behind_extra, function_call, drawn_or_called, callable_call, call_node, operand_bytes}
-use Rattle.c_elab_expr.specs.Typing.{Fault, on_line, bare_line, used_on, no_function, callee, is_used, called, is_wanted, type_name, sized, operand_size, bound, typed, typed_arguments, lengths, suffix_lengths, operand_by}
+use Rattle.c_elab_expr.specs.Types.{Said, nothing_said, with_part, with_parts, specified_type, array_of, declared_line, parts_line}
+use Rattle.c_elab_expr.specs.Strings.{strings_of}
+use Rattle.c_elab_expr.specs.Operands.{Operand, value, object, structure, OperandNode, used, function_node, name_node, member_node, assign_operand, arguments_in, extra_arguments, given_size, given_operand, behind_extra, function_call, drawn_or_called, callable_call, call_node}
+use Rattle.c_elab_expr.specs.Typing.{Fault, on_line, bare_line, used_on, callee, is_used, called, is_wanted, type_name, operand_size, bound, typed, typed_arguments, lengths, suffix_lengths, operand_by}
 use Rattle.c_elab_decl.proofs.Signatures.{is_given, closed_gives, closed_type, closed, closed_scope}
 
 -- what the one gives, the other gives too

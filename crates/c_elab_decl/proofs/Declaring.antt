@@ -1,6 +1,6 @@
 -- The declarator of a definition: whether it has a function's suffix alone.
-use Rattle.std.proofs.Common.{◌≡◌, ℕ, zero, suc, Bool, true, false, List, [], ◌∷◌, length, get_or, Option, Some, None, refl, ap, sym, ◌∙◌, eqb-true, arith}
-use Rattle.std.specs.Prelude.{◌==◌, ◌&&◌, is_some, if◌then◌else◌, Vec, vec_len}
+use Rattle.std.proofs.Common.{◌≡◌, ℕ, suc, Bool, true, false, List, [], ◌∷◌, length, get_or, Option, Some, None, refl, ap, sym, ◌∙◌, eqb-true, arith}
+use Rattle.std.specs.Prelude.{◌==◌, ◌&&◌, is_some, Vec, vec_len}
 use Rattle.std.specs.Global.{Global}
 use Rattle.c_tree.specs.declared.declaration.DeclaratorSuffix.{DeclaratorSuffix, Bounded, Open, Empty, Void, Parameters'}
 use Rattle.c_tree.specs.Declarations.{Parameters, Full, full_inside, FullSuffixes, full_end, view_full_suffix, full_suffixes_of}

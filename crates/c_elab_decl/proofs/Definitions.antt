@@ -1,12 +1,12 @@
 -- The steps that type a definition, one behind the other.
-use Rattle.std.proofs.Common.{◌≡◌, ◌≤◌, ◌+◌, ◌-◌, ℕ, suc, Bool, true, false, List, [], ◌∷◌, ◌++◌, length, take, drop, map, None, Ok, Err, Result, refl, ap, ap₂, sym, subst, ◌∙◌, arith}
+use Rattle.std.proofs.Common.{◌≡◌, ◌≤◌, ◌+◌, ◌-◌, ℕ, true, false, List, [], ◌∷◌, ◌++◌, length, take, drop, map, None, Ok, Err, Result, ap, ap₂, sym, ◌∙◌, arith}
 use Rattle.std.proofs.lemmas.List.{append_assoc, length-append}
 use Rattle.c_tree.specs.Declarations.{Parts, Declarators, Full, name_of}
 use Rattle.c_tree.specs.Statements.{Statement, Externals, declared}
 use Rattle.c_types.specs.Types.{CType}
 use Rattle.core_tree.specs.Trees as cores
 use Rattle.c_elab_expr.specs.declared.meaning.Meaning.TheVariants.{Function}
-use Rattle.c_elab_expr.specs.Scopes.{Environment, Binding, binding, Named, FunctionType, FunctionTable, Flow, Scoped, are_there, are_known, no_flow, first_scope, sizes, linked_to}
+use Rattle.c_elab_expr.specs.Scopes.{Environment, Binding, binding, Named, FunctionType, FunctionTable, Scoped, are_there, are_known, no_flow, first_scope, sizes, linked_to}
 use Rattle.c_elab_expr.specs.Nodes.{◌>>=◌}
 use Rattle.c_elab_expr.specs.declared.fault.TypingError.{TypingError}
 use Rattle.c_elab_expr.specs.Typing.{Fault, Gives, on_line}
@@ -14,6 +14,7 @@ use Rattle.c_elab_expr.proofs.Variables.{are_there_wider}
 use Rattle.c_elab_expr.proofs.WellTyped.{on_same_line}
 use Rattle.c_elab_decl.specs.Derivations.{Derived, full_line, derivation}
 use Rattle.c_elab_decl.specs.Functions.{declared_callable}
+use Rattle.c_elab_decl.specs.Jumps.{labels_in}
 use Rattle.c_elab_decl.specs.Specifiers.{Passed, parted, named_parts, typed_parts}
 use Rattle.c_elab_decl.specs.Files.{in_file, made_by, own_parameters, own_suffixes, definition_type, names_within, within_body, own_number, typed_body_of, Definition, outside, typed_definition, typed_outside, typed_externals, with_definitions, with_bodies, procedure_of, static_of, elaborated}
 use Rattle.c_elab_decl.specs.declared.defining.Definition.{Definition as CodeDefinition}
@@ -22,7 +23,7 @@ use Rattle.c_elab_decl.proofs.Fronts.{outside_more, outside_fails}
 use Rattle.c_elab_decl.proofs.Steps.{fails_on}
 use Rattle.c_elab_decl.proofs.Growing.{Inner, kept}
 use Rattle.c_elab_decl.proofs.Settling.{named_settles, parts_settle}
-use Rattle.c_elab_decl.proofs.Bodies.{OwnDone, own_done, TypeDone, type_done, BodyDone, body_done, Declared, declared_done, within_names}
+use Rattle.c_elab_decl.proofs.Bodies.{OwnDone, own_done, TypeDone, type_done, BodyDone, body_done, declared_done}
 
 -- a rule on the same line, behind another
 pub node_behind : (line : ℕ) (r : Result FunctionType ℕ) (g : FunctionType → Result FunctionType ℕ) (f : FunctionType) → on_line line r ≡ Ok f → on_line line (r >>= g) ≡ on_line line (g f)
@@ -42,7 +43,7 @@ outside_step (Err e) s t parts ds rest before h = fails_on e (typed_outside s pa
 
 module _ (s : Scoped) (parts : Parts) (d : Full) (body : Statement) where
   abbrev at_body : Scoped → Result (cores.Statement × Scoped) Fault → Result (Definition × Scoped) Fault
-  at_body outer r = r >>= λ y. Ok (record { number = own_number (linked_to y.1.functions.named (name_of d)); variables = sizes y.1; body = y.0 }, outside outer y.1 (name_of d))
+  at_body outer r = r >>= λ y. Ok (record { number = own_number (linked_to y.1.functions.named (name_of d)); variables = sizes y.1; labels = length (labels_in body); body = y.0 }, outside outer y.1 (name_of d))
 
   abbrev at_type : Scoped → Passed → Result FunctionType Fault → Result (Definition × Scoped) Fault
   at_type outer p r = r >>= λ f. at_body outer (typed_body_of (length outer.bindings + 1) (within_body outer p.scope d f) body)
@@ -160,9 +161,9 @@ module _ (s : Scoped) (parts : Parts) (d : Full) (body : Statement) where
           (omega arith) (omega (arith, objects, more_objects)) (omega (arith, types, more_types)) (omega (arith, records, more_records))
           (ap (λ (m : ℕ). are_there m (length outer.objects) (length outer.types) (length outer.records.declared) outer.bindings) (sym (ap (λ (vs : List Named). length vs) bare)) ∙ known)
 
-      pub defined_so : (e g h : Scoped) (k : ℕ) (vs : List ℕ) → k ≡ own_callable.0 → e ≡ record y { bindings = drop (length y.bindings - (n + 1)) y.bindings } → g ≡ record e { flow = no_flow } → h ≡ record g { variables = [] } → vs ≡ sizes g
-          → typed_definition s parts d body ≡ Ok (record { number = k; variables = vs; body = x }, h)
-      defined_so e g h k vs number left ended taken said =
+      pub defined_so : (e g h : Scoped) (k : ℕ) (vs : List ℕ) (l : ℕ) → k ≡ own_callable.0 → e ≡ record y { bindings = drop (length y.bindings - (n + 1)) y.bindings } → g ≡ record e { flow = no_flow } → h ≡ record g { variables = [] } → vs ≡ sizes g → l ≡ length (labels_in body)
+          → typed_definition s parts d body ≡ Ok (record { number = k; variables = vs; labels = l; body = x }, h)
+      defined_so e g h k vs l number left ended taken said counted =
           let g_is : g ≡ record y { bindings = own_name ∷ outer.bindings; flow = no_flow } =
           ended ∙ ap (λ (z : Scoped). record z { flow = no_flow }) left ∙ ap (λ (env : Environment). record y { bindings = env; flow = no_flow }) names_behind in
           let h_is : h ≡ outside outer y (name_of d) =
@@ -171,5 +172,5 @@ module _ (s : Scoped) (parts : Parts) (d : Full) (body : Statement) where
           let vs_are : vs ≡ sizes y = said ∙ ap sizes g_is in
           let k_is : k ≡ own_number (linked_to y.functions.named (name_of d)) = number ∙ sym number_is in
           ap at_parts e1 ∙ ap (at_own (base, outer)) e2 ∙ ap (at_type outer p) e3 ∙ ap (at_body outer) whole
-          ∙ ap₂ (λ (m : ℕ) (ws : List ℕ). Ok (record { number = m; variables = ws; body = x }, outside outer y (name_of d))) (sym k_is) (sym vs_are)
-          ∙ ap (λ (z : Scoped). Ok (record { number = k; variables = vs; body = x }, z)) (sym h_is)
+          ∙ ap₂ (λ (m : ℕ) (ws : List ℕ). Ok (record { number = m; variables = ws; labels = length (labels_in body); body = x }, outside outer y (name_of d))) (sym k_is) (sym vs_are)
+          ∙ ap₂ (λ (j : ℕ) (z : Scoped). Ok (record { number = k; variables = vs; labels = j; body = x }, z)) (sym counted) (sym h_is)

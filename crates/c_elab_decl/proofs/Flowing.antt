@@ -1,5 +1,5 @@
 -- A case and a default of the innermost switch.
-use Rattle.std.proofs.Common.{◌≡◌, ℕ, Bool, true, false, Option, Some, None, Result, Ok, Err, ap, sym, ◌∙◌}
+use Rattle.std.proofs.Common.{◌≡◌, ℕ, Bool, true, false, Option, Some, None, Ok, Err, ap, sym, ◌∙◌}
 use Rattle.c_types.specs.declared.integers.IntegerType.{IntegerType}
 use Rattle.c_values.specs.Numbers.{TypedNumber}
 use Rattle.c_elab_expr.specs.Scopes.{Cases, Scoped}

@@ -1,14 +1,10 @@
 -- How far a function is typed is of no matter to an expression.
-use Rattle.std.proofs.Common.{◌≡◌, ℕ, Bool, true, false, List, Option, Some, None, Result, Ok, Err, refl, ap, ◌∙◌}
-use Rattle.c_tree.specs.Tree.{Tree, Trees, Declared, Suffixes, TypePart, unnamed, named, inside, no_suffix, bounded, unbounded, constant, character, strings, name, parens, unary, cast, sizeof_expr, sizeof_type, step, member, binary, choice, assign, comma, call, none, more, first_line}
-use Rattle.c_types.specs.Types.{CType}
-use Rattle.c_elab_expr.specs.declared.meaning.Meaning.{Meaning}
-use Rattle.c_elab_expr.specs.Scopes.{Flow, Scoped, meaning_of}
-use Rattle.c_elab_expr.specs.Strings.{strings_of}
-use Rattle.c_elab_expr.specs.Types.{Said, type_size, with_part, with_parts, nothing_said, specified_type, parts_line, declared_line, array_of}
+use Rattle.std.proofs.Common.{◌≡◌, Bool, true, false, Result, Ok, Err, refl, ap, ◌∙◌}
+use Rattle.c_tree.specs.Tree.{Tree, Trees, Declared, Suffixes, unnamed, named, inside, no_suffix, bounded, unbounded, constant, character, strings, name, parens, unary, cast, sizeof_expr, sizeof_type, step, member, binary, choice, assign, comma, call, none, more}
+use Rattle.c_elab_expr.specs.Scopes.{Flow, Scoped}
 use Rattle.c_elab_expr.specs.Nodes.{◌>>=◌}
 use Rattle.c_elab_expr.specs.Operands.{Operand, cast_operand}
-use Rattle.c_elab_expr.specs.Typing.{Fault, on_line, bare_line, used_on, callee, called, type_name, operand_size, bound, is_wanted, typed, typed_arguments, lengths, suffix_lengths, operand_by, operand}
+use Rattle.c_elab_expr.specs.Typing.{Fault, on_line, bare_line, used_on, type_name, is_wanted, typed, typed_arguments, lengths, suffix_lengths, operand_by}
 
 bind_same : {A B : Type 0} (r q : Result A Fault) (g h : A → Result B Fault) → r ≡ q → ((x : A) → g x ≡ h x) → (r >>= g) ≡ (q >>= h)
 bind_same {A} {B} r q g h e same = ap (λ (x : Result A Fault). x >>= g) e ∙ by q where

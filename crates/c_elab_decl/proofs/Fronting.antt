@@ -1,5 +1,5 @@
 -- Labels and cases before a statement of a list.
-use Rattle.std.proofs.Common.{Box, ◌≡◌, ◌<◌, ◌+◌, ◌-◌, ℕ, zero, suc, Bool, true, false, List, [], ◌∷◌, ◌++◌, length, drop, set, Option, Some, None, Result, Ok, Err, refl, ap, sym, ◌∙◌, arith}
+use Rattle.std.proofs.Common.{Box, ◌≡◌, ◌<◌, ◌+◌, ◌-◌, ℕ, Bool, true, false, List, [], ◌∷◌, ◌++◌, length, drop, set, Result, Ok, Err, refl, ap, sym, ◌∙◌, arith}
 use Rattle.c_types.specs.declared.integers.IntegerType.{IntegerType}
 use Rattle.c_tree.specs.Tree.{Tree}
 use Rattle.std.specs.Global.{Global}

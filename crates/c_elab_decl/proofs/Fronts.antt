@@ -1,14 +1,14 @@
 -- One variable, item or definition more: what is made goes before what is behind.
-use Rattle.std.proofs.Common.{◌≡◌, ◌≤◌, ◌<◌, ◌+◌, ◌-◌, ℕ, Bool, false, List, [], ◌∷◌, ◌++◌, length, get_or, drop, Option, Some, None, Result, Ok, Err, refl, ap, ap₂, sym, subst, ◌∙◌, arith}
+use Rattle.std.proofs.Common.{◌≡◌, ◌<◌, ◌+◌, ◌-◌, ℕ, Bool, false, List, [], ◌∷◌, ◌++◌, length, get_or, drop, Option, None, Result, Ok, Err, refl, ap, ap₂, sym, subst, ◌∙◌}
 use Rattle.std.specs.Prelude.{Vec}
 use Rattle.std.specs.Global.{Global}
-use Rattle.std.proofs.lemmas.List.{append_assoc, append-nil, drop_more, map-append}
-use Rattle.c_tree.specs.declared.statement.Item.{Item, Declares, Does}
+use Rattle.std.proofs.lemmas.List.{append_assoc, drop_more, map-append}
+use Rattle.c_tree.specs.declared.statement.Item.{Item}
 use Rattle.c_tree.specs.declared.statement.External.{External}
 use Rattle.c_tree.specs.Declarations.{Initial, Full, Parts, Declarators, name_of}
 use Rattle.c_tree.specs.Tree.{Tree}
 use Rattle.c_tree.specs.Statements.{Statement, block, switch_on, view_item, Externals, declared, defines, view_external, externals_of}
-use Rattle.c_tree.specs.Statements.{Items, does, items_of as trees}
+use Rattle.c_tree.specs.Statements.{Items, items_of as trees}
 use Rattle.c_types.specs.Types.{CType}
 use Rattle.core_tree.specs.declared.statement.CoreItem.{CoreItem}
 use Rattle.core_tree.specs.declared.statement.CoreItem as codes
@@ -26,11 +26,10 @@ use Rattle.c_elab_decl.specs.declared.defining.Definition.{Definition as CodeDef
 use Rattle.c_elab_decl.specs.Derivations.{full_line}
 use Rattle.c_elab_decl.specs.Initializers.{Value, initializer_of}
 use Rattle.c_elab_decl.specs.Declarators.{Typed, variable_type, is_open, of_type, within_initializer, with_variable, declared_item, in_front, typed_variable}
-use Rattle.c_elab_decl.specs.Jumps.{jumps_in}
 use Rattle.c_elab_expr.specs.Operands.{Operand}
 use Rattle.c_elab_decl.specs.Listed.{typed_declaration}
 use Rattle.c_elab_decl.specs.Statements.{Around, in_loop, in_switch, with_loop, with_switch, switch_type, switch_of, TypedStatement, TypedFront, as_block, as_items, typed_rest, typed_body, typed_statement, typed_items}
-use Rattle.c_elab_decl.specs.Files.{in_file, typed_outside, Definition, typed_definition, typed_externals}
+use Rattle.c_elab_decl.specs.Files.{typed_outside, Definition, typed_definition, typed_externals}
 use Rattle.c_elab_decl.specs.Steps.{prepend, items_first, TypedDefinitions, definitions_first, view_definition, view_definitions, Step, DefinitionStep, Fronts}
 use Rattle.c_elab_decl.proofs.Steps.{fails_on, fails_bind, fails_along}
 use Rattle.c_elab_decl.proofs.Growing.{Inner, kept}

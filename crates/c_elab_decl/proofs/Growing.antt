@@ -8,7 +8,8 @@ use Rattle.c_tree.specs.Declarations.{Full, name_of}
 use Rattle.c_types.specs.declared.types.RecordKind.{RecordKind}
 use Rattle.c_types.specs.Integers.{bytes}
 use Rattle.c_types.specs.Types.{CType, Completed}
-use Rattle.c_types.specs.Layouts.{is_completed, is_complete, fits, size_of, with_completed, IsBuilt}
+use Rattle.c_types.specs.Layouts.{is_completed, is_complete, is_sized, fits, size_of, with_completed, IsBuilt}
+use Rattle.c_types.proofs.CellLists.{small_sized}
 use Rattle.c_types.specs.Layouts as layouts
 use Rattle.core_tree.specs.declared.expression.Place.{Place}
 use Rattle.core_tree.specs.declared.expression.Place.TheVariants as places
@@ -16,14 +17,14 @@ use Rattle.c_types.proofs.Records.{same_type}
 use Rattle.core_tree.specs.Trees.{Expression, constant, read, convert, sign, is_zero, arithmetic, compare, logical, choice, assign, update, step, comma, assertion, assumption, draw, part, discard, discard_structure, call, function_name, Structure, copy, load, choose, put, store, follow, section, list, string, give, Parts, no_part, number_part, structure_part, Arguments, no_argument, number_argument, structure_argument}
 use Rattle.core_tree.specs.declared.functions.PassedType.{PassedType}
 use Rattle.core_tree.specs.declared.functions.PassedType.TheVariants as passed
-use Rattle.core_tree.specs.Typed.{size_of as bytes_of, Sizes, Signature, is_within, is_in_object, is_place, is_typed, is_structure, are_parts, are_arguments, same_passed, same_given, given_as, gives_this, parameters_of, is_integer}
+use Rattle.core_tree.specs.Typed.{are_small, size_of as bytes_of, Sizes, Signature, is_within, is_in_object, is_place, is_typed, is_structure, are_parts, are_arguments, given_as, gives_this, parameters_of, is_integer}
 use Rattle.c_elab_expr.specs.declared.meaning.Meaning.{Meaning}
 use Rattle.c_elab_expr.specs.declared.meaning.Meaning.TheVariants.{Object, Typedef}
 use Rattle.c_elab_expr.specs.Members.{Members}
-use Rattle.c_elab_expr.specs.Scopes.{Environment, binding, Named, Lasting, Linked, FunctionType, Callable, Scoped, with_callable, are_there, is_known, are_known, are_complete, sizes, sizes_of, object_at, lasting_size}
+use Rattle.c_elab_expr.specs.Scopes.{Environment, binding, Named, Lasting, Linked, FunctionType, Callable, Scoped, with_callable, are_there, is_known, are_known, are_complete, sizes, object_at, lasting_size}
 use Rattle.c_elab_expr.proofs.Variables.{both, and, are_there_wider, complete_more, sizes_more, complete_later, variables_later}
 use Rattle.c_elab_decl.specs.Declarators.{with_function_type, with_typedef, with_variable, changed_by, changed_object}
-use Rattle.c_elab_decl.proofs.Signatures.{Signed, signed_refl, signed_trans, signed_get, signed_length, is_small, small_as, Kept, own_sizes, Goes, goes_refl, goes_trans, Called, goes_later, Later, later_completed, called_later, given_by_kept, signed_later, signed_added, signed_changed, goes_added, goes_changed, goes_typed, called_added, called_changed, called_typed, variables_kept}
+use Rattle.c_elab_decl.proofs.Signatures.{Signed, signed_refl, signed_trans, signed_get, signed_length, is_small, small_as, own_sizes, Goes, goes_refl, goes_trans, Called, goes_later, later_completed, called_later, given_by_kept, signed_later, signed_added, signed_changed, goes_added, goes_changed, goes_typed, called_added, called_changed, called_typed, variables_kept}
 use Rattle.c_elab_decl.specs.Functions.{first_callable, callable_again, changed_callable, declared_callable}
 use Rattle.c_elab_decl.specs.Specifiers.{ended}
 use Rattle.c_elab_decl.specs.Tags.{with_record}
@@ -227,12 +228,13 @@ structure_grows few many a g h = structure_more few many g a h
 
 -- ---- scopes
 
--- What names mean is there, and the types of the built-in names are; the variables have complete types, each struct and union was
--- completed once, and the parameters of functions have complete types.
+-- What names mean is there, and the types of the built-in names are; the variables have complete types of fewer than 2 ^ 31 bytes,
+-- each struct and union was completed once, and the parameters of functions have complete types.
 pub record There (s : Scoped) : Type 0 where
   pub known : are_known s ≡ true
   pub few : 9 ≤ length s.types
   pub complete : are_complete s.records.done s.variables ≡ true
+  pub small : are_small (sizes s) ≡ true
   pub built : IsBuilt s.records.done
   pub calls : Called s.records.done s.functions s.flow
 
@@ -324,6 +326,7 @@ there_behind s t f h =
           (length s.records.declared) (length t.records.declared) s.bindings f.variables f.objects f.types f.records h.known;
       few = now.few;
       complete = now.complete;
+      small = now.small;
       built = now.built;
       calls = now.calls;
     }
@@ -340,7 +343,7 @@ binding_settles s name m h = record {
     types = omega arith;
     records = omega arith;
     calls = goes_refl s.functions s.flow s.records.done;
-    there = λ g. record { known = and (is_known s m) (are_known s) h g.known; few = g.few; complete = g.complete; built = g.built; calls = g.calls };
+    there = λ g. record { known = and (is_known s m) (are_known s) h g.known; few = g.few; complete = g.complete; small = g.small; built = g.built; calls = g.calls };
   };
   same = refl;
 }
@@ -362,6 +365,7 @@ record_settles s kind =
               (length s.records.declared) (length (s.records.declared ++ kind ∷ [])) s.bindings (omega arith) (omega arith) (omega arith) (omega (arith, long)) g.known;
           few = g.few;
           complete = g.complete;
+          small = g.small;
           built = g.built;
           calls = g.calls;
         };
@@ -409,6 +413,7 @@ completed_settles s p kind ts ms before complete fit = let later = later_complet
       known = g.known;
       few = g.few;
       complete = (variables_later s.records.done (record { place = p; kind = kind; members = ts }) s.variables before g.complete).0;
+      small = ap are_small (variables_later s.records.done (record { place = p; kind = kind; members = ts }) s.variables before g.complete).1 ∙ g.small;
       built = (before, complete, fit, g.built);
       calls = called_later later g.calls;
     };
@@ -438,6 +443,7 @@ typedef_settles s name n =
               (length s.records.declared) (length s.records.declared) s.bindings (omega arith) (omega arith) (omega (arith, long)) (omega arith) g.known);
           few = omega (arith, long, g.few);
           complete = g.complete;
+          small = g.small;
           built = g.built;
           calls = g.calls;
         };
@@ -460,8 +466,12 @@ new_variable s name n vs g =
           ∙ get_or_push (sizes s) size 0 (length s.variables) (sym count),
     )
 
-pub variable_follows : (s : Scoped) (name : List ℕ) (n : Named) → is_complete s.records.done n.type ≡ true → Follows s (with_variable s name n)
-variable_follows s name n complete =
+small_more : (sizes : List ℕ) (size : ℕ) → are_small sizes ≡ true → nat_lt size (2 ^ 31) ≡ true → are_small (sizes ++ size ∷ []) ≡ true
+small_more [] size h e = and (nat_lt size (2 ^ 31)) true e refl
+small_more (n ∷ ns) size h e = let parts = both (nat_lt n (2 ^ 31)) (are_small ns) h in and (nat_lt n (2 ^ 31)) (are_small (ns ++ size ∷ [])) parts.0 (small_more ns size parts.1 e)
+
+pub variable_follows : (s : Scoped) (name : List ℕ) (n : Named) → is_complete s.records.done n.type ≡ true → is_sized s.records.done n.type ≡ true → Follows s (with_variable s name n)
+variable_follows s name n complete sized =
     let long = length-append s.variables (n ∷ []) in
     record {
       names = (_ ∷ [], refl);
@@ -478,6 +488,9 @@ variable_follows s name n complete =
             (length s.records.declared) (length s.records.declared) s.bindings (omega (arith, long)) (omega arith) (omega arith) (omega arith) g.known);
         few = g.few;
         complete = complete_more s.records.done s.variables n g.complete complete;
+        small =
+            let most = small_sized s.records.done n.type g.built sized in
+            ap are_small (sizes_more s.records.done s.variables n) ∙ small_more (sizes s) (size_of s.records.done n.type) g.small (lt-ltb (size_of s.records.done n.type) (2 ^ 31) (omega arith));
         built = g.built;
         calls = g.calls;
       };
@@ -509,6 +522,7 @@ object_settles s o linked =
               (length s.records.declared) (length s.records.declared) s.bindings (omega arith) (omega (arith, long)) (omega arith) (omega arith) g.known;
           few = g.few;
           complete = g.complete;
+          small = g.small;
           built = g.built;
           calls = g.calls;
         };
@@ -539,6 +553,7 @@ object_set s i o p h le =
               (length s.records.declared) (length s.records.declared) s.bindings (omega arith) (omega (arith, long)) (omega arith) (omega arith) g.known;
           few = g.few;
           complete = g.complete;
+          small = g.small;
           built = g.built;
           calls = g.calls;
         };
@@ -605,7 +620,7 @@ function_settles H s name c there h = record {
     types = omega arith;
     records = omega arith;
     calls = goes_added s.functions name c s.flow s.records.done;
-    there = λ x. let g = there x in record { known = g.known; few = g.few; complete = g.complete; built = g.built; calls = called_added s.records.done s.functions name c s.flow g.calls (h x) };
+    there = λ x. let g = there x in record { known = g.known; few = g.few; complete = g.complete; small = g.small; built = g.built; calls = called_added s.records.done s.functions name c s.flow g.calls (h x) };
   };
   same = refl;
 }
@@ -630,7 +645,7 @@ function_changed s k f same = by (slice_get s.functions.all k) refl where
       types = omega arith;
       records = omega arith;
       calls = goes_changed s.functions k c (f c) s.flow s.records.done e (same c);
-      there = λ g. record { known = g.known; few = g.few; complete = g.complete; built = g.built; calls = called_changed s.records.done s.functions k c (f c) s.flow e (same c) g.calls };
+      there = λ g. record { known = g.known; few = g.few; complete = g.complete; small = g.small; built = g.built; calls = called_changed s.records.done s.functions k c (f c) s.flow e (same c) g.calls };
     };
     same = refl;
   }
@@ -654,7 +669,7 @@ function_type_settles H s f there h = record {
     types = omega arith;
     records = omega arith;
     calls = goes_typed s.functions f s.flow s.records.done;
-    there = λ x. let g = there x in record { known = g.known; few = g.few; complete = g.complete; built = g.built; calls = called_typed s.records.done s.functions f s.flow g.calls (h x) };
+    there = λ x. let g = there x in record { known = g.known; few = g.few; complete = g.complete; small = g.small; built = g.built; calls = called_typed s.records.done s.functions f s.flow g.calls (h x) };
   };
   same = refl;
 }
@@ -684,6 +699,7 @@ ended_settles s t f = record {
               (length s.records.declared) (length t.records.declared) s.bindings (omega arith) f.objects f.types f.records g.known;
           few = now.few;
           complete = (variables_kept f.calls.later s.variables g.complete).0;
+          small = ap are_small (variables_kept f.calls.later s.variables g.complete).1 ∙ g.small;
           built = now.built;
           calls = now.calls;
         };

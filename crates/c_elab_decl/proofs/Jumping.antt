@@ -1,8 +1,7 @@
 -- Labels by their names, and what lies ahead of each item of a list.
-use Rattle.std.proofs.Common.{◌≡◌, ◌≤◌, ◌<◌, ◌+◌, ℕ, zero, suc, Bool, true, false, List, [], ◌∷◌, ◌++◌, length, get_or, take, drop, map, Option, Some, None, option_map, nat_eq, max, Bor, refl, ap, ap₂, sym, subst, ◌∙◌, arith}
+use Rattle.std.proofs.Common.{◌≡◌, ◌≤◌, ◌<◌, ◌+◌, ℕ, zero, suc, Bool, true, false, List, [], ◌∷◌, ◌++◌, length, get_or, drop, Option, Some, None, option_map, nat_eq, max, Bor, refl, ap, ap₂, sym, subst, ◌∙◌, arith}
 use Rattle.std.specs.Prelude.{◌||◌, ◌&&◌, nat_lt, Vec, is_some, option_copied, if◌then◌else◌}
 use Rattle.std.specs.List.{list_any}
-use Rattle.std.specs.Map.{lookup}
 use Rattle.std.specs.Str.{bytes_eq}
 use Rattle.std.specs.Cmp.Lexicographic.{pointwise}
 use Rattle.std.specs.Global.{Global}
@@ -13,7 +12,7 @@ use Rattle.indexmap.specs.IndexMap.{insert_entry}
 use Rattle.c_tree.specs.declared.statement.Item.{Item, Declares, Does}
 use Rattle.c_tree.specs.declared.statement.Stmt.{Stmt}
 use Rattle.c_tree.specs.declared.declaration.Declaration.{Declaration}
-use Rattle.c_tree.specs.Statements.{Statement, labelled, Items, done, declares, does, view_statement, view_item, items_of as trees}
+use Rattle.c_tree.specs.Statements.{Statement, labelled, Items, done, view_statement, view_item, items_of as trees}
 use Rattle.c_elab_expr.proofs.Entries.{same_name, others_name}
 use Rattle.c_elab_decl.specs.declared.jumps.Ahead.{Ahead}
 use Rattle.c_elab_decl.specs.Jumps.{labels_of, jumps_in, jumps_of, label_number, first_label, labels_before, has_case_before, labels_ahead, has_case_ahead, among, is_passed}

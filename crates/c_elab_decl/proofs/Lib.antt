@@ -18,6 +18,7 @@ pub mod Objects
 pub mod Initialized
 pub mod WellTyped
 pub mod Bodies
+pub mod Standing
 pub mod Definitions
 pub mod Statics
 pub mod Procedures

@@ -1,17 +1,14 @@
 -- The declarators of a declaration, one behind the other.
 use Rattle.std.proofs.Common.{◌≡◌, Bool, List, Option, Result, Ok, Err, ap, sym, ◌∙◌}
 use Rattle.c_tree.specs.Declarations.{Initial, Full, Declarators, declarator}
-use Rattle.core_tree.specs.declared.statement.CoreItem.{CoreItem}
-use Rattle.c_elab_expr.specs.declared.fault.TypingError.{TypingError}
 use Rattle.c_elab_expr.specs.Scopes.{Named, Scoped}
 use Rattle.c_elab_expr.specs.Nodes.{◌>>=◌}
-use Rattle.c_elab_expr.specs.Typing.{Fault, Fails}
+use Rattle.c_elab_expr.specs.Typing.{Fault}
 use Rattle.c_elab_decl.specs.declared.regions.Region.{Region}
 use Rattle.c_elab_decl.specs.Declarators.{Typed}
 use Rattle.c_elab_decl.specs.Derivations.{Derived, Derivation, derivation}
 use Rattle.c_elab_decl.specs.Specifiers.{Derivations, typed_full}
 use Rattle.c_elab_decl.specs.Listed.{typedef_by, typed_typedefs, object_by, typed_objects, variable_by, typed_variables}
-use Rattle.c_elab_decl.specs.Steps.{items_first}
 
 -- ---- typedefs
 

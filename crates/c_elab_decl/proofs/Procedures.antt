@@ -1,5 +1,5 @@
 -- The functions of a file, one behind the other.
-use Rattle.std.proofs.Common.{◌≡◌, ◌≤◌, ◌<◌, ◌+◌, ◌-◌, ◌++◌, ℕ, zero, suc, List, [], ◌∷◌, length, get_or, map, reverse, drop, Option, Some, None, refl, ap, sym, ◌∙◌, arith}
+use Rattle.std.proofs.Common.{◌≡◌, ◌≤◌, ◌<◌, ◌+◌, ◌-◌, ◌++◌, ℕ, zero, suc, List, [], ◌∷◌, length, get_or, map, reverse, drop, Some, None, refl, ap, sym, ◌∙◌, arith}
 use Rattle.std.specs.Prelude.{slice_get, slice_set}
 use Rattle.std.proofs.lemmas.List.{append_assoc, append-nil, map-append, map-set, reverse-append}
 use Rattle.c_types.specs.Types.{Completed}
@@ -78,7 +78,7 @@ get_at (f ∷ fs) (suc n) d h = get_at fs n d (omega (arith, h))
 
 -- a function with its number gets the body
 pub body_given : (fs : List Function) (x : CodeDefinition) (old g d : Function) → x.number < length fs → old ≡ get_or fs x.number d
-    → view_function g ≡ record (view_function old) { variables = x.variables.items; body = Some (view_statement x.body) }
+    → view_function g ≡ record (view_function old) { variables = x.variables.items; labels = x.labels; body = Some (view_statement x.body) }
     → with_body (view_functions fs) (view_definition x) (slice_get (view_functions fs) x.number) ≡ view_functions (slice_set fs x.number g)
 body_given fs x old g d h is made =
     ap (with_body (view_functions fs) (view_definition x)) (get_at fs x.number d h ∙ ap (λ (f : Function). Some (view_function f)) (sym is))

@@ -1,7 +1,7 @@
 -- Specifiers, typedefs and objects leave a scope that goes on from the one before, without more variables.
 use Rattle.std.proofs.Common.{◌≡◌, ◌≤◌, ◌+◌, ℕ, Bool, true, false, List, [], ◌∷◌, ◌++◌, length, map, Option, Some, None, Result, Ok, Err, refl, ap, sym, subst, ◌∙◌, arith}
 use Rattle.std.specs.Prelude.{◌&&◌, ◌||◌, not, is_some, slice_get, if◌then◌else◌}
-use Rattle.std.specs.List.{list_all, list_any}
+use Rattle.std.specs.List.{list_all}
 use Rattle.std.proofs.lemmas.List.{append_assoc, append-nil, length-append, map-append}
 use Rattle.c_tree.specs.declared.specifier.TagKind.{TagKind}
 use Rattle.c_tree.specs.declared.specifier.TagKind.TheVariants as tag_kinds
@@ -11,31 +11,31 @@ use Rattle.c_types.specs.declared.types.RecordKind.{RecordKind}
 use Rattle.c_types.specs.declared.types.RecordKind.TheVariants.{Struct, Union}
 use Rattle.c_types.specs.Types.{CType, Completed, Records}
 use Rattle.c_types.specs.Types as ctypes
-use Rattle.c_types.specs.Layouts.{is_completed, is_complete, are_complete, fits, kind_at}
+use Rattle.c_types.specs.Layouts.{is_completed, is_complete, is_sized, size_of, are_complete, fits, kind_at}
 use Rattle.c_elab_expr.specs.declared.meaning.Meaning.{Meaning}
 use Rattle.c_elab_expr.specs.declared.meaning.Meaning.TheVariants.{Variable, Incomplete, Object, Assert, Assume, Draw, Function, Typedef, Enumerator, Record, Enumeration}
 use Rattle.c_elab_expr.specs.Members.{Field, field_types}
-use Rattle.c_elab_expr.specs.Scopes.{Named, FunctionType, Callable, FunctionTable, Lasting, Scoped, tag_of, object_at, linked_to, built_in, is_known, lasting_size, function_number, function_numbered}
+use Rattle.c_elab_expr.specs.Scopes.{Named, FunctionType, FunctionTable, Lasting, Scoped, tag_of, object_at, linked_to, built_in, is_known, lasting_size, function_number, function_numbered}
 use Rattle.c_elab_expr.specs.Nodes.{◌>>=◌}
-use Rattle.c_elab_expr.specs.Types.{nothing_said, specified_type, one_array, array_of, type_size}
+use Rattle.c_elab_expr.specs.Types.{nothing_said, specified_type, one_array, array_of}
 use Rattle.c_elab_expr.specs.Typing.{Fault, on_line}
-use Rattle.c_elab_expr.proofs.Variables.{both, and, complete_sized}
+use Rattle.c_elab_expr.proofs.Variables.{both, and}
 use Rattle.c_elab_expr.proofs.WellTyped.{Holds, bind, given, refused, on_same_line}
 use Rattle.c_elab_decl.specs.declared.regions.Region.{Region}
 use Rattle.c_elab_decl.specs.declared.regions.Role.{Role}
 use Rattle.c_elab_decl.specs.declared.regions.Role.TheVariants as roles
 use Rattle.c_elab_decl.specs.Regions.{is_built_in_function, built_in_only, built_in_function, earlier, earlier_tag}
-use Rattle.c_elab_decl.specs.Derivations.{Parameter, Derived, counted, called, Shape, object, function as function_shaped, shape_by, shape_of, type_numbered, array_shape, is_void, is_array, has_void, parameter_types, function_of, function_shape, derived, Derivation, lengths, callable, function_in, function_made, callable_by, plain_lengths, derivation_by, derivation, full_line, parameter_line}
+use Rattle.c_elab_decl.specs.Derivations.{Parameter, Derived, counted, called, Shape, object, function as function_shaped, shape_by, shape_of, type_numbered, array_shape, is_void, is_array, has_void, parameter_types, function_of, function_shape, derived, Derivation, lengths, callable, function_in, function_made, plain_lengths, derivation_by, derivation, full_line, parameter_line}
 use Rattle.c_elab_decl.specs.Initializers.{Value, bytes_said, initializer_of, no_initializer}
 use Rattle.c_elab_decl.specs.Enumerations.{enumerator_value, enumerator_node, typed_enumerator, typed_enumerators}
-use Rattle.c_elab_decl.specs.Declarators.{with_variable, sized_type, complete_type, typedef_node, with_typedef, typed_typedef, is_typedef_of_function, function_typedef_node, with_function_type, with_function_typedef, typed_function_typedef, is_open, lasting_type, is_again, is_linked_to, linked_object, earlier_linked, may_again, lasting_again, lasting_node, declared_again, first_declared, with_object, changed_object, added_object, declared_object, initialized_object, may_define, counted_by, element_of, with_initializer, typed_object}
+use Rattle.c_elab_decl.specs.Declarators.{with_variable, sized_type, complete_type, with_typedef, typed_typedef, is_typedef_of_function, function_typedef_node, with_function_type, with_function_typedef, typed_function_typedef, is_open, lasting_type, is_again, is_linked_to, linked_object, earlier_linked, may_again, lasting_again, lasting_node, declared_again, first_declared, with_object, changed_object, added_object, declared_object, initialized_object, may_define, counted_by, element_of, typed_object}
 use Rattle.c_elab_decl.specs.Functions.{is_own_function, is_function_again, function_again, is_own_built_in, is_built_in_type, built_in_again, function_node, declared_callable, with_meaning, declared_function, declared_or_built_in, typed_function, is_named_so, have_names}
 use Rattle.c_elab_decl.specs.Functions as functions
 use Rattle.c_elab_decl.specs.Tags.{kind_of, is_kind, with_record, with_tagged, new_tag, found_tag, forward_tag, Opened, new_record, open_tag, opened, reopened, fitting, members_fit, already, completed, closed, closed_scope, enumeration_tag, enumeration_closed}
 use Rattle.c_elab_decl.specs.Specifiers.{Fields, member_type, with_member, is_none, has_untagged, with_anonymous, is_anonymous, Parted, with_type_part, fields_within, fields_out, with_members, typed_enumeration, said_before, fields_behind, Derivations, Passed, plain_parameter, array_parameter, parameter_made, parameter_node, declared_parameter, with_parameter, judged_parameter, are_several, ended, inner_region, parted, named_parts, counted_in_front, called_in_front, said_bound, typed_part, typed_parts, typed_members, typed_fields, typed_full, typed_suffixes, typed_parameters, lone_tag, with_lone, Specification, typed_specifiers}
 use Rattle.c_elab_decl.specs.Listed.{typedef_by, typed_typedefs, object_by, typed_objects, typed_others}
 use Rattle.c_elab_decl.proofs.Signatures.{Later, is_given, given_kept, are_complete_types, type_parameters_at}
-use Rattle.c_elab_decl.proofs.Growing.{There, FollowsIf, Follows, follows_refl, follows_trans, follows_on, SettlesIf, Settles, settles_refl, settles_both, settles_where, settles_on, settles_trans, binding_settles, record_settles, completed_settles, typedef_settles, variable_follows, object_settles, changed_settles, changed_known, next_known, last, declared_callable_settles, function_type_settles, ended_settles}
+use Rattle.c_elab_decl.proofs.Growing.{There, Follows, follows_refl, follows_trans, SettlesIf, Settles, settles_refl, settles_both, settles_where, settles_on, settles_trans, binding_settles, record_settles, completed_settles, typedef_settles, variable_follows, object_settles, changed_settles, changed_known, next_known, last, declared_callable_settles, function_type_settles, ended_settles}
 
 pub trivially : {A E : Type 0} (r : Result A E) → Holds (λ (x : A). Unit {0}) r
 trivially r x e = tt
@@ -267,47 +267,54 @@ pub record SuffixesDone (s : Scoped) (x : List Derived × Scoped) : Type 0 where
   pub settles : Settles s x.1
   pub fine : There s → are_fine x.1.records.done x.0 ≡ true
 
-sized_complete : (done : List Completed) (t : CType) → Holds (λ u. is_given done u ≡ true) (sized_type done t)
-sized_complete done t =
-    bind (λ n. type_size done t ≡ Ok n) (λ u. is_given done u ≡ true) (type_size done t) _ (λ n e. e) (λ n e.
-    given (λ u. is_given done u ≡ true) t (complete_given done t (complete_sized done t n e).0)) where
-      complete_given : (older : List Completed) (u : CType) → is_complete older u ≡ true → is_given older u ≡ true
-      complete_given older ctypes.void h = refl
-      complete_given older (ctypes.integer u) h = refl
-      complete_given older (ctypes.aggregate p) h = h
-      complete_given older (ctypes.array e n) h = h
+-- void, or a type that an object may have
+abbrev Passable : List Completed → CType → Type 0
+Passable done t = (is_given done t ≡ true) × (is_sized done t ≡ true)
 
-plain_given : (done : List Completed) (several : Bool) (t : CType) → Holds (λ u. is_given done u ≡ true) (plain_parameter done several t)
+complete_given : (done : List Completed) (t : CType) → is_complete done t ≡ true → is_given done t ≡ true
+complete_given done ctypes.void h = refl
+complete_given done (ctypes.integer u) h = refl
+complete_given done (ctypes.aggregate p) h = h
+complete_given done (ctypes.array e n) h = h
+
+sized_passable : (done : List Completed) (t : CType) → Holds (Passable done) (sized_type done t)
+sized_passable done t = by (is_complete done t) (is_sized done t) refl refl where
+  by : (b c : Bool) → is_complete done t ≡ b → is_sized done t ≡ c → Holds {E = ℕ} (Passable done) ((if b then (if c then Ok (size_of done t) else Err 4) else Err 3) >>= λ size. Ok t)
+  by true true e f = given (Passable done) t (complete_given done t e, f)
+  by true false e f = refused (Passable done) 4
+  by false c e f = refused (Passable done) 3
+
+plain_given : (done : List Completed) (several : Bool) (t : CType) → Holds (Passable done) (plain_parameter done several t)
 plain_given done several ctypes.void = by several where
-  by : (b : Bool) → Holds {E = ℕ} (λ u. is_given done u ≡ true) (if b then Ok ctypes.void else sized_type done ctypes.void)
-  by true = given (λ u. is_given done u ≡ true) ctypes.void refl
-  by false = sized_complete done ctypes.void
-plain_given done several (ctypes.integer t) = sized_complete done (ctypes.integer t)
-plain_given done several (ctypes.aggregate p) = sized_complete done (ctypes.aggregate p)
-plain_given done several (ctypes.array e n) = sized_complete done (ctypes.array e n)
+  by : (b : Bool) → Holds {E = ℕ} (Passable done) (if b then Ok ctypes.void else sized_type done ctypes.void)
+  by true = given (Passable done) ctypes.void (refl, refl)
+  by false = sized_passable done ctypes.void
+plain_given done several (ctypes.integer t) = sized_passable done (ctypes.integer t)
+plain_given done several (ctypes.aggregate p) = sized_passable done (ctypes.aggregate p)
+plain_given done several (ctypes.array e n) = sized_passable done (ctypes.array e n)
 
-array_given : (done : List Completed) (base : CType) (ls : List (Option ℕ)) → Holds (λ u. is_given done u ≡ true) (array_parameter done base ls)
+array_given : (done : List Completed) (base : CType) (ls : List (Option ℕ)) → Holds (Passable done) (array_parameter done base ls)
 array_given done base [] = refused _ 7
 array_given done base (None ∷ ns) =
-    bind (λ (t : CType). Unit {0}) (λ u. is_given done u ≡ true) (array_of done base ns) _ (trivially _) (λ t _. bind (λ (u : CType). Unit {0}) (λ u. is_given done u ≡ true) (complete_type done t) _ (trivially _) (λ u _. refused _ 7))
-array_given done base (Some n ∷ ns) = bind (λ (t : CType). Unit {0}) (λ u. is_given done u ≡ true) (array_of done base (Some n ∷ ns)) _ (trivially _) (λ t _. refused _ 7)
+    bind (λ (t : CType). Unit {0}) (Passable done) (array_of done base ns) _ (trivially _) (λ t _. bind (λ (u : CType). Unit {0}) (Passable done) (complete_type done t) _ (trivially _) (λ u _. refused _ 7))
+array_given done base (Some n ∷ ns) = bind (λ (t : CType). Unit {0}) (Passable done) (array_of done base (Some n ∷ ns)) _ (trivially _) (λ t _. refused _ 7)
 
-made_given : (done : List Completed) (several : Bool) (base : CType) (x : Derivation) → Holds (λ u. is_given done u ≡ true) (parameter_made done several base x)
+made_given : (done : List Completed) (several : Bool) (base : CType) (x : Derivation) → Holds (Passable done) (parameter_made done several base x)
 made_given done several base (lengths []) = plain_given done several base
 made_given done several base (lengths (n ∷ ns)) = array_given done base (n ∷ ns)
 made_given done several base (callable (Ok f)) = refused _ 7
 made_given done several base (callable (Err rule)) = refused _ rule
 
-node_given : (done : List Completed) (b : Bool) (made : Result CType ℕ) → Holds (λ u. is_given done u ≡ true) made → Holds (λ u. is_given done u ≡ true) (parameter_node b made)
+node_given : (done : List Completed) (b : Bool) (made : Result CType ℕ) → Holds (Passable done) made → Holds (Passable done) (parameter_node b made)
 node_given done true made h = refused _ 2
 node_given done false made h = h
 
-declared_follows : (named : Bool) (s : Scoped) (name : List ℕ) (n : Named) → is_given s.records.done n.type ≡ true → Follows s (declared_parameter named s name n)
+declared_follows : (named : Bool) (s : Scoped) (name : List ℕ) (n : Named) → Passable s.records.done n.type → Follows s (declared_parameter named s name n)
 declared_follows false s name n h = follows_refl s
 declared_follows true s name n h = by (is_void n.type) refl where
   by : (b : Bool) → is_void n.type ≡ b → Follows s (if not b then with_variable s name n else s)
   by true e = follows_refl s
-  by false e = variable_follows s name n (given_complete s.records.done n.type h e)
+  by false e = variable_follows s name n (given_complete s.records.done n.type h.0 e) h.1
 
 -- a declarator whose name isn't empty has one
 named_so : (d : Full) → is_named_so (name_of d) ≡ true → full_has_name d ≡ true
@@ -349,7 +356,7 @@ declared_more named s name n = by (named && not (is_void n.type)) where
   by true = (n ∷ [], refl)
   by false = ([], sym (append-nil s.variables))
 
-parameter_done : (several : Bool) (p : Passed) (d : Full) (n : Named) (t : Scoped) → Settles p.scope t → (is_given t.records.done n.type ≡ true)
+parameter_done : (several : Bool) (p : Passed) (d : Full) (n : Named) (t : Scoped) → Settles p.scope t → Passable t.records.done n.type
     → PassedDone p (with_parameter p (name_of d) n (declared_parameter (full_has_name d) t (name_of d) n))
 parameter_done several p d n t f h =
     let u = declared_parameter (full_has_name d) t (name_of d) n in
@@ -357,7 +364,7 @@ parameter_done several p d n t f h =
     record {
       follows = follows_trans p.scope t u f.follows (declared_follows (full_has_name d) t (name_of d) n h);
       given = λ there g. subst (λ (rs : Records). given_parameters rs.done (p.parameters ++ new ∷ []) ≡ true) (sym (declared_same (full_has_name d) t (name_of d) n))
-          (given_last t.records.done p.parameters new (parameters_kept f.follows.calls.later p.parameters g) h);
+          (given_last t.records.done p.parameters new (parameters_kept f.follows.calls.later p.parameters g) h.0);
       variables = λ before stands names voids.
           let a = names_last p.parameters new names in
           let b = voids_last p.parameters new voids in
@@ -375,8 +382,8 @@ judged_done : (r : Region) (several : Bool) (p : Passed) (parts : Parts) (base :
 judged_done r several p parts base d suffixes t f h =
     bind (SuffixesDone t) (PassedDone p) suffixes _ h (λ x g.
     let node = parameter_node (full_has_name d && is_some (earlier r x.1 (name_of d))) (parameter_made x.1.records.done several base.type (derivation x.1.functions x.1.records.done base x.0)) in
-    bind (λ u. is_given x.1.records.done u ≡ true) (PassedDone p) (on_line (parameter_line parts d) node) _
-    (on_same_line (λ u. is_given x.1.records.done u ≡ true) (parameter_line parts d) node
+    bind (Passable x.1.records.done) (PassedDone p) (on_line (parameter_line parts d) node) _
+    (on_same_line (Passable x.1.records.done) (parameter_line parts d) node
     (node_given x.1.records.done (full_has_name d && is_some (earlier r x.1 (name_of d))) (parameter_made x.1.records.done several base.type (derivation x.1.functions x.1.records.done base x.0))
     (made_given x.1.records.done several base.type (derivation x.1.functions x.1.records.done base x.0)))) (λ u k.
     given (PassedDone p) _ (parameter_done several p d (record { type = u; constant = base.constant }) x.1 (settles_trans p.scope t x.1 f g.settles) k)))

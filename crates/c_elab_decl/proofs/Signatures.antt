@@ -1,6 +1,6 @@
 -- The types of functions, which later declarations keep where calls depend on them: what is complete stays as large.
-use Rattle.std.proofs.Common.{◌≡◌, ◌≤◌, ◌<◌, ◌+◌, ◌*◌, ◌^◌, ℕ, zero, suc, Bool, true, false, List, [], ◌∷◌, ◌++◌, length, map, Option, Some, None, refl, ap, ap₂, sym, subst, ◌∙◌, arith}
-use Rattle.std.specs.Prelude.{◌==◌, nat_lt, slice_get, slice_set, option_map, if◌then◌else◌}
+use Rattle.std.proofs.Common.{◌≡◌, ◌≤◌, ◌*◌, ◌^◌, ℕ, zero, suc, Bool, true, false, List, [], ◌∷◌, ◌++◌, length, map, Option, Some, None, refl, ap, ap₂, sym, subst, ◌∙◌, arith}
+use Rattle.std.specs.Prelude.{nat_lt, slice_get, slice_set, option_map, if◌then◌else◌}
 use Rattle.std.specs.List.{list_all}
 use Rattle.std.specs.Str.{bytes_eq}
 use Rattle.std.proofs.lemmas.Bool.{eqb-true}
@@ -17,7 +17,7 @@ use Rattle.c_types.specs.Layouts as layouts
 use Rattle.c_types.proofs.Records.{same_type}
 use Rattle.core_tree.specs.declared.functions.PassedType.{PassedType}
 use Rattle.core_tree.specs.declared.functions.PassedType.TheVariants as passed
-use Rattle.core_tree.specs.Typed.{Sizes, Signature, same_passed, same_given, given_as, gives_this}
+use Rattle.core_tree.specs.Typed.{Sizes, Signature, same_given, given_as}
 use Rattle.c_elab_expr.specs.Scopes.{Named, Linked, FunctionType, Callable, FunctionTable, Flow, Cases, Scoped, are_complete, sizes_of, linked_to, passed_as, given_by, signature_of, all_sizes, with_callable}
 use Rattle.c_elab_expr.proofs.Variables.{both, and, complete_later}
 

@@ -1,13 +1,13 @@
 -- What suffixes of declarators and parameters say, one behind the other.
-use Rattle.std.proofs.Common.{◌≡◌, ◌≤◌, ◌<◌, ◌+◌, ◌-◌, ℕ, suc, Bool, true, false, List, [], ◌∷◌, ◌++◌, length, get_or, take, drop, map, None, Some, Result, Ok, Err, refl, ap, ap₂, sym, subst, ◌∙◌, arith}
+use Rattle.std.proofs.Common.{◌≡◌, ◌<◌, ◌+◌, ℕ, Bool, true, false, List, [], ◌∷◌, ◌++◌, length, get_or, drop, None, Some, Result, Ok, Err, refl, ap, sym, subst, ◌∙◌, arith}
 use Rattle.std.specs.Global.{Global}
 use Rattle.std.specs.Prelude.{◌==◌, ◌&&◌, Vec, vec_len, is_some, nat_lt, if◌then◌else◌}
-use Rattle.std.proofs.lemmas.List.{append_assoc, append-nil, drop_more, drop_at, length-append, map-append}
+use Rattle.std.proofs.lemmas.List.{append_assoc, drop_more, map-append}
 use Rattle.std.proofs.lemmas.Bool.{lt-ltb, le-ltb}
 use Rattle.c_tree.specs.declared.declaration.FullDeclarator.{FullDeclarator}
 use Rattle.c_tree.specs.declared.declaration.DeclaratorSuffix.{DeclaratorSuffix, Bounded, Open, Empty, Void, Parameters'}
 use Rattle.c_tree.specs.declared.declaration.Parameter.{Parameter as ParameterTree}
-use Rattle.c_tree.specs.Declarations.{Parts, members, no_member, parts_line, name_of, full_has_name, Full, full_inside, Fulls, full, FullSuffixes, full_end, full_bounded, full_open, full_empty, full_void, full_parameters, Parameters, no_parameter, parameter, view_full, fulls_of, view_full_suffix, full_suffixes_of, view_parameters, view_parameter, parameters_of, parts_of}
+use Rattle.c_tree.specs.Declarations.{Parts, members, no_member, parts_line, name_of, full_has_name, Full, Fulls, full, FullSuffixes, full_end, Parameters, no_parameter, view_full, fulls_of, view_full_suffix, full_suffixes_of, view_parameters, view_parameter, parameters_of, parts_of}
 use Rattle.c_tree.specs.Tree.{view}
 use Rattle.c_elab_expr.specs.Scopes.{Named, Scoped}
 use Rattle.c_elab_expr.specs.Nodes.{◌>>=◌}
@@ -19,7 +19,7 @@ use Rattle.c_elab_decl.specs.Declarators.{complete_type, sized_type}
 use Rattle.c_elab_decl.specs.declared.regions.Region.{Region}
 use Rattle.c_elab_decl.specs.Regions.{earlier}
 use Rattle.c_elab_decl.specs.Derivations.{Derived, counted, called, Derivation, lengths, callable, is_void, derivation, parameter_line}
-use Rattle.c_elab_decl.specs.Specifiers.{Fields, Parted, is_none, said_before, fields_behind, with_field, with_anonymous, typed_members, Derivations, Passed, parted, named_parts, judged_parameter, typed_parts, plain_parameter, parameter_made, parameter_node, with_parameter, declared_parameter, are_several, ended, inner_region, typed_fields, with_member, counted_in_front, called_in_front, said_bound, typed_full, typed_suffixes, typed_parameters}
+use Rattle.c_elab_decl.specs.Specifiers.{Fields, Parted, is_none, said_before, fields_behind, with_field, with_anonymous, typed_members, Derivations, Passed, parted, named_parts, judged_parameter, typed_parts, plain_parameter, parameter_made, parameter_node, with_parameter, declared_parameter, are_several, ended, inner_region, typed_fields, with_member, said_bound, typed_full, typed_suffixes, typed_parameters}
 use Rattle.c_elab_expr.specs.declared.fault.TypingError.{TypingError}
 use Rattle.c_elab_expr.specs.Typing.{Fails}
 use Rattle.c_elab_decl.specs.declared.derivations.Derived.{Derived as CodeDerived}

@@ -1,6 +1,6 @@
 -- What elaborating statements gives is well typed.
-use Rattle.std.proofs.Common.{◌≡◌, ◌≤◌, ◌<◌, ◌+◌, ◌^◌, ℕ, Bool, true, false, List, [], ◌∷◌, ◌++◌, length, map, Option, Some, None, Result, Ok, Err, refl, ap, sym, subst, ◌∙◌, arith, eq-eqb}
-use Rattle.std.specs.Prelude.{◌==◌, ◌||◌, ◌&&◌, nat_lt, slice_index, option_map, if◌then◌else◌}
+use Rattle.std.proofs.Common.{◌≡◌, ◌≤◌, ◌<◌, ◌^◌, ℕ, Bool, true, false, List, [], ◌∷◌, ◌++◌, length, Option, Some, None, Result, Ok, Err, refl, ap, sym, ◌∙◌, arith, eq-eqb}
+use Rattle.std.specs.Prelude.{◌==◌, nat_lt, slice_index, option_map, if◌then◌else◌}
 use borrow.Author.Tests.{lt-ltb}
 use Rattle.words.proofs.Ranges.{wrapped_below}
 use Rattle.c_tree.specs.Tree.{Tree}
@@ -25,7 +25,7 @@ use Rattle.c_values.specs.Numbers.{TypedNumber}
 use Rattle.c_elab_expr.specs.declared.meaning.Meaning.{Meaning}
 use Rattle.c_elab_expr.specs.declared.meaning.Meaning.TheVariants.{Incomplete}
 use Rattle.c_elab_expr.specs.declared.operands.Home.TheVariants as homes
-use Rattle.c_elab_expr.specs.Scopes.{Named, FunctionType, Flow, Cases, Scoped, sizes, given_by}
+use Rattle.c_elab_expr.specs.Scopes.{Named, Flow, Cases, Scoped, sizes, given_by}
 use Rattle.c_elab_expr.specs.Nodes.{◌>>=◌, required, as_type}
 use Rattle.c_elab_expr.specs.Operands.{Operand, value, object, structure, number, record_value, dropped, constant_in}
 use Rattle.c_elab_expr.specs.Types.{array_of}
@@ -39,17 +39,17 @@ use Rattle.c_elab_decl.specs.declared.regions.Role.TheVariants as roles
 use Rattle.c_elab_decl.specs.Regions.{earlier}
 use Rattle.c_elab_decl.specs.Derivations.{Derived, Derivation, lengths, callable, derivation, full_line}
 use Rattle.c_elab_decl.specs.Initializers.{Value, number_value, structure_value, initializer_of}
-use Rattle.c_elab_decl.specs.Declarators.{Typed, in_front, declared_item, is_open, given_lengths, sized_type, variable_node, variable_type, of_type, with_incomplete, within_initializer, with_variable, typed_variable}
+use Rattle.c_elab_decl.specs.Declarators.{Typed, in_front, declared_item, is_open, given_lengths, sized_type, variable_node, variable_type, of_type, within_initializer, with_variable, typed_variable}
 use Rattle.c_elab_decl.specs.Functions.{typed_function}
 use Rattle.c_elab_decl.specs.Specifiers.{Specification, typed_full, typed_specifiers}
 use Rattle.c_elab_decl.specs.Listed.{variable_by, typed_variables, typed_others, typed_by, typed_declaration}
 use Rattle.c_elab_decl.specs.Jumps.{label_number, jumps_in, is_passed}
 use Rattle.c_elab_decl.specs.Statements.{Around, in_loop, in_switch, in_block, with_loop, with_label, with_switch, switch_ended, part_ignored, part_tested, test_node, return_node, return_nothing_node, promoted_type, switch_type, switch_value, has_value, case_in, case_of_switch, case_node, default_node, with_cases, label_node, TypedStatement, TypedFront, as_block, own_block, as_items, switch_of, typed_rest, jump_node, typed_statement, typed_front, typed_items}
-use Rattle.c_elab_decl.proofs.Signatures.{own_sizes, switched, Called, Goes, is_given}
-use Rattle.c_elab_decl.proofs.Growing.{grows_refl, Wider, wider_refl, wider_trans, inner_refl, typed_grows, structure_grows, There, FollowsIf, Follows, follows_refl, follows_trans, SettlesIf, Settles, settles_both, there_behind, binding_settles, new_variable, variable_follows}
+use Rattle.c_elab_decl.proofs.Signatures.{own_sizes, switched, is_given}
+use Rattle.c_elab_decl.proofs.Growing.{grows_refl, Wider, wider_refl, wider_trans, inner_refl, typed_grows, structure_grows, There, Follows, follows_refl, follows_trans, SettlesIf, Settles, settles_both, there_behind, binding_settles, new_variable, variable_follows}
 use Rattle.c_elab_decl.proofs.Objects.{IsObject}
 use Rattle.c_elab_decl.proofs.Initialized.{FineOperand, fine, FineNumber, number_fine, FineStructure, record_fine, FineOption, option_fine}
-use Rattle.c_elab_decl.proofs.Settling.{trivially, weaken, DerivationFine, SuffixesDone, full_settles, suffixes_fine, function_settled, specifiers_settle, others_settle}
+use Rattle.c_elab_decl.proofs.Settling.{trivially, DerivationFine, SuffixesDone, full_settles, suffixes_fine, function_settled, specifiers_settle, others_settle}
 
 -- ---- what is done behind statements and items
 
@@ -101,7 +101,7 @@ node_object : (older : List Completed) (o : Option Meaning) (made : Result CType
 node_object older (Some m) made = refused (IsObject older) 2
 node_object older None made = bind (λ (t : CType). Unit {0}) (IsObject older) made (sized_type older) (trivially made) (λ t _. sized_object older t)
 
-type_object : (r : Region) (s : Scoped) (base : CType) (d : Full) (i : Option Initial) (ls : List (Option ℕ)) → Holds (IsObject s.records.done) (variable_type r s base d i ls)
+pub type_object : (r : Region) (s : Scoped) (base : CType) (d : Full) (i : Option Initial) (ls : List (Option ℕ)) → Holds (IsObject s.records.done) (variable_type r s base d i ls)
 type_object r s base d i ls =
     let made = array_of s.records.done base (given_lengths i ls) in
     let node = variable_node s.records.done (earlier r s (name_of d)) made in
@@ -114,11 +114,11 @@ record Within (s t : Scoped) : Type 0 where
   sizes : Wider (own_sizes s) (own_sizes t)
 
 within_done : (counted : Bool) (s : Scoped) (name : List ℕ) (n : Named) → There s → IsObject s.records.done n.type → Within (within_initializer counted s name n) (with_variable s name n)
-within_done false s name n there o = record { there = (variable_follows s name n o.complete).there there; same = refl; sizes = wider_refl (own_sizes (with_variable s name n)) }
+within_done false s name n there o = record { there = (variable_follows s name n o.complete o.sized).there there; same = refl; sizes = wider_refl (own_sizes (with_variable s name n)) }
 within_done true s name n there o = record {
   there = (binding_settles s name Incomplete refl).follows.there there;
   same = refl;
-  sizes = (variable_follows s name n o.complete).sizes there;
+  sizes = (variable_follows s name n o.complete o.sized).sizes there;
 }
 
 within_object : (counted : Bool) (s : Scoped) (name : List ℕ) (n : Named) → IsObject s.records.done n.type → IsObject (within_initializer counted s name n).records.done n.type
@@ -178,7 +178,7 @@ variable_done r s base d i ls passed behind h =
     let n = of_type base t in
     let w = within_initializer (is_open ls) s (name_of d) n in
     let u = with_variable s (name_of d) n in
-    let f = variable_follows s (name_of d) n o.complete in
+    let f = variable_follows s (name_of d) n o.complete o.sized in
     bind (λ v. There s → FineOption w t v) (ItemsDone s) (initializer_of false (full_line d) w t i) _
     (under (FineOption w t) (initializer_of false (full_line d) w t i) (λ there.
     option_fine false (full_line d) w t i (within_done (is_open ls) s (name_of d) n there o).there (within_object (is_open ls) s (name_of d) n o))) (λ v good.
@@ -229,6 +229,7 @@ flow_there s f same g = record {
   known = g.known;
   few = g.few;
   complete = g.complete;
+  small = g.small;
   built = g.built;
   calls = record { callables = g.calls.callables; types = g.calls.types; gives = ap (is_given s.records.done) same ∙ g.calls.gives };
 }
@@ -488,15 +489,15 @@ switch_case_done : (switch : Option Cases) (n : TypedNumber) → Holds (CaseDone
 switch_case_done None n = refused (CaseDone None) 14
 switch_case_done (Some c) n = case_in_done c n
 
-case_done : (line : ℕ) (switch : Option Cases) (x : Operand) → Holds (CaseDone switch) (on_line line (case_node switch x))
+pub case_done : (line : ℕ) (switch : Option Cases) (x : Operand) → Holds (CaseDone switch) (on_line line (case_node switch x))
 case_done line switch x =
     on_same_line (CaseDone switch) line (case_node switch x) (bind (λ (n : TypedNumber). Unit {0}) (CaseDone switch) (required 13 (constant_in x)) _ (trivially _) (λ n _. switch_case_done switch n))
 
 -- a default leaves the type
-abbrev DefaultDone : Option Cases → Cases → Type 0
+abbrev pub DefaultDone : Option Cases → Cases → Type 0
 DefaultDone switch x = option_map (λ (c : Cases). c.type) switch ≡ Some x.type
 
-default_done : (line : ℕ) (switch : Option Cases) → Holds (DefaultDone switch) (on_line line (default_node switch))
+pub default_done : (line : ℕ) (switch : Option Cases) → Holds (DefaultDone switch) (on_line line (default_node switch))
 default_done line None = on_same_line (DefaultDone None) line (default_node None) (refused (DefaultDone None) 14)
 default_done line (Some c) = on_same_line (DefaultDone (Some c)) line (default_node (Some c)) (by c.has_default) where
   by : (b : Bool) → Holds {E = ℕ} (DefaultDone (Some c)) (if b then Err 14 else Ok (record c { has_default = true }))

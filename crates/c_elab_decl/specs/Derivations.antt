@@ -1,9 +1,8 @@
 -- What the suffixes of declarators make of a type (C11 6.7.6.2, 6.7.6.3).
-use Rattle.std.specs.Prelude.{ℕ, ◌&&◌, ◌||◌, ◌==◌, nat_lt, Bool, true, false, not, List, [], ◌∷◌, ◌++◌, length, map, slice_get, Option, Some, None, option_map, Result, Ok, Err, if◌then◌else◌}
+use Rattle.std.specs.Prelude.{ℕ, ◌||◌, Bool, true, false, List, [], ◌∷◌, map, slice_get, Option, Some, None, option_map, Result, Ok, Err, if◌then◌else◌}
 use Rattle.std.specs.List.{list_any}
-use Rattle.c_tree.specs.Declarations.{Full, full_unnamed, full_named, full_inside, FullSuffixes, full_end, full_bounded, full_open, full_empty, full_void, full_parameters, Parts, part_line, parts_line}
+use Rattle.c_tree.specs.Declarations.{Full, full_unnamed, full_named, full_inside, FullSuffixes, full_end, full_bounded, full_open, full_empty, full_void, full_parameters, Parts, parts_line}
 use Rattle.c_tree.specs.Files.{full_is_empty}
-use Rattle.c_types.specs.Integers.{same_integer}
 use Rattle.c_types.specs.Types.{CType, void, integer, aggregate, array, Completed, view}
 use Rattle.c_elab_expr.specs.Scopes.{Named, FunctionType, FunctionTable, function_number, view_named, view_function_type}
 use Rattle.c_elab_expr.specs.declared.functions.FunctionType.{FunctionType as CodeFunctionType}

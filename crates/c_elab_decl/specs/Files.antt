@@ -1,24 +1,22 @@
 -- The functions of a file, or the first broken rule (C11 6.9).
 use Rattle.std.specs.Prelude.{ℕ, ◌+◌, ◌-◌, ◌++◌, ◌&&◌, Bool, true, false, List, [], ◌∷◌, length, take, map, slice_get, slice_set, Option, Some, None, Result, Ok, Err, if◌then◌else◌}
-use Rattle.c_tree.specs.Declarations.{Parts, Full, full_unnamed, full_named, full_inside, FullSuffixes, full_end, full_bounded, full_open, full_empty, full_void, full_parameters, Parameters, no_parameter, Declarators, name_of, parts_line}
+use Rattle.c_tree.specs.Declarations.{Parts, Full, full_unnamed, full_named, full_inside, FullSuffixes, full_end, full_bounded, full_open, full_empty, full_void, full_parameters, Parameters, no_parameter, Declarators, name_of}
 use Rattle.c_tree.specs.Statements.{Statement, block, Externals, no_more, declared, defines}
-use Rattle.c_types.specs.Types.{CType, Completed}
+use Rattle.c_types.specs.Types.{Completed}
 use Rattle.core_tree.specs.Trees.{Procedure, Static, TypedFile}
 use Rattle.core_tree.specs.Trees as cores
-use Rattle.c_elab_expr.specs.declared.meaning.Meaning.{Meaning}
 use Rattle.c_elab_expr.specs.declared.meaning.Meaning.TheVariants.{Function}
 use Rattle.c_elab_expr.specs.Scopes.{Environment, binding, Named, FunctionType, Lasting, Callable, Scoped, first_scope, no_flow, with_defined, sizes, lasting_size, passed_as, given_by, linked_to}
 use Rattle.c_elab_expr.specs.Nodes.{◌>>=◌}
-use Rattle.c_elab_expr.specs.Types.{nothing_said, specified_type}
 use Rattle.c_elab_expr.specs.Typing.{Fault, on_line}
 use Rattle.c_elab_decl.specs.declared.regions.Region.{Region}
 use Rattle.c_elab_decl.specs.Regions.{earlier}
-use Rattle.c_elab_decl.specs.Derivations.{Parameter, Derived, called, Derivation, lengths, callable, derivation, full_line}
+use Rattle.c_elab_decl.specs.Derivations.{Derived, called, Derivation, lengths, callable, derivation, full_line}
 use Rattle.c_elab_decl.specs.Functions.{function_node, definition_node, declared_callable}
 use Rattle.c_elab_decl.specs.Specifiers.{parted, named_parts, inner_region, are_several, Passed, typed_parts, typed_full, typed_parameters, typed_specifiers}
 use Rattle.c_elab_decl.specs.Listed.{typed_others}
 use Rattle.c_elab_decl.specs.Jumps.{labels_in}
-use Rattle.c_elab_decl.specs.Statements.{Around, TypedStatement, typed_items}
+use Rattle.c_elab_decl.specs.Statements.{TypedStatement, typed_items}
 
 -- outside of functions
 abbrev pub in_file : Region
@@ -106,10 +104,11 @@ typed_body_of outer s (block line is) = do
   Ok (cores.block x.0, x.1)
 typed_body_of outer s _ = Ok (cores.block cores.done, s)
 
--- a defined function: its number, the sizes of its variables, and its body
+-- a defined function: its number, the sizes of its variables, how many labels it has, and its body
 pub record Definition : Type 0 where
   pub number : ℕ
   pub variables : List ℕ
+  pub labels : ℕ
   pub body : cores.Statement
 
 -- names and variables of a function end with it, but for its own
@@ -122,7 +121,7 @@ typed_definition s parts d body = do
   p ← own_suffixes x.1 d (own_parameters d)
   f ← on_line (full_line d) (definition_type x.1 x.0 d p.0 p.1)
   y ← typed_body_of (length x.1.bindings + 1) (within_body x.1 p.1.scope d f) body
-  Ok (record { number = own_number (linked_to y.1.functions.named (name_of d)); variables = sizes y.1; body = y.0 }, outside x.1 y.1 (name_of d))
+  Ok (record { number = own_number (linked_to y.1.functions.named (name_of d)); variables = sizes y.1; labels = length (labels_in body); body = y.0 }, outside x.1 y.1 (name_of d))
 
 -- ---- files
 
@@ -152,13 +151,14 @@ procedure_of done f = record {
   parameters = map (passed_as done) f.type.parameters;
   ellipsis = f.ellipsis;
   variables = [];
+  labels = 0;
   body = None;
 }
 
 -- and with its body
 abbrev pub with_body : List Procedure → Definition → Option Procedure → List Procedure
 with_body fs x None = fs
-with_body fs x (Some f) = slice_set fs x.number (record f { variables = x.variables; body = Some x.body })
+with_body fs x (Some f) = slice_set fs x.number (record f { variables = x.variables; labels = x.labels; body = Some x.body })
 
 abbrev pub with_bodies : List Procedure → List Definition → List Procedure
 with_bodies fs [] = fs

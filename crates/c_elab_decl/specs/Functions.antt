@@ -1,5 +1,5 @@
 -- What declarators of functions declare (C11 6.7.6.3, 6.9.1).
-use Rattle.std.specs.Prelude.{ℕ, ◌+◌, ◌==◌, ◌&&◌, ◌||◌, ◌++◌, Bool, true, false, not, List, [], ◌∷◌, length, take, slice_get, slice_set, codes, Option, Some, None, is_some, Result, Ok, Err, if◌then◌else◌}
+use Rattle.std.specs.Prelude.{ℕ, ◌==◌, ◌&&◌, ◌||◌, Bool, true, false, not, List, [], ◌∷◌, length, take, slice_get, slice_set, codes, Option, Some, None, is_some, Result, Ok, Err, if◌then◌else◌}
 use Rattle.std.specs.List.{list_all}
 use Rattle.std.specs.Str.{bytes_eq}
 use Rattle.c_tree.specs.Declarations.{Initial, Full, name_of}
@@ -8,7 +8,7 @@ use Rattle.c_types.specs.Integers.{same_integer}
 use Rattle.c_types.specs.Types.{CType, void, integer, aggregate, array, Completed}
 use Rattle.c_elab_expr.specs.declared.meaning.Meaning.{Meaning}
 use Rattle.c_elab_expr.specs.declared.meaning.Meaning.TheVariants.{Variable, Object, Incomplete, Assert, Assume, Draw, Function, Typedef, Enumerator, Record, Enumeration}
-use Rattle.c_elab_expr.specs.Scopes.{binding, Named, FunctionType, Callable, FunctionTable, Scoped, linked_to, is_defined, with_callable}
+use Rattle.c_elab_expr.specs.Scopes.{binding, FunctionType, Callable, FunctionTable, Scoped, linked_to, is_defined, with_callable}
 use Rattle.c_elab_expr.specs.Nodes.{◌>>=◌}
 use Rattle.c_elab_expr.specs.Operands.{given_size}
 use Rattle.c_elab_expr.specs.Typing.{Fault, on_line}

@@ -1,5 +1,5 @@
 -- The declarators of a declaration, from left to right (C11 6.7).
-use Rattle.std.specs.Prelude.{ℕ, Bool, true, false, List, Option, Result, Ok, Err}
+use Rattle.std.specs.Prelude.{Bool, true, false, Option, Result, Ok}
 use Rattle.c_tree.specs.Declarations.{Parts, Initial, Full, Declarators, none_declared, declarator}
 use Rattle.c_elab_expr.specs.Scopes.{Named, Scoped}
 use Rattle.c_elab_expr.specs.Nodes.{◌>>=◌}
@@ -7,7 +7,7 @@ use Rattle.c_elab_expr.specs.Typing.{Fault}
 use Rattle.c_elab_decl.specs.declared.regions.Region.{Region}
 use Rattle.c_elab_decl.specs.declared.regions.Role.{Role}
 use Rattle.c_elab_decl.specs.declared.regions.Role.TheVariants as roles
-use Rattle.c_elab_decl.specs.Derivations.{Derived, Derivation, lengths, callable, derivation}
+use Rattle.c_elab_decl.specs.Derivations.{Derivation, lengths, callable, derivation}
 use Rattle.c_elab_decl.specs.Declarators.{Typed, typed_typedef, typed_function_typedef, typed_object, typed_variable}
 use Rattle.c_elab_decl.specs.Functions.{typed_function}
 use Rattle.c_elab_decl.specs.Specifiers.{Specification, typed_specifiers, typed_full}

@@ -14,7 +14,7 @@ use Rattle.c_elab_expr.specs.Scopes.{Named, Scoped, view_named}
 use Rattle.c_elab_expr.specs.Nodes.{◌>>=◌}
 use Rattle.c_elab_expr.specs.declared.specifying.Specified.{Specified}
 use Rattle.c_elab_expr.specs.Types.{Said, view_said, nothing_said, with_storage, with_type, with_part, specified_type, array_of}
-use Rattle.c_elab_expr.specs.Typing.{Fault, on_line, bare_line, bound, operand}
+use Rattle.c_elab_expr.specs.Typing.{Fault, on_line, bound, operand}
 use Rattle.c_elab_decl.specs.declared.regions.Region.{Region}
 use Rattle.c_elab_decl.specs.declared.regions.Role.{Role}
 use Rattle.c_elab_decl.specs.declared.specifying.Base.{Base}

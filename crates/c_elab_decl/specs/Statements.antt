@@ -1,6 +1,6 @@
 -- The typed statements of a function, or the first broken rule: parts come before what they are parts of, from left to right
 -- (C11 6.8).
-use Rattle.std.specs.Prelude.{ℕ, ◌+◌, ◌==◌, ◌||◌, ◌++◌, Bool, true, false, nat_lt, List, [], ◌∷◌, length, Option, Some, None, Result, Ok, Err, if◌then◌else◌}
+use Rattle.std.specs.Prelude.{ℕ, ◌+◌, ◌==◌, ◌++◌, Bool, true, false, List, [], ◌∷◌, length, Option, Some, None, Result, Ok, Err, if◌then◌else◌}
 use Rattle.std.specs.List.{list_any}
 use Rattle.c_tree.specs.Tree.{Tree}
 use Rattle.c_tree.specs.Statements.{Statement, block, if_then, if_else, evaluate, return_nothing, return_value, empty, while_loop, do_loop, for_loop, for_declared, switch_on, case_of, default_of, labelled, goto_label, break_off, continue_on, Items, done, declares, does}
@@ -14,7 +14,7 @@ use Rattle.core_tree.specs.Operations.{converted}
 use Rattle.core_tree.specs.Typed.{type_of}
 use Rattle.core_tree.specs.Trees as cores
 use Rattle.c_values.specs.Numbers.{TypedNumber}
-use Rattle.c_elab_expr.specs.Scopes.{Cases, Flow, Scoped}
+use Rattle.c_elab_expr.specs.Scopes.{Cases, Scoped}
 use Rattle.c_elab_expr.specs.Nodes.{◌>>=◌, required, as_type}
 use Rattle.c_elab_expr.specs.Operands.{Operand, value, object, structure, number, dropped, record_value, constant_in}
 use Rattle.c_elab_expr.specs.Typing.{Fault, fault, on_line, operand_by, operand}

@@ -67,7 +67,7 @@ abbrev pub definitions_first : List Definition → TypedDefinitions → TypedDef
 definitions_first fs behind = behind >>= λ x. Ok (fs ++ x.0, x.1)
 
 abbrev pub view_definition : CodeDefinition → Definition
-view_definition d = record { number = d.number; variables = d.variables.items; body = view_statement d.body }
+view_definition d = record { number = d.number; variables = d.variables.items; labels = d.labels; body = view_statement d.body }
 
 abbrev pub view_definitions : List CodeDefinition → List Definition
 view_definitions ds = map view_definition ds

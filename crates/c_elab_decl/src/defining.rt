@@ -12,6 +12,7 @@ ghost use Rattle.c_elab_expr.specs.Scopes.{Scoped, view_named, view_function_typ
 ghost use Rattle.c_elab_expr.specs.Typing.{Gives, on_line};
 ghost use Rattle.c_elab_decl.specs.Regions.{earlier};
 ghost use Rattle.c_elab_decl.specs.Derivations.{called, full_line, view_parameters, view_derived, view_deriveds};
+ghost use Rattle.c_elab_decl.specs.Jumps.{labels_in};
 ghost use Rattle.c_elab_decl.specs.Specifiers.{are_several, inner_region, typed_parameters};
 ghost use Rattle.c_elab_decl.specs.Files.{in_file, is_name_alone, one_function, own_parameters, own_suffixes, definition_type, typed_externals, typed_body_of, with_definitions, procedure_of, with_bodies, first_said, static_of, elaborated};
 ghost use Rattle.c_elab_decl.specs.Steps.{DefinitionStep, IsOwn, called_parameters, parameters_in, view_own, view_definitions};
@@ -44,6 +45,7 @@ const MOST: usize = 0x7fff_ffff;
 pub struct Definition {
     pub number: u32,
     pub variables: Vec<u32>,
+    pub labels: usize,
     pub body: CoreStatement,
 }
 
@@ -249,21 +251,30 @@ fn definition_type(
     definition_on(line, parameters_in(own, suffixes), type_, scope.layouts())
 }
 
-// The body of a function, whose items stand in the scope of its parameters, behind `outer` names.
-fn typed_body(
-    alloc: Global,
-    body: &Stmt,
-    outer: usize,
-    scope: &mut Scope,
-) -> Result<CoreStatement, TypingError>
-    requires { outer ≤ length scope.old.bindings }
-    ensures gives { Gives (λ c. (typed_view c, scope.new)) result (typed_body_of outer scope.old (view_statement body.now)) }
-    ensures within { OnOk result (outer ≤ length scope.new.bindings) }
+// The labels of a body.
+fn labels_of_body(alloc: Global, body: &Stmt) -> Result<Labels, AllocError>
+    ensures { IfOk result (λ l. l ≡ labels_in (view_statement body.now)) }
 {
     let mut labels = Labels::new(alloc);
     add_labels(alloc, body, &mut labels)?;
+    Ok(labels)
+}
+
+// The body of a function with these labels, whose items stand in the scope of its parameters, behind `outer` names.
+fn typed_body(
+    alloc: Global,
+    body: &Stmt,
+    labels: &Labels,
+    outer: usize,
+    scope: &mut Scope,
+) -> Result<CoreStatement, TypingError>
+    requires within { outer ≤ length scope.old.bindings }
+    requires labels { labels.now ≡ labels_in (view_statement body.now) }
+    ensures gives { Gives (λ c. (typed_view c, scope.new)) result (typed_body_of outer scope.old (view_statement body.now)) }
+    ensures within { OnOk result (outer ≤ length scope.new.bindings) }
+{
     let around = Around {
-        labels: &labels,
+        labels,
         breaks: false,
         continues: false,
     };
@@ -363,12 +374,14 @@ fn define(
     let number = declared_callable(alloc, declarator, &type_, true, scope)?;
     scope.declare_below(alloc, outer, name, Meaning::Function { function: number })?;
     begin(type_.gives, scope);
-    let body = typed_body(alloc, &definition.body, outer + 1, scope)?;
+    let labels = labels_of_body(alloc, &definition.body)?;
+    let body = typed_body(alloc, &definition.body, &labels, outer + 1, scope)?;
     scope.leave(outer + 1);
     end(scope);
     definitions.push(Definition {
         number,
         variables: scope.take_variables(alloc),
+        labels: labels.len(),
         body,
     })?;
     Ok(())
@@ -571,6 +584,7 @@ fn procedure_of(
         parameters: all_passed(alloc, &callable.type_.parameters, layouts)?,
         ellipsis: callable.ellipsis,
         variables: Vec::new(alloc),
+        labels: 0,
         body: None,
     })
 }
@@ -593,9 +607,10 @@ fn procedures(alloc: Global, scope: &Scope) -> Result<Vec<Function>, AllocError>
 
 // Gives a function its body.
 fn give_body(definition: Definition, function: &mut Function)
-    ensures { view_function function.new ≡ record (view_function function.old) { variables = definition.variables.items; body = Some (typed_view definition.body) } }
+    ensures { view_function function.new ≡ record (view_function function.old) { variables = definition.variables.items; labels = definition.labels; body = Some (typed_view definition.body) } }
 {
     function.variables = definition.variables;
+    function.labels = definition.labels;
     function.body = Some(definition.body);
 }
 

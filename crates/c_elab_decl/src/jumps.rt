@@ -85,6 +85,13 @@ impl Labels {
         Ok(())
     }
 
+    /// How many labels there are.
+    pub fn len(&self) -> usize
+        ensures { result ≡ length self.now }
+    {
+        self.names.len()
+    }
+
     /// The number of the first label of a name.
     pub fn number(&self, name: &[u8]) -> Option<u32>
         ensures { result ≡ label_number self.now name.now }

@@ -212,6 +212,7 @@ pub record Procedure : Type 0 where
   pub parameters : List PassedType
   pub ellipsis : Option ℕ
   pub variables : List ℕ
+  pub labels : ℕ
   pub body : Option Statement
 
 abbrev pub view_function : Function → Procedure
@@ -222,6 +223,7 @@ view_function f = record {
   parameters = f.parameters.items;
   ellipsis = f.ellipsis;
   variables = f.variables.items;
+  labels = f.labels;
   body = option_map view_statement f.body;
 }
 

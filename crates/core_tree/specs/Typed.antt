@@ -256,6 +256,13 @@ abbrev mutual
 abbrev pub is_static : Static → Bool
 is_static o = nat_lt o.size (2 ^ 31) && nat_le (length o.bytes) o.size && list_all (λ b. nat_lt b 256) o.bytes
 
+-- variables of fewer than 2 ^ 31 bytes each, by how many bytes they have
+abbrev pub are_small : List ℕ → Bool
+are_small variables = list_all (λ size. nat_lt size (2 ^ 31)) variables
+
+abbrev pub have_small : List Procedure → Bool
+have_small functions = list_all (λ (f : Procedure). are_small f.variables) functions
+
 abbrev pub sizes_of_objects : List Static → List ℕ
 sizes_of_objects objects = map (λ (o : Static). o.size) objects
 

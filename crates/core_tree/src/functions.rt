@@ -1,6 +1,7 @@
 ghost use Rattle.std.specs.Prelude.{◌≡◌, ◌<◌, ◌^◌, true, length, MatchOption, slice_get, option_map};
 ghost use Rattle.core_tree.specs.Trees.{core_file, view_core};
-ghost use Rattle.core_tree.specs.Typed.{are_typed};
+ghost use Rattle.core_tree.specs.Standing.{stands_file};
+ghost use Rattle.core_tree.specs.Typed.{are_typed, have_small};
 
 use crate::statement::CoreStatement;
 use c_types::IntegerType;
@@ -21,8 +22,8 @@ pub enum PassedType {
 
 /// A function: its name with its line, what it gives, none where that is void, the types of its parameters,
 /// and, where a declaration of it has an ellipsis, the line of the first of those. The sizes of its
-/// variables in bytes by their numbers, of which the parameters are the first, and its body, where it is
-/// defined.
+/// variables in bytes by their numbers, of which the parameters are the first, how many labels it has, and its
+/// body, where it is defined.
 #[derive(Drop)]
 pub struct Function {
     pub name: Name,
@@ -31,6 +32,7 @@ pub struct Function {
     pub parameters: Vec<PassedType>,
     pub ellipsis: Option<u32>,
     pub variables: Vec<u32>,
+    pub labels: usize,
     pub body: Option<CoreStatement>,
 }
 
@@ -47,9 +49,10 @@ pub struct StaticObject {
 }
 
 /// The typed tree of a file: its functions by their numbers, and its static objects, whose numbers begin
-/// with 1. Each part has the type that its place asks for, each variable, each static object and each
-/// function that is named is there, no object has 2 ^ 31 bytes or more, none has more bytes said than it has, and there are
-/// fewer than 2 ^ 31 functions and fewer than 2 ^ 31 static objects.
+/// with 1. Each part has the type that its place asks for; each variable, each static object, each
+/// function and each label that is named is there; each `break`, `continue`, `case` and `default` stands
+/// in its statement; no variable and no static object has 2 ^ 31 bytes or more, and none has more bytes
+/// said than it has; there are fewer than 2 ^ 31 functions and fewer than 2 ^ 31 static objects.
 #[derive(Drop)]
 pub struct Core {
     functions: Vec<Function>,
@@ -59,7 +62,8 @@ pub struct Core {
 impl Model for Core {
     ghost use Rattle.std.specs.Prelude.{◌≡◌, ◌<◌, ◌^◌, true, length};
     ghost use Rattle.core_tree.specs.Trees.{CoreFile, core_file, view_core};
-    ghost use Rattle.core_tree.specs.Typed.{are_typed};
+    ghost use Rattle.core_tree.specs.Standing.{stands_file};
+    ghost use Rattle.core_tree.specs.Typed.{are_typed, have_small};
     ghost use Rattle.std.specs.Coded.{codes};
     ghost use Rattle.core_tree.specs.contracts.expression.CoreExpr as expressions;
     ghost use Rattle.core_tree.specs.contracts.statement.CoreItem as items;
@@ -71,7 +75,7 @@ impl Model for Core {
 
     ghost view = { λ c. core_file c.functions.items c.objects.items };
 
-    ghost invariant = { λ c. (length c.functions.items < 2 ^ 31) × (length c.objects.items < 2 ^ 31) × (are_typed (view_core (core_file c.functions.items c.objects.items)) ≡ true) };
+    ghost invariant = { λ c. (length c.functions.items < 2 ^ 31) × (length c.objects.items < 2 ^ 31) × (are_typed (view_core (core_file c.functions.items c.objects.items)) ≡ true) × (stands_file (view_core (core_file c.functions.items c.objects.items)) ≡ true) × (have_small (view_core (core_file c.functions.items c.objects.items)).functions ≡ true) };
 }
 
 impl Core {
@@ -80,6 +84,8 @@ impl Core {
         requires few { length functions.items < 2 ^ 31 }
         requires few_objects { length objects.items < 2 ^ 31 }
         requires typed { are_typed (view_core (core_file functions.items objects.items)) ≡ true }
+        requires standing { stands_file (view_core (core_file functions.items objects.items)) ≡ true }
+        requires small { have_small (view_core (core_file functions.items objects.items)).functions ≡ true }
         ensures { result ≡ core_file functions.items objects.items }
     {
         Core { functions, objects }
@@ -90,6 +96,8 @@ impl Core {
         ensures is { result.now ≡ self.now.functions }
         ensures few { length self.now.functions < 2 ^ 31 }
         ensures typed { are_typed (view_core self.now) ≡ true }
+        ensures standing { stands_file (view_core self.now) ≡ true }
+        ensures small { have_small (view_core self.now).functions ≡ true }
     {
         &self.functions
     }

@@ -1,7 +1,7 @@
-use Rattle.std.proofs.Common.{◌≡◌, ◌≤◌, ◌+◌, ℕ, List, [], length, false, Result, Ok, Err, refl, sym, ap, ap₂, ◌∙◌, arith}
+use Rattle.std.proofs.Common.{◌≡◌, ◌+◌, ℕ, List, [], length, false, Result, Ok, refl, sym, ap, ap₂, ◌∙◌, arith}
 use Rattle.std.proofs.lemmas.Result.{err_from_is_err_and}
 use Rattle.c_tree.specs.declared.declaration.Specifier.{Specifier}
-use Rattle.c_tree.specs.Declarations.{view_full, parts_of, name_of}
+use Rattle.c_tree.specs.Declarations.{view_full, parts_of}
 use Rattle.c_tree.specs.Statements.{defines, view_statement as tree}
 use Rattle.core_tree.specs.Trees.{view_statement}
 use Rattle.c_elab_expr.specs.Scopes.{Named, FunctionType, Scoped, view_named, view_function_type}
@@ -13,7 +13,7 @@ use Rattle.c_elab_decl.specs.Regions.{earlier}
 use Rattle.c_elab_decl.specs.Derivations.{full_line, view_deriveds}
 use Rattle.c_elab_decl.specs.Specifiers.{Passed, parted, named_parts, typed_parts}
 use Rattle.c_elab_decl.specs.Files.{in_file, own_parameters, own_suffixes, definition_type, typed_body_of, typed_externals}
-use Rattle.c_elab_decl.specs.Steps.{parameters_in, view_own}
+use Rattle.c_elab_decl.specs.Steps.{parameters_in}
 use Rattle.c_elab_decl.proofs.Definitions.{bare_before, parts_fail, own_fail, type_fail, scope_is, body_within, body_fails, names_there, defined_so, outer_within}
 use Rattle.c_elab_decl.proofs.Fronts.{definition_fails, definition_typed, fault_definition}
 use Rattle.c_elab_decl.proofs.Steps.{fails_on, fails_along}
@@ -102,8 +102,8 @@ declare_below-requires-clause-within c =
     let long = ap (λ (y : Scoped). length y.bindings) c.in_ok-number.ensures.declared in
     omega (arith, within, long, c.len-outer.ensures)
 
-pub typed_body-requires : goal.typed_body-requires
-typed_body-requires c =
+pub typed_body-requires-clause-within : goal.typed_body-requires-clause-within
+typed_body-requires-clause-within c =
     let x = c.args.definition.now in
     let s = c.args.scope.now in
     let parts = parts_of x.specifiers.items in
@@ -203,8 +203,9 @@ returns-clause-step c = λ rest.
     let is = scope_is s parts d body outer base ds q f e1 e2 e3 c.declared_callable.new.scope c.declare_below.new.self c.begin.new.scope c.len-outer.result c.in_ok-number.number c.name_of-name.result.now f.gives.type
     c.in_ok-number.ensures.number c.in_ok-number.ensures.declared c.len-outer.ensures c.name_of-name.ensures refl c.in_ok-declare_below.ensures c.begin.ensures in
     let last = c.take_variables.new.self in
-    let made : CodeDefinition = record { number = c.in_ok-number.number; variables = c.take_variables.result; body = c.in_ok-body.body } in
+    let made : CodeDefinition = record { number = c.in_ok-number.number; variables = c.take_variables.result; labels = c.len.result; body = c.in_ok-body.body } in
     definition_typed s last parts d body rest before c.push.new.self.items made
     (defined_so s parts d body outer base ds q f e1 e2 e3 c.begin.new.scope c.typed_body.new.scope c.len-outer.result (view_statement c.in_ok-body.body) is c.len-outer.ensures c.in_ok-body.ensures.gives
-    c.leave.new.self c.end.new.scope last c.in_ok-number.number c.take_variables.result.items c.in_ok-number.ensures.number c.leave.ensures c.end.ensures c.take_variables.ensures.ended c.take_variables.ensures.sizes)
+    c.leave.new.self c.end.new.scope last c.in_ok-number.number c.take_variables.result.items c.len.result c.in_ok-number.ensures.number c.leave.ensures c.end.ensures c.take_variables.ensures.ended c.take_variables.ensures.sizes
+    (c.len.ensures ∙ ap (λ (ls : List (List ℕ)). length ls) c.in_ok-labels.ensures))
     c.in_ok-push.ensures.items

@@ -1,4 +1,4 @@
-use Rattle.std.proofs.Common.{◌≡◌, ℕ, List, true, Option, Result, Ok, Err, sym, ap, subst, ◌∙◌}
+use Rattle.std.proofs.Common.{◌≡◌, ℕ, List, true, Option, Result, Ok, sym, ap, subst, ◌∙◌}
 use Rattle.c_tree.specs.Declarations.{view_full, name_of}
 use Rattle.c_types.specs.Types.{Completed, Records}
 use Rattle.c_elab_expr.specs.declared.meaning.Meaning.{Meaning}

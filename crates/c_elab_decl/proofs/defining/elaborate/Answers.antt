@@ -1,14 +1,14 @@
-use Rattle.std.proofs.Common.{◌≡◌, List, Result, map, sym, ap, ap₂, ◌∙◌}
+use Rattle.std.proofs.Common.{◌≡◌, List, map, sym, ap, ap₂, ◌∙◌}
 use Rattle.std.proofs.lemmas.Result.{err_from_is_err_and}
 use Rattle.c_tree.specs.declared.statement.External.{External}
 use Rattle.c_tree.specs.Statements.{externals_of}
 use Rattle.core_tree.specs.Trees.{Procedure, view_functions, view_statics}
 use Rattle.c_elab_expr.specs.declared.fault.TypingError.TheVariants as errors
 use Rattle.c_elab_expr.specs.Scopes.{Scoped, first_scope}
-use Rattle.c_elab_expr.specs.Typing.{Fault}
 use Rattle.c_elab_decl.specs.Files.{typed_externals, static_of, with_bodies, with_definitions, elaborated}
 use Rattle.c_elab_decl.specs.Steps.{TypedDefinitions, view_definitions}
-use Rattle.c_elab_decl.proofs.Bodies.{noted_empty, file_typed}
+use Rattle.c_elab_decl.proofs.Bodies.{noted_empty, file_typed, file_small}
+use Rattle.c_elab_decl.proofs.Standing.{file_stands}
 use Rattle.c_elab_decl.proofs.Definitions.{file_fails}
 use Rattle.c_elab_decl.proofs.Steps.{fails_on, gives_err}
 use Rattle.c_elab_decl.proofs.defining.elaborate.Goals as goal
@@ -29,6 +29,26 @@ new-requires-2-clause-typed c =
     (sym start ∙ c.in_ok-definitions.ensures)
     (c.give_bodies.ensures ∙ ap (λ (fs : List Procedure). with_bodies fs xs) c.in_ok-functions.ensures)
     (c.in_ok-objects.ensures.are ∙ ap (λ (t : Scoped). map (static_of t.records.done) t.objects) c.leave.ensures) c.in_ok-objects.ensures.fit
+
+pub new-requires-2-clause-standing : goal.new-requires-2-clause-standing
+new-requires-2-clause-standing c =
+    let ds = externals_of c.args.file.now.externals.items in
+    let xs = view_definitions c.in_ok-definitions.definitions.items in
+    let noted : c.note_definitions.new.scope ≡ with_definitions first_scope ds =
+    c.in_ok-note_definitions.ensures ∙ ap₂ (λ (t : Scoped) (ys : List External). with_definitions t (externals_of ys)) c.in_ok-scope.ensures c.deref.ensures.value in
+    let start = ap₂ (λ (t : Scoped) (ys : List External). typed_externals t (externals_of ys)) noted c.deref-2.ensures.value in
+    file_stands ds xs c.typed_externals.new.scope (view_functions c.give_bodies.new.functions.items) (view_statics c.in_ok-objects.objects.items)
+    (sym start ∙ c.in_ok-definitions.ensures) (c.give_bodies.ensures ∙ ap (λ (fs : List Procedure). with_bodies fs xs) c.in_ok-functions.ensures)
+
+pub new-requires-2-clause-small : goal.new-requires-2-clause-small
+new-requires-2-clause-small c =
+    let ds = externals_of c.args.file.now.externals.items in
+    let xs = view_definitions c.in_ok-definitions.definitions.items in
+    let noted : c.note_definitions.new.scope ≡ with_definitions first_scope ds =
+    c.in_ok-note_definitions.ensures ∙ ap₂ (λ (t : Scoped) (ys : List External). with_definitions t (externals_of ys)) c.in_ok-scope.ensures c.deref.ensures.value in
+    let start = ap₂ (λ (t : Scoped) (ys : List External). typed_externals t (externals_of ys)) noted c.deref-2.ensures.value in
+    file_small ds xs c.typed_externals.new.scope (view_functions c.give_bodies.new.functions.items)
+    (sym start ∙ c.in_ok-definitions.ensures) (c.give_bodies.ensures ∙ ap (λ (fs : List Procedure). with_bodies fs xs) c.in_ok-functions.ensures)
 
 pub returns-in_err-note_definitions : goal.returns-in_err-note_definitions
 returns-in_err-note_definitions c =

@@ -7,7 +7,7 @@ use Rattle.c_elab_expr.specs.Scopes.{Scoped}
 use Rattle.c_elab_expr.specs.Typing.{Fails}
 use Rattle.c_elab_decl.specs.Files.{Definition, typed_externals}
 use Rattle.c_elab_decl.specs.Steps.{TypedDefinitions, definitions_first, view_definitions}
-use Rattle.c_elab_decl.proofs.Fronts.{no_definitions_first, externals_at}
+use Rattle.c_elab_decl.proofs.Fronts.{externals_at}
 use Rattle.c_elab_decl.proofs.Steps.{fails_on, gives_err}
 use Rattle.c_elab_decl.proofs.defining.typed_externals.Goals as goal
 

@@ -1,4 +1,4 @@
-use Rattle.std.proofs.Common.{◌≡◌, ℕ, Result, option_map, sym, subst}
+use Rattle.std.proofs.Common.{ℕ, Result, option_map, sym, subst}
 use Rattle.c_types.specs.declared.integers.IntegerType.{IntegerType}
 use Rattle.c_elab_expr.specs.Scopes.{view_cases}
 use Rattle.c_elab_expr.specs.Operands.{view_operand}

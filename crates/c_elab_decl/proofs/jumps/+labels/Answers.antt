@@ -1,5 +1,4 @@
-use Rattle.std.proofs.Common.{◌≡◌, ◌++◌, List, ap, sym, subst, ◌∙◌}
-use Rattle.std.specs.Prelude.{OnOk}
+use Rattle.std.proofs.Common.{◌≡◌, ◌++◌, List, ap, sym, ◌∙◌}
 use Rattle.c_tree.specs.declared.statement.Item.{Item}
 use Rattle.c_tree.specs.Statements.{Statement, view_statement, items_of}
 use Rattle.c_tree.proofs.StatementViews.{view_block}

@@ -1,5 +1,4 @@
 use Rattle.std.proofs.Common.{◌≡◌, refl, ap, sym, subst, ◌∙◌}
-use Rattle.std.specs.Prelude.{OnOk}
 use Rattle.c_tree.specs.declared.statement.Stmt.{Stmt}
 use Rattle.c_tree.specs.Statements.{Statement, labelled, view_statement}
 use Rattle.c_elab_decl.specs.declared.jumps.Ahead.{Ahead}

@@ -1,4 +1,3 @@
-use Rattle.std.proofs.Common.{ap, ◌∙◌}
 use Rattle.c_elab_decl.specs.Jumps.{first_label}
 use Rattle.c_elab_decl.proofs.Jumping.{some_label, no_label, new_label, old_label}
 use Rattle.c_elab_decl.proofs.jumps.add_first.Goals as goal

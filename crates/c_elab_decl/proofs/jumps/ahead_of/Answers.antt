@@ -1,8 +1,7 @@
-use Rattle.std.proofs.Common.{◌≡◌, ◌∷◌, [], ◌++◌, ◌+◌, List, length, take, ap, sym, subst, ◌∙◌, arith}
+use Rattle.std.proofs.Common.{◌≡◌, ◌∷◌, [], ◌++◌, ◌+◌, take, ap, sym, subst, ◌∙◌, arith}
 use Rattle.std.proofs.lemmas.List.{take_more, length-take}
 use Rattle.c_tree.specs.declared.statement.Item.{Item}
 use Rattle.c_tree.specs.Statements.{items_of}
-use Rattle.c_elab_decl.specs.declared.jumps.Ahead.{Ahead}
 use Rattle.c_elab_decl.specs.Lookahead.{Looks}
 use Rattle.c_elab_decl.proofs.Jumping.{looks_does, looks_declares}
 use Rattle.c_elab_decl.proofs.jumps.ahead_of.Goals as goal

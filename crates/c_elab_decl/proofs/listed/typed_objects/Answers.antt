@@ -1,9 +1,9 @@
-use Rattle.std.proofs.Common.{◌≡◌, ◌≤◌, ◌+◌, List, Result, length, drop, option_map, sym, ap, subst, ◌∙◌, arith}
+use Rattle.std.proofs.Common.{◌≤◌, ◌+◌, List, length, drop, option_map, sym, ap, subst, ◌∙◌, arith}
 use Rattle.std.proofs.lemmas.Result.{err_from_is_err_and}
 use Rattle.std.proofs.lemmas.List.{drop_all}
 use Rattle.c_tree.specs.declared.declaration.InitDeclarator.{InitDeclarator}
 use Rattle.c_tree.specs.Declarations.{view_full, declarators_of, view_initializer}
-use Rattle.c_elab_expr.specs.Scopes.{Environment, Scoped, view_named}
+use Rattle.c_elab_expr.specs.Scopes.{Environment, view_named}
 use Rattle.c_elab_decl.specs.declared.derivations.Derived.{Derived as CodeDerived}
 use Rattle.c_elab_decl.specs.Derivations.{view_deriveds, view_derivation, derivation}
 use Rattle.c_elab_decl.specs.Listed.{object_by, typed_objects}

@@ -3,19 +3,19 @@ use Rattle.std.proofs.lemmas.Result.{err_from_is_err_and}
 use Rattle.std.proofs.lemmas.List.{drop_all}
 use Rattle.c_tree.specs.declared.declaration.InitDeclarator.{InitDeclarator}
 use Rattle.c_tree.specs.Declarations.{view_full, declarators_of, view_initializer}
-use Rattle.c_elab_expr.specs.Scopes.{Environment, Scoped, view_named}
+use Rattle.c_elab_expr.specs.Scopes.{Environment, view_named}
 use Rattle.c_elab_decl.specs.declared.derivations.Derived.{Derived as CodeDerived}
 use Rattle.c_elab_decl.specs.Derivations.{view_deriveds, view_derivation, derivation}
 use Rattle.c_elab_expr.specs.Typing.{Fails}
 use Rattle.c_tree.specs.Declarations.{Declarators}
 use Rattle.c_elab_decl.specs.Declarators.{Typed}
-use Rattle.c_elab_decl.specs.Listed.{variable_by, typed_variables}
+use Rattle.c_elab_decl.specs.Listed.{typed_variables}
 use Rattle.c_elab_decl.specs.Specifiers.{typed_full}
 use Rattle.c_elab_decl.specs.Steps.{items_first}
 use Rattle.c_elab_decl.proofs.Fronts.{behind_fails, fault_step, memory_step}
 use Rattle.c_elab_decl.proofs.Lists.{declarators_at}
 use Rattle.c_elab_decl.proofs.Listing.{variables_more, variables_full_fail}
-use Rattle.c_elab_decl.proofs.Steps.{fails_on, no_promise}
+use Rattle.c_elab_decl.proofs.Steps.{fails_on}
 use Rattle.c_elab_decl.proofs.listed.typed_variables.Goals as goal
 
 pub loop-declared-init : goal.loop-declared-init

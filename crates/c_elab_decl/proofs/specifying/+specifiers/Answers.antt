@@ -1,11 +1,11 @@
-use Rattle.std.proofs.Common.{◌≡◌, List, Result, option_map, sym, ap, subst, ◌∙◌, ◌≤◌, ◌+◌, ◌-◌, ℕ, Bool, false, [], ◌∷◌, None, Ok, length, take, drop, refl, ap₂, arith}
+use Rattle.std.proofs.Common.{◌≡◌, List, Result, option_map, sym, ap, subst, ◌∙◌, ◌+◌, ◌-◌, ℕ, Bool, false, [], None, Ok, length, drop, ap₂, arith}
 use Rattle.c_tree.specs.declared.declaration.Specifier.{Specifier}
 use Rattle.c_tree.specs.declared.declaration.MemberDeclaration.{MemberDeclaration}
 use Rattle.c_tree.specs.Tree.{view_name}
-use Rattle.c_tree.specs.Declarations.{view_part, parts_of, parts_line, members, no_member, members_of, name_of, full_has_name, Full, FullSuffixes, Parameters, full_end, full_parameters, no_parameter, view_full, fulls_of, view_full_suffix, full_suffixes_of, parameters_of, view_parameter as view_parameter_tree}
+use Rattle.c_tree.specs.Declarations.{view_part, parts_of, parts_line, members, no_member, members_of, name_of, full_has_name, FullSuffixes, full_end, full_parameters, no_parameter, view_full, fulls_of, view_full_suffix, full_suffixes_of, parameters_of, view_parameter as view_parameter_tree}
 use Rattle.c_tree.proofs.DeclarationViews.{view_record, view_unnamed, view_named as view_named_full, view_inside, view_takes}
-use Rattle.c_elab_expr.specs.Typing.{Fault, Gives, Fails, on_line}
-use Rattle.c_elab_decl.specs.Specifiers.{Parted, Fields, typed_record, typed_part, typed_members, is_none, has_untagged, said_before, with_field, fields_behind, called_in_front, ended, view_parted, Passed, are_several, inner_region, with_member, typed_fields, typed_full, typed_suffixes, typed_parameters, parted, named_parts, typed_parts, view_typed}
+use Rattle.c_elab_expr.specs.Typing.{Fault, Gives, on_line}
+use Rattle.c_elab_decl.specs.Specifiers.{Parted, Fields, typed_record, typed_part, typed_members, is_none, has_untagged, said_before, with_field, fields_behind, called_in_front, ended, view_parted, Passed, are_several, inner_region, with_member, typed_fields, typed_full, typed_suffixes, typed_parameters, typed_parts, view_typed}
 use Rattle.c_elab_decl.proofs.specifying.+specifiers.Goals.{typed_line-then-alone+then-has_untagged+in_ok-copied+in_ok-add_field, typed_line-else-alone, typed_line-else-alone-via-then-alone+else-has_untagged, typed_line-else-alone-via-else-alone}
 use Rattle.c_elab_decl.proofs.specifying.+specifiers.Goals as goal
 use Rattle.std.proofs.lemmas.Result.{err_from_is_err_and}
@@ -13,9 +13,9 @@ use Rattle.std.proofs.lemmas.List.{drop_all, append-nil}
 use Rattle.c_tree.specs.declared.declaration.FullDeclarator.{FullDeclarator}
 use Rattle.c_tree.specs.declared.declaration.DeclaratorSuffix.{DeclaratorSuffix}
 use Rattle.c_tree.specs.declared.declaration.Parameter.{Parameter as ParameterTree}
-use Rattle.c_elab_expr.specs.Scopes.{Environment, Named, Scoped, are_there, view_named}
+use Rattle.c_elab_expr.specs.Scopes.{Environment, Scoped, are_there, view_named}
 use Rattle.c_elab_decl.specs.declared.derivations.Derived.{Derived as CodeDerived}
-use Rattle.c_elab_decl.specs.Derivations.{Derived, derivation, view_derived, view_deriveds, view_parameters}
+use Rattle.c_elab_decl.specs.Derivations.{Derived, derivation, view_deriveds, view_parameters}
 use Rattle.std.specs.Prelude.{◌&&◌, is_some, nat_lt, Vec}
 use Rattle.std.specs.Global.{Global}
 use Rattle.c_types.specs.Types.{CType, view as type_view}
@@ -27,7 +27,7 @@ use Rattle.c_elab_expr.proofs.Variables.{and}
 use Rattle.c_elab_decl.specs.Regions.{earlier}
 use Rattle.c_elab_decl.specs.declared.regions.Region.{Region}
 use Rattle.c_elab_decl.specs.declared.derivations.Parameter.{Parameter as CodeParameter}
-use Rattle.c_elab_decl.specs.Steps.{suffixes_first, Derives}
+use Rattle.c_elab_decl.specs.Steps.{suffixes_first}
 use Rattle.c_elab_decl.proofs.Steps.{fails_on, fails_bind, fails_along, gives_err}
 use Rattle.c_elab_decl.proofs.Suffixes.{fulls_at, suffixes_at, parameters_at, field_more, field_fails, full_fails, joined, derives_both, derives_as, derives_fault, derives_one, suffix_fails, first_fails, parameter_more, parameter_fails, line_parts_fail, line_type_fails, line_is, none_declared, with_it, without_it, several_are, parameter_sized}
 use Rattle.c_elab_decl.proofs.Ending.{names_within, variables_within, names_there, suffix_ends, names_now, variables_now}

@@ -1,11 +1,11 @@
-use Rattle.std.proofs.Common.{◌≡◌, ◌≤◌, ◌+◌, ◌-◌, ◌++◌, ℕ, Bool, true, false, List, [], ◌∷◌, length, set, drop, Option, Some, None, Result, Ok, Err, option_map, refl, sym, ap, subst, ◌∙◌, arith, rules}
+use Rattle.std.proofs.Common.{◌≡◌, ◌≤◌, ◌+◌, ◌-◌, ◌++◌, ℕ, Bool, true, false, List, [], length, set, drop, Option, Some, None, Ok, option_map, refl, sym, ap, subst, ◌∙◌, arith}
 use Rattle.std.proofs.lemmas.Result.{err_from_is_err_and}
 use Rattle.std.proofs.lemmas.List.{drop_all}
 use Rattle.c_types.specs.declared.integers.IntegerType.{IntegerType}
 use Rattle.c_tree.specs.declared.statement.Item.{Item}
 use Rattle.c_tree.specs.declared.statement.Stmt.{Stmt}
 use Rattle.c_tree.specs.Declarations.{parts_of, declarators_of}
-use Rattle.c_tree.specs.Statements.{Items, while_loop, do_loop, for_loop, for_declared, case_of, default_of, labelled, view_statement as tree}
+use Rattle.c_tree.specs.Statements.{while_loop, do_loop, for_loop, for_declared, case_of, default_of, labelled, view_statement as tree}
 use Rattle.c_tree.specs.Statements.{view_item, items_of as trees}
 use Rattle.c_tree.specs.Tree.{view as tree_of, view_name}
 use Rattle.c_tree.proofs.StatementViews.{view_block as view_tree_block}
@@ -15,7 +15,6 @@ use Rattle.core_tree.specs.declared.statement.CoreStatement.{CoreStatement, Bloc
 use Rattle.core_tree.specs.Trees.{view, view_statement, items_of}
 use Rattle.core_tree.specs.Trees as cores
 use Rattle.core_tree.proofs.Views.{view_block}
-use Rattle.c_elab_expr.specs.Nodes.{◌>>=◌}
 use Rattle.c_elab_expr.specs.Operands.{view_operand}
 use Rattle.c_elab_expr.specs.Scopes.{Cases, Environment, Scoped}
 use Rattle.c_elab_expr.specs.Typing.{Fails, Gives, operand}
@@ -29,7 +28,7 @@ use Rattle.c_elab_decl.proofs.Fronts.{none_first, prepend_all, behind_fails, ite
 use Rattle.c_elab_decl.proofs.Fronting.{alone_front, label_front_fails, label_front, place_within, case_value_fails, case_body_fails, case_front_fails, case_front, default_body_fails, default_front, front_not, front_else, own_by, switch_body_fails, switch_value_fails, switch_typed, front_as}
 use Rattle.c_elab_decl.proofs.Chains.{statement_as, fails_at, while_test_fails, while_body_fails, while_end_fails, while_typed, do_body_fails, do_test_fails, do_end_fails, do_typed, for_first_fails, for_behind_first, case_end_fails, case_typed, default_end_fails, default_typed, label_body_fails, label_end_fails, label_typed, rest_body_fails, rest_end_fails, rest_typed}
 use Rattle.c_elab_decl.proofs.Jumping.{looks_next, passes_at}
-use Rattle.c_elab_decl.proofs.Steps.{fails_on, fails_bind, fails_along, no_promise}
+use Rattle.c_elab_decl.proofs.Steps.{fails_bind, fails_along}
 use Rattle.c_elab_decl.proofs.Switches.{view_switch}
 use Rattle.c_elab_decl.proofs.stating.+statement.Goals as goal
 
