@@ -24,10 +24,10 @@ set_set (z ∷ xs) zero x y = refl
 set_set (z ∷ xs) (suc n) x y = ap (λ ys. z ∷ ys) (set_set xs n x y)
 
 -- one of the ways is changed into one that is like what arrives
-alike_set : (until : List ℕ) (p q n : ℕ) (ws : Ways) (x y z : Option Memory) → q ≡ p + n → n < length ws → Alike until q x (either y (get_or ws n z)) → AllAlike until p (slice_set ws n x) (arrived n y ws)
-alike_set until p q n [] x y z e lt h = absurd (omega (arith, lt))
-alike_set until p q zero (w ∷ ws) x y z e lt h = (let f : q ≡ p = omega (arith, e) in subst (λ k. Alike until k x (either y w)) f h, all_alike_itself until (suc p) ws)
-alike_set until p q (suc n) (w ∷ ws) x y z e lt h = (let same = all_alike_itself until p (w ∷ []) in same.0, alike_set until (suc p) q n ws x y z (omega (arith, e)) (omega (arith, lt)) h)
+alike_set : (registers : ℕ) (until : List ℕ) (p q n : ℕ) (ws : Ways) (x y z : Option Memory) → q ≡ p + n → n < length ws → Alike registers until q x (either y (get_or ws n z)) → AllAlike registers until p (slice_set ws n x) (arrived n y ws)
+alike_set registers until p q n [] x y z e lt h = absurd (omega (arith, lt))
+alike_set registers until p q zero (w ∷ ws) x y z e lt h = (let f : q ≡ p = omega (arith, e) in subst (λ k. Alike registers until k x (either y w)) f h, all_alike_itself registers until (suc p) ws)
+alike_set registers until p q (suc n) (w ∷ ws) x y z e lt h = (let same = all_alike_itself registers until p (w ∷ []) in same.0, alike_set registers until (suc p) q n ws x y z (omega (arith, e)) (omega (arith, lt)) h)
 
 past : (n : ℕ) (y : Option Memory) (ws : Ways) → length ws ≤ n → arrived n y ws ≡ ws
 past n y [] l = refl
@@ -40,15 +40,15 @@ way_at v d code (s ∷ pending) zero z lt = refl
 way_at v d code (s ∷ pending) (suc n) z lt = way_at v d code pending n z (omega (arith, lt))
 
 -- what is needed of a slot meets another
-pub meets_alike : (v : ℕ → ℕ) (until : List ℕ) (code : Listing) (q : ℕ) (s needed t : Slot) (there : Option Slot) (d e : List Node) → Alike until q (gone v d code needed) (gone v d code s) → gone v e code t ≡ either (gone v d code needed) (way v d code there)
-    → Alike until q (gone v e code t) (either (gone v d code s) (way v d code there))
-meets_alike v until code q s needed t there d e alike is =
+pub meets_alike : (v : ℕ → ℕ) (registers : ℕ) (until : List ℕ) (code : Listing) (q : ℕ) (s needed t : Slot) (there : Option Slot) (d e : List Node) → Alike registers until q (gone v d code needed) (gone v d code s) → gone v e code t ≡ either (gone v d code needed) (way v d code there)
+    → Alike registers until q (gone v e code t) (either (gone v d code s) (way v d code there))
+meets_alike v registers until code q s needed t there d e alike is =
     let w = way v d code there in
-    subst (λ m. Alike until q m (either (gone v d code s) w)) (sym is) (either_alike until q (gone v d code needed) (gone v d code s) w w alike (alike_itself until q w))
+    subst (λ m. Alike registers until q m (either (gone v d code s) w)) (sym is) (either_alike registers until q (gone v d code needed) (gone v d code s) w w alike (alike_itself registers until q w))
 
 pub arrives_there : (until : List ℕ) (code : Listing) (place q n : ℕ) (s t : Slot) (there z : Option Slot) (d e : List Node) (old new : Pass) → Extends d e → PassIn d code old → SlotIn e code t
     → n < length old.pending.items → q ≡ place + 1 + n → there ≡ get_or old.pending.items n z
-    → ((v : ℕ → ℕ) → Alike until q (gone v e code t) (either (gone v d code s) (way v d code there)))
+    → ((v : ℕ → ℕ) → Alike (length code.registers) until q (gone v e code t) (either (gone v d code s) (way v d code there)))
     → new.events.items ≡ old.events.items → new.pending.items ≡ slice_set (slice_set old.pending.items n None) n (Some t) → Arrives until code place n s d e old new
 arrives_there until code place q n s t there z d e old new x within slot lt at is alike events pending =
     let set : new.pending.items ≡ slice_set old.pending.items n (Some t) = pending ∙ set_set old.pending.items n None (Some t) in
@@ -65,8 +65,8 @@ arrives_there until code place q n s t there z d e old new x within slot lt at i
           ap (map (way v e code)) set ∙ map-set (way v e code) old.pending.items n (Some t) ∙ ap (λ xs. slice_set xs n (gone v e code t)) (ways_stay d e x v code old.pending.items within.pending) in
           let there_way : get_or ws n None ≡ way v d code there = way_at v d code old.pending.items n z lt ∙ ap (way v d code) (sym is) in
           let l : n < length ws = omega (arith, lt, length-map old.pending.items (way v d code)) in
-          let h : Alike until q (gone v e code t) (either (gone v d code s) (get_or ws n None)) = subst (λ w. Alike until q (gone v e code t) (either (gone v d code s) w)) (sym there_way) (alike v) in
-          subst (λ xs. AllAlike until (suc place) xs (arrived n (gone v d code s) ws)) (sym same) (alike_set until (suc place) q n ws (gone v e code t) (gone v d code s) None (omega (arith, at)) l h);
+          let h : Alike (length code.registers) until q (gone v e code t) (either (gone v d code s) (get_or ws n None)) = subst (λ w. Alike (length code.registers) until q (gone v e code t) (either (gone v d code s) w)) (sym there_way) (alike v) in
+          subst (λ xs. AllAlike (length code.registers) until (suc place) xs (arrived n (gone v d code s) ws)) (sym same) (alike_set (length code.registers) until (suc place) q n ws (gone v e code t) (gone v d code s) None (omega (arith, at)) l h);
     }
 
 pub arrives_past : (until : List ℕ) (code : Listing) (place n : ℕ) (s : Slot) (d : List Node) (old new : Pass) → PassIn d code old → length old.pending.items ≤ n
@@ -79,7 +79,7 @@ arrives_past until code place n s d old new within le events pending = record {
       let ws = ways v d code old.pending.items in
       let l : length ws ≤ n = omega (arith, le, length-map old.pending.items (way v d code)) in
       let same : ways v d code new.pending.items ≡ arrived n (gone v d code s) ws = ap (map (way v d code)) pending ∙ sym (past n (gone v d code s) ws l) in
-      subst (λ xs. AllAlike until (suc place) (ways v d code new.pending.items) xs) same (all_alike_itself until (suc place) (ways v d code new.pending.items));
+      subst (λ xs. AllAlike (length code.registers) until (suc place) (ways v d code new.pending.items) xs) same (all_alike_itself (length code.registers) until (suc place) (ways v d code new.pending.items));
 }
 
 -- ---- at the start

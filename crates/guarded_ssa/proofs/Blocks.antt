@@ -1,20 +1,20 @@
 -- Blocks whose bytes stand one block behind the other.
-use Rattle.std.proofs.Common.{◌≡◌, ℕ, zero, suc, ◌+◌, ◌-◌, ◌<◌, ◌≤◌, true, List, [], ◌∷◌, ◌++◌, length, map, take, drop, get_or, refl, sym, ap, ◌∙◌, arith}
-use Rattle.std.specs.Prelude.{◌==◌, nat_lt, nat_le, slice_index, slice_set, replicate}
+use Rattle.std.proofs.Common.{◌≡◌, ℕ, zero, suc, ◌+◌, ◌-◌, ◌<◌, ◌≤◌, true, List, [], ◌∷◌, ◌++◌, length, map, take, drop, get_or, Option, Some, None, refl, sym, ap, ◌∙◌, arith}
+use Rattle.std.specs.Prelude.{◌==◌, nat_lt, nat_le, slice_get, slice_index, slice_set, replicate}
 use Rattle.std.proofs.lemmas.Bool.Decides.{nat_tests}
 use Rattle.std.proofs.Math.Seq.{take-append-add, drop-append-add}
-use Rattle.std.proofs.lemmas.List.{take-append-le, drop-append-le, take-take, drop-take, drop-drop, length-take-le, length-drop, length-map, length-replicate, take-replicate, drop-replicate, replicate-append-replicate, map-append, take-map, drop-map, drop_all, append-nil, get_or-map, get_or-replicate, get_or_default, length-append}
-use Rattle.std.proofs.lemmas.List.Elements.{All-append, All-take, All-drop, All-head, All-tail}
+use Rattle.std.proofs.lemmas.List.{take-append-le, drop-append-le, take-take, take-append-drop, drop-take, drop-drop, length-take-le, length-drop, length-map, length-replicate, length-append, take-replicate, drop-replicate, drop_all, append-nil, get_or_default}
+use Rattle.c_types.specs.declared.integers.IntegerType.{IntegerType}
+use Rattle.c_types.specs.declared.integers.IntegerType.TheVariants as types
 use Rattle.core_tree.specs.Typed.{is_within}
 use Rattle.c_values.specs.Variables.{Variables, zeros, put_at, block_of, put_bytes, cleared, first_variables}
 use Rattle.word_dag.specs.declared.nodes.Id.{Id}
-use Rattle.word_dag.specs.declared.nodes.Node.{Node}
-use Rattle.word_dag.specs.Meaning.{width}
-use Rattle.word_dag.specs.Growth.{Within}
-use Rattle.value_nodes.specs.Values.{IsWord, AreBytes}
 use Rattle.goto_prog.specs.Fitting.{is_block}
+use Rattle.goto_prog.specs.Meaning.{bytes_of}
 use Rattle.goto_prog.proofs.Registers.{both, test_below}
-use Rattle.guarded_ssa.specs.Held.{total, BytesIn, stored, starts_from, nodes_put}
+use Rattle.guarded_ssa.specs.declared.registers.Live.{Live}
+use Rattle.guarded_ssa.specs.Registers.{find, word_or_0, words_from, bytes_from, id_or, ids_from}
+use Rattle.guarded_ssa.specs.Held.{total, stored, starts_from}
 
 -- ---- bytes put in the place of others
 
@@ -66,24 +66,23 @@ equal_numbers m n h = grind (arith, nat_tests)
 
 -- ---- blocks
 
-pub start_is : (place : ℕ) (sizes : List ℕ) (b : ℕ) → b < length sizes → slice_index (starts_from place sizes) b ≡ place + total (take b sizes)
+start_is : (place : ℕ) (sizes : List ℕ) (b : ℕ) → b < length sizes → slice_index (starts_from place sizes) b ≡ place + total (take b sizes)
 start_is place [] b lt = absurd (omega (arith, lt))
 start_is place (n ∷ sizes) zero lt = let here : place ≡ place + 0 = omega arith in here
 start_is place (n ∷ sizes) (suc b) lt =
     let here : slice_index (starts_from (place + n) sizes) b ≡ place + (n + total (take b sizes)) = omega (arith, start_is (place + n) sizes b (omega (arith, lt))) in here
 
-pub starts_length : (place : ℕ) (sizes : List ℕ) → length (starts_from place sizes) ≡ length sizes
+starts_length : (place : ℕ) (sizes : List ℕ) → length (starts_from place sizes) ≡ length sizes
 starts_length place [] = refl
 starts_length place (n ∷ sizes) = ap suc (starts_length (place + n) sizes)
 
-pub place_is : (starts sizes : List ℕ) (b z : ℕ) → starts ≡ starts_from 0 sizes → b < length sizes → get_or starts b z ≡ total (take b sizes)
-place_is starts sizes b z is lt =
-    let there : b < length (starts_from 0 sizes) = omega (arith, lt, starts_length 0 sizes) in
-    let first : 0 + total (take b sizes) ≡ total (take b sizes) = omega arith in
-    ap (λ (xs : List ℕ). get_or xs b z) is ∙ get_or_default (starts_from 0 sizes) b z 0 there ∙ start_is 0 sizes b lt ∙ first
+pub place_is : (starts sizes : List ℕ) (first b z : ℕ) → starts ≡ starts_from first sizes → b < length sizes → get_or starts b z ≡ first + total (take b sizes)
+place_is starts sizes first b z is lt =
+    let there : b < length (starts_from first sizes) = omega (arith, lt, starts_length first sizes) in
+    ap (λ (xs : List ℕ). get_or xs b z) is ∙ get_or_default (starts_from first sizes) b z 0 there ∙ start_is first sizes b lt
 
-pub starts_there : (starts sizes : List ℕ) (b : ℕ) → starts ≡ starts_from 0 sizes → b < length sizes → b < length starts
-starts_there starts sizes b is lt = omega (arith, lt, starts_length 0 sizes, ap length is)
+pub starts_there : (starts sizes : List ℕ) (first b : ℕ) → starts ≡ starts_from first sizes → b < length sizes → b < length starts
+starts_there starts sizes first b is lt = omega (arith, lt, starts_length first sizes, ap length is)
 
 -- bytes that lie in a block
 pub lies : (sizes : List ℕ) (b offset count : ℕ) → is_within sizes b offset count ≡ true → (b < length sizes) × (offset + count ≤ slice_index sizes b)
@@ -149,55 +148,102 @@ stored_zeros (k ∷ sizes) n same =
     let rest = ap (stored sizes) (drop-replicate k n 0) ∙ stored_zeros sizes (n - k) less in
     λ i. here i ∷ rest i
 
--- ---- nodes
+-- as many blocks as sizes
+pub stored_length : (sizes bytes : List ℕ) → length (stored sizes bytes) ≡ length sizes
+stored_length [] bytes = refl
+stored_length (n ∷ sizes) bytes = ap suc (stored_length sizes (drop n bytes))
 
-pub map_replicate : {X Y : Type 0} (f : X → Y) (n : ℕ) (x : X) → map f (replicate n x) ≡ replicate n (f x)
-map_replicate f zero x = refl
-map_replicate f (suc n) x = ap (λ ys. f x ∷ ys) (map_replicate f n x)
+pub no_block : (sizes bytes : List ℕ) (b : ℕ) → length sizes ≤ b → block_of (stored sizes bytes) b ≡ []
+no_block [] bytes b le = refl
+no_block (n ∷ sizes) bytes zero le = absurd (omega (arith, le))
+no_block (n ∷ sizes) bytes (suc b) le = no_block sizes (drop n bytes) b (omega (arith, le))
 
-pub put_size : (at : ℕ) (new old nodes : List Id) → at + length new ≤ length old → nodes ≡ nodes_put at new old → length nodes ≡ length old
-put_size at new old nodes within is =
-    let rest = drop (at + length new) old in
-    let a = length-append (take at old) (new ++ rest) in
-    let b = length-append new rest in
-    ap length is ∙ (let whole : length (take at old ++ (new ++ rest)) ≡ length old = omega (arith, within, a, b, length-take-le at old (omega (arith, within)), length-drop (at + length new) old) in whole)
+-- ---- the words of bytes that follow one another
 
-pub map_put : (f : Id → ℕ) (at : ℕ) (new old : List Id) → map f (nodes_put at new old) ≡ put_at at (map f new) (map f old)
-map_put f at new old =
-    let a = sym (take-map f at old) in
-    let b = sym (drop-map f (at + length new) old) ∙ ap (λ k. drop (at + k) (map f old)) (sym (length-map new f)) in
-    map-append f (take at old) (new ++ drop (at + length new) old) ∙ ap (λ ys. map f (take at old) ++ ys) (map-append f new (drop (at + length new) old)) ∙ (λ i. a i ++ (map f new ++ b i))
+module _ (f : Id → ℕ) where
+  pub byte_words : (ls : List Live) (k n : ℕ) → length (bytes_from f ls k n) ≡ n
+  byte_words ls k zero = refl
+  byte_words ls k (suc n) = ap suc (byte_words ls (suc k) n)
 
-put_same : (at m n x : ℕ) → at + m ≤ n → put_at at (replicate m x) (replicate n x) ≡ replicate n x
-put_same at m n x h =
-    let a = take-replicate at n x (omega (arith, h)) in
-    let b = ap (λ k. drop (at + k) (replicate n x)) (length-replicate m x) ∙ drop-replicate (at + m) n x in
-    let all : at + (m + (n - (at + m))) ≡ n = omega (arith, h) in
-    (λ i. a i ++ (replicate m x ++ b i)) ∙ ap (λ ys. replicate at x ++ ys) (replicate-append-replicate m (n - (at + m)) x) ∙ replicate-append-replicate at (m + (n - (at + m))) x ∙ ap (λ k. replicate k x) all
+  take_words : (ls : List Live) (k a n : ℕ) → a ≤ n → take a (bytes_from f ls k n) ≡ bytes_from f ls k a
+  take_words ls k zero n le = refl
+  take_words ls k (suc a) zero le = absurd (omega (arith, le))
+  take_words ls k (suc a) (suc n) le = ap (λ (ws : List ℕ). word_or_0 f (find ls k) ∷ ws) (take_words ls (suc k) a n (omega (arith, le)))
 
-pub byte_widths : (d : List Node) (ids : List Id) → AreBytes d ids → map (width d) ids ≡ replicate (length ids) 8
-byte_widths d [] h = refl
-byte_widths d (i ∷ ids) h =
-    let a = (All-head (λ j. IsWord d j 8) i ids h).width_is in
-    let b = byte_widths d ids (All-tail (λ j. IsWord d j 8) i ids h) in
-    λ k. a k ∷ b k
+  drop_words : (ls : List Live) (k a n j m : ℕ) → j ≡ k + a → n ≡ a + m → drop a (bytes_from f ls k n) ≡ bytes_from f ls j m
+  drop_words ls k zero n j m j_is n_is = let p : k ≡ j = omega (arith, j_is) in let q : n ≡ m = omega (arith, n_is) in λ i. bytes_from f ls (p i) (q i)
+  drop_words ls k (suc a) zero j m j_is n_is = absurd (omega (arith, n_is))
+  drop_words ls k (suc a) (suc n) j m j_is n_is = drop_words ls (suc k) a n j m (omega (arith, j_is)) (omega (arith, n_is))
 
-module _ (d : List Node) (sizes : List ℕ) (ids : List Id) (h : BytesIn d sizes ids) where
-  pub bytes_length : length ids ≡ total sizes
-  bytes_length = sym (length-map ids (width d)) ∙ ap length h.widths ∙ length-replicate (total sizes) 8
+  split_words : (ls : List Live) (k a n j m : ℕ) → j ≡ k + a → n ≡ a + m → bytes_from f ls k n ≡ bytes_from f ls k a ++ bytes_from f ls j m
+  split_words ls k a n j m j_is n_is =
+      let p = take_words ls k a n (omega (arith, n_is)) in
+      let q = drop_words ls k a n j m j_is n_is in
+      sym (take-append-drop a (bytes_from f ls k n)) ∙ (λ i. p i ++ q i)
 
-  pub all_bytes : AreBytes d ids
-  all_bytes k i lt = record {
-    there = h.there k i lt;
-    width_is = sym (get_or-map (width d) ids k i 8 lt) ∙ ap (λ (ws : List ℕ). get_or ws k 8) h.widths ∙ get_or-replicate (total sizes) k 8 8 (omega (arith, lt, bytes_length));
-  }
+  pub words_alike : (ls ms : List Live) (k : ℕ) (ts : List IntegerType) → ((c : ℕ) → k ≤ c → c < k + length ts → find ms c ≡ find ls c) → words_from f ms k ts ≡ words_from f ls k ts
+  words_alike ls ms k [] h = refl
+  words_alike ls ms k (t ∷ ts) h =
+      let a = ap (word_or_0 f) (h k (omega arith) (omega arith)) in
+      let b = words_alike ls ms (suc k) ts (λ c le lt. h c (omega (arith, le)) (omega (arith, lt))) in
+      λ i. a i ∷ b i
 
-  pub bytes_put : (at : ℕ) (new : List Id) → at + length new ≤ total sizes → AreBytes d new → BytesIn d sizes (nodes_put at new ids)
-  bytes_put at new within all = record {
-    there = All-append (Within d) (take at ids) (new ++ drop (at + length new) ids) (All-take (Within d) at ids h.there)
-        (All-append (Within d) new (drop (at + length new) ids) (λ k i lt. (all k i lt).there) (All-drop (Within d) (at + length new) ids h.there));
-    widths =
-        let a = byte_widths d new all in
-        let b = h.widths in
-        map_put (width d) at new ids ∙ (λ i. put_at at (a i) (b i)) ∙ put_same at (length new) (total sizes) 8 within;
-  }
+  pub bytes_alike : (ls ms : List Live) (k n : ℕ) → ((c : ℕ) → k ≤ c → c < k + n → find ms c ≡ find ls c) → bytes_from f ms k n ≡ bytes_from f ls k n
+  bytes_alike ls ms k n h = words_alike ls ms k (replicate n types.Char) (λ c le lt. h c le (omega (arith, lt, length-replicate n types.Char)))
+
+  pub no_bytes : (ms : List Live) (at n : ℕ) → ((k : ℕ) → k < n → find ms (at + k) ≡ None) → bytes_from f ms at n ≡ zeros n
+  no_bytes ms at zero here = refl
+  no_bytes ms at (suc n) here =
+      let first : at ≡ at + 0 = omega arith in
+      let a = ap (word_or_0 f) (ap (find ms) first ∙ here 0 (omega arith)) in
+      let b = no_bytes ms (suc at) n (λ k lt. (let next : suc at + k ≡ at + suc k = omega arith in ap (find ms) next ∙ here (suc k) (omega (arith, lt)))) in
+      λ i. a i ∷ b i
+
+  new_bytes : (ms : List Live) (at count rest : ℕ) (ids : List Id) → count ≡ length ids + rest → ((k : ℕ) → k < count → find ms (at + k) ≡ slice_get ids k) → bytes_from f ms at count ≡ map f ids ++ zeros rest
+  new_bytes ms at count rest [] e here = let same : count ≡ rest = omega (arith, e) in no_bytes ms at count here ∙ ap zeros same
+  new_bytes ms at zero rest (i ∷ ids) e here = absurd (omega (arith, e))
+  new_bytes ms at (suc count) rest (i ∷ ids) e here =
+      let first : at ≡ at + 0 = omega arith in
+      let a = ap (word_or_0 f) (ap (find ms) first ∙ here 0 (omega arith)) in
+      let b = new_bytes ms (suc at) count rest ids (omega (arith, e)) (λ k lt. (let next : suc at + k ≡ at + suc k = omega arith in ap (find ms) next ∙ here (suc k) (omega (arith, lt)))) in
+      λ j. a j ∷ b j
+
+  -- bytes that are replaced
+  pub put_words : (ls ms : List Live) (first o n count : ℕ) (ids : List Id) → o + count ≤ n → length ids ≤ count → ((k : ℕ) → k < first + o → find ms k ≡ find ls k) → ((k : ℕ) → k < count → find ms (first + o + k) ≡ slice_get ids k)
+      → ((k : ℕ) → first + o + count ≤ k → find ms k ≡ find ls k) → bytes_from f ms first n ≡ put_at o (map f ids ++ zeros (count - length ids)) (bytes_from f ls first n)
+  put_words ls ms first o n count ids fits few front here behind =
+      let at = first + o in
+      let m = n - (o + count) in
+      let W = map f ids ++ zeros (count - length ids) in
+      let long : length W ≡ count = omega (arith, few, length-append (map f ids) (zeros (count - length ids)), length-map ids f, length-replicate {A = ℕ} (count - length ids) 0) in
+      let all : n ≡ o + (count + m) = omega (arith, fits) in
+      let a : bytes_from f ms first o ≡ take o (bytes_from f ls first n) = bytes_alike ls ms first o (λ c le lt. front c lt) ∙ sym (take_words ls first o n (omega (arith, fits))) in
+      let b : bytes_from f ms at count ≡ W = new_bytes ms at count (count - length ids) ids (omega (arith, few)) here in
+      let c : bytes_from f ms (at + count) m ≡ drop (o + length W) (bytes_from f ls first n) =
+      bytes_alike ls ms (at + count) m (λ k le lt. behind k le) ∙ sym (drop_words ls first (o + length W) n (at + count) m (omega (arith, long)) (omega (arith, long, fits))) in
+      split_words ms first o n at (count + m) refl all ∙ ap (λ ys. bytes_from f ms first o ++ ys) (split_words ms at count (count + m) (at + count) m refl refl) ∙ (λ i. a i ++ (b i ++ c i))
+
+  -- a block, and some bytes of it
+  pub block_words : (ls : List Live) (first b : ℕ) (sizes : List ℕ) → b < length sizes → block_of (stored sizes (bytes_from f ls first (total sizes))) b ≡ bytes_from f ls (first + total (take b sizes)) (slice_index sizes b)
+  block_words ls first b sizes lt =
+      let start = total (take b sizes) in
+      let size = slice_index sizes b in
+      let end = block_ends sizes b lt in
+      let m = total sizes - start in
+      block_is sizes (bytes_from f ls first (total sizes)) b lt ∙ ap (take size) (drop_words ls first start (total sizes) (first + start) m refl (omega (arith, end))) ∙ take_words ls (first + start) size m (omega (arith, end))
+
+  pub some_words : (ls : List Live) (first b offset count at : ℕ) (sizes : List ℕ) → is_within sizes b offset count ≡ true → at ≡ first + total (take b sizes) + offset
+      → bytes_of (stored sizes (bytes_from f ls first (total sizes))) b offset count ≡ bytes_from f ls at count
+  some_words ls first b offset count at sizes there at_is =
+      let parts = lies sizes b offset count there in
+      let size = slice_index sizes b in
+      ap (λ (bs : List ℕ). take count (drop offset bs)) (block_words ls first b sizes parts.0)
+      ∙ ap (take count) (drop_words ls (first + total (take b sizes)) offset size at (size - offset) at_is (omega (arith, parts.1))) ∙ take_words ls at count (size - offset) (omega (arith, parts.1))
+
+  pub ids_words : (ls : List Live) (other : Id) (k n : ℕ) → f other ≡ 0 → map f (ids_from ls other k n) ≡ bytes_from f ls k n
+  ids_words ls other k zero h = refl
+  ids_words ls other k (suc n) h = let a = word_of (find ls k) in let b = ids_words ls other (suc k) n h in λ i. a i ∷ b i
+    where
+      word_of : (x : Option Id) → f (id_or other x) ≡ word_or_0 f x
+      word_of None = h
+      word_of (Some i) = refl

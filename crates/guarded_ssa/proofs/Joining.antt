@@ -41,12 +41,12 @@ head_node : (d : List Node) (ts : List IntegerType) (n r : ℕ) (ls : List Live)
 head_node d ts n r [] other unset words h = unset
 head_node d ts n r (l ∷ ls) other unset words h =
     let W = type_width (slice_index_or ts r types.Int) in
-    elim (cases_Bool (l.register == r)) [
-      | inl on ↦ (let word = subst (λ k. IsWord d l.id (type_width (slice_index_or ts k types.Int))) (are_same l.register r on) (All-head (IsLive d ts) l ls words) in
-          subst (λ i. IsValue d i W (λ v. word_or_0 (value v d) (find (l ∷ ls) r))) (sym (if_true (l.register == r) l.id other on))
+    elim (cases_Bool (l.cell == r)) [
+      | inl on ↦ (let word = subst (λ k. IsWord d l.id (type_width (slice_index_or ts k types.Int))) (are_same l.cell r on) (All-head (IsLive d ts) l ls words) in
+          subst (λ i. IsValue d i W (λ v. word_or_0 (value v d) (find (l ∷ ls) r))) (sym (if_true (l.cell == r) l.id other on))
           (record { there = word.there; width_is = word.width_is; value_is = λ v. sym (ap (word_or_0 (value v d)) (found l ls r on)) }))
-      | inr off ↦ subst (λ i. IsValue d i W (λ v. word_or_0 (value v d) (find (l ∷ ls) r))) (sym (if_false (l.register == r) l.id other off))
-          (record { there = unset.there; width_is = unset.width_is; value_is = λ v. unset.value_is v ∙ sym (ap (word_or_0 (value v d)) (past l ls r off ∙ find_below (suc l.register) n r ls h.1 (omega (arith, h.0)))) })
+      | inr off ↦ subst (λ i. IsValue d i W (λ v. word_or_0 (value v d) (find (l ∷ ls) r))) (sym (if_false (l.cell == r) l.id other off))
+          (record { there = unset.there; width_is = unset.width_is; value_is = λ v. unset.value_is v ∙ sym (ap (word_or_0 (value v d)) (past l ls r off ∙ find_below (suc l.cell) n r ls h.1 (omega (arith, h.0)))) })
     ]
 
 -- what has been gone through is the choice of the registers below a bound, and the others are left
@@ -115,10 +115,10 @@ module _ (d e : List Node) (ts : List IntegerType) (test : Id) (first second ls 
   pub b_word : IsWord e b (width e a)
   b_word = let word = word_stays d e so.extends b wide (record { there = b_is.there; width_is = b_is.width_is }) in record { there = word.there; width_is = word.width_is ∙ sym a_word.width_is }
 
-  joining_more : (f : List Node) (id : Id) (new : List Live) → Extends e f → Within d test → IsValue f id (width e a) (λ v. if holds (value v e test) then value v e a else value v e b) → new ≡ ls ++ record { register = next; id = id } ∷ []
+  joining_more : (f : List Node) (id : Id) (new : List Live) → Extends e f → Within d test → IsValue f id (width e a) (λ v. if holds (value v e test) then value v e a else value v e b) → new ≡ ls ++ record { cell = next; id = id } ∷ []
       → Joining d f ts test first second new (i + head_count (drop i first) next) (j + head_count (drop j second) next) (suc next)
   joining_more f id new y there made is =
-      let set : Live = record { register = next; id = id } in
+      let set : Live = record { cell = next; id = id } in
       let n = length ts in
       let more : List Live = ls ++ set ∷ [] in
       let i_next = drop-drop (head_count (drop i first) next) i first in
@@ -173,11 +173,11 @@ module _ (d e : List Node) (ts : List IntegerType) (test : Id) (first second ls 
     next_b = subst (λ n. IsWord e n (width e x)) (sym y_same) (subst (λ n. IsWord e b (width e n)) (sym x_same) b_word)
 
     pub joining_next : (i' j' : ℕ) → i' ≡ i + head_count (drop i first) r → j' ≡ j + head_count (drop j second) r → (f : List Node) (id : Id) (new : List Live) → Extends e f → Within d test
-        → IsValue f id (width e x) (λ v. if holds (value v e test) then value v e x else value v e y) → new ≡ ls ++ record { register = r; id = id } ∷ [] → (l : ℕ) × Joining d f ts test first second new i' j' l
+        → IsValue f id (width e x) (λ v. if holds (value v e test) then value v e x else value v e y) → new ≡ ls ++ record { cell = r; id = id } ∷ [] → (l : ℕ) × Joining d f ts test first second new i' j' l
     joining_next i' j' i_is j_is f id new more there made is =
         let made' : IsValue f id (width e a) (λ v. if holds (value v e test) then value v e a else value v e b) =
         subst (λ n. IsValue f id (width e a) (λ v. if holds (value v e test) then value v e a else value v e n)) y_same (subst (λ n. IsValue f id (width e n) (λ v. if holds (value v e test) then value v e n else value v e y)) x_same made) in
-        let so' = joining_more f id new more there made' (is ∙ ap (λ (k : ℕ). ls ++ record { register = k; id = id } ∷ []) r_is) in
+        let so' = joining_more f id new more there made' (is ∙ ap (λ (k : ℕ). ls ++ record { cell = k; id = id } ∷ []) r_is) in
         let i_same = i_is ∙ ap (λ k. i + head_count (drop i first) k) r_is in
         let j_same = j_is ∙ ap (λ k. j + head_count (drop j second) k) r_is in
         (suc next, subst (λ n. Joining d f ts test first second new n j' (suc next)) (sym i_same) (subst (λ n. Joining d f ts test first second new (i + head_count (drop i first) next) n (suc next)) (sym j_same) so'))

@@ -4,10 +4,12 @@ pub mod Readings
 pub mod Valuations
 pub mod Needs
 pub mod Sorted
+pub mod Spans
 pub mod Stays
 pub mod Joining
 pub mod Setting
 pub mod Blocks
+pub mod Numbering
 pub mod Merging
 pub mod Noting
 pub mod AnswerWords

@@ -1,9 +1,9 @@
 -- Words of slots, and slots that meet.
-use Rattle.std.proofs.Common.{◌≡◌, ℕ, suc, ◌+◌, ◌<◌, Bool, true, false, ◌||◌, ◌&&◌, nat_lt, List, [], ◌∷◌, ◌++◌, length, map, Option, take, get_or, Some, None, inl, inr, refl, sym, ap, subst, ◌∙◌, arith}
+use Rattle.std.proofs.Common.{◌≡◌, ℕ, suc, ◌+◌, ◌<◌, Bool, true, false, ◌||◌, ◌&&◌, nat_lt, List, [], ◌∷◌, length, map, Option, take, get_or, Some, None, inl, inr, refl, sym, ap, subst, ◌∙◌, arith}
 use Rattle.std.specs.Prelude.{not, ◌==◌, if◌then◌else◌, slice_index, slice_index_or, replicate}
 use Rattle.std.specs.List.{All, filter}
-use Rattle.std.proofs.lemmas.List.{take_more, map_push, length-map, get_or-map, get_or_default}
-use Rattle.std.proofs.lemmas.List.Elements.{All-head, All-tail, All-nil, All-push, All-get_or, All-filter, All-replicate}
+use Rattle.std.proofs.lemmas.List.{get_or_default}
+use Rattle.std.proofs.lemmas.List.Elements.{All-head, All-tail, All-nil, All-filter}
 use Rattle.std.proofs.lemmas.Bool.{cases_lt, cases_Bool}
 use Rattle.std.proofs.lemmas.Bool.Decides.{nat_tests}
 use Rattle.c_types.specs.declared.integers.IntegerType.{IntegerType}
@@ -15,102 +15,31 @@ use Rattle.goto_prog.proofs.Registers.{same_widths as same_widths_of}
 use Rattle.word_dag.specs.declared.nodes.Id.{Id}
 use Rattle.word_dag.specs.declared.nodes.Node.{Node}
 use Rattle.word_dag.specs.declared.nodes.Node.TheVariants.{Constant}
-use Rattle.word_dag.specs.Meaning.{width, value, holds, bit_value}
-use Rattle.word_dag.specs.Growth.{Within, Extends, Makes}
-use Rattle.word_dag.proofs.Grown.{extends_itself, extends_more, within_stays, all_within_stays, map_stays, map_widths_stay}
+use Rattle.word_dag.specs.Meaning.{value, holds, bit_value}
+use Rattle.word_dag.specs.Growth.{Extends, Makes}
+use Rattle.word_dag.proofs.Grown.{extends_more, within_stays}
 use Rattle.value_nodes.specs.Values.{IsWord, IsValue, IsTest}
 use Rattle.goto_prog.specs.Meaning.{Memory, register}
-use Rattle.goto_prog.specs.Fitting.{is_there, is_register}
+use Rattle.goto_prog.specs.declared.code.Operation.{Operation}
+use Rattle.goto_prog.specs.declared.code.Operation.TheVariants as operations
+use Rattle.goto_prog.specs.Fitting.{is_there, is_register, operation_fits}
+use Rattle.guarded_ssa.specs.Results.{into_of, result_of}
 use Rattle.goto_prog.specs.CodeThread.{Listing, first_memory}
 use Rattle.guarded_ssa.specs.declared.registers.Live.{Live}
 use Rattle.guarded_ssa.specs.declared.slots.Slot.{Slot}
 use Rattle.guarded_ssa.specs.Ways.{either, kept}
-use Rattle.guarded_ssa.specs.Reads.{Agree, Alike}
-use Rattle.guarded_ssa.specs.Registers.{ZerosIn, IsLive, AreLive, Merged, find, word_or_0, words_from, zero_of}
+use Rattle.guarded_ssa.specs.Reads.{IsRead, Agree, Alike}
+use Rattle.guarded_ssa.specs.Registers.{ZerosIn, IsLive, AreLive, Merged, Rises, find, word_or_0, words_from, bytes_from, zero_of}
 use Rattle.guarded_ssa.proofs.Sorted.{kept_rise, kept_found, all_words, words_first, words_behind, words_joined, found, past, are_same}
 use Rattle.guarded_ssa.proofs.Joining.{zero_is}
-use Rattle.guarded_ssa.proofs.Blocks.{map_replicate, stored_zeros}
-use Rattle.guarded_ssa.proofs.Stays.{slot_stays, gone_stays, live_stay, found_stays, words_of_stay}
-use Rattle.guarded_ssa.specs.Held.{total, BytesIn, Joined, SlotIn, stored, held, gone}
+use Rattle.guarded_ssa.proofs.Blocks.{stored_zeros, stored_length, no_block, no_bytes, bytes_alike, block_words}
+use Rattle.guarded_ssa.proofs.Numbering.{cells_length, register_type, all_owners, register_owner, byte_owner, owner_there}
+use Rattle.guarded_ssa.proofs.Stays.{slot_stays, held_stays, gone_stays, found_stays}
+use Rattle.guarded_ssa.specs.Held.{total, cells, owners, SlotIn, stored, held, gone}
 
 pub holds_bit : (b : Bool) → holds (bit_value b) ≡ b
 holds_bit true = refl
 holds_bit false = refl
-
--- ---- a choice of words
-
-push_chosen : (b : Bool) (xs ys : List ℕ) (x y : ℕ) → (if b then xs else ys) ++ (if b then x else y) ∷ [] ≡ (if b then xs ++ x ∷ [] else ys ++ y ∷ [])
-push_chosen true xs ys x y = refl
-push_chosen false xs ys x y = refl
-
-none_chosen : (b : Bool) → (let none : List ℕ = [] in none) ≡ (if b then [] else [])
-none_chosen true = refl
-none_chosen false = refl
-
-pub joined_none : (d : List Node) (test : Id) → Joined d d test [] [] []
-joined_none d test = record { there = All-nil (Within d); widths = refl; values = λ v. none_chosen (holds (value v d test)) }
-
-mapped_more : {X : Type 0} (f : Id → X) (ids : List Id) (i : ℕ) (z : Id) → i < length ids → map f (take i ids) ++ f (get_or ids i z) ∷ [] ≡ map f (take (i + 1) ids)
-mapped_more f ids i z lt = sym (ap (map f) (take_more ids i z lt) ∙ map_push f (take i ids) (get_or ids i z))
-
-pub joined_more : (d e f : List Node) (test : Id) (first second ids new : List Id) (i : ℕ) (z id : Id) → Extends d e → Extends e f → All (Within d) first → All (Within d) second → Within d test
-    → map (width d) second ≡ map (width d) first → i < length first
-    → IsValue f id (width e (get_or first i z)) (λ v. if holds (value v e test) then value v e (get_or first i z) else value v e (get_or second i z)) → new ≡ ids ++ id ∷ []
-    → Joined d e test (take i first) (take i second) ids → Joined d f test (take (i + 1) first) (take (i + 1) second) new
-joined_more d e f test first second ids new i z id x y one two there alike lt made is j =
-    let a = get_or first i z in
-    let b = get_or second i z in
-    let lt' : i < length second = omega (arith, lt, length-map first (width d), length-map second (width d), ap length alike) in
-    let a_there = All-get_or (Within d) first i z lt one in
-    let b_there = All-get_or (Within d) second i z lt' two in
-    let p = map_widths_stay e f ids y j.there ∙ j.widths in
-    let q = made.width_is ∙ x.width_stays a a_there in
-    let all : Joined d f test (take (i + 1) first) (take (i + 1) second) (ids ++ id ∷ []) = record {
-      there = All-push (Within f) ids id (all_within_stays e f ids y j.there) made.there;
-      widths = map_push (width f) ids id ∙ (λ k. p k ++ q k ∷ []) ∙ mapped_more (width d) first i z lt;
-      values = λ v.
-          let h = holds (value v d test) in
-          let r = map_stays v e f ids y j.there ∙ j.values v in
-          let t = x.value_stays v test there in
-          let m = x.value_stays v a a_there in
-          let n = x.value_stays v b b_there in
-          let s : value v f id ≡ (if h then value v d a else value v d b) = made.value_is v ∙ (λ k. if holds (t k) then m k else n k) in
-          let xs = mapped_more (value v d) first i z lt in
-          let ys = mapped_more (value v d) second i z lt' in
-          map_push (value v f) ids id ∙ (λ k. r k ++ s k ∷ []) ∙ push_chosen h (map (value v d) (take i first)) (map (value v d) (take i second)) (value v d a) (value v d b) ∙ (λ k. if h then xs k else ys k);
-    } in
-    subst (Joined d f test (take (i + 1) first) (take (i + 1) second)) (sym is) all
-
--- two words of one width
-pub pair_widths : (d e : List Node) (first second : List Id) (i : ℕ) (z : Id) → Extends d e → All (Within d) first → All (Within d) second → map (width d) second ≡ map (width d) first → i < length first
-    → IsWord e (get_or second i z) (width e (get_or first i z))
-pair_widths d e first second i z x one two alike lt =
-    let a = get_or first i z in
-    let b = get_or second i z in
-    let lt' : i < length second = omega (arith, lt, length-map first (width d), length-map second (width d), ap length alike) in
-    let a_there = All-get_or (Within d) first i z lt one in
-    let b_there = All-get_or (Within d) second i z lt' two in
-    record {
-      there = within_stays d e b x b_there;
-      width_is = x.width_stays b b_there ∙ sym (get_or-map (width d) second i z 0 lt') ∙ ap (λ (ws : List ℕ). get_or ws i 0) alike ∙ get_or-map (width d) first i z 0 lt ∙ sym (x.width_stays a a_there);
-    }
-
--- bytes of the same blocks, as they are lent
-pub same_widths : (d e : List Node) (sizes : List ℕ) (xs ys first second : List Id) → Extends d e → BytesIn d sizes xs → BytesIn d sizes ys → first ≡ xs → second ≡ ys → map (width e) second ≡ map (width e) first
-same_widths d e sizes xs ys first second x one two p q =
-    ap (map (width e)) q ∙ map_widths_stay d e ys x two.there ∙ two.widths ∙ sym one.widths ∙ sym (map_widths_stay d e xs x one.there) ∙ ap (map (width e)) (sym p)
-
-pub joined_stays : (d e f g : List Node) (test : Id) (first second ids : List Id) → Extends d e → Extends f g → Within d test → All (Within d) first → All (Within d) second → Joined e f test first second ids → Joined d g test first second ids
-joined_stays d e f g test first second ids x y there one two j =
-    record {
-      there = all_within_stays f g ids y j.there;
-      widths = map_widths_stay f g ids y j.there ∙ j.widths ∙ map_widths_stay d e first x one;
-      values = λ v.
-          let t = x.value_stays v test there in
-          let m = map_stays v d e first x one in
-          let n = map_stays v d e second x two in
-          map_stays v f g ids y j.there ∙ j.values v ∙ (λ k. if holds (t k) then m k else n k);
-    }
 
 -- ---- slots that meet
 
@@ -128,28 +57,30 @@ stored_chosen : (sizes : List ℕ) (h : Bool) (b1 b2 : List ℕ) → stored size
 stored_chosen sizes true b1 b2 = refl
 stored_chosen sizes false b1 b2 = refl
 
-module _ (d e : List Node) (code : Listing) (first second s : Slot) (one : SlotIn d code first) (two : SlotIn d code second)
+module _ (d e : List Node) (code : Listing) (first second s : Slot)
     (guard : IsTest e s.guard (λ v. holds (value v d first.guard) || holds (value v d second.guard))) (zeros : ZerosIn e s.zeros)
-    (registers : Merged d e code.registers first.guard first.registers.items second.registers.items s.registers.items)
-    (bytes : Joined d e first.guard first.bytes.items second.bytes.items s.bytes.items) where
+    (live : Merged d e (cells code) first.guard first.live.items second.live.items s.live.items) where
   merged_in : SlotIn e code s
   merged_in = record {
     guard = record { there = guard.there; width_is = guard.width_is };
     zeros = zeros;
-    registers = registers.live;
-    bytes = record { there = bytes.there; widths = bytes.widths ∙ one.bytes.widths };
+    live = live.live;
   }
 
   merged_gone : (v : ℕ → ℕ) → gone v e code s ≡ either (gone v d code first) (gone v d code second)
   merged_gone v =
-      let h1 = holds (value v d first.guard) in
-      let h2 = holds (value v d second.guard) in
-      let b1 = map (value v d) first.bytes.items in
-      let b2 = map (value v d) second.bytes.items in
+      let f = value v d in
+      let h1 = holds (f first.guard) in
+      let h2 = holds (f second.guard) in
+      let n = total code.blocks in
+      let b1 = bytes_from f first.live.items (length code.registers) n in
+      let b2 = bytes_from f second.live.items (length code.registers) n in
       let g : holds (value v e s.guard) ≡ (h1 || h2) = ap holds (guard.value_is v) ∙ holds_bit (h1 || h2) in
+      let bytes : bytes_from (value v e) s.live.items (length code.registers) n ≡ (if h1 then b1 else b2) =
+      words_joined f (value v e) h1 first.live.items second.live.items s.live.items (length code.registers) (replicate n types.Char) (live.words v) in
       ap (λ b. if b then Some (held v e code s) else None) g
       ∙ meets (held v d code first).registers (held v d code second).registers (stored code.blocks b1) (stored code.blocks b2) h1 h2 (held v e code s).registers (held v e code s).blocks
-      (words_joined (value v d) (value v e) h1 first.registers.items second.registers.items s.registers.items 0 code.registers (registers.words v)) (ap (stored code.blocks) (bytes.values v) ∙ stored_chosen code.blocks h1 b1 b2)
+      (words_joined f (value v e) h1 first.live.items second.live.items s.live.items 0 code.registers (live.words v)) (ap (stored code.blocks) bytes ∙ stored_chosen code.blocks h1 b1 b2)
 
 -- ---- one slot
 
@@ -164,38 +95,42 @@ under true false m = refl
 under false true m = refl
 under false false m = refl
 
-pub narrowed_in : (d e : List Node) (code : Listing) (s t : Slot) (f : (ℕ → ℕ) → Bool) → Extends d e → SlotIn d code s → IsTest e t.guard f → t.zeros ≡ s.zeros → t.registers.items ≡ s.registers.items → t.bytes.items ≡ s.bytes.items → SlotIn e code t
-narrowed_in d e code s t f x h made z p q =
+pub narrowed_in : (d e : List Node) (code : Listing) (s t : Slot) (f : (ℕ → ℕ) → Bool) → Extends d e → SlotIn d code s → IsTest e t.guard f → t.zeros ≡ s.zeros → t.live.items ≡ s.live.items → SlotIn e code t
+narrowed_in d e code s t f x h made z p =
     let k = slot_stays d e x code s h in
     record {
       guard = record { there = made.there; width_is = made.width_is };
       zeros = subst (ZerosIn e) (sym z) k.zeros;
-      registers = subst (AreLive e code.registers) (sym p) k.registers;
-      bytes = subst (BytesIn e code.blocks) (sym q) k.bytes;
+      live = subst (AreLive e (cells code)) (sym p) k.live;
     }
 
+-- the same cells
+same_held : (v : ℕ → ℕ) (d : List Node) (code : Listing) (s t : Slot) → t.live.items ≡ s.live.items → held v d code t ≡ held v d code s
+same_held v d code s t p = λ i. record {
+  registers = words_from (value v d) (p i) 0 code.registers;
+  blocks = stored code.blocks (bytes_from (value v d) (p i) (length code.registers) (total code.blocks));
+}
+
 pub narrowed_gone : (d e : List Node) (code : Listing) (s t : Slot) (test : Id) → Extends d e → SlotIn d code s → IsTest e t.guard (λ v. holds (value v d s.guard) && holds (value v d test))
-    → t.registers.items ≡ s.registers.items → t.bytes.items ≡ s.bytes.items → (v : ℕ → ℕ) → gone v e code t ≡ (if holds (value v d test) then gone v d code s else None)
-narrowed_gone d e code s t test x h made p q v =
+    → t.live.items ≡ s.live.items → (v : ℕ → ℕ) → gone v e code t ≡ (if holds (value v d test) then gone v d code s else None)
+narrowed_gone d e code s t test x h made p v =
     let g = holds (value v d s.guard) in
     let k = holds (value v d test) in
     let a : holds (value v e t.guard) ≡ (g && k) = ap holds (made.value_is v) ∙ holds_bit (g && k) in
-    let b = ap (λ ls. words_from (value v e) ls 0 code.registers) p ∙ words_of_stay d e x v code.registers s.registers.items h.registers.words in
-    let c = ap (map (value v e)) q ∙ map_stays v d e s.bytes.items x h.bytes.there in
-    let same : gone v e code t ≡ (if (g && k) then Some (held v d code s) else None) = (λ i. if a i then Some (record { registers = b i; blocks = stored code.blocks (c i) }) else None) in
+    let b = same_held v e code s t p ∙ held_stays d e x v code s h in
+    let same : gone v e code t ≡ (if (g && k) then Some (held v d code s) else None) = (λ i. if a i then Some (b i) else None) in
     same ∙ under g k (held v d code s)
 
 -- the same memory elsewhere
-pub copied_in : (d : List Node) (code : Listing) (s t : Slot) → t.guard ≡ s.guard → t.zeros ≡ s.zeros → t.registers.items ≡ s.registers.items → t.bytes.items ≡ s.bytes.items → SlotIn d code s → SlotIn d code t
-copied_in d code s t g z p q h = record {
+pub copied_in : (d : List Node) (code : Listing) (s t : Slot) → t.guard ≡ s.guard → t.zeros ≡ s.zeros → t.live.items ≡ s.live.items → SlotIn d code s → SlotIn d code t
+copied_in d code s t g z p h = record {
   guard = subst (λ i. IsWord d i 1) (sym g) h.guard;
   zeros = subst (ZerosIn d) (sym z) h.zeros;
-  registers = subst (AreLive d code.registers) (sym p) h.registers;
-  bytes = subst (BytesIn d code.blocks) (sym q) h.bytes;
+  live = subst (AreLive d (cells code)) (sym p) h.live;
 }
 
-pub copied_gone : (v : ℕ → ℕ) (d : List Node) (code : Listing) (s t : Slot) → t.guard ≡ s.guard → t.registers.items ≡ s.registers.items → t.bytes.items ≡ s.bytes.items → gone v d code t ≡ gone v d code s
-copied_gone v d code s t g p q = λ i. if holds (value v d (g i)) then Some (record { registers = words_from (value v d) (p i) 0 code.registers; blocks = stored code.blocks (map (value v d) (q i)) }) else None
+pub copied_gone : (v : ℕ → ℕ) (d : List Node) (code : Listing) (s t : Slot) → t.guard ≡ s.guard → t.live.items ≡ s.live.items → gone v d code t ≡ gone v d code s
+copied_gone v d code s t g p = let q = same_held v d code s t p in λ i. if holds (value v d (g i)) then Some (q i) else None
 
 -- the memory where a test of it holds too
 pub kept_gone : (v : ℕ → ℕ) (d : List Node) (code : Listing) (s : Slot) (test : Memory → Bool) (b : Bool) → b ≡ test (held v d code s) → (if b then gone v d code s else None) ≡ kept test (gone v d code s)
@@ -207,28 +142,21 @@ no_words : (f : Id → ℕ) (k : ℕ) (ts : List IntegerType) → words_from f [
 no_words f k [] = refl
 no_words f k (t ∷ ts) = ap (λ ws. 0 ∷ ws) (no_words f (suc k) ts)
 
-module _ (d e f : List Node) (code : Listing) (s : Slot) (bs : List ℕ) (n : ℕ) (y : Extends e f) (made : Makes d e (Constant 1 1) s.guard) (zeros : ZerosIn f s.zeros)
-    (registers : s.registers.items ≡ []) (bs_is : bs ≡ code.blocks) (n_is : n ≡ total bs) (bytes : s.bytes.items ≡ replicate n s.zeros.byte) where
-  size_is : n ≡ total code.blocks
-  size_is = n_is ∙ ap total bs_is
-
+module _ (d e f : List Node) (code : Listing) (s : Slot) (y : Extends e f) (made : Makes d e (Constant 1 1) s.guard) (zeros : ZerosIn f s.zeros) (live : s.live.items ≡ []) where
   pub started_in : SlotIn f code s
   started_in = record {
     guard = record { there = within_stays e f s.guard y made.there; width_is = y.width_stays s.guard made.there ∙ made.width_is };
     zeros = zeros;
-    registers = subst (AreLive f code.registers) (sym registers) (record { rise = omega arith; words = All-nil (IsLive f code.registers) });
-    bytes = record {
-      there = subst (All (Within f)) (sym bytes) (All-replicate (Within f) n s.zeros.byte zeros.byte.there);
-      widths = ap (map (width f)) bytes ∙ map_replicate (width f) n s.zeros.byte ∙ (let w = zeros.byte.width_is in λ i. replicate (size_is i) (w i));
-    };
+    live = subst (AreLive f (cells code)) (sym live) (record { rise = omega arith; words = All-nil (IsLive f (cells code)) });
   }
 
   pub started_gone : (v : ℕ → ℕ) → gone v f code s ≡ Some (first_memory code)
   started_gone v =
+      let n = total code.blocks in
       let a = y.value_stays v s.guard made.there ∙ made.value_is v in
-      let b = ap (λ ls. words_from (value v f) ls 0 code.registers) registers ∙ no_words (value v f) 0 code.registers in
-      let nodes = ap (map (value v f)) bytes ∙ map_replicate (value v f) n s.zeros.byte ∙ ap (replicate n) (zeros.byte.value_is v) in
-      let c = ap (stored code.blocks) nodes ∙ stored_zeros code.blocks n size_is in
+      let b = ap (λ ls. words_from (value v f) ls 0 code.registers) live ∙ no_words (value v f) 0 code.registers in
+      let bytes = ap (λ ls. bytes_from (value v f) ls (length code.registers) n) live ∙ no_bytes (value v f) [] (length code.registers) n (λ k lt. refl) in
+      let c = ap (stored code.blocks) bytes ∙ stored_zeros code.blocks n refl in
       λ i. if holds (a i) then Some (record { registers = b i; blocks = c i }) else None
 
 -- where a test of a register holds
@@ -239,97 +167,114 @@ zero_holds v d e f code s operand node test x made is = ap holds (x.value_stays 
 pub other_holds : (v : ℕ → ℕ) (d e f : List Node) (test other : Id) (b : Bool) → Extends e f → holds (value v d test) ≡ b → IsTest e other (λ v. not (holds (value v d test))) → holds (value v f other) ≡ not b
 other_holds v d e f test other b x is made = ap holds (x.value_stays v other made.there ∙ made.value_is v) ∙ holds_bit (not (holds (value v d test))) ∙ ap not is
 
-pub side_gone : (v : ℕ → ℕ) (d e f g : List Node) (code : Listing) (s copy t : Slot) (test : Id) (keeps : Memory → Bool) → Extends d e → Extends f g → SlotIn d code s → SlotIn f code t → copy.guard ≡ s.guard → copy.registers.items ≡ s.registers.items → copy.bytes.items ≡ s.bytes.items
+pub side_gone : (v : ℕ → ℕ) (d e f g : List Node) (code : Listing) (s copy t : Slot) (test : Id) (keeps : Memory → Bool) → Extends d e → Extends f g → SlotIn d code s → SlotIn f code t → copy.guard ≡ s.guard → copy.live.items ≡ s.live.items
     → holds (value v e test) ≡ keeps (held v d code s) → gone v f code t ≡ (if holds (value v e test) then gone v e code copy else None) → gone v g code t ≡ kept keeps (gone v d code s)
-side_gone v d e f g code s copy t test keeps x y h k p q r is so =
-    let a : gone v e code copy ≡ gone v d code s = copied_gone v e code s copy p q r ∙ gone_stays d e x v code s h in
+side_gone v d e f g code s copy t test keeps x y h k p q is so =
+    let a : gone v e code copy ≡ gone v d code s = copied_gone v e code s copy p q ∙ gone_stays d e x v code s h in
     let b : Bool = holds (value v e test) in
     let chosen : (if b then gone v e code copy else None) ≡ (if b then gone v d code s else None) = ap (λ w. if b then w else None) a in
     gone_stays f g y v code t k ∙ so ∙ chosen ∙ kept_gone v d code s keeps b is
 
--- ---- slots that meet, as the graph grows for the guard, the registers and the bytes
+-- ---- slots that meet, as the graph grows for the guard and the cells
 
-module _ (d0 d1 d2 d3 : List Node) (code : Listing) (first second s : Slot) (ts : List IntegerType) (r1 r2 : List Live) (b1 b2 : List Id)
-    (x : Extends d0 d1) (y : Extends d1 d2) (z : Extends d2 d3) (one : SlotIn d0 code first) (two : SlotIn d0 code second)
+module _ (d0 d1 d2 : List Node) (code : Listing) (first second s : Slot) (ts : List IntegerType) (l1 l2 : List Live)
+    (x : Extends d0 d1) (y : Extends d1 d2) (one : SlotIn d0 code first) (two : SlotIn d0 code second)
     (guard : IsTest d1 s.guard (λ v. holds (value v d0 first.guard) || holds (value v d0 second.guard))) (zeros : s.zeros ≡ first.zeros)
-    (ts_is : ts ≡ code.registers) (r1_is : r1 ≡ first.registers.items) (r2_is : r2 ≡ second.registers.items) (b1_is : b1 ≡ first.bytes.items) (b2_is : b2 ≡ second.bytes.items)
-    (registers : Merged d1 d2 ts first.guard r1 r2 s.registers.items) (bytes : Joined d2 d3 first.guard b1 b2 s.bytes.items) where
-  grown_guard : IsTest d3 s.guard (λ v. holds (value v d0 first.guard) || holds (value v d0 second.guard))
-  grown_guard =
-      let g = extends_more d1 d2 d3 y z in
-      record { there = within_stays d1 d3 s.guard g guard.there; width_is = g.width_stays s.guard guard.there ∙ guard.width_is; value_is = λ v. g.value_stays v s.guard guard.there ∙ guard.value_is v }
+    (ts_is : ts ≡ cells code) (l1_is : l1 ≡ first.live.items) (l2_is : l2 ≡ second.live.items) (live : Merged d1 d2 ts first.guard l1 l2 s.live.items) where
+  grown_guard : IsTest d2 s.guard (λ v. holds (value v d0 first.guard) || holds (value v d0 second.guard))
+  grown_guard = record { there = within_stays d1 d2 s.guard y guard.there; width_is = y.width_stays s.guard guard.there ∙ guard.width_is; value_is = λ v. y.value_stays v s.guard guard.there ∙ guard.value_is v }
 
-  grown_zeros : ZerosIn d3 s.zeros
-  grown_zeros = subst (ZerosIn d3) (sym zeros) (slot_stays d0 d3 (extends_more d0 d1 d3 x (extends_more d1 d2 d3 y z)) code first one).zeros
+  grown_zeros : ZerosIn d2 s.zeros
+  grown_zeros = subst (ZerosIn d2) (sym zeros) (slot_stays d0 d2 (extends_more d0 d1 d2 x y) code first one).zeros
 
-  own_registers : Merged d1 d2 code.registers first.guard first.registers.items second.registers.items s.registers.items
-  own_registers =
-      subst (λ r. Merged d1 d2 code.registers first.guard first.registers.items r s.registers.items) r2_is
-      (subst (λ r. Merged d1 d2 code.registers first.guard r r2 s.registers.items) r1_is (subst (λ us. Merged d1 d2 us first.guard r1 r2 s.registers.items) ts_is registers))
+  own_live : Merged d1 d2 (cells code) first.guard first.live.items second.live.items s.live.items
+  own_live =
+      subst (λ l. Merged d1 d2 (cells code) first.guard first.live.items l s.live.items) l2_is
+      (subst (λ l. Merged d1 d2 (cells code) first.guard l l2 s.live.items) l1_is (subst (λ us. Merged d1 d2 us first.guard l1 l2 s.live.items) ts_is live))
 
-  grown_registers : Merged d0 d3 code.registers first.guard first.registers.items second.registers.items s.registers.items
-  grown_registers = record {
-    live = live_stay d2 d3 z code.registers s.registers.items own_registers.live;
+  grown_live : Merged d0 d2 (cells code) first.guard first.live.items second.live.items s.live.items
+  grown_live = record {
+    live = own_live.live;
     words = λ v r.
         let t = x.value_stays v first.guard one.guard.there in
-        let p = found_stays d0 d1 x v code.registers r first.registers.items one.registers.words in
-        let q = found_stays d0 d1 x v code.registers r second.registers.items two.registers.words in
-        found_stays d2 d3 z v code.registers r s.registers.items own_registers.live.words ∙ own_registers.words v r ∙ (λ k. if holds (t k) then p k else q k);
+        let p = found_stays d0 d1 x v (cells code) r first.live.items one.live.words in
+        let q = found_stays d0 d1 x v (cells code) r second.live.items two.live.words in
+        own_live.words v r ∙ (λ k. if holds (t k) then p k else q k);
   }
 
-  grown_bytes : Joined d0 d3 first.guard first.bytes.items second.bytes.items s.bytes.items
-  grown_bytes =
-      joined_stays d0 d2 d3 d3 first.guard first.bytes.items second.bytes.items s.bytes.items (extends_more d0 d1 d2 x y) (extends_itself d3) one.guard.there one.bytes.there two.bytes.there
-      (subst (λ b. Joined d2 d3 first.guard first.bytes.items b s.bytes.items) b2_is (subst (λ b. Joined d2 d3 first.guard b b2 s.bytes.items) b1_is bytes))
+  pub merged_from_in : SlotIn d2 code s
+  merged_from_in = merged_in d0 d2 code first second s grown_guard grown_zeros grown_live
 
-  pub merged_from_in : SlotIn d3 code s
-  merged_from_in = merged_in d0 d3 code first second s one two grown_guard grown_zeros grown_registers grown_bytes
+  pub merged_from_gone : (v : ℕ → ℕ) → gone v d2 code s ≡ either (gone v d0 code first) (gone v d0 code second)
+  merged_from_gone = merged_gone d0 d2 code first second s grown_guard grown_zeros grown_live
 
-  pub merged_from_gone : (v : ℕ → ℕ) → gone v d3 code s ≡ either (gone v d0 code first) (gone v d0 code second)
-  merged_from_gone = merged_gone d0 d3 code first second s one two grown_guard grown_zeros grown_registers grown_bytes
-
--- ---- the registers that are needed
+-- ---- the registers and blocks that are needed
 
 keeps_read : (until : List ℕ) (place r : ℕ) → place < slice_index until r → nat_lt place (slice_index until r) ≡ true
 keeps_read until place r lt = grind (arith, nat_tests)
 
-module _ (d : List Node) (code : Listing) (until : List ℕ) (place : ℕ) (s t : Slot) (own : List ℕ) (live : List Live) (size : length until ≡ length code.registers) (h : SlotIn d code s) (guard : t.guard ≡ s.guard) (zeros : t.zeros ≡ s.zeros)
-    (own_is : own ≡ until) (live_is : live ≡ s.registers.items) (registers : t.registers.items ≡ filter (λ l. nat_lt place (slice_index own l.register)) live) (bytes : t.bytes.items ≡ s.bytes.items) where
-  abbrev keeps : ℕ → Bool
-  keeps r = nat_lt place (slice_index until r)
+-- the plan that is lent
+pub owner_lent : (code : Listing) (until own owner lent : List ℕ) → length until ≡ length code.registers + length code.blocks → own ≡ until → owner ≡ owners code → lent ≡ owner
+    → (c : ℕ) → c < length lent → slice_index lent c < length own
+owner_lent code until own owner lent size own_is owner_is lent_is c lt =
+    let same = lent_is ∙ owner_is in
+    omega (arith, size, ap length own_is, ap (λ (xs : List ℕ). slice_index xs c) same, owner_there code c (omega (arith, lt, ap length same)))
 
-  registers_are : t.registers.items ≡ filter (λ l. keeps l.register) s.registers.items
-  registers_are = registers ∙ (λ i. filter (λ l. nat_lt place (slice_index (own_is i) l.register)) (live_is i))
+pub live_lent : (d : List Node) (code : Listing) (s : Slot) (live : List Live) (owner lent : List ℕ) → SlotIn d code s → live ≡ s.live.items → owner ≡ owners code → lent ≡ owner → Rises 0 live (length lent)
+live_lent d code s live owner lent h live_is owner_is lent_is =
+    let size : length (cells code) ≡ length lent = sym (ap length (lent_is ∙ owner_is) ∙ all_owners code) in
+    subst (Rises 0 live) size (subst (λ ls. Rises 0 ls (length (cells code))) (sym live_is) h.live.rise)
+
+module _ (d : List Node) (code : Listing) (until owner : List ℕ) (place : ℕ) (s t : Slot) (own lent : List ℕ) (live : List Live) (size : length until ≡ length code.registers + length code.blocks) (owner_is : owner ≡ owners code) (h : SlotIn d code s) (guard : t.guard ≡ s.guard) (zeros : t.zeros ≡ s.zeros)
+    (own_is : own ≡ until) (lent_is : lent ≡ owner) (live_is : live ≡ s.live.items) (kept_is : t.live.items ≡ filter (λ l. nat_lt place (slice_index own (slice_index lent l.cell))) live) where
+  abbrev keeps : ℕ → Bool
+  keeps c = nat_lt place (slice_index until (slice_index (owners code) c))
+
+  live_are : t.live.items ≡ filter (λ l. keeps l.cell) s.live.items
+  live_are = kept_is ∙ (let q = lent_is ∙ owner_is in λ i. filter (λ l. nat_lt place (slice_index (own_is i) (slice_index (q i) l.cell))) (live_is i))
 
   pub needed_in : SlotIn d code t
   needed_in = record {
     guard = subst (λ i. IsWord d i 1) (sym guard) h.guard;
     zeros = subst (ZerosIn d) (sym zeros) h.zeros;
-    registers = subst (AreLive d code.registers) (sym registers_are) (record {
-      rise = kept_rise keeps 0 (length code.registers) s.registers.items h.registers.rise;
-      words = All-filter (λ l. keeps l.register) (IsLive d code.registers) s.registers.items h.registers.words;
+    live = subst (AreLive d (cells code)) (sym live_are) (record {
+      rise = kept_rise keeps 0 (length (cells code)) s.live.items h.live.rise;
+      words = All-filter (λ l. keeps l.cell) (IsLive d (cells code)) s.live.items h.live.words;
     });
-    bytes = subst (BytesIn d code.blocks) (sym bytes) h.bytes;
   }
 
-  needed_agree : (v : ℕ → ℕ) → Agree until place (held v d code t) (held v d code s)
+  -- a cell of what is read is kept
+  kept_cell : (c k : ℕ) → slice_index (owners code) c ≡ k → k < length until → IsRead until place (Some k) → find t.live.items c ≡ find s.live.items c
+  kept_cell c k is lt read =
+      ap (λ ls. find ls c) live_are ∙ kept_found keeps c s.live.items (ap (λ n. nat_lt place (slice_index until n)) is ∙ keeps_read until place k (read lt))
+
+  needed_agree : (v : ℕ → ℕ) → Agree (length code.registers) until place (held v d code t) (held v d code s)
   needed_agree v = record {
-    size = all_words (value v d) t.registers.items 0 code.registers ∙ sym (all_words (value v d) s.registers.items 0 code.registers);
+    size = all_words (value v d) t.live.items 0 code.registers ∙ sym (all_words (value v d) s.live.items 0 code.registers);
     needed = λ r read.
         elim (cases_lt r (length code.registers)) [
-          | inl lt ↦ words_first (value v d) t.registers.items r code.registers lt ∙ ap (word_or_0 (value v d)) (ap (λ ls. find ls r) registers_are ∙ kept_found keeps r s.registers.items (keeps_read until place r (read (omega (arith, lt, size)))))
-              ∙ sym (words_first (value v d) s.registers.items r code.registers lt)
-          | inr le ↦ words_behind (value v d) t.registers.items 0 r code.registers le ∙ sym (words_behind (value v d) s.registers.items 0 r code.registers le)
+          | inl lt ↦ words_first (value v d) t.live.items r code.registers lt ∙ ap (word_or_0 (value v d)) (kept_cell r r (register_owner code r lt) (omega (arith, lt, size)) read)
+              ∙ sym (words_first (value v d) s.live.items r code.registers lt)
+          | inr le ↦ words_behind (value v d) t.live.items 0 r code.registers le ∙ sym (words_behind (value v d) s.live.items 0 r code.registers le)
         ];
-    blocks = ap (λ ids. stored code.blocks (map (value v d) ids)) bytes;
+    count = stored_length code.blocks (bytes_from (value v d) t.live.items (length code.registers) (total code.blocks)) ∙ sym (stored_length code.blocks (bytes_from (value v d) s.live.items (length code.registers) (total code.blocks)));
+    blocks = λ b read.
+        let f = value v d in
+        let first = length code.registers in
+        elim (cases_lt b (length code.blocks)) [
+          | inl lt ↦ block_words f t.live.items first b code.blocks lt
+              ∙ bytes_alike f s.live.items t.live.items (first + total (take b code.blocks)) (slice_index code.blocks b) (λ c from below. kept_cell c (first + b) (byte_owner code b c lt from below) (omega (arith, lt, size)) read)
+              ∙ sym (block_words f s.live.items first b code.blocks lt)
+          | inr le ↦ no_block code.blocks (bytes_from f t.live.items first (total code.blocks)) b le ∙ sym (no_block code.blocks (bytes_from f s.live.items first (total code.blocks)) b le)
+        ];
   }
 
-  both_alike : (v : ℕ → ℕ) (b : Bool) → Alike until place (if b then Some (held v d code t) else None) (if b then Some (held v d code s) else None)
+  both_alike : (v : ℕ → ℕ) (b : Bool) → Alike (length code.registers) until place (if b then Some (held v d code t) else None) (if b then Some (held v d code s) else None)
   both_alike v true = needed_agree v
   both_alike v false = tt
 
-  pub needed_alike : (v : ℕ → ℕ) → Alike until place (gone v d code t) (gone v d code s)
-  needed_alike v = subst (λ g. Alike until place (if holds (value v d g) then Some (held v d code t) else None) (gone v d code s)) (sym guard) (both_alike v (holds (value v d s.guard)))
+  pub needed_alike : (v : ℕ → ℕ) → Alike (length code.registers) until place (gone v d code t) (gone v d code s)
+  needed_alike v = subst (λ g. Alike (length code.registers) until place (if holds (value v d g) then Some (held v d code t) else None) (gone v d code s)) (sym guard) (both_alike v (holds (value v d s.guard)))
 
 -- ---- the nodes of registers
 
@@ -341,11 +286,11 @@ same_some : (i j : Id) → Some i ≡ Some j → i ≡ j
 unfolding id_or
 same_some i j e = ap (id_or i) e
 
-found_word : (d : List Node) (ts : List IntegerType) (r : ℕ) (id : Id) (ls : List Live) → All (IsLive d ts) ls → find ls r ≡ Some id → IsWord d id (type_width (slice_index_or ts r types.Int))
+pub found_word : (d : List Node) (ts : List IntegerType) (r : ℕ) (id : Id) (ls : List Live) → All (IsLive d ts) ls → find ls r ≡ Some id → IsWord d id (type_width (slice_index_or ts r types.Int))
 found_word d ts r id [] h is = absurd (cc)
 found_word d ts r id (l ∷ ls) h is =
-    elim (cases_Bool (l.register == r)) [
-      | inl on ↦ subst (λ k. IsWord d id (type_width (slice_index_or ts k types.Int))) (are_same l.register r on) (subst (λ i. IsWord d i (type_width (slice_index_or ts l.register types.Int))) (same_some l.id id (sym (found l ls r on) ∙ is)) (All-head (IsLive d ts) l ls h))
+    elim (cases_Bool (l.cell == r)) [
+      | inl on ↦ subst (λ k. IsWord d id (type_width (slice_index_or ts k types.Int))) (are_same l.cell r on) (subst (λ i. IsWord d i (type_width (slice_index_or ts l.cell types.Int))) (same_some l.id id (sym (found l ls r on) ∙ is)) (All-head (IsLive d ts) l ls h))
       | inr off ↦ found_word d ts r id ls (All-tail (IsLive d ts) l ls h) (sym (past l ls r off) ∙ is)
     ]
 
@@ -354,21 +299,37 @@ module _ (d : List Node) (code : Listing) (s : Slot) (r : ℕ) (h : SlotIn d cod
   abbrev TheWord : Id → Type 0
   TheWord id = IsValue d id (type_width (slice_index_or code.registers r types.Int)) (λ v. register (held v d code s) r)
 
-  held_word : (v : ℕ → ℕ) → register (held v d code s) r ≡ word_or_0 (value v d) (find s.registers.items r)
-  held_word v = words_first (value v d) s.registers.items r code.registers (test_below r (length code.registers) there)
+  held_word : (v : ℕ → ℕ) → register (held v d code s) r ≡ word_or_0 (value v d) (find s.live.items r)
+  held_word v = words_first (value v d) s.live.items r code.registers (test_below r (length code.registers) there)
 
-  pub register_set : (id : Id) → find s.registers.items r ≡ Some id → TheWord id
+  pub register_set : (id : Id) → find s.live.items r ≡ Some id → TheWord id
   register_set id is =
-      let word = found_word d code.registers r id s.registers.items h.registers.words is in
-      record { there = word.there; width_is = word.width_is; value_is = λ v. sym (held_word v ∙ ap (word_or_0 (value v d)) is) }
+      let word = found_word d (cells code) r id s.live.items h.live.words is in
+      record { there = word.there; width_is = word.width_is ∙ ap type_width (register_type code r (test_below r (length code.registers) there)); value_is = λ v. sym (held_word v ∙ ap (word_or_0 (value v d)) is) }
 
-  pub register_unset : (ts : List IntegerType) (id : Id) → ts ≡ code.registers → id ≡ zero_of s.zeros (get_or ts r types.Bool) → find s.registers.items r ≡ None → TheWord id
+  pub register_unset : (ts : List IntegerType) (id : Id) → ts ≡ code.registers → id ≡ zero_of s.zeros (get_or ts r types.Bool) → find s.live.items r ≡ None → TheWord id
   register_unset ts id same at is =
       let lt = test_below r (length code.registers) there in
       let t_is : get_or ts r types.Bool ≡ slice_index_or code.registers r types.Int = ap (λ us. get_or us r types.Bool) same ∙ get_or_default code.registers r types.Bool types.Int lt in
       let t = slice_index_or code.registers r types.Int in
       let word = zero_is d s.zeros t h.zeros in
       subst TheWord (sym (at ∙ ap (zero_of s.zeros) t_is)) (record { there = word.there; width_is = word.width_is; value_is = λ v. word.value_is v ∙ sym (held_word v ∙ ap (word_or_0 (value v d)) is) })
+
+-- a register among the cells
+pub cell_there : (code : Listing) (ts : List IntegerType) (r : ℕ) → ts ≡ cells code → is_there code.registers r ≡ true → is_there ts r ≡ true
+cell_there code ts r same there = is_in r (length ts) (omega (arith, test_below r (length code.registers) there, ap length same, cells_length code))
+  where
+    is_in : (m n : ℕ) → m < n → nat_lt m n ≡ true
+    is_in m n lt = grind (arith, nat_tests)
+
+pub cell_word : (d : List Node) (code : Listing) (ts : List IntegerType) (r : ℕ) (id : Id) → ts ≡ cells code → is_there code.registers r ≡ true → IsWord d id (type_width (slice_index_or code.registers r types.Int)) → IsLive d ts (record { cell = r; id = id })
+cell_word d code ts r id same there word = record {
+  there = word.there;
+  width_is = word.width_is ∙ sym (ap type_width (ap (λ (us : List IntegerType). slice_index_or us r types.Int) same ∙ register_type code r (test_below r (length code.registers) there)));
+}
+
+pub live_lent_by : (d : List Node) (code : Listing) (s : Slot) (ts : List IntegerType) (live : List Live) → SlotIn d code s → ts ≡ cells code → live ≡ s.live.items → AreLive d ts live
+live_lent_by d code s ts live h same live_is = subst (λ us. AreLive d us live) (sym same) (subst (AreLive d (cells code)) (sym live_is) h.live)
 
 pub is_typed : (ts : List IntegerType) (r : ℕ) (t : IntegerType) → is_register ts r t ≡ true → (r < length ts) × (same_integer (slice_index_or ts r types.Int) t ≡ true)
 is_typed ts r t h =
@@ -383,3 +344,16 @@ result_word d ts r t i f g h made same = record {
   width_is = made.width_is ∙ sym (same_widths_of (slice_index_or ts r types.Int) t (is_typed ts r t h).1);
   value_is = λ v. made.value_is v ∙ same v;
 }
+
+pub copied_word : (d : List Node) (code : Listing) (s : Slot) (o : Operation) (r a : ℕ) (i : Id) → o ≡ operations.Copy r a → operation_fits code.registers code.blocks 0 o ≡ true → IsWord d i (type_width (slice_index_or code.registers a types.Int))
+    → ((v : ℕ → ℕ) → value v d i ≡ register (held v d code s) a) → IsValue d i (type_width (slice_index_or code.registers (into_of o) types.Int)) (λ v. result_of o (held v d code s))
+copied_word d code s o r a i is fits word same =
+    let rs = code.registers in
+    let t = slice_index_or rs a types.Int in
+    let fits' : operation_fits rs code.blocks 0 (operations.Copy r a) ≡ true = subst (λ p. operation_fits rs code.blocks 0 p ≡ true) is fits in
+    let typed = is_typed rs r t (both (is_there rs a) (is_register rs r t) fits').1 in
+    subst (λ p. IsValue d i (type_width (slice_index_or rs (into_of p) types.Int)) (λ v. result_of p (held v d code s))) (sym is) (record {
+      there = word.there;
+      width_is = word.width_is ∙ sym (same_widths_of (slice_index_or rs r types.Int) t typed.1);
+      value_is = same;
+    })

@@ -1,5 +1,5 @@
 -- Memories that agree in what later instructions read tell the same.
-use Rattle.std.proofs.Common.{◌≡◌, ℕ, zero, suc, Bool, true, false, List, [], ◌∷◌, ◌++◌, length, Option, Some, None, refl, sym, ap, ◌∙◌, arith}
+use Rattle.std.proofs.Common.{◌≡◌, ℕ, zero, suc, ◌+◌, Bool, true, false, List, [], ◌∷◌, ◌++◌, length, take, drop, Option, Some, None, refl, sym, ap, ◌∙◌, arith}
 use Rattle.std.specs.Prelude.{not, ◌==◌, if◌then◌else◌, slice_index, slice_set}
 use Rattle.words.specs.declared.check.Class.TheVariants as classes
 use Rattle.actions.specs.declared.action.Action.TheVariants as actions
@@ -7,7 +7,7 @@ use Rattle.actions.specs.declared.action.Answer.TheVariants as answers
 use Rattle.actions.specs.declared.action.Next.TheVariants.{Blocked, Broken}
 use Rattle.core_tree.specs.Operations.{truth_bits, converted, unless, division_check, arithmetic_check, sign_check, count_check, left_shift_check, arithmetic_value, sign_value, compared}
 use Rattle.core_tree.specs.declared.operators.SignOperator.TheVariants as signs
-use Rattle.c_values.specs.Variables.{Variables, pointer_to, low_bytes, put_bytes, cleared, read_variable}
+use Rattle.c_values.specs.Variables.{Variables, pointer_to, low_bytes, zeros, block_of, put_at, put_bytes, number_at}
 use Rattle.goto_prog.specs.declared.code.Condition.{Condition}
 use Rattle.goto_prog.specs.declared.code.Condition.TheVariants as checks
 use Rattle.goto_prog.specs.declared.code.Operation.{Operation}
@@ -18,29 +18,29 @@ use Rattle.guarded_ssa.specs.Runs.{answer_at}
 use Rattle.guarded_ssa.specs.Ways.{asked, stopped, Ways, either, arrived, updated, kept, on, breaks, tells, leaves, first_way, later_ways, told}
 use Rattle.guarded_ssa.specs.Reads.{IsRead, AreRead, Covers, Agree, Alike, AllAlike}
 
-module _ (until : List ℕ) where
+module _ (registers : ℕ) (until : List ℕ) where
   -- ---- agreement
 
-  agree_itself : (place : ℕ) (m : Memory) → Agree until place m m
-  agree_itself place m = record { size = refl; needed = λ r h. refl; blocks = refl }
+  agree_itself : (place : ℕ) (m : Memory) → Agree registers until place m m
+  agree_itself place m = record { size = refl; needed = λ r h. refl; count = refl; blocks = λ b h. refl }
 
-  pub alike_itself : (place : ℕ) (w : Option Memory) → Alike until place w w
+  pub alike_itself : (place : ℕ) (w : Option Memory) → Alike registers until place w w
   alike_itself place None = tt
   alike_itself place (Some m) = agree_itself place m
 
-  pub all_alike_itself : (place : ℕ) (ws : Ways) → AllAlike until place ws ws
+  pub all_alike_itself : (place : ℕ) (ws : Ways) → AllAlike registers until place ws ws
   all_alike_itself place [] = tt
   all_alike_itself place (w ∷ ws) = (alike_itself place w, all_alike_itself (suc place) ws)
 
-  alike_more : (place : ℕ) (w x y : Option Memory) → Alike until place w x → Alike until place x y → Alike until place w y
+  alike_more : (place : ℕ) (w x y : Option Memory) → Alike registers until place w x → Alike registers until place x y → Alike registers until place w y
   alike_more place None None None h k = tt
   alike_more place None None (Some y) h k = absurd k
   alike_more place None (Some x) y h k = absurd h
   alike_more place (Some w) None y h k = absurd h
   alike_more place (Some w) (Some x) None h k = absurd k
-  alike_more place (Some w) (Some x) (Some y) h k = record { size = h.size ∙ k.size; needed = λ r n. h.needed r n ∙ k.needed r n; blocks = h.blocks ∙ k.blocks }
+  alike_more place (Some w) (Some x) (Some y) h k = record { size = h.size ∙ k.size; needed = λ r n. h.needed r n ∙ k.needed r n; count = h.count ∙ k.count; blocks = λ b n. h.blocks b n ∙ k.blocks b n }
 
-  pub all_alike_more : (place : ℕ) (ws xs ys : Ways) → AllAlike until place ws xs → AllAlike until place xs ys → AllAlike until place ws ys
+  pub all_alike_more : (place : ℕ) (ws xs ys : Ways) → AllAlike registers until place ws xs → AllAlike registers until place xs ys → AllAlike registers until place ws ys
   all_alike_more place [] [] [] h k = tt
   all_alike_more place [] [] (y ∷ ys) h k = absurd k
   all_alike_more place [] (x ∷ xs) ys h k = absurd h
@@ -51,10 +51,10 @@ module _ (until : List ℕ) where
   read_later : (place r : ℕ) → IsRead until (suc place) (Some r) → IsRead until place (Some r)
   read_later place r h l = omega (arith, h l)
 
-  agree_later : (place : ℕ) (m n : Memory) → Agree until place m n → Agree until (suc place) m n
-  agree_later place m n h = record { size = h.size; needed = λ r l. h.needed r (read_later place r l); blocks = h.blocks }
+  agree_later : (place : ℕ) (m n : Memory) → Agree registers until place m n → Agree registers until (suc place) m n
+  agree_later place m n h = record { size = h.size; needed = λ r l. h.needed r (read_later place r l); count = h.count; blocks = λ b l. h.blocks b (read_later place (registers + b) l) }
 
-  alike_later : (place : ℕ) (w x : Option Memory) → Alike until place w x → Alike until (suc place) w x
+  alike_later : (place : ℕ) (w x : Option Memory) → Alike registers until place w x → Alike registers until (suc place) w x
   alike_later place None None h = tt
   alike_later place None (Some n) h = absurd h
   alike_later place (Some m) None h = absurd h
@@ -62,13 +62,13 @@ module _ (until : List ℕ) where
 
   -- ---- ways that arrive
 
-  pub either_alike : (place : ℕ) (w x y z : Option Memory) → Alike until place w x → Alike until place y z → Alike until place (either w y) (either x z)
+  pub either_alike : (place : ℕ) (w x y z : Option Memory) → Alike registers until place w x → Alike registers until place y z → Alike registers until place (either w y) (either x z)
   either_alike place None None y z h k = k
   either_alike place None (Some n) y z h k = absurd h
   either_alike place (Some m) None y z h k = absurd h
   either_alike place (Some m) (Some n) y z h k = h
 
-  pub arrived_alike : (place n : ℕ) (w x : Option Memory) (ws xs : Ways) → Alike until place w x → AllAlike until place ws xs → AllAlike until place (arrived n w ws) (arrived n x xs)
+  pub arrived_alike : (place n : ℕ) (w x : Option Memory) (ws xs : Ways) → Alike registers until place w x → AllAlike registers until place ws xs → AllAlike registers until place (arrived n w ws) (arrived n x xs)
   arrived_alike place n w x [] [] h k = tt
   arrived_alike place n w x [] (y ∷ xs) h k = absurd k
   arrived_alike place n w x (y ∷ ws) [] h k = absurd k
@@ -86,20 +86,43 @@ module _ (until : List ℕ) where
   set_same (a ∷ xs) (b ∷ ys) (suc r) x y zero l e h = h
   set_same (a ∷ xs) (b ∷ ys) (suc r) x y (suc k) l e h = set_same xs ys r x y k (omega (arith, l)) e h
 
-  set_length : (xs : List ℕ) (r x : ℕ) → length (slice_set xs r x) ≡ length xs
+  set_length : {X : Type 0} (xs : List X) (r : ℕ) (x : X) → length (slice_set xs r x) ≡ length xs
   set_length [] r x = refl
   set_length (a ∷ xs) zero x = refl
   set_length (a ∷ xs) (suc r) x = ap suc (set_length xs r x)
 
-  module _ (place : ℕ) (m n : Memory) (agree : Agree until place m n) where
-    agree_set : (r x y : ℕ) → x ≡ y → Agree until (suc place) (with_register m r x) (with_register n r y)
+  -- a block that is written
+  block_same : (xs ys : Variables) (r : ℕ) (x y : List ℕ) (k : ℕ) → length xs ≡ length ys → (r ≡ k → x ≡ y) → block_of xs k ≡ block_of ys k → block_of (slice_set xs r x) k ≡ block_of (slice_set ys r y) k
+  block_same [] [] r x y k l e h = refl
+  block_same [] (b ∷ ys) r x y k l e h = absurd (omega (arith, l))
+  block_same (a ∷ xs) [] r x y k l e h = absurd (omega (arith, l))
+  block_same (a ∷ xs) (b ∷ ys) zero x y zero l e h = e refl
+  block_same (a ∷ xs) (b ∷ ys) zero x y (suc k) l e h = h
+  block_same (a ∷ xs) (b ∷ ys) (suc r) x y zero l e h = h
+  block_same (a ∷ xs) (b ∷ ys) (suc r) x y (suc k) l e h = block_same xs ys r x y k (omega (arith, l)) (λ p. e (ap suc p)) h
+
+  module _ (place : ℕ) (m n : Memory) (agree : Agree registers until place m n) where
+    agree_set : (r x y : ℕ) → x ≡ y → Agree registers until (suc place) (with_register m r x) (with_register n r y)
     agree_set r x y e = record {
       size = set_length m.registers r x ∙ agree.size ∙ sym (set_length n.registers r y);
       needed = λ k l. set_same m.registers n.registers r x y k agree.size e (agree.needed k (read_later place k l));
-      blocks = agree.blocks;
+      count = agree.count;
+      blocks = λ b l. agree.blocks b (read_later place (registers + b) l);
     }
 
-    same_check : (c : Condition) → AreRead until place (operations.Check c) → check_class c m ≡ check_class c n
+    -- a block that is written alike where it was alike before
+    agree_block : (b : ℕ) (f g : List ℕ → List ℕ) → ((bs : List ℕ) → f bs ≡ g bs) → Agree registers until (suc place) (with_blocks m (slice_set m.blocks b (f (block_of m.blocks b)))) (with_blocks n (slice_set n.blocks b (g (block_of n.blocks b))))
+    agree_block b f g e = record {
+      size = agree.size;
+      needed = λ k l. agree.needed k (read_later place k l);
+      count = set_length m.blocks b (f (block_of m.blocks b)) ∙ agree.count ∙ sym (set_length n.blocks b (g (block_of n.blocks b)));
+      blocks = λ k l.
+          let same : block_of m.blocks k ≡ block_of n.blocks k = agree.blocks k (read_later place (registers + k) l) in
+          block_same m.blocks n.blocks b (f (block_of m.blocks b)) (g (block_of n.blocks b)) k agree.count
+          (λ p. e (block_of m.blocks b) ∙ ap g (ap (block_of m.blocks) p ∙ same ∙ ap (block_of n.blocks) (sym p))) same;
+    }
+
+    same_check : (c : Condition) → AreRead registers until place (operations.Check c) → check_class c m ≡ check_class c n
     same_check (checks.Divisor b) read = ap (λ x. unless (not (x == 0)) classes.Division) (agree.needed b read.0)
     same_check (checks.Quotient t a b) read =
         let p = agree.needed a read.0 in let q = agree.needed b read.1 in λ i. if q i == 0 then None else division_check t (p i) (q i)
@@ -109,17 +132,16 @@ module _ (until : List ℕ) where
     same_check (checks.LeftShift t u a count) read = let p = agree.needed a read.0 in let q = agree.needed count read.1 in λ i. left_shift_check t u (p i) (q i)
     same_check (checks.Returned a) read = ap return_check (agree.needed a read.0)
 
-    agree_calculated : (o : Operation) → AreRead until place o → Agree until (suc place) (calculated o m) (calculated o n)
+    agree_calculated : (o : Operation) → AreRead registers until place o → Agree registers until (suc place) (calculated o m) (calculated o n)
     agree_calculated (operations.Constant r bits) read = agree_set r bits bits refl
     agree_calculated (operations.Copy r a) read = agree_set r _ _ (agree.needed a read.0)
-    agree_calculated (operations.Load r t b offset) read = agree_set r _ _ (ap (λ (bs : Variables). read_variable bs b offset t) agree.blocks)
+    agree_calculated (operations.Load r t b offset) read = agree_set r _ _ (ap (number_at t offset) (agree.blocks b read.2))
     agree_calculated (operations.Store b offset count a) read =
-        let p = agree.needed a read.0 in let q = agree.blocks in
-        record { size = agree.size; needed = λ k l. agree.needed k (read_later place k l); blocks = λ i. put_bytes (q i) b offset (low_bytes count (p i)) }
-    agree_calculated (operations.Clear b size) read =
-        record { size = agree.size; needed = λ k l. agree.needed k (read_later place k l); blocks = ap (λ (bs : Variables). cleared bs b size) agree.blocks }
+        let p = agree.needed a read.0 in agree_block b (put_at offset (low_bytes count (register m a))) (put_at offset (low_bytes count (register n a))) (λ bs i. put_at offset (low_bytes count (p i)) bs)
+    agree_calculated (operations.Clear b size) read = agree_block b (λ bs. zeros size) (λ bs. zeros size) (λ bs. refl)
     agree_calculated (operations.CopyBytes into to from offset count) read =
-        record { size = agree.size; needed = λ k l. agree.needed k (read_later place k l); blocks = ap (λ (bs : Variables). put_bytes bs into to (bytes_of bs from offset count)) agree.blocks }
+        let p = agree.blocks from read.2 in
+        agree_block into (put_at to (bytes_of m.blocks from offset count)) (put_at to (bytes_of n.blocks from offset count)) (λ bs i. put_at to (take count (drop offset (p i))) bs)
     agree_calculated (operations.Convert r from to a) read = agree_set r _ _ (ap (converted from to) (agree.needed a read.0))
     agree_calculated (operations.Sign r op t a) read = agree_set r _ _ (ap (sign_value op t) (agree.needed a read.0))
     agree_calculated (operations.Arithmetic r op t u a b) read =
@@ -130,39 +152,39 @@ module _ (until : List ℕ) where
     agree_calculated _ read = agree_later place m n agree
 
     module _ (v : ℕ → ℕ) (apart line f : ℕ) where
-      same_told : (o : Operation) → AreRead until place o → tells v apart place line f o m ≡ tells v apart place line f o n
+      same_told : (o : Operation) → AreRead registers until place o → tells v apart place line f o m ≡ tells v apart place line f o n
       same_told (operations.Check c) read = ap (λ x. breaks x line f) (same_check c read)
       same_told (operations.Assert a) read = ap (λ x. if x == 0 then stopped (Broken classes.Assertion line f) ∷ [] else []) (agree.needed a read.0)
       same_told (operations.Assume a) read = ap (λ x. if x == 0 then stopped Blocked ∷ [] else []) (agree.needed a read.0)
-      same_told (operations.WriteObject k offset b from count) read = ap (λ (bs : Variables). asked (actions.Write (pointer_to k offset) (bytes_of bs b from count) false) line f answers.Done ∷ []) agree.blocks
+      same_told (operations.WriteObject k offset b from count) read = ap (λ (bs : List ℕ). asked (actions.Write (pointer_to k offset) (take count (drop from bs)) false) line f answers.Done ∷ []) (agree.blocks b read.2)
       same_told _ read = refl
 
-  alike_updated : (place : ℕ) (w x : Option Memory) (f : Memory → Memory) → ((m n : Memory) → Agree until place m n → Agree until (suc place) (f m) (f n)) → Alike until place w x → Alike until (suc place) (updated f w) (updated f x)
+  alike_updated : (place : ℕ) (w x : Option Memory) (f : Memory → Memory) → ((m n : Memory) → Agree registers until place m n → Agree registers until (suc place) (f m) (f n)) → Alike registers until place w x → Alike registers until (suc place) (updated f w) (updated f x)
   alike_updated place None None f same h = tt
   alike_updated place None (Some n) f same h = absurd h
   alike_updated place (Some m) None f same h = absurd h
   alike_updated place (Some m) (Some n) f same h = same m n h
 
-  kept_by : (place : ℕ) (b c : Bool) (m n : Memory) → b ≡ c → Agree until (suc place) m n → Alike until (suc place) (if b then Some m else None) (if c then Some n else None)
+  kept_by : (place : ℕ) (b c : Bool) (m n : Memory) → b ≡ c → Agree registers until (suc place) m n → Alike registers until (suc place) (if b then Some m else None) (if c then Some n else None)
   kept_by place true true m n e h = h
   kept_by place true false m n e h = absurd (cc)
   kept_by place false true m n e h = absurd (cc)
   kept_by place false false m n e h = tt
 
-  alike_kept : (place : ℕ) (w x : Option Memory) (test : Memory → Bool) → ((m n : Memory) → Agree until place m n → test m ≡ test n) → Alike until place w x → Alike until (suc place) (kept test w) (kept test x)
+  alike_kept : (place : ℕ) (w x : Option Memory) (test : Memory → Bool) → ((m n : Memory) → Agree registers until place m n → test m ≡ test n) → Alike registers until place w x → Alike registers until (suc place) (kept test w) (kept test x)
   alike_kept place None None test same h = tt
   alike_kept place None (Some n) test same h = absurd h
   alike_kept place (Some m) None test same h = absurd h
   alike_kept place (Some m) (Some n) test same h = kept_by place (test m) (test n) m n (same m n h) (agree_later place m n h)
 
-  module _ (v : ℕ → ℕ) (apart place : ℕ) (w x : Option Memory) (ws xs : Ways) (h : Alike until place w x) (k : AllAlike until (suc place) ws xs) where
-    goes_on : (o : Operation) → AreRead until place o → AllAlike until (suc place) (arrived 0 (updated (calculated o) w) ws) (arrived 0 (updated (calculated o) x) xs)
+  module _ (v : ℕ → ℕ) (apart place : ℕ) (w x : Option Memory) (ws xs : Ways) (h : Alike registers until place w x) (k : AllAlike registers until (suc place) ws xs) where
+    goes_on : (o : Operation) → AreRead registers until place o → AllAlike registers until (suc place) (arrived 0 (updated (calculated o) w) ws) (arrived 0 (updated (calculated o) x) xs)
     goes_on o read = arrived_alike (suc place) 0 _ _ ws xs (alike_updated place w x (calculated o) (λ m n agree. agree_calculated place m n agree o read) h) k
 
-    leaves_alike : (o : Operation) → AreRead until place o → AllAlike until (suc place) (leaves v apart place o w ws) (leaves v apart place o x xs)
+    leaves_alike : (o : Operation) → AreRead registers until place o → AllAlike registers until (suc place) (leaves v apart place o w ws) (leaves v apart place o x xs)
     leaves_alike (operations.Skip n) read = arrived_alike (suc place) n w x ws xs (alike_later place w x h) k
     leaves_alike (operations.SkipIfZero a n) read =
-        let same : (m m' : Memory) → Agree until place m m' → register m a ≡ register m' a = λ m m' agree. agree.needed a read.0 in
+        let same : (m m' : Memory) → Agree registers until place m m' → register m a ≡ register m' a = λ m m' agree. agree.needed a read.0 in
         arrived_alike (suc place) n (kept (λ m. register m a == 0) w) (kept (λ m. register m a == 0) x) _ _ (alike_kept place w x (λ m. register m a == 0) (λ m m' agree. ap (λ y. y == 0) (same m m' agree)) h)
         (arrived_alike (suc place) 0 (kept (λ m. not (register m a == 0)) w) (kept (λ m. not (register m a == 0)) x) ws xs (alike_kept place w x (λ m. not (register m a == 0)) (λ m m' agree. ap (λ y. not (y == 0)) (same m m' agree)) h) k)
     leaves_alike (operations.Draw r bits) read =
@@ -170,8 +192,7 @@ module _ (until : List ℕ) where
         arrived_alike (suc place) 0 _ _ ws xs (alike_updated place w x (λ m. with_register m r a) (λ m n agree. agree_set place m n agree r a a refl) h) k
     leaves_alike (operations.ReadObject b to object offset count) read =
         let new = bytes_in (answer_at v apart place (actions.Read (pointer_to object offset) count)) in
-        arrived_alike (suc place) 0 _ _ ws xs (alike_updated place w x (λ m. with_blocks m (put_bytes m.blocks b to new)) (λ m n agree.
-        record { size = agree.size; needed = λ r l. agree.needed r (read_later place r l); blocks = ap (λ (bs : Variables). put_bytes bs b to new) agree.blocks }) h) k
+        arrived_alike (suc place) 0 _ _ ws xs (alike_updated place w x (λ m. with_blocks m (put_bytes m.blocks b to new)) (λ m n agree. agree_block place m n agree b (put_at to new) (put_at to new) (λ bs. refl)) h) k
     leaves_alike (operations.WriteObject object offset b from count) read = goes_on (operations.WriteObject object offset b from count) read
     leaves_alike operations.Exit read = k
     leaves_alike (operations.Constant r bits) read = goes_on (operations.Constant r bits) read
@@ -196,25 +217,25 @@ module _ (until : List ℕ) where
   -- ---- code
 
   module _ (v : ℕ → ℕ) (apart : ℕ) where
-    same_on : (place line f : ℕ) (o : Operation) (w x : Option Memory) → AreRead until place o → Alike until place w x → on w (tells v apart place line f o) ≡ on x (tells v apart place line f o)
+    same_on : (place line f : ℕ) (o : Operation) (w x : Option Memory) → AreRead registers until place o → Alike registers until place w x → on w (tells v apart place line f o) ≡ on x (tells v apart place line f o)
     same_on place line f o None None read h = refl
     same_on place line f o None (Some n) read h = absurd h
     same_on place line f o (Some m) None read h = absurd h
     same_on place line f o (Some m) (Some n) read h = same_told place m n h v apart line f o read
 
-    first_alike : (place : ℕ) (ws xs : Ways) → AllAlike until place ws xs → Alike until place (first_way v apart ws) (first_way v apart xs)
+    first_alike : (place : ℕ) (ws xs : Ways) → AllAlike registers until place ws xs → Alike registers until place (first_way v apart ws) (first_way v apart xs)
     first_alike place [] [] h = tt
     first_alike place [] (x ∷ xs) h = absurd h
     first_alike place (w ∷ ws) [] h = absurd h
     first_alike place (w ∷ ws) (x ∷ xs) h = h.0
 
-    later_alike : (place : ℕ) (ws xs : Ways) → AllAlike until place ws xs → AllAlike until (suc place) (later_ways v apart ws) (later_ways v apart xs)
+    later_alike : (place : ℕ) (ws xs : Ways) → AllAlike registers until place ws xs → AllAlike registers until (suc place) (later_ways v apart ws) (later_ways v apart xs)
     later_alike place [] [] h = tt
     later_alike place [] (x ∷ xs) h = absurd h
     later_alike place (w ∷ ws) [] h = absurd h
     later_alike place (w ∷ ws) (x ∷ xs) h = h.1
 
-    pub told_alike : (place : ℕ) (code : List Instruction) (ws xs : Ways) → Covers until place code → AllAlike until place ws xs → told v apart place code ws ≡ told v apart place code xs
+    pub told_alike : (place : ℕ) (code : List Instruction) (ws xs : Ways) → Covers registers until place code → AllAlike registers until place ws xs → told v apart place code ws ≡ told v apart place code xs
     told_alike place [] ws xs covers h = refl
     told_alike place (i ∷ code) ws xs covers h =
         let p = same_on place i.line i.function i.operation (first_way v apart ws) (first_way v apart xs) covers.0 (first_alike place ws xs h) in
@@ -223,7 +244,7 @@ module _ (until : List ℕ) where
         λ k. p k ++ q k
 
     -- the same, one instruction on
-    pub told_step : (place : ℕ) (i : Instruction) (code : List Instruction) (w : Option Memory) (ws xs : Ways) → Covers until (suc place) code → AllAlike until (suc place) xs (leaves v apart place i.operation w ws)
+    pub told_step : (place : ℕ) (i : Instruction) (code : List Instruction) (w : Option Memory) (ws xs : Ways) → Covers registers until (suc place) code → AllAlike registers until (suc place) xs (leaves v apart place i.operation w ws)
         → on w (tells v apart place i.line i.function i.operation) ++ told v apart (suc place) code xs ≡ told v apart place (i ∷ code) (w ∷ ws)
     told_step place i code w ws xs covers h =
         ap (λ ys. on w (tells v apart place i.line i.function i.operation) ++ ys) (told_alike (suc place) code xs (leaves v apart place i.operation w ws) covers h)

@@ -44,14 +44,15 @@ use Rattle.guarded_ssa.specs.declared.pass.Pass.{Pass}
 use Rattle.guarded_ssa.specs.Ways.{Seen, asked, stopped, Ways, arrived, updated, kept, on, breaks, tells, leaves}
 use Rattle.guarded_ssa.specs.Forms.{IsBit, AreWords, EventIn, FormIn, kind_seen, event_seen, seen}
 use Rattle.guarded_ssa.specs.Reads.{AllAlike}
-use Rattle.guarded_ssa.specs.Held.{BytesIn, SlotIn, PendingIn, PassIn, Arrives, Tells, Passes, held, stored, gone, ways}
+use Rattle.guarded_ssa.specs.Held.{SlotIn, PendingIn, PassIn, Arrives, Tells, Passes, total, cells, held, stored, gone, ways}
 use Rattle.guarded_ssa.specs.Registers.{ZerosIn, AreLive, Written, find, word_or_0}
-use Rattle.guarded_ssa.proofs.Sorted.{registers_set, if_true, if_false}
+use Rattle.guarded_ssa.proofs.Sorted.{registers_set, if_true, if_false, is_below}
+use Rattle.guarded_ssa.proofs.Blocks.{bytes_alike}
 use Rattle.guarded_ssa.specs.Results.{sets_register, into_of, result_of, class_of}
 use Rattle.guarded_ssa.proofs.Needs.{all_alike_itself, all_alike_more, arrived_alike, alike_itself}
 use Rattle.guarded_ssa.proofs.Stays.{slot_stays, gone_stays, seen_stays, ways_stay}
 use Rattle.std.proofs.lemmas.Bool.{false≢true}
-use Rattle.goto_prog.proofs.Registers.{both}
+use Rattle.goto_prog.proofs.Registers.{both, test_below}
 use Rattle.word_dag.specs.declared.nodes.Node.TheVariants.{Variable, ZeroExtend}
 use Rattle.guarded_ssa.proofs.Merging.{holds_bit}
 
@@ -65,23 +66,24 @@ set_word : (f : Id → ℕ) (b : Bool) (id : Id) (x : Option Id) → word_or_0 f
 set_word f true id x = refl
 set_word f false id x = refl
 
-pub put_in : (d : List Node) (code : Listing) (s t : Slot) (ts : List IntegerType) (r : ℕ) (id : Id) → ts ≡ code.registers → SlotIn d code s → Written d ts s.registers.items r id t.registers.items → t.guard ≡ s.guard → t.zeros ≡ s.zeros → t.bytes.items ≡ s.bytes.items → SlotIn d code t
-put_in d code s t ts r id same h written g z q = record {
+pub put_in : (d : List Node) (code : Listing) (s t : Slot) (ts : List IntegerType) (r : ℕ) (id : Id) → ts ≡ cells code → SlotIn d code s → Written d ts s.live.items r id t.live.items → t.guard ≡ s.guard → t.zeros ≡ s.zeros → SlotIn d code t
+put_in d code s t ts r id same h written g z = record {
   guard = subst (λ i. IsWord d i 1) (sym g) h.guard;
   zeros = subst (ZerosIn d) (sym z) h.zeros;
-  registers = subst (λ us. AreLive d us t.registers.items) same written.live;
-  bytes = subst (BytesIn d code.blocks) (sym q) h.bytes;
+  live = subst (λ us. AreLive d us t.live.items) same written.live;
 }
 
-pub put_gone : (v : ℕ → ℕ) (d : List Node) (code : Listing) (s t : Slot) (r : ℕ) (id : Id) → t.guard ≡ s.guard → ((k : ℕ) → find t.registers.items k ≡ (if r == k then Some id else find s.registers.items k)) → t.bytes.items ≡ s.bytes.items
+pub put_gone : (v : ℕ → ℕ) (d : List Node) (code : Listing) (s t : Slot) (r : ℕ) (id : Id) → is_there code.registers r ≡ true → t.guard ≡ s.guard → ((k : ℕ) → find t.live.items k ≡ (if r == k then Some id else find s.live.items k))
     → gone v d code t ≡ updated (λ m. with_register m r (value v d id)) (gone v d code s)
-put_gone v d code s t r id g p q =
+put_gone v d code s t r id there g p =
     let f = value v d in
     let at : 0 + r ≡ r = omega arith in
-    let a = registers_set f s.registers.items t.registers.items 0 r (value v d id) code.registers
-    (λ k. ap (word_or_0 f) (p k) ∙ set_word f (r == k) id (find s.registers.items k) ∙ ap (λ (n : ℕ). if n == k then f id else word_or_0 f (find s.registers.items k)) (sym at)) in
+    let a = registers_set f s.live.items t.live.items 0 r (value v d id) code.registers
+    (λ k. ap (word_or_0 f) (p k) ∙ set_word f (r == k) id (find s.live.items k) ∙ ap (λ (n : ℕ). if n == k then f id else word_or_0 f (find s.live.items k)) (sym at)) in
+    let b = bytes_alike f s.live.items t.live.items (length code.registers) (total code.blocks)
+    (λ c le lt. p c ∙ if_false (r == c) (Some id) (find s.live.items c) (is_below r c (omega (arith, le, test_below r (length code.registers) there)))) in
     let same : gone v d code t ≡ (if holds (value v d s.guard) then Some (with_register (held v d code s) r (value v d id)) else None) =
-    (λ i. if holds (value v d (g i)) then Some (record { registers = a i; blocks = stored code.blocks (map (value v d) (q i)) }) else None) in
+    (λ i. if holds (value v d (g i)) then Some (record { registers = a i; blocks = stored code.blocks (b i) }) else None) in
     same ∙ updated_by (holds (value v d s.guard)) (held v d code s) (with_register (held v d code s) r (value v d id)) (λ m. with_register m r (value v d id)) refl
 
 result_is : (o : Operation) (m : Memory) → sets_register o ≡ true → calculated o m ≡ with_register m (into_of o) (result_of o m)
@@ -173,7 +175,7 @@ module _ (until : List ℕ) (code : Listing) (place line f : ℕ) (o : Operation
     size = arrives.size;
     told = λ v. ap (seen v e) arrives.told ∙ seen_stays d e (extends_more d d1 e x y) v p.events.items within.events ∙ sym (append_nil (seen v d p.events.items))
         ∙ ap (λ ys. seen v d p.events.items ++ ys) (sym (nothing_on (gone v d code s) (tells v (length code.instructions) place line f o) (none v)));
-    leads = λ v. subst (AllAlike until (suc place) (ways v e code q.pending.items)) (ap (arrived n (gone v d1 code s1)) (ways_stay d d1 x v code p.pending.items within.pending) ∙ sym (leads v (ways v d code p.pending.items))) (arrives.leads v);
+    leads = λ v. subst (AllAlike (length code.registers) until (suc place) (ways v e code q.pending.items)) (ap (arrived n (gone v d1 code s1)) (ways_stay d d1 x v code p.pending.items within.pending) ∙ sym (leads v (ways v d code p.pending.items))) (arrives.leads v);
   }
 
   pub passes_by_event : (event : Event) → ((v : ℕ → ℕ) → event_seen v d1 event ≡ on (gone v d code s) (tells v (length code.instructions) place line f o)) → ((v : ℕ → ℕ) (ws : Ways) → leaves v (length code.instructions) place o (gone v d code s) ws ≡ arrived 0 (gone v d1 code s1) ws)
@@ -182,7 +184,7 @@ module _ (until : List ℕ) (code : Listing) (place line f : ℕ) (o : Operation
     within = tells_it.within;
     size = tells_it.size;
     told = λ v. let a = seen_stays d d1 x v p.events.items within.events in let b = same v in tells_it.told v ∙ (λ i. a i ++ b i);
-    leads = λ v. subst (AllAlike until (suc place) (ways v e code q.pending.items)) (ap (arrived 0 (gone v d1 code s1)) (ways_stay d d1 x v code p.pending.items within.pending) ∙ sym (leads v (ways v d code p.pending.items))) (tells_it.leads v);
+    leads = λ v. subst (AllAlike (length code.registers) until (suc place) (ways v e code q.pending.items)) (ap (arrived 0 (gone v d1 code s1)) (ways_stay d d1 x v code p.pending.items within.pending) ∙ sym (leads v (ways v d code p.pending.items))) (tells_it.leads v);
   }
 
 -- a slot goes on behind an operation that sets a register or a block
@@ -209,12 +211,12 @@ passes_branch until code place line f a n d d1 d2 e s first second p p1 q x y z 
       let w1 = kept (λ m. not (register m a == 0)) (gone v d code s) in
       let ws = ways v d code p.pending.items in
       let g : gone v d2 code first ≡ w0 = gone_stays d1 d2 y v code first slot ∙ zero_is v in
-      let h : AllAlike until (suc place) (ways v d2 code p1.pending.items) (arrived 0 w1 ws) =
-      subst (AllAlike until (suc place) (ways v d2 code p1.pending.items)) (let a' = other_is v in let b' = ways_stay d d1 x v code p.pending.items within.pending in λ i. arrived 0 (a' i) (b' i)) (one.leads v) in
-      let k : AllAlike until (suc place) (ways v e code q.pending.items) (arrived n w0 (ways v d2 code p1.pending.items)) =
-      subst (λ w. AllAlike until (suc place) (ways v e code q.pending.items) (arrived n w (ways v d2 code p1.pending.items))) g (two.leads v) in
-      all_alike_more until (suc place) (ways v e code q.pending.items) (arrived n w0 (ways v d2 code p1.pending.items)) (arrived n w0 (arrived 0 w1 ws)) k
-      (arrived_alike until (suc place) n w0 w0 (ways v d2 code p1.pending.items) (arrived 0 w1 ws) (alike_itself until (suc place) w0) h);
+      let h : AllAlike (length code.registers) until (suc place) (ways v d2 code p1.pending.items) (arrived 0 w1 ws) =
+      subst (AllAlike (length code.registers) until (suc place) (ways v d2 code p1.pending.items)) (let a' = other_is v in let b' = ways_stay d d1 x v code p.pending.items within.pending in λ i. arrived 0 (a' i) (b' i)) (one.leads v) in
+      let k : AllAlike (length code.registers) until (suc place) (ways v e code q.pending.items) (arrived n w0 (ways v d2 code p1.pending.items)) =
+      subst (λ w. AllAlike (length code.registers) until (suc place) (ways v e code q.pending.items) (arrived n w (ways v d2 code p1.pending.items))) g (two.leads v) in
+      all_alike_more (length code.registers) until (suc place) (ways v e code q.pending.items) (arrived n w0 (ways v d2 code p1.pending.items)) (arrived n w0 (arrived 0 w1 ws)) k
+      (arrived_alike (length code.registers) until (suc place) n w0 w0 (ways v d2 code p1.pending.items) (arrived 0 w1 ws) (alike_itself (length code.registers) until (suc place) w0) h);
 }
 
 -- ---- events
@@ -236,7 +238,7 @@ tells_one until code place event s d e p p1 q x within events pending arrives = 
   within = arrives.within;
   size = arrives.size ∙ ap length pending;
   told = λ v. ap (seen v e) arrives.told ∙ seen_stays d e x v p1.events.items within.events ∙ ap (seen v d) events ∙ seen_push v d p.events.items event;
-  leads = λ v. subst (λ ps. AllAlike until (suc place) (ways v e code q.pending.items) (arrived 0 (gone v d code s) (ways v d code ps))) pending (arrives.leads v);
+  leads = λ v. subst (λ ps. AllAlike (length code.registers) until (suc place) (ways v e code q.pending.items) (arrived 0 (gone v d code s) (ways v d code ps))) pending (arrives.leads v);
 }
 
 on_by : (b : Bool) (m : Memory) (tell : Memory → List Seen) (ks : List Seen) → ks ≡ tell m → (if b then ks else []) ≡ on (if b then Some m else None) tell
@@ -407,7 +409,7 @@ passes_exit until code place line f d s p q within slot events pending =
       size = ap length pending;
       told = λ v. ap (seen v d) events ∙ seen_push v d p.events.items event
           ∙ ap (λ ys. seen v d p.events.items ++ ys) (event_by v d d code s event (tells v (length code.instructions) place line f operations.Exit) (extends_itself d) slot refl refl);
-      leads = λ v. subst (AllAlike until (suc place) (ways v d code q.pending.items)) (ap (ways v d code) pending) (all_alike_itself until (suc place) (ways v d code q.pending.items));
+      leads = λ v. subst (AllAlike (length code.registers) until (suc place) (ways v d code q.pending.items)) (ap (ways v d code) pending) (all_alike_itself (length code.registers) until (suc place) (ways v d code q.pending.items));
     }
 
 -- ---- accesses

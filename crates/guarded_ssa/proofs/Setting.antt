@@ -1,4 +1,4 @@
--- A register that is set.
+-- A cell that is set.
 use Rattle.std.proofs.Common.{◌≡◌, ℕ, ◌<◌, ◌≤◌, true, false, List, length, get_or, ◌∷◌, take, drop, sym, ap, subst, ◌∙◌, arith}
 use Rattle.std.specs.Prelude.{◌==◌, slice_set}
 use Rattle.std.specs.List.{insert}
@@ -25,27 +25,27 @@ module _ (d : List Node) (ts : List IntegerType) (ls new : List Live) (r : ℕ) 
     at : p < length ls → (z : Live) → get_or ls (place_of ls r) z ≡ x
     at lt z = ap (λ k. get_or ls k z) (sym p_is) ∙ get_or_default ls p z x lt ∙ sym x_is
 
-    pub stands : p < length ls → x.register ≡ r → Stands r id ls (place_of ls r)
-    stands lt same = (subst (λ k. k < length ls) p_is lt, λ z. ap (λ (l : Live). l.register) (at lt z) ∙ same)
+    pub stands : p < length ls → x.cell ≡ r → Stands r id ls (place_of ls r)
+    stands lt same = (subst (λ k. k < length ls) p_is lt, λ z. ap (λ (l : Live). l.cell) (at lt z) ∙ same)
 
-    pub lacks_here : p < length ls → (x.register ≡ r → ⊥) → Lacks r id ls (place_of ls r)
-    lacks_here lt other _ z = ap (λ (l : Live). l.register == r) (at lt z) ∙ differ x.register r other
+    pub lacks_here : p < length ls → (x.cell ≡ r → ⊥) → Lacks r id ls (place_of ls r)
+    lacks_here lt other _ z = ap (λ (l : Live). l.cell == r) (at lt z) ∙ differ x.cell r other
 
   pub lacks_behind : length ls ≤ p → Lacks r id ls (place_of ls r)
   lacks_behind le lt z = absurd (omega (arith, le, lt, p_is))
 
-  module _ (live : AreLive d ts ls) (node : IsLive d ts (record { register = r; id = id })) where
-    pub wrote_set : Stands r id ls (place_of ls r) → new ≡ slice_set ls p (record { register = r; id = id }) → Written d ts ls r id new
+  module _ (live : AreLive d ts ls) (node : IsLive d ts (record { cell = r; id = id })) where
+    pub wrote_set : Stands r id ls (place_of ls r) → new ≡ slice_set ls p (record { cell = r; id = id }) → Written d ts ls r id new
     wrote_set s is =
-        let same : new ≡ slice_set ls (place_of ls r) (record { register = r; id = id }) = is ∙ ap (λ k. slice_set ls k (record { register = r; id = id })) p_is in
+        let same : new ≡ slice_set ls (place_of ls r) (record { cell = r; id = id }) = is ∙ ap (λ k. slice_set ls k (record { cell = r; id = id })) p_is in
         subst (Written d ts ls r id) (sym same) (record {
-          live = record { rise = set_rises r id 0 (length ts) ls live.rise s; words = All-set (IsLive d ts) ls (place_of ls r) (record { register = r; id = id }) node live.words };
+          live = record { rise = set_rises r id 0 (length ts) ls live.rise s; words = All-set (IsLive d ts) ls (place_of ls r) (record { cell = r; id = id }) node live.words };
           finds = λ k. set_found r id k ls s;
         })
 
-    pub wrote_new : is_there ts r ≡ true → Lacks r id ls (place_of ls r) → new ≡ insert ls p (record { register = r; id = id }) → Written d ts ls r id new
+    pub wrote_new : is_there ts r ≡ true → Lacks r id ls (place_of ls r) → new ≡ insert ls p (record { cell = r; id = id }) → Written d ts ls r id new
     wrote_new there s is =
-        let set : Live = record { register = r; id = id } in
+        let set : Live = record { cell = r; id = id } in
         let k = place_of ls r in
         let same : new ≡ insert ls k set = is ∙ ap (λ n. insert ls n set) p_is in
         subst (Written d ts ls r id) (sym same) (record {

@@ -1,4 +1,4 @@
--- Registers in rising order.
+-- Cells in rising order.
 use Rattle.std.proofs.Common.{◌≡◌, ℕ, zero, suc, ◌+◌, ◌<◌, ◌≤◌, Bool, true, false, true≢false, nat_lt, List, [], ◌∷◌, ◌++◌, length, drop, get_or, Option, Some, None, inl, inr, refl, sym, ap, subst, ◌∙◌, arith}
 use Rattle.std.specs.Prelude.{◌==◌, if◌then◌else◌, slice_set, slice_index}
 use Rattle.std.specs.List.{filter, insert}
@@ -17,28 +17,28 @@ if_true b x y h = λ i. if h i then x else y
 pub if_false : {X : Type 0} (b : Bool) (x y : X) → b ≡ false → (if b then x else y) ≡ y
 if_false b x y h = λ i. if h i then x else y
 
-is_same : (m n : ℕ) → m ≡ n → (m == n) ≡ true
+pub is_same : (m n : ℕ) → m ≡ n → (m == n) ≡ true
 is_same m n h = grind (arith, nat_tests)
 
 pub are_same : (m n : ℕ) → (m == n) ≡ true → m ≡ n
 are_same m n h = grind (arith, nat_tests)
 
-is_below : (m n : ℕ) → m < n → (m == n) ≡ false
+pub is_below : (m n : ℕ) → m < n → (m == n) ≡ false
 is_below m n h = grind (arith, nat_tests)
 
-is_above : (m n : ℕ) → n < m → (m == n) ≡ false
+pub is_above : (m n : ℕ) → n < m → (m == n) ≡ false
 is_above m n h = grind (arith, nat_tests)
 
-is_less : (m n : ℕ) → m < n → nat_lt m n ≡ true
+pub is_less : (m n : ℕ) → m < n → nat_lt m n ≡ true
 is_less m n h = grind (arith, nat_tests)
 
-is_more : (m n : ℕ) → n ≤ m → nat_lt m n ≡ false
+pub is_more : (m n : ℕ) → n ≤ m → nat_lt m n ≡ false
 is_more m n h = grind (arith, nat_tests)
 
-less : (m n : ℕ) → nat_lt m n ≡ true → m < n
+pub less : (m n : ℕ) → nat_lt m n ≡ true → m < n
 less m n h = grind (arith, nat_tests)
 
-not_less : (m n : ℕ) → nat_lt m n ≡ false → n ≤ m
+pub not_less : (m n : ℕ) → nat_lt m n ≡ false → n ≤ m
 not_less m n h = grind (arith, nat_tests)
 
 other_above : (m n : ℕ) → (m == n) ≡ false → n ≤ m → suc n ≤ m
@@ -46,15 +46,15 @@ other_above m n h le = grind (arith, nat_tests)
 
 -- ---- what is found
 
-pub found : (l : Live) (ls : List Live) (r : ℕ) → (l.register == r) ≡ true → find (l ∷ ls) r ≡ Some l.id
-found l ls r h = if_true (l.register == r) (Some l.id) (find ls r) h
+pub found : (l : Live) (ls : List Live) (r : ℕ) → (l.cell == r) ≡ true → find (l ∷ ls) r ≡ Some l.id
+found l ls r h = if_true (l.cell == r) (Some l.id) (find ls r) h
 
-pub past : (l : Live) (ls : List Live) (r : ℕ) → (l.register == r) ≡ false → find (l ∷ ls) r ≡ find ls r
-past l ls r h = if_false (l.register == r) (Some l.id) (find ls r) h
+pub past : (l : Live) (ls : List Live) (r : ℕ) → (l.cell == r) ≡ false → find (l ∷ ls) r ≡ find ls r
+past l ls r h = if_false (l.cell == r) (Some l.id) (find ls r) h
 
 pub rises_high : (low n : ℕ) (ls : List Live) → Rises low ls n → low ≤ n
 rises_high low n [] h = h
-rises_high low n (l ∷ ls) h = omega (arith, h.0, rises_high (suc l.register) n ls h.1)
+rises_high low n (l ∷ ls) h = omega (arith, h.0, rises_high (suc l.cell) n ls h.1)
 
 pub rises_weaker : (low m n : ℕ) (ls : List Live) → low ≤ m → Rises m ls n → Rises low ls n
 rises_weaker low m n [] le h = omega (arith, le, h)
@@ -62,41 +62,41 @@ rises_weaker low m n (l ∷ ls) le h = (omega (arith, le, h.0), h.1)
 
 pub find_below : (low n r : ℕ) (ls : List Live) → Rises low ls n → r < low → find ls r ≡ None
 find_below low n r [] h lt = refl
-find_below low n r (l ∷ ls) h lt = past l ls r (is_above l.register r (omega (arith, h.0, lt))) ∙ find_below (suc l.register) n r ls h.1 (omega (arith, h.0, lt))
+find_below low n r (l ∷ ls) h lt = past l ls r (is_above l.cell r (omega (arith, h.0, lt))) ∙ find_below (suc l.cell) n r ls h.1 (omega (arith, h.0, lt))
 
 pub find_above : (low n r : ℕ) (ls : List Live) → Rises low ls n → n ≤ r → find ls r ≡ None
 find_above low n r [] h le = refl
-find_above low n r (l ∷ ls) h le = past l ls r (is_below l.register r (omega (arith, le, rises_high (suc l.register) n ls h.1))) ∙ find_above (suc l.register) n r ls h.1 le
+find_above low n r (l ∷ ls) h le = past l ls r (is_below l.cell r (omega (arith, le, rises_high (suc l.cell) n ls h.1))) ∙ find_above (suc l.cell) n r ls h.1 le
 
 pub rises_stronger : (low m n : ℕ) (ls : List Live) → Rises low ls m → m ≤ n → Rises low ls n
 rises_stronger low m n [] h le = omega (arith, h, le)
-rises_stronger low m n (l ∷ ls) h le = (h.0, rises_stronger (suc l.register) m n ls h.1 le)
+rises_stronger low m n (l ∷ ls) h le = (h.0, rises_stronger (suc l.cell) m n ls h.1 le)
 
-pub rises_at : (low n : ℕ) (ls : List Live) (i : ℕ) (z : Live) → Rises low ls n → i < length ls → (get_or ls i z).register < n
+pub rises_at : (low n : ℕ) (ls : List Live) (i : ℕ) (z : Live) → Rises low ls n → i < length ls → (get_or ls i z).cell < n
 rises_at low n [] i z h lt = absurd (omega (arith, lt))
-rises_at low n (l ∷ ls) zero z h lt = omega (arith, rises_high (suc l.register) n ls h.1)
-rises_at low n (l ∷ ls) (suc i) z h lt = rises_at (suc l.register) n ls i z h.1 (omega (arith, lt))
+rises_at low n (l ∷ ls) zero z h lt = omega (arith, rises_high (suc l.cell) n ls h.1)
+rises_at low n (l ∷ ls) (suc i) z h lt = rises_at (suc l.cell) n ls i z h.1 (omega (arith, lt))
 
 -- ---- one more at the end
 
-pub rises_push : (low m : ℕ) (ls : List Live) (l : Live) → Rises low ls m → m ≤ l.register → Rises low (ls ++ l ∷ []) (suc l.register)
+pub rises_push : (low m : ℕ) (ls : List Live) (l : Live) → Rises low ls m → m ≤ l.cell → Rises low (ls ++ l ∷ []) (suc l.cell)
 rises_push low m [] l h le = (omega (arith, h, le), omega arith)
-rises_push low m (k ∷ ls) l h le = (h.0, rises_push (suc k.register) m ls l h.1 le)
+rises_push low m (k ∷ ls) l h le = (h.0, rises_push (suc k.cell) m ls l h.1 le)
 
 find_push : (low m r : ℕ) (ls : List Live) (l : Live) → Rises low ls m → m ≤ r → find (ls ++ l ∷ []) r ≡ find (l ∷ []) r
 find_push low m r [] l h le = refl
-find_push low m r (k ∷ ls) l h le = past k (ls ++ l ∷ []) r (is_below k.register r (omega (arith, le, rises_high (suc k.register) m ls h.1))) ∙ find_push (suc k.register) m r ls l h.1 le
+find_push low m r (k ∷ ls) l h le = past k (ls ++ l ∷ []) r (is_below k.cell r (omega (arith, le, rises_high (suc k.cell) m ls h.1))) ∙ find_push (suc k.cell) m r ls l h.1 le
 
-find_front : (r : ℕ) (ls : List Live) (l : Live) → (l.register == r) ≡ false → find (ls ++ l ∷ []) r ≡ find ls r
+find_front : (r : ℕ) (ls : List Live) (l : Live) → (l.cell == r) ≡ false → find (ls ++ l ∷ []) r ≡ find ls r
 find_front r [] l h = past l [] r h
-find_front r (k ∷ ls) l h = ap (λ (x : Option Id). if k.register == r then Some k.id else x) (find_front r ls l h)
+find_front r (k ∷ ls) l h = ap (λ (x : Option Id). if k.cell == r then Some k.id else x) (find_front r ls l h)
 
--- the register that is pushed, those in front of it, and those between
-pub push_here : (m : ℕ) (ls : List Live) (l : Live) → Rises 0 ls m → m ≤ l.register → find (ls ++ l ∷ []) l.register ≡ Some l.id
-push_here m ls l h le = find_push 0 m l.register ls l h le ∙ found l [] l.register (is_same l.register l.register refl)
+-- the cell that is pushed, those in front of it, and those between
+pub push_here : (m : ℕ) (ls : List Live) (l : Live) → Rises 0 ls m → m ≤ l.cell → find (ls ++ l ∷ []) l.cell ≡ Some l.id
+push_here m ls l h le = find_push 0 m l.cell ls l h le ∙ found l [] l.cell (is_same l.cell l.cell refl)
 
-pub push_front : (r : ℕ) (ls : List Live) (l : Live) → r < l.register → find (ls ++ l ∷ []) r ≡ find ls r
-push_front r ls l lt = find_front r ls l (is_above l.register r lt)
+pub push_front : (r : ℕ) (ls : List Live) (l : Live) → r < l.cell → find (ls ++ l ∷ []) r ≡ find ls r
+push_front r ls l lt = find_front r ls l (is_above l.cell r lt)
 
 -- ---- the first of two lists
 
@@ -106,31 +106,31 @@ LeastOf low n r ls ms = (low ≤ r) × (r < n) × Rises r ls n × Rises r ms n
 pub least_there : (low n : ℕ) (ls ms : List Live) → Rises low ls n → Rises low ms n → 0 < length ls + length ms → LeastOf low n (least ls ms) ls ms
 least_there low n [] [] h k lt = absurd (omega (arith, lt))
 least_there low n (l ∷ ls) [] h k lt =
-    let high = rises_high (suc l.register) n ls h.1 in (h.0, omega (arith, high), (omega arith, h.1), omega (arith, high))
+    let high = rises_high (suc l.cell) n ls h.1 in (h.0, omega (arith, high), (omega arith, h.1), omega (arith, high))
 least_there low n [] (m ∷ ms) h k lt =
-    let high = rises_high (suc m.register) n ms k.1 in (k.0, omega (arith, high), omega (arith, high), (omega arith, k.1))
+    let high = rises_high (suc m.cell) n ms k.1 in (k.0, omega (arith, high), omega (arith, high), (omega arith, k.1))
 least_there low n (l ∷ ls) (m ∷ ms) h k lt =
-    elim (cases_lt m.register l.register) [
-      | inl lt' ↦ (let high = rises_high (suc m.register) n ms k.1 in
-          subst (λ r. LeastOf low n r (l ∷ ls) (m ∷ ms)) (sym (if_true (nat_lt m.register l.register) m.register l.register (is_less m.register l.register lt')))
+    elim (cases_lt m.cell l.cell) [
+      | inl lt' ↦ (let high = rises_high (suc m.cell) n ms k.1 in
+          subst (λ r. LeastOf low n r (l ∷ ls) (m ∷ ms)) (sym (if_true (nat_lt m.cell l.cell) m.cell l.cell (is_less m.cell l.cell lt')))
           (k.0, omega (arith, high), (omega (arith, lt'), h.1), (omega arith, k.1)))
-      | inr le' ↦ (let high = rises_high (suc l.register) n ls h.1 in
-          subst (λ r. LeastOf low n r (l ∷ ls) (m ∷ ms)) (sym (if_false (nat_lt m.register l.register) m.register l.register (is_more m.register l.register le')))
+      | inr le' ↦ (let high = rises_high (suc l.cell) n ls h.1 in
+          subst (λ r. LeastOf low n r (l ∷ ls) (m ∷ ms)) (sym (if_false (nat_lt m.cell l.cell) m.cell l.cell (is_more m.cell l.cell le')))
           (h.0, omega (arith, high), (omega arith, h.1), (omega (arith, le'), k.1)))
     ]
 
-count_here : (l : Live) (ls : List Live) (r : ℕ) → l.register ≡ r → head_count (l ∷ ls) r ≡ 1
-count_here l ls r e = if_true (l.register == r) 1 0 (is_same l.register r e)
+count_here : (l : Live) (ls : List Live) (r : ℕ) → l.cell ≡ r → head_count (l ∷ ls) r ≡ 1
+count_here l ls r e = if_true (l.cell == r) 1 0 (is_same l.cell r e)
 
 -- the first of both lists goes on
 pub goes_on : (ls ms : List Live) → 0 < length ls + length ms → 0 < head_count ls (least ls ms) + head_count ms (least ls ms)
 goes_on [] [] lt = absurd (omega (arith, lt))
-goes_on (l ∷ ls) [] lt = omega (arith, count_here l ls l.register refl)
-goes_on [] (m ∷ ms) lt = omega (arith, count_here m ms m.register refl)
+goes_on (l ∷ ls) [] lt = omega (arith, count_here l ls l.cell refl)
+goes_on [] (m ∷ ms) lt = omega (arith, count_here m ms m.cell refl)
 goes_on (l ∷ ls) (m ∷ ms) lt =
-    elim (cases_lt m.register l.register) [
-      | inl lt' ↦ (let e = if_true (nat_lt m.register l.register) m.register l.register (is_less m.register l.register lt') in omega (arith, count_here m ms (least (l ∷ ls) (m ∷ ms)) (sym e)))
-      | inr le' ↦ (let e = if_false (nat_lt m.register l.register) m.register l.register (is_more m.register l.register le') in omega (arith, count_here l ls (least (l ∷ ls) (m ∷ ms)) (sym e)))
+    elim (cases_lt m.cell l.cell) [
+      | inl lt' ↦ (let e = if_true (nat_lt m.cell l.cell) m.cell l.cell (is_less m.cell l.cell lt') in omega (arith, count_here m ms (least (l ∷ ls) (m ∷ ms)) (sym e)))
+      | inr le' ↦ (let e = if_false (nat_lt m.cell l.cell) m.cell l.cell (is_more m.cell l.cell le') in omega (arith, count_here l ls (least (l ∷ ls) (m ∷ ms)) (sym e)))
     ]
 
 -- ---- what is left behind the first
@@ -138,94 +138,94 @@ goes_on (l ∷ ls) (m ∷ ms) lt =
 pub count_within : (ls : List Live) (r : ℕ) → head_count ls r ≤ length ls
 count_within [] r = omega arith
 count_within (l ∷ ls) r =
-    elim (cases_Bool (l.register == r)) [
-      | inl on ↦ omega (arith, if_true {X = ℕ} (l.register == r) 1 0 on)
-      | inr off ↦ omega (arith, if_false {X = ℕ} (l.register == r) 1 0 off)
+    elim (cases_Bool (l.cell == r)) [
+      | inl on ↦ omega (arith, if_true {X = ℕ} (l.cell == r) 1 0 on)
+      | inr off ↦ omega (arith, if_false {X = ℕ} (l.cell == r) 1 0 off)
     ]
 
 pub rest_rises : (n r : ℕ) (ls : List Live) → Rises r ls n → r < n → Rises (suc r) (drop (head_count ls r) ls) n
 rest_rises n r [] h lt = omega (arith, lt)
 rest_rises n r (l ∷ ls) h lt =
-    elim (cases_Bool (l.register == r)) [
-      | inl on ↦ subst (λ k. Rises (suc r) (drop k (l ∷ ls)) n) (sym (if_true (l.register == r) 1 0 on)) (rises_weaker (suc r) (suc l.register) n ls (omega (arith, are_same l.register r on)) h.1)
-      | inr off ↦ subst (λ k. Rises (suc r) (drop k (l ∷ ls)) n) (sym (if_false (l.register == r) 1 0 off)) (other_above l.register r off h.0, h.1)
+    elim (cases_Bool (l.cell == r)) [
+      | inl on ↦ subst (λ k. Rises (suc r) (drop k (l ∷ ls)) n) (sym (if_true (l.cell == r) 1 0 on)) (rises_weaker (suc r) (suc l.cell) n ls (omega (arith, are_same l.cell r on)) h.1)
+      | inr off ↦ subst (λ k. Rises (suc r) (drop k (l ∷ ls)) n) (sym (if_false (l.cell == r) 1 0 off)) (other_above l.cell r off h.0, h.1)
     ]
 
 pub rest_found : (r k : ℕ) (ls : List Live) → r < k → find (drop (head_count ls r) ls) k ≡ find ls k
 rest_found r k [] lt = refl
 rest_found r k (l ∷ ls) lt =
-    elim (cases_Bool (l.register == r)) [
-      | inl on ↦ ap (λ (c : ℕ). find (drop c (l ∷ ls)) k) (if_true (l.register == r) 1 0 on) ∙ sym (past l ls k (is_below l.register k (omega (arith, are_same l.register r on, lt))))
-      | inr off ↦ ap (λ (c : ℕ). find (drop c (l ∷ ls)) k) (if_false (l.register == r) 1 0 off)
+    elim (cases_Bool (l.cell == r)) [
+      | inl on ↦ ap (λ (c : ℕ). find (drop c (l ∷ ls)) k) (if_true (l.cell == r) 1 0 on) ∙ sym (past l ls k (is_below l.cell k (omega (arith, are_same l.cell r on, lt))))
+      | inr off ↦ ap (λ (c : ℕ). find (drop c (l ∷ ls)) k) (if_false (l.cell == r) 1 0 off)
     ]
 
--- ---- registers that are kept
+-- ---- cells that are kept
 
 module _ (keeps : ℕ → Bool) where
   abbrev Kept : List Live → List Live
-  Kept ls = filter (λ l. keeps l.register) ls
+  Kept ls = filter (λ l. keeps l.cell) ls
 
   pub kept_rise : (low n : ℕ) (ls : List Live) → Rises low ls n → Rises low (Kept ls) n
   kept_rise low n [] h = h
   kept_rise low n (l ∷ ls) h =
-      let rest = kept_rise (suc l.register) n ls h.1 in
-      elim (cases_Bool (keeps l.register)) [
-        | inl on ↦ subst (λ ms. Rises low ms n) (sym (if_true (keeps l.register) (l ∷ Kept ls) (Kept ls) on)) (h.0, rest)
-        | inr off ↦ subst (λ ms. Rises low ms n) (sym (if_false (keeps l.register) (l ∷ Kept ls) (Kept ls) off)) (rises_weaker low (suc l.register) n (Kept ls) (omega (arith, h.0)) rest)
+      let rest = kept_rise (suc l.cell) n ls h.1 in
+      elim (cases_Bool (keeps l.cell)) [
+        | inl on ↦ subst (λ ms. Rises low ms n) (sym (if_true (keeps l.cell) (l ∷ Kept ls) (Kept ls) on)) (h.0, rest)
+        | inr off ↦ subst (λ ms. Rises low ms n) (sym (if_false (keeps l.cell) (l ∷ Kept ls) (Kept ls) off)) (rises_weaker low (suc l.cell) n (Kept ls) (omega (arith, h.0)) rest)
       ]
 
   pub kept_found : (r : ℕ) (ls : List Live) → keeps r ≡ true → find (Kept ls) r ≡ find ls r
   kept_found r [] keep = refl
   kept_found r (l ∷ ls) keep =
       let rest = kept_found r ls keep in
-      elim (cases_Bool (keeps l.register)) [
-        | inl on ↦ ap (λ ms. find ms r) (if_true (keeps l.register) (l ∷ Kept ls) (Kept ls) on) ∙ ap (λ (x : Option Id). if l.register == r then Some l.id else x) rest
-        | inr off ↦ ap (λ ms. find ms r) (if_false (keeps l.register) (l ∷ Kept ls) (Kept ls) off) ∙ rest ∙ sym (past l ls r (differs l.register r keep off))
+      elim (cases_Bool (keeps l.cell)) [
+        | inl on ↦ ap (λ ms. find ms r) (if_true (keeps l.cell) (l ∷ Kept ls) (Kept ls) on) ∙ ap (λ (x : Option Id). if l.cell == r then Some l.id else x) rest
+        | inr off ↦ ap (λ ms. find ms r) (if_false (keeps l.cell) (l ∷ Kept ls) (Kept ls) off) ∙ rest ∙ sym (past l ls r (differs l.cell r keep off))
       ]
     where
       differs : (m r : ℕ) → keeps r ≡ true → keeps m ≡ false → (m == r) ≡ false
       differs m r in_ out = elim (cases_Bool (m == r)) [ inl e ↦ absurd (true≢false (sym in_ ∙ ap keeps (sym (are_same m r e)) ∙ out)) | inr e ↦ e ]
 
--- ---- a register that is set
+-- ---- a cell that is set
 
 module _ (r : ℕ) (id : Id) where
   abbrev set : Live
-  set = record { register = r; id = id }
+  set = record { cell = r; id = id }
 
   pub place_within : (ls : List Live) → place_of ls r ≤ length ls
   place_within [] = omega arith
   place_within (l ∷ ls) =
-      elim (cases_Bool (nat_lt l.register r)) [
-        | inl on ↦ omega (arith, if_true (nat_lt l.register r) (suc (place_of ls r)) 0 on, place_within ls)
-        | inr off ↦ omega (arith, if_false (nat_lt l.register r) (suc (place_of ls r)) 0 off)
+      elim (cases_Bool (nat_lt l.cell r)) [
+        | inl on ↦ omega (arith, if_true (nat_lt l.cell r) (suc (place_of ls r)) 0 on, place_within ls)
+        | inr off ↦ omega (arith, if_false (nat_lt l.cell r) (suc (place_of ls r)) 0 off)
       ]
 
   -- at the place where it stands
   abbrev pub Stands : List Live → ℕ → Type 0
-  Stands ls p = (p < length ls) × ((z : Live) → (get_or ls p z).register ≡ r)
+  Stands ls p = (p < length ls) × ((z : Live) → (get_or ls p z).cell ≡ r)
 
   pub set_rises : (low n : ℕ) (ls : List Live) → Rises low ls n → Stands ls (place_of ls r) → Rises low (slice_set ls (place_of ls r) set) n
   set_rises low n [] h s = h
   set_rises low n (l ∷ ls) h s =
-      elim (cases_Bool (nat_lt l.register r)) [
-        | inl on ↦ (let e = if_true (nat_lt l.register r) (suc (place_of ls r)) 0 on in let t = subst (Stands (l ∷ ls)) e s in
-            subst (λ p. Rises low (slice_set (l ∷ ls) p set) n) (sym e) (h.0, set_rises (suc l.register) n ls h.1 (omega (arith, t.0), t.1)))
-        | inr off ↦ (let e = if_false (nat_lt l.register r) (suc (place_of ls r)) 0 off in let t = (subst (Stands (l ∷ ls)) e s).1 l in
+      elim (cases_Bool (nat_lt l.cell r)) [
+        | inl on ↦ (let e = if_true (nat_lt l.cell r) (suc (place_of ls r)) 0 on in let t = subst (Stands (l ∷ ls)) e s in
+            subst (λ p. Rises low (slice_set (l ∷ ls) p set) n) (sym e) (h.0, set_rises (suc l.cell) n ls h.1 (omega (arith, t.0), t.1)))
+        | inr off ↦ (let e = if_false (nat_lt l.cell r) (suc (place_of ls r)) 0 off in let t = (subst (Stands (l ∷ ls)) e s).1 l in
             subst (λ p. Rises low (slice_set (l ∷ ls) p set) n) (sym e) (omega (arith, h.0, t), subst (λ k. Rises (suc k) ls n) t h.1))
       ]
 
   abbrev SetIn : List Live → List Live → ℕ → Type 0
   SetIn ls ms k = find ms k ≡ (if r == k then Some id else find ls k)
 
-  -- in front of the register nothing changes
-  set_front : (l : Live) (ls ms : List Live) (k : ℕ) → l.register < r → SetIn ls ms k → SetIn (l ∷ ls) (l ∷ ms) k
+  -- in front of the cell nothing changes
+  set_front : (l : Live) (ls ms : List Live) (k : ℕ) → l.cell < r → SetIn ls ms k → SetIn (l ∷ ls) (l ∷ ms) k
   set_front l ls ms k lt h =
-      elim (cases_Bool (l.register == k)) [
-        | inl on ↦ found l ms k on ∙ sym (if_false (r == k) (Some id) (find (l ∷ ls) k) (is_above r k (omega (arith, are_same l.register k on, lt))) ∙ found l ls k on)
+      elim (cases_Bool (l.cell == k)) [
+        | inl on ↦ found l ms k on ∙ sym (if_false (r == k) (Some id) (find (l ∷ ls) k) (is_above r k (omega (arith, are_same l.cell k on, lt))) ∙ found l ls k on)
         | inr off ↦ past l ms k off ∙ h ∙ ap (λ (x : Option Id). if r == k then Some id else x) (sym (past l ls k off))
       ]
 
-  set_here : (l : Live) (ls : List Live) (k : ℕ) → l.register ≡ r → SetIn (l ∷ ls) (set ∷ ls) k
+  set_here : (l : Live) (ls : List Live) (k : ℕ) → l.cell ≡ r → SetIn (l ∷ ls) (set ∷ ls) k
   set_here l ls k t =
       elim (cases_Bool (r == k)) [
         | inl on ↦ if_true (r == k) (Some id) (find ls k) on ∙ sym (if_true (r == k) (Some id) (find (l ∷ ls) k) on)
@@ -235,35 +235,35 @@ module _ (r : ℕ) (id : Id) where
   pub set_found : (k : ℕ) (ls : List Live) → Stands ls (place_of ls r) → SetIn ls (slice_set ls (place_of ls r) set) k
   set_found k [] s = absurd (omega (arith, s.0))
   set_found k (l ∷ ls) s =
-      elim (cases_Bool (nat_lt l.register r)) [
-        | inl on ↦ (let e = if_true (nat_lt l.register r) (suc (place_of ls r)) 0 on in let t = subst (Stands (l ∷ ls)) e s in
-            subst (λ p. SetIn (l ∷ ls) (slice_set (l ∷ ls) p set) k) (sym e) (set_front l ls (slice_set ls (place_of ls r) set) k (less l.register r on) (set_found k ls (omega (arith, t.0), t.1))))
-        | inr off ↦ (let e = if_false (nat_lt l.register r) (suc (place_of ls r)) 0 off in let t = (subst (Stands (l ∷ ls)) e s).1 l in
+      elim (cases_Bool (nat_lt l.cell r)) [
+        | inl on ↦ (let e = if_true (nat_lt l.cell r) (suc (place_of ls r)) 0 on in let t = subst (Stands (l ∷ ls)) e s in
+            subst (λ p. SetIn (l ∷ ls) (slice_set (l ∷ ls) p set) k) (sym e) (set_front l ls (slice_set ls (place_of ls r) set) k (less l.cell r on) (set_found k ls (omega (arith, t.0), t.1))))
+        | inr off ↦ (let e = if_false (nat_lt l.cell r) (suc (place_of ls r)) 0 off in let t = (subst (Stands (l ∷ ls)) e s).1 l in
             subst (λ p. SetIn (l ∷ ls) (slice_set (l ∷ ls) p set) k) (sym e) (set_here l ls k t))
       ]
 
   abbrev pub Lacks : List Live → ℕ → Type 0
-  Lacks ls p = p < length ls → (z : Live) → ((get_or ls p z).register == r) ≡ false
+  Lacks ls p = p < length ls → (z : Live) → ((get_or ls p z).cell == r) ≡ false
 
   pub insert_rises : (low n : ℕ) (ls : List Live) → Rises low ls n → low ≤ r → r < n → Lacks ls (place_of ls r) → Rises low (insert ls (place_of ls r) set) n
   insert_rises low n [] h le lt s = (le, omega (arith, lt))
   insert_rises low n (l ∷ ls) h le lt s =
-      elim (cases_Bool (nat_lt l.register r)) [
-        | inl on ↦ (let e = if_true (nat_lt l.register r) (suc (place_of ls r)) 0 on in let t = subst (Lacks (l ∷ ls)) e s in
-            subst (λ p. Rises low (insert (l ∷ ls) p set) n) (sym e) (h.0, insert_rises (suc l.register) n ls h.1 (less l.register r on) lt (λ in_. t (omega (arith, in_)))))
-        | inr off ↦ (let e = if_false (nat_lt l.register r) (suc (place_of ls r)) 0 off in let t = subst (Lacks (l ∷ ls)) e s (omega arith) l in
-            subst (λ p. Rises low (insert (l ∷ ls) p set) n) (sym e) (le, (other_above l.register r t (not_less l.register r off), h.1)))
+      elim (cases_Bool (nat_lt l.cell r)) [
+        | inl on ↦ (let e = if_true (nat_lt l.cell r) (suc (place_of ls r)) 0 on in let t = subst (Lacks (l ∷ ls)) e s in
+            subst (λ p. Rises low (insert (l ∷ ls) p set) n) (sym e) (h.0, insert_rises (suc l.cell) n ls h.1 (less l.cell r on) lt (λ in_. t (omega (arith, in_)))))
+        | inr off ↦ (let e = if_false (nat_lt l.cell r) (suc (place_of ls r)) 0 off in let t = subst (Lacks (l ∷ ls)) e s (omega arith) l in
+            subst (λ p. Rises low (insert (l ∷ ls) p set) n) (sym e) (le, (other_above l.cell r t (not_less l.cell r off), h.1)))
       ]
 
   pub insert_found : (k : ℕ) (ls : List Live) → SetIn ls (insert ls (place_of ls r) set) k
   insert_found k [] = refl
   insert_found k (l ∷ ls) =
-      elim (cases_Bool (nat_lt l.register r)) [
-        | inl on ↦ subst (λ p. SetIn (l ∷ ls) (insert (l ∷ ls) p set) k) (sym (if_true (nat_lt l.register r) (suc (place_of ls r)) 0 on)) (set_front l ls (insert ls (place_of ls r) set) k (less l.register r on) (insert_found k ls))
-        | inr off ↦ subst (λ p. SetIn (l ∷ ls) (insert (l ∷ ls) p set) k) (sym (if_false (nat_lt l.register r) (suc (place_of ls r)) 0 off)) refl
+      elim (cases_Bool (nat_lt l.cell r)) [
+        | inl on ↦ subst (λ p. SetIn (l ∷ ls) (insert (l ∷ ls) p set) k) (sym (if_true (nat_lt l.cell r) (suc (place_of ls r)) 0 on)) (set_front l ls (insert ls (place_of ls r) set) k (less l.cell r on) (insert_found k ls))
+        | inr off ↦ subst (λ p. SetIn (l ∷ ls) (insert (l ∷ ls) p set) k) (sym (if_false (nat_lt l.cell r) (suc (place_of ls r)) 0 off)) refl
       ]
 
--- ---- the words of all registers
+-- ---- the words of all cells
 
 module _ (f : Id → ℕ) where
   pub all_words : (ls : List Live) (k : ℕ) (ts : List IntegerType) → length (words_from f ls k ts) ≡ length ts

@@ -1,6 +1,6 @@
 -- What a valuation sees stays in a graph that has grown.
-use Rattle.std.proofs.Common.{◌≡◌, ℕ, false, List, [], ◌∷◌, ◌++◌, Option, Some, None, inl, inr, refl, sym, ap, ◌∙◌}
-use Rattle.std.specs.Prelude.{◌==◌, slice_index_or, if◌then◌else◌}
+use Rattle.std.proofs.Common.{◌≡◌, ℕ, false, List, [], ◌∷◌, ◌++◌, length, Option, Some, None, inl, inr, refl, sym, ap, ◌∙◌}
+use Rattle.std.specs.Prelude.{◌==◌, slice_index_or, replicate, if◌then◌else◌}
 use Rattle.std.specs.List.{All}
 use Rattle.std.proofs.lemmas.List.Elements.{All-head, All-tail, All-weaker}
 use Rattle.std.proofs.lemmas.Bool.{cases_Bool}
@@ -31,14 +31,11 @@ use Rattle.guarded_ssa.specs.Ways.{asked, stopped}
 use Rattle.guarded_ssa.specs.Forms.{IsBit, KindIn, EventIn, FormIn, kind_seen, event_seen, seen}
 use Rattle.guarded_ssa.specs.Registers.{ZerosIn, IsLive, AreLive, find, word_or_0, words_from}
 use Rattle.guarded_ssa.proofs.Sorted.{found, past, words_same}
-use Rattle.guarded_ssa.specs.Held.{BytesIn, SlotIn, PendingIn, PassIn, stored, gone, way, ways}
+use Rattle.guarded_ssa.specs.Held.{SlotIn, PendingIn, PassIn, cells, total, stored, held, gone, way, ways}
 
 module _ (d e : List Node) (x : Extends d e) where
   pub word_stays : (i : Id) (w : ℕ) → IsWord d i w → IsWord e i w
   word_stays i w h = record { there = within_stays d e i x h.there; width_is = x.width_stays i h.there ∙ h.width_is }
-
-  pub bytes_stay : (sizes : List ℕ) (ids : List Id) → BytesIn d sizes ids → BytesIn e sizes ids
-  bytes_stay sizes ids h = record { there = all_within_stays d e ids x h.there; widths = map_widths_stay d e ids x h.there ∙ h.widths }
 
   zeros_stay : (z : Zeros) → ZerosIn d z → ZerosIn e z
   zeros_stay z h = record { byte = zero_stays z.byte 8 h.byte; short = zero_stays z.short 16 h.short; int = zero_stays z.int 32 h.int; long = zero_stays z.long 64 h.long }
@@ -47,7 +44,7 @@ module _ (d e : List Node) (x : Extends d e) where
       zero_stays i w h = record { there = within_stays d e i x h.there; width_is = x.width_stays i h.there ∙ h.width_is; value_is = λ v. x.value_stays v i h.there ∙ h.value_is v }
 
   pub all_live_stay : (ts : List IntegerType) (ls : List Live) → All (IsLive d ts) ls → All (IsLive e ts) ls
-  all_live_stay ts ls h = All-weaker (IsLive d ts) (IsLive e ts) (λ l k. word_stays l.id (type_width (slice_index_or ts l.register types.Int)) k) ls h
+  all_live_stay ts ls h = All-weaker (IsLive d ts) (IsLive e ts) (λ l k. word_stays l.id (type_width (slice_index_or ts l.cell types.Int)) k) ls h
 
   pub live_stay : (ts : List IntegerType) (ls : List Live) → AreLive d ts ls → AreLive e ts ls
   live_stay ts ls h = record { rise = h.rise; words = all_live_stay ts ls h.words }
@@ -57,28 +54,32 @@ module _ (d e : List Node) (x : Extends d e) where
   found_stays v ts r (l ∷ ls) h =
       let here = x.value_stays v l.id (All-head (IsLive d ts) l ls h).there in
       let rest = found_stays v ts r ls (All-tail (IsLive d ts) l ls h) in
-      elim (cases_Bool (l.register == r)) [
+      elim (cases_Bool (l.cell == r)) [
         | inl on ↦ ap (word_or_0 (value v e)) (found l ls r on) ∙ here ∙ sym (ap (word_or_0 (value v d)) (found l ls r on))
         | inr off ↦ ap (word_or_0 (value v e)) (past l ls r off) ∙ rest ∙ sym (ap (word_or_0 (value v d)) (past l ls r off))
       ]
 
-  pub words_of_stay : (v : ℕ → ℕ) (ts : List IntegerType) (ls : List Live) → All (IsLive d ts) ls → words_from (value v e) ls 0 ts ≡ words_from (value v d) ls 0 ts
-  words_of_stay v ts ls h = words_same (value v e) (value v d) ls ls 0 ts (λ n. found_stays v ts n ls h)
+  pub words_of_stay : (v : ℕ → ℕ) (ts us : List IntegerType) (k : ℕ) (ls : List Live) → All (IsLive d ts) ls → words_from (value v e) ls k us ≡ words_from (value v d) ls k us
+  words_of_stay v ts us k ls h = words_same (value v e) (value v d) ls ls k us (λ n. found_stays v ts n ls h)
 
   pub slot_stays : (code : Listing) (s : Slot) → SlotIn d code s → SlotIn e code s
   slot_stays code s h = record {
     guard = word_stays s.guard 1 h.guard;
     zeros = zeros_stay s.zeros h.zeros;
-    registers = live_stay code.registers s.registers.items h.registers;
-    bytes = bytes_stay code.blocks s.bytes.items h.bytes;
+    live = live_stay (cells code) s.live.items h.live;
   }
+
+  pub held_stays : (v : ℕ → ℕ) (code : Listing) (s : Slot) → SlotIn d code s → held v e code s ≡ held v d code s
+  held_stays v code s h =
+      let q = words_of_stay v (cells code) code.registers 0 s.live.items h.live.words in
+      let r = words_of_stay v (cells code) (replicate (total code.blocks) types.Char) (length code.registers) s.live.items h.live.words in
+      λ i. record { registers = q i; blocks = stored code.blocks (r i) }
 
   pub gone_stays : (v : ℕ → ℕ) (code : Listing) (s : Slot) → SlotIn d code s → gone v e code s ≡ gone v d code s
   gone_stays v code s h =
       let p = x.value_stays v s.guard h.guard.there in
-      let q = words_of_stay v code.registers s.registers.items h.registers.words in
-      let r = map_stays v d e s.bytes.items x h.bytes.there in
-      λ i. if holds (p i) then Some (record { registers = q i; blocks = stored code.blocks (r i) }) else None
+      let q = held_stays v code s h in
+      λ i. if holds (p i) then Some (q i) else None
 
   pending_stays : (code : Listing) (s : Option Slot) → PendingIn d code s → PendingIn e code s
   pending_stays code None h = tt

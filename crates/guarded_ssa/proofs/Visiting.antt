@@ -41,7 +41,7 @@ visits_slot until code place i d e p p1 q s pending events passes = record {
       let xs = ways v e code q.pending.items in
       let before = seen v d p1.events.items in
       let told_here = on w (tells v (length code.instructions) place i.line i.function i.operation) in
-      let step : told_here ++ told v (length code.instructions) (suc place) rest xs ≡ told v (length code.instructions) place (i ∷ rest) (w ∷ ws) = told_step until v (length code.instructions) place i rest w ws xs covers (passes.leads v) in
+      let step : told_here ++ told v (length code.instructions) (suc place) rest xs ≡ told v (length code.instructions) place (i ∷ rest) (w ∷ ws) = told_step (length code.registers) until v (length code.instructions) place i rest w ws xs covers (passes.leads v) in
       ap (λ ys. ys ++ told v (length code.instructions) (suc place) rest xs) (passes.told v) ∙ append_assoc before told_here (told v (length code.instructions) (suc place) rest xs) ∙ ap (λ ys. before ++ ys) step
       ∙ (let a = ap (seen v d) events in let b = ap (λ ps. told v (length code.instructions) place (i ∷ rest) (ways v d code ps)) (sym pending) in λ k. a k ++ b k);
 }
@@ -72,12 +72,12 @@ popped_first d code p q s within pending =
 
 -- ---- all of it
 
-covers_drop : (until : List ℕ) (p k q : ℕ) (code : List Instruction) → q ≡ p + k → Covers until p code → Covers until q (drop k code)
-covers_drop until p zero q code e h = (let f : q ≡ p = omega (arith, e) in subst (λ n. Covers until n code) (sym f) h)
-covers_drop until p (suc k) q [] e h = tt
-covers_drop until p (suc k) q (i ∷ code) e h = covers_drop until (suc p) k q code (omega (arith, e)) h.1
+covers_drop : (registers : ℕ) (until : List ℕ) (p k q : ℕ) (code : List Instruction) → q ≡ p + k → Covers registers until p code → Covers registers until q (drop k code)
+covers_drop registers until p zero q code e h = (let f : q ≡ p = omega (arith, e) in subst (λ n. Covers registers until n code) (sym f) h)
+covers_drop registers until p (suc k) q [] e h = tt
+covers_drop registers until p (suc k) q (i ∷ code) e h = covers_drop registers until (suc p) k q code (omega (arith, e)) h.1
 
-pub visited : (until : List ℕ) (code : Listing) (place : ℕ) (z : Instruction) (all : (ℕ → ℕ) → Ways) (d e : List Node) (p q : Pass) → place < length code.instructions → Covers until 0 code.instructions
+pub visited : (until : List ℕ) (code : Listing) (place : ℕ) (z : Instruction) (all : (ℕ → ℕ) → Ways) (d e : List Node) (p q : Pass) → place < length code.instructions → Covers (length code.registers) until 0 code.instructions
     → Visits until code place (get_or code.instructions place z) d e p q
     → ((v : ℕ → ℕ) → seen v d p.events.items ++ told v (length code.instructions) place (drop place code.instructions) (ways v d code p.pending.items) ≡ told v (length code.instructions) 0 code.instructions (all v))
     → (v : ℕ → ℕ) → seen v e q.events.items ++ told v (length code.instructions) (place + 1) (drop (place + 1) code.instructions) (ways v e code q.pending.items) ≡ told v (length code.instructions) 0 code.instructions (all v)
@@ -87,7 +87,7 @@ visited until code place z all d e p q lt covers visits so v =
     let n : place + 1 ≡ suc place = omega arith in
     let front : drop place code.instructions ≡ i ∷ rest = drop-cons code.instructions place z lt in
     ap (λ m. seen v e q.events.items ++ told v (length code.instructions) m (drop m code.instructions) (ways v e code q.pending.items)) n
-    ∙ visits.goes v rest (covers_drop until 0 (suc place) (suc place) code.instructions (omega arith) covers)
+    ∙ visits.goes v rest (covers_drop (length code.registers) until 0 (suc place) (suc place) code.instructions (omega arith) covers)
     ∙ ap (λ xs. seen v d p.events.items ++ told v (length code.instructions) place xs (ways v d code p.pending.items)) (sym front) ∙ so v
 
 drop_all : (n : ℕ) (xs : List Instruction) → length xs ≤ n → drop n xs ≡ []

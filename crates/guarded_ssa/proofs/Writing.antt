@@ -1,12 +1,16 @@
 -- A slot with bytes of a block put in the place of others.
-use Rattle.std.proofs.Common.{◌≡◌, ℕ, ◌+◌, ◌<◌, ◌≤◌, true, List, length, map, take, drop, Some, None, refl, sym, ap, subst, ◌∙◌, arith}
-use Rattle.std.specs.Prelude.{if◌then◌else◌, slice_index, replicate}
-use Rattle.std.specs.Int.{w64, to_le_bytes}
-use Rattle.std.proofs.lemmas.List.{length-map, length-take-le, length-drop, take-map, drop-map}
-use Rattle.std.proofs.lemmas.List.Elements.{All-take, All-drop}
+use Rattle.std.proofs.Common.{◌≡◌, ℕ, zero, suc, ◌+◌, ◌-◌, ◌<◌, ◌≤◌, true, List, [], ◌∷◌, ◌++◌, length, map, take, drop, Option, Some, None, refl, sym, ap, subst, ◌∙◌, arith}
+use Rattle.std.specs.Prelude.{if◌then◌else◌, slice_index, slice_index_or}
+use Rattle.std.specs.Int.{w64, to_le_bytes, byte_worth, sum_through, from_le_bytes}
+use Rattle.std.specs.List.{All}
+use Rattle.std.proofs.lemmas.List.{length-map, length-append, length-replicate, length-take-le, get_or-take, append-nil}
+use Rattle.std.proofs.lemmas.List.Elements.{All-nil, All-cons, All-head, All-tail}
 use Rattle.c_types.specs.declared.integers.IntegerType.{IntegerType}
+use Rattle.c_types.specs.declared.integers.IntegerType.TheVariants as types
+use Rattle.c_types.specs.Integers.{width as type_width, bytes}
 use Rattle.core_tree.specs.Typed.{is_within}
-use Rattle.c_values.specs.Variables.{Variables, zeros, low_bytes, put_at, block_of, put_bytes}
+use Rattle.core_tree.specs.Operations.{read_bits}
+use Rattle.c_values.specs.Variables.{Variables, storage, zeros, low_bytes, block_of, put_bytes, number_at, read_variable}
 use Rattle.word_dag.specs.declared.nodes.Id.{Id}
 use Rattle.word_dag.specs.declared.nodes.Node.{Node}
 use Rattle.word_dag.specs.Meaning.{value, holds}
@@ -18,51 +22,77 @@ use Rattle.goto_prog.specs.Meaning.{Memory, register, with_blocks, bytes_of, cal
 use Rattle.goto_prog.specs.Fitting.{is_block, has_bytes}
 use Rattle.goto_prog.specs.CodeThread.{Listing}
 use Rattle.goto_prog.proofs.Blocks.{bytes_few}
+use Rattle.guarded_ssa.specs.declared.registers.Live.{Live}
 use Rattle.guarded_ssa.specs.declared.slots.Slot.{Slot}
 use Rattle.guarded_ssa.specs.Ways.{updated}
-use Rattle.guarded_ssa.specs.Held.{total, BytesIn, SlotIn, held, stored, gone, nodes_put}
-use Rattle.guarded_ssa.specs.Registers.{ZerosIn, AreLive, words_from}
+use Rattle.guarded_ssa.specs.Held.{total, cells, SlotIn, held, stored, gone}
+use Rattle.guarded_ssa.specs.Registers.{ZerosIn, IsLive, Replaced, find, bytes_from, id_or, ids_from, lives_from}
 use Rattle.guarded_ssa.proofs.Stays.{gone_stays}
-use Rattle.guarded_ssa.proofs.Blocks.{lies, is_whole, block_is, block_ends, block_length, bytes_length, all_bytes, bytes_put, map_put, map_replicate, stored_put, put_zeros}
+use Rattle.guarded_ssa.proofs.Spans.{ids_length}
+use Rattle.guarded_ssa.proofs.Numbering.{cells_length, byte_type}
+use Rattle.guarded_ssa.proofs.Blocks.{lies, is_whole, block_ends, block_length, byte_words, stored_put, put_zeros, words_alike, put_words, some_words, ids_words}
+use Rattle.guarded_ssa.proofs.Merging.{found_word}
 use Rattle.guarded_ssa.proofs.Passing.{updated_by}
 
-pub put_within : (d : List Node) (code : Listing) (s : Slot) (b offset start count : ℕ) → SlotIn d code s → is_within code.blocks b offset count ≡ true → start ≡ total (take b code.blocks) → start + offset + count ≤ length s.bytes.items
-put_within d code s b offset start count h there start_is =
+-- bytes of a block, among the cells
+pub bytes_there : (code : Listing) (ts : List IntegerType) (b offset start count : ℕ) → ts ≡ cells code → is_within code.blocks b offset count ≡ true → start ≡ length code.registers + total (take b code.blocks) → start + offset + count ≤ length ts
+bytes_there code ts b offset start count same there start_is =
     let parts = lies code.blocks b offset count there in
-    omega (arith, parts.1, start_is, block_ends code.blocks b parts.0, bytes_length d code.blocks s.bytes.items h.bytes)
+    omega (arith, parts.1, start_is, block_ends code.blocks b parts.0, cells_length code, ap length same)
 
-module _ (d : List Node) (code : Listing) (s t : Slot) (b offset start : ℕ) (new nodes : List Id) (h : SlotIn d code s) (there : is_within code.blocks b offset (length new) ≡ true)
-    (g : t.guard ≡ s.guard) (p : t.registers.items ≡ s.registers.items) (start_is : start ≡ total (take b code.blocks)) (nodes_are : nodes ≡ s.bytes.items) (put : t.bytes.items ≡ nodes_put (start + offset) new nodes) where
-  abbrev place : ℕ
-  place = start + offset
+-- nodes of 8 bits as cells
+live_bytes : (d : List Node) (code : Listing) (at : ℕ) (ids : List Id) → length code.registers ≤ at → at + length ids ≤ length code.registers + total code.blocks → AreBytes d ids → All (IsLive d (cells code)) (lives_from at ids)
+live_bytes d code at [] low high all = All-nil (IsLive d (cells code))
+live_bytes d code at (i ∷ ids) low high all =
+    let word : IsWord d i (type_width (slice_index_or (cells code) at types.Int)) = subst (λ t. IsWord d i (type_width t)) (sym (byte_type code at low (omega (arith, high)))) (All-head (λ j. IsWord d j 8) i ids all) in
+    All-cons (IsLive d (cells code)) (record { cell = at; id = i }) (lives_from (suc at) ids) word (live_bytes d code (suc at) ids (omega (arith, low)) (omega (arith, high)) (All-tail (λ j. IsWord d j 8) i ids all))
 
-  place_is : place ≡ total (take b code.blocks) + offset
-  place_is = ap (λ k. k + offset) start_is
+pub new_live : (d : List Node) (code : Listing) (ts : List IntegerType) (b offset start count : ℕ) (ids : List Id) → ts ≡ cells code → is_within code.blocks b offset count ≡ true → start ≡ length code.registers + total (take b code.blocks) → length ids ≤ count → AreBytes d ids
+    → All (IsLive d ts) (lives_from (start + offset) ids)
+new_live d code ts b offset start count ids same there start_is few all =
+    let high = bytes_there code ts b offset start count same there start_is in
+    subst (λ us. All (IsLive d us) (lives_from (start + offset) ids)) (sym same) (live_bytes d code (start + offset) ids (omega (arith, start_is)) (omega (arith, high, few, cells_length code, ap length same)) all)
 
-  q : t.bytes.items ≡ nodes_put place new s.bytes.items
-  q = put ∙ ap (nodes_put place new) nodes_are
+module _ (d : List Node) (code : Listing) (s t : Slot) (b offset start count : ℕ) (ids : List Id) (ts : List IntegerType) (live : List Live) (there : is_within code.blocks b offset count ≡ true) (few : length ids ≤ count)
+    (start_is : start ≡ length code.registers + total (take b code.blocks)) (ts_is : ts ≡ cells code) (live_is : live ≡ s.live.items) (made : Replaced d ts live (start + offset) count ids t.live.items) (g : t.guard ≡ s.guard) where
+  abbrev o : ℕ
+  o = total (take b code.blocks) + offset
 
-  pub written_in : AreBytes d new → t.zeros ≡ s.zeros → SlotIn d code t
-  written_in all z = record {
-    guard = subst (λ i. IsWord d i 1) (sym g) h.guard;
-    zeros = subst (ZerosIn d) (sym z) h.zeros;
-    registers = subst (AreLive d code.registers) (sym p) h.registers;
-    bytes = subst (BytesIn d code.blocks) (sym q) (bytes_put d code.blocks s.bytes.items h.bytes place new (omega (arith, put_within d code s b offset start (length new) h there start_is, bytes_length d code.blocks s.bytes.items h.bytes)) all);
-  }
+  abbrev first : ℕ
+  first = length code.registers
 
-  pub written_gone : (v : ℕ → ℕ) → gone v d code t ≡ updated (λ m. with_blocks m (put_bytes m.blocks b offset (map (value v d) new))) (gone v d code s)
-  written_gone v =
+  own : Replaced d (cells code) s.live.items (first + o) count ids t.live.items
+  own =
+      let at : start + offset ≡ first + o = omega (arith, start_is) in
+      subst (λ k. Replaced d (cells code) s.live.items k count ids t.live.items) at
+      (subst (λ ls. Replaced d (cells code) ls (start + offset) count ids t.live.items) live_is (subst (λ us. Replaced d us live (start + offset) count ids t.live.items) ts_is made))
+
+  pub replaced_in : SlotIn d code s → t.zeros ≡ s.zeros → SlotIn d code t
+  replaced_in h z = record { guard = subst (λ i. IsWord d i 1) (sym g) h.guard; zeros = subst (ZerosIn d) (sym z) h.zeros; live = own.live }
+
+  pub replaced_gone : (v : ℕ → ℕ) → gone v d code t ≡ updated (λ m. with_blocks m (put_bytes m.blocks b offset (map (value v d) ids ++ zeros (count - length ids)))) (gone v d code s)
+  replaced_gone v =
       let f = value v d in
-      let old = map f s.bytes.items in
-      let parts = lies code.blocks b offset (length new) there in
-      let fits : offset + length (map f new) ≤ slice_index code.blocks b = omega (arith, parts.1, length-map new f) in
-      let all : total code.blocks ≤ length old = omega (arith, bytes_length d code.blocks s.bytes.items h.bytes, length-map s.bytes.items f) in
-      let a = ap (map f) q ∙ map_put f place new s.bytes.items ∙ ap (λ k. put_at k (map f new) old) place_is in
-      let c = ap (stored code.blocks) a ∙ stored_put code.blocks old (map f new) b offset parts.0 fits all in
+      let n = total code.blocks in
+      let W = map f ids ++ zeros (count - length ids) in
+      let old = bytes_from f s.live.items first n in
+      let parts = lies code.blocks b offset count there in
+      let long : length W ≡ count = omega (arith, few, length-append (map f ids) (zeros (count - length ids)), length-map ids f, length-replicate {A = ℕ} (count - length ids) 0) in
+      let fits : o + count ≤ n = omega (arith, parts.1, block_ends code.blocks b parts.0) in
+      let a = words_alike f s.live.items t.live.items 0 code.registers (λ c le lt. own.front c (omega (arith, lt))) in
+      let bytes = put_words f s.live.items t.live.items first o n count ids fits few own.front own.here own.behind in
+      let c = ap (stored code.blocks) bytes ∙ stored_put code.blocks old W b offset parts.0 (omega (arith, parts.1, long)) (omega (arith, byte_words f s.live.items first n)) in
       let m = held v d code s in
-      let n : Memory = with_blocks m (put_bytes m.blocks b offset (map f new)) in
-      let same : gone v d code t ≡ (if holds (f s.guard) then Some n else None) = (λ i. if holds (f (g i)) then Some (record { registers = words_from f (p i) 0 code.registers; blocks = c i }) else None) in
-      same ∙ updated_by (holds (f s.guard)) m n (λ k. with_blocks k (put_bytes k.blocks b offset (map f new))) refl
+      let new : Memory = with_blocks m (put_bytes m.blocks b offset W) in
+      let same : gone v d code t ≡ (if holds (f s.guard) then Some new else None) = (λ i. if holds (f (g i)) then Some (record { registers = a i; blocks = c i }) else None) in
+      same ∙ updated_by (holds (f s.guard)) m new (λ k. with_blocks k (put_bytes k.blocks b offset W)) refl
+
+-- as many bytes as nodes
+pub written_gone : (v : ℕ → ℕ) (d : List Node) (code : Listing) (s t : Slot) (b offset n : ℕ) (ids : List Id) → n ≡ length ids
+    → gone v d code t ≡ updated (λ m. with_blocks m (put_bytes m.blocks b offset (map (value v d) ids ++ zeros (n - length ids)))) (gone v d code s) → gone v d code t ≡ updated (λ m. with_blocks m (put_bytes m.blocks b offset (map (value v d) ids))) (gone v d code s)
+written_gone v d code s t b offset n ids same so =
+    let none : n - length ids ≡ 0 = omega (arith, same) in
+    so ∙ ap (λ (ys : List ℕ). updated (λ m. with_blocks m (put_bytes m.blocks b offset ys)) (gone v d code s)) (ap (λ k. map (value v d) ids ++ zeros k) none ∙ append-nil (map (value v d) ids))
 
 -- what an update does to the one memory of a slot
 same_update : (v : ℕ → ℕ) (d : List Node) (code : Listing) (s : Slot) (f g : Memory → Memory) → f (held v d code s) ≡ g (held v d code s) → updated f (gone v d code s) ≡ updated g (gone v d code s)
@@ -78,17 +108,18 @@ store_gone v d e code s t b offset count operand id ids nodes x h is made nodes_
     so ∙ (let w = gone_stays d e x v code s h in λ i. updated (λ m. with_blocks m (put_bytes m.blocks b offset (bytes i))) (w i))
     ∙ same_update v d code s (λ m. with_blocks m (put_bytes m.blocks b offset (low_bytes count (register (held v d code s) operand)))) (calculated (operations.Store b offset count operand)) refl
 
-pub clear_gone : (v : ℕ → ℕ) (d : List Node) (code : Listing) (s t : Slot) (b size n : ℕ) (ids : List Id) → SlotIn d code s → is_block code.blocks b size ≡ true → n ≡ size → ids ≡ replicate n s.zeros.byte
-    → gone v d code t ≡ updated (λ m. with_blocks m (put_bytes m.blocks b 0 (map (value v d) ids))) (gone v d code s) → gone v d code t ≡ updated (calculated (operations.Clear b size)) (gone v d code s)
-clear_gone v d code s t b size n ids h there n_is is so =
+pub clear_gone : (v : ℕ → ℕ) (d : List Node) (code : Listing) (s t : Slot) (b size n : ℕ) (ids : List Id) → is_block code.blocks b size ≡ true → n ≡ size → ids ≡ []
+    → gone v d code t ≡ updated (λ m. with_blocks m (put_bytes m.blocks b 0 (map (value v d) ids ++ zeros (n - length ids)))) (gone v d code s) → gone v d code t ≡ updated (calculated (operations.Clear b size)) (gone v d code s)
+clear_gone v d code s t b size n ids there n_is none so =
     let f = value v d in
     let parts = is_whole code.blocks b size there in
-    let old = map f s.bytes.items in
-    let all : total code.blocks ≤ length old = omega (arith, bytes_length d code.blocks s.bytes.items h.bytes, length-map s.bytes.items f) in
-    let long : length (block_of (stored code.blocks old) b) ≡ size = block_length code.blocks old b parts.0 all ∙ sym parts.1 in
-    let nodes : map f ids ≡ zeros n = ap (map f) is ∙ map_replicate f n s.zeros.byte ∙ ap (replicate n) (h.zeros.byte.value_is v) in
+    let total_bytes = total code.blocks in
+    let old = bytes_from f s.live.items (length code.registers) total_bytes in
+    let long : length (block_of (stored code.blocks old) b) ≡ size = block_length code.blocks old b parts.0 (omega (arith, byte_words f s.live.items (length code.registers) total_bytes)) ∙ sym parts.1 in
+    let left : n - length ids ≡ n = omega (arith, ap length none) in
+    let nodes : map f ids ++ zeros (n - length ids) ≡ zeros n = (λ i. map f (none i) ++ zeros (left i)) in
     let m = held v d code s in
-    so ∙ same_update v d code s (λ k. with_blocks k (put_bytes k.blocks b 0 (map f ids))) (calculated (operations.Clear b size))
+    so ∙ same_update v d code s (λ k. with_blocks k (put_bytes k.blocks b 0 (map f ids ++ zeros (n - length ids)))) (calculated (operations.Clear b size))
     (ap (λ ys. with_blocks m (put_bytes m.blocks b 0 ys)) nodes ∙ ap (with_blocks m) (put_zeros m.blocks b n size n_is long))
 
 -- as many nodes as a write has bytes
@@ -101,52 +132,61 @@ store_fits d rs sizes r b offset count ids nodes f enough made is there =
     let size = ap length is ∙ byte_count d ids f count (bytes_few rs r count enough) made in
     subst (λ n. is_within sizes b offset n ≡ true) (sym size) there
 
--- ---- the nodes of a block
-
-module _ (d : List Node) (code : Listing) (s : Slot) (b place size : ℕ) (sizes : List ℕ) (h : SlotIn d code s) (lt : b < length code.blocks)
-    (place_at : place ≡ total (take b code.blocks)) (sizes_are : sizes ≡ code.blocks) (size_at : size ≡ slice_index sizes b) where
-  size_is : size ≡ slice_index code.blocks b
-  size_is = size_at ∙ ap (λ (ns : List ℕ). slice_index ns b) sizes_are
-
-  pub block_fits : place + size ≤ length s.bytes.items
-  block_fits = omega (arith, place_at, size_is, block_ends code.blocks b lt, bytes_length d code.blocks s.bytes.items h.bytes)
-
-  module _ (ids nodes : List Id) (nodes_are : nodes ≡ s.bytes.items) (is : ids ≡ take size (drop place nodes)) where
-    own : ids ≡ take size (drop place s.bytes.items)
-    own = is ∙ ap (λ ns. take size (drop place ns)) nodes_are
-
-    pub block_bytes : AreBytes d ids
-    block_bytes = subst (AreBytes d) (sym own) (All-take (λ i. IsWord d i 8) size (drop place s.bytes.items) (All-drop (λ i. IsWord d i 8) place s.bytes.items (all_bytes d code.blocks s.bytes.items h.bytes)))
-
-    pub block_size : length ids ≡ slice_index code.blocks b
-    block_size = ap length own ∙ length-take-le size (drop place s.bytes.items) (omega (arith, block_fits, length-drop place s.bytes.items)) ∙ size_is
-
-    pub block_values : (v : ℕ → ℕ) → map (value v d) ids ≡ block_of (held v d code s).blocks b
-    block_values v =
-        let f = value v d in
-        let same = take-map f size (drop place s.bytes.items) in
-        let rest = drop-map f place s.bytes.items in
-        ap (map f) own ∙ sym same ∙ ap (take size) (sym rest) ∙ (λ i. take (size_is i) (drop (place_at i) (map f s.bytes.items))) ∙ sym (block_is code.blocks (map f s.bytes.items) b lt)
-
 -- ---- the nodes of some bytes of a block
 
-module _ (d : List Node) (block ids : List Id) (offset count : ℕ) (is : ids ≡ take count (drop offset block)) where
-  some_bytes : AreBytes d block → AreBytes d ids
-  some_bytes all = subst (AreBytes d) (sym is) (All-take (λ i. IsWord d i 8) count (drop offset block) (All-drop (λ i. IsWord d i 8) offset block all))
+module _ (d : List Node) (code : Listing) (s : Slot) (b offset start count : ℕ) (ids : List Id) (live : List Live) (h : SlotIn d code s) (there : is_within code.blocks b offset count ≡ true)
+    (start_is : start ≡ length code.registers + total (take b code.blocks)) (live_is : live ≡ s.live.items) (is : ids ≡ ids_from live s.zeros.byte (start + offset) count) where
+  own_ids : ids ≡ ids_from s.live.items s.zeros.byte (start + offset) count
+  own_ids = is ∙ ap (λ ls. ids_from ls s.zeros.byte (start + offset) count) live_is
 
-  some_values : (v : ℕ → ℕ) (blocks : Variables) (b : ℕ) → map (value v d) block ≡ block_of blocks b → map (value v d) ids ≡ bytes_of blocks b offset count
-  some_values v blocks b values =
-      let f = value v d in
-      ap (map f) is ∙ sym (take-map f count (drop offset block)) ∙ ap (take count) (sym (drop-map f offset block)) ∙ ap (λ (bs : List ℕ). take count (drop offset bs)) values
+  byte_or : (c : ℕ) (x : Option Id) → find s.live.items c ≡ x → length code.registers ≤ c → c < length code.registers + total code.blocks → IsWord d (id_or s.zeros.byte x) 8
+  byte_or c None e low high = record { there = h.zeros.byte.there; width_is = h.zeros.byte.width_is }
+  byte_or c (Some i) e low high = subst (λ t. IsWord d i (type_width t)) (byte_type code c low high) (found_word d (cells code) c i s.live.items h.live.words e)
 
-  pub some_made : (code : Listing) (s : Slot) (b : ℕ) → AreBytes d block → ((v : ℕ → ℕ) → map (value v d) block ≡ block_of (held v d code s).blocks b) → AreBytesOf d ids (λ v. bytes_of (held v d code s).blocks b offset count)
-  some_made code s b all values = record { words = some_bytes all; values_are = λ v. some_values v (held v d code s).blocks b (values v) }
+  bytes_all : (c n : ℕ) → length code.registers ≤ c → c + n ≤ length code.registers + total code.blocks → AreBytes d (ids_from s.live.items s.zeros.byte c n)
+  bytes_all c zero low high = All-nil (λ i. IsWord d i 8)
+  bytes_all c (suc n) low high =
+      All-cons (λ i. IsWord d i 8) (id_or s.zeros.byte (find s.live.items c)) (ids_from s.live.items s.zeros.byte (suc c) n) (byte_or c (find s.live.items c) refl low (omega (arith, high))) (bytes_all (suc c) n (omega (arith, low)) (omega (arith, high)))
 
-  pub some_size : (sizes : List ℕ) (b : ℕ) → is_within sizes b offset count ≡ true → length block ≡ slice_index sizes b → length ids ≡ count
-  some_size sizes b there size = ap length is ∙ length-take-le count (drop offset block) (omega (arith, (lies sizes b offset count there).1, size, length-drop offset block))
+  pub some_made : AreBytesOf d ids (λ v. bytes_of (held v d code s).blocks b offset count)
+  some_made = record {
+    words =
+        let fits = bytes_there code (cells code) b offset start count refl there start_is in
+        subst (AreBytes d) (sym own_ids) (bytes_all (start + offset) count (omega (arith, start_is)) (omega (arith, fits, cells_length code)));
+    values_are = λ v.
+        let f = value v d in
+        ap (map f) own_ids ∙ ids_words f s.live.items s.zeros.byte (start + offset) count (h.zeros.byte.value_is v)
+        ∙ sym (some_words f s.live.items (length code.registers) b offset count (start + offset) code.blocks there (ap (λ k. k + offset) start_is));
+  }
 
-pub section_fits : (sizes : List ℕ) (b offset count size : ℕ) → is_within sizes b offset count ≡ true → size ≡ slice_index sizes b → offset + count ≤ size
-section_fits sizes b offset count size there same = omega (arith, (lies sizes b offset count there).1, same)
+  pub some_size : length ids ≡ count
+  some_size = ap length own_ids ∙ ids_length s.live.items s.zeros.byte (start + offset) count
+
+-- a number is that of its own bytes
+
+sum_same : (f g : ℕ → ℕ) (k : ℕ) → ((i : ℕ) → i ≤ k → f i ≡ g i) → sum_through f k ≡ sum_through g k
+sum_same f g zero h = h 0 (omega arith)
+sum_same f g (suc k) h = let a = sum_same f g k (λ i le. h i (omega (arith, le))) in let b = h (suc k) (omega arith) in λ i. a i + b i
+
+through : (k n : ℕ) (xs : List ℕ) → k < n → sum_through (λ i. byte_worth i (slice_index (take n xs) i)) k ≡ sum_through (λ i. byte_worth i (slice_index xs i)) k
+through k n xs lt = sum_same (λ i. byte_worth i (slice_index (take n xs) i)) (λ i. byte_worth i (slice_index xs i)) k (λ i le. ap (byte_worth i) (get_or-take n xs i 0 (omega (arith, le, lt))))
+
+own_bytes : (t : IntegerType) (xs : List ℕ) → from_le_bytes (storage t) (take (bytes t) xs) ≡ from_le_bytes (storage t) xs
+own_bytes types.Bool xs = through 0 1 xs (omega arith)
+own_bytes types.Char xs = through 0 1 xs (omega arith)
+own_bytes types.SignedChar xs = through 0 1 xs (omega arith)
+own_bytes types.UnsignedChar xs = through 0 1 xs (omega arith)
+own_bytes types.Short xs = through 1 2 xs (omega arith)
+own_bytes types.UnsignedShort xs = through 1 2 xs (omega arith)
+own_bytes types.Int xs = through 3 4 xs (omega arith)
+own_bytes types.UnsignedInt xs = through 3 4 xs (omega arith)
+own_bytes types.Long xs = through 7 8 xs (omega arith)
+own_bytes types.UnsignedLong xs = through 7 8 xs (omega arith)
+own_bytes types.LongLong xs = through 7 8 xs (omega arith)
+own_bytes types.UnsignedLongLong xs = through 7 8 xs (omega arith)
+
+pub load_same : (t : IntegerType) (blocks : Variables) (b offset n : ℕ) (xs : List ℕ) → n ≡ bytes t → xs ≡ bytes_of blocks b offset n → number_at t 0 xs ≡ read_variable blocks b offset t
+load_same t blocks b offset n xs n_is is = ap (number_at t 0) (is ∙ ap (bytes_of blocks b offset) n_is) ∙ ap (read_bits t) (own_bytes t (drop offset (block_of blocks b)))
 
 pub within_by_size : (sizes : List ℕ) (b offset count size : ℕ) → is_within sizes b offset count ≡ true → size ≡ count → is_within sizes b offset size ≡ true
 within_by_size sizes b offset count size there same = subst (λ n. is_within sizes b offset n ≡ true) (sym same) there

@@ -1,5 +1,6 @@
--- Which registers operations read, and how long a register is needed.
-use Rattle.std.specs.Prelude.{◌≡◌, ℕ, suc, ◌<◌, ◌≤◌, List, [], ◌∷◌, Option, Some, None, slice_index, length}
+-- Which registers and blocks operations read, and how long each is needed.
+use Rattle.std.specs.Prelude.{◌≡◌, ℕ, suc, ◌<◌, ◌+◌, ◌≤◌, List, [], ◌∷◌, Option, Some, None, slice_index, length}
+use Rattle.c_values.specs.Variables.{block_of}
 use Rattle.goto_prog.specs.declared.code.Condition.{Condition}
 use Rattle.goto_prog.specs.declared.code.Condition.TheVariants as checks
 use Rattle.goto_prog.specs.declared.code.Operation.{Operation}
@@ -79,41 +80,76 @@ second_read (operations.Use a) = None
 second_read (operations.Call f first count into r) = None
 second_read (operations.Return v) = None
 
--- ---- `until` gives for each register the place behind its last read
+-- ---- the block whose bytes are read
+
+abbrev pub block_read : Operation → Option ℕ
+block_read (operations.Constant r bits) = None
+block_read (operations.Copy r a) = None
+block_read (operations.Load r t b offset) = Some b
+block_read (operations.Store b offset count a) = None
+block_read (operations.Clear b size) = None
+block_read (operations.CopyBytes into to from offset count) = Some from
+block_read (operations.Convert r from to a) = None
+block_read (operations.Sign r op t a) = None
+block_read (operations.Arithmetic r op t u a b) = None
+block_read (operations.Compare r op t a b) = None
+block_read (operations.IsZero r a) = None
+block_read (operations.Skip n) = None
+block_read (operations.SkipIfZero a n) = None
+block_read (operations.Check c) = None
+block_read (operations.Assert a) = None
+block_read (operations.Assume a) = None
+block_read (operations.Draw r bits) = None
+block_read (operations.ReadObject b to k offset count) = None
+block_read (operations.WriteObject k offset b from count) = Some b
+block_read operations.Exit = None
+block_read (operations.Fail class) = None
+block_read (operations.Use a) = None
+block_read (operations.Call f first count into r) = None
+block_read (operations.Return v) = None
+
+-- ---- `until` gives for each register, and behind them for each block, the place behind its last read
 
 abbrev pub IsRead : List ℕ → ℕ → Option ℕ → Type 0
 IsRead until place None = Unit {0}
 IsRead until place (Some r) = r < length until → place < slice_index until r
 
-abbrev pub AreRead : List ℕ → ℕ → Operation → Type 0
-AreRead until place o = IsRead until place (first_read o) × IsRead until place (second_read o)
+module _ (registers : ℕ) where
+  abbrev pub IsBlockRead : List ℕ → ℕ → Option ℕ → Type 0
+  IsBlockRead until place None = Unit {0}
+  IsBlockRead until place (Some b) = IsRead until place (Some (registers + b))
 
--- each register is read as late or later
+  abbrev pub AreRead : List ℕ → ℕ → Operation → Type 0
+  AreRead until place o = IsRead until place (first_read o) × IsRead until place (second_read o) × IsBlockRead until place (block_read o)
+
+  -- no instruction of the code, the first of which is at this place, reads a register or a block behind that
+  abbrev pub Covers : List ℕ → ℕ → List Instruction → Type 0
+  Covers until place [] = Unit {0}
+  Covers until place (i ∷ code) = AreRead until place i.operation × Covers until (suc place) code
+
+-- each is read as late or later
 pub record Later (until other : List ℕ) : Type 0 where
   pub size : length other ≡ length until
   pub each : (r : ℕ) → slice_index until r ≤ slice_index other r
 
--- no instruction of the code, the first of which is at this place, reads a register behind that
-abbrev pub Covers : List ℕ → ℕ → List Instruction → Type 0
-Covers until place [] = Unit {0}
-Covers until place (i ∷ code) = AreRead until place i.operation × Covers until (suc place) code
-
 -- ---- memories that are the same to the code from a place on
 
-pub record Agree (until : List ℕ) (place : ℕ) (m n : Memory) : Type 0 where
+pub record Agree (registers : ℕ) (until : List ℕ) (place : ℕ) (m n : Memory) : Type 0 where
   pub size : length m.registers ≡ length n.registers
   pub needed : (r : ℕ) → IsRead until place (Some r) → register m r ≡ register n r
-  pub blocks : m.blocks ≡ n.blocks
+  pub count : length m.blocks ≡ length n.blocks
+  pub blocks : (b : ℕ) → IsBlockRead registers until place (Some b) → block_of m.blocks b ≡ block_of n.blocks b
 
-abbrev pub Alike : List ℕ → ℕ → Option Memory → Option Memory → Type 0
-Alike until place None None = Unit {0}
-Alike until place None (Some n) = ⊥
-Alike until place (Some m) None = ⊥
-Alike until place (Some m) (Some n) = Agree until place m n
+module _ (registers : ℕ) where
+  abbrev pub Alike : List ℕ → ℕ → Option Memory → Option Memory → Type 0
+  Alike until place None None = Unit {0}
+  Alike until place None (Some n) = ⊥
+  Alike until place (Some m) None = ⊥
+  Alike until place (Some m) (Some n) = Agree registers until place m n
 
--- the ways from this place on
-abbrev pub AllAlike : List ℕ → ℕ → List (Option Memory) → List (Option Memory) → Type 0
-AllAlike until place [] [] = Unit {0}
-AllAlike until place [] (x ∷ xs) = ⊥
-AllAlike until place (w ∷ ws) [] = ⊥
-AllAlike until place (w ∷ ws) (x ∷ xs) = Alike until place w x × AllAlike until (suc place) ws xs
+  -- the ways from this place on
+  abbrev pub AllAlike : List ℕ → ℕ → List (Option Memory) → List (Option Memory) → Type 0
+  AllAlike until place [] [] = Unit {0}
+  AllAlike until place [] (x ∷ xs) = ⊥
+  AllAlike until place (w ∷ ws) [] = ⊥
+  AllAlike until place (w ∷ ws) (x ∷ xs) = Alike until place w x × AllAlike until (suc place) ws xs

@@ -1,7 +1,7 @@
-ghost use Rattle.std.specs.Prelude.{◌≡◌, ℕ, true, ◌+◌, ◌<◌, ◌≤◌, length, map, take, drop, slice_index, IfOk};
+ghost use Rattle.std.specs.Prelude.{◌≡◌, ℕ, true, ◌+◌, ◌-◌, ◌<◌, ◌≤◌, ◌++◌, length, map, take, replicate, IfOk};
 ghost use Rattle.c_types.specs.Integers.{width as type_width, bytes};
 ghost use Rattle.core_tree.specs.Typed.{is_within};
-ghost use Rattle.c_values.specs.Variables.{block_of, put_bytes, read_variable};
+ghost use Rattle.c_values.specs.Variables.{zeros, put_bytes, read_variable};
 ghost use Rattle.word_dag.specs.Growth.{Extends};
 ghost use Rattle.word_dag.specs.Meaning.{value};
 ghost use Rattle.value_nodes.specs.Values.{IsValue, AreBytes};
@@ -9,9 +9,10 @@ ghost use Rattle.value_nodes.specs.Bytes.{AreBytesOf};
 ghost use Rattle.goto_prog.specs.Fitting.{is_block, has_bytes};
 ghost use Rattle.goto_prog.specs.Meaning.{with_blocks, bytes_of, calculated};
 ghost use Rattle.guarded_ssa.specs.Ways.{updated};
-ghost use Rattle.guarded_ssa.specs.Held.{SlotIn, held, gone, total, starts_from, nodes_put};
+ghost use Rattle.guarded_ssa.specs.Held.{SlotIn, IsPlan, held, gone, total, counted, owners_from, starts_from};
 
 use crate::liveness::Plan;
+use crate::registers::{ids_from, replaced};
 use crate::slots::Slot;
 use c_types::IntegerType;
 use goto_prog::Operation;
@@ -33,12 +34,27 @@ pub fn size_of_all(sizes: &[u32]) -> Result<usize, AllocError>
     Ok(bytes)
 }
 
-// Where each block begins that has one of these sizes, one block behind the other.
-pub fn starts(alloc: Global, sizes: &[u32]) -> Result<Vec<usize>, AllocError>
-    ensures { IfOk result (λ r. r.items ≡ starts_from 0 sizes.now) }
+// The types of the cells of registers and blocks.
+pub fn cell_types(
+    alloc: Global,
+    registers: &[IntegerType],
+    blocks: &[u32],
+) -> Result<Vec<IntegerType>, AllocError>
+    ensures { IfOk result (λ r. r.items ≡ registers.now ++ replicate (total blocks.now) IntegerType.Char) }
+{
+    let size = size_of_all(blocks)?;
+    let bytes = vec![in alloc; IntegerType::Char; size]?;
+    let mut types = registers.to_vec(alloc)?;
+    types.extend_from_slice(&bytes)?;
+    Ok(types)
+}
+
+// The first cell of each block that has one of these sizes, one block behind the other, from a cell on.
+pub fn starts(alloc: Global, first: usize, sizes: &[u32]) -> Result<Vec<usize>, AllocError>
+    ensures { IfOk result (λ r. r.items ≡ starts_from first sizes.now) }
 {
     let mut starts = Vec::with_capacity(alloc, sizes.len())?;
-    let mut next: usize = 0;
+    let mut next = first;
     for size in sizes {
         starts.push(next)?;
         next = match next.checked_add(*size as usize) {
@@ -49,46 +65,82 @@ pub fn starts(alloc: Global, sizes: &[u32]) -> Result<Vec<usize>, AllocError>
     Ok(starts)
 }
 
-// Writes nodes in the place of as many from a place on.
-fn put(bytes: &mut [Id], at: usize, new: &[Id])
-    requires { at + length new.now ≤ length bytes.old }
-    ensures { bytes.new ≡ nodes_put at new.now bytes.old }
+// So many numbers from 0 on.
+fn counted(alloc: Global, count: usize) -> Result<Vec<usize>, AllocError>
+    ensures { IfOk result (λ r. r.items ≡ counted 0 count) }
 {
-    bytes[at..at + new.len()].copy_from_slice(new);
+    let mut numbers = Vec::with_capacity(alloc, count)?;
+    for k in 0..count {
+        numbers.push(k)?;
+    }
+    Ok(numbers)
 }
 
-// So many nodes, from a place on.
-fn section(bytes: &[Id], at: usize, size: usize) -> &[Id]
-    requires { at + size ≤ length bytes.now }
-    ensures { result.now ≡ take size (drop at bytes.now) }
+// The numbers, and then one of them so many times.
+fn repeated(mut numbers: Vec<usize>, number: usize, count: usize) -> Result<Vec<usize>, AllocError>
+    ensures { IfOk result (λ r. r.items ≡ numbers.items ++ replicate count number) }
 {
-    &bytes[at..at + size]
+    'times: for _ in 0..count {
+        numbers.push(number)?;
+    }
+    Ok(numbers)
+}
+
+// For each cell of so many registers and of blocks of these sizes the number of its register or block.
+pub fn owners(alloc: Global, registers: usize, sizes: &[u32]) -> Result<Vec<usize>, AllocError>
+    ensures { IfOk result (λ r. r.items ≡ counted 0 registers ++ owners_from registers sizes.now) }
+{
+    let mut numbers = counted(alloc, registers)?;
+    let mut number = registers;
+    for size in sizes {
+        numbers = repeated(numbers, number, *size as usize)?;
+        number = match number.checked_add(1) {
+            Some(next) => next,
+            None => return Err(AllocError),
+        };
+    }
+    Ok(numbers)
 }
 
 impl<'a> Plan<'a> {
-    // Where a block begins among the bytes of all.
+    // The first cell of a block.
     fn start_of(&self, b: usize) -> usize
-        requires starts { self.now.starts.items ≡ starts_from 0 self.now.code.now.blocks }
+        requires plan { IsPlan self.now }
         requires there { b < length self.now.code.now.blocks }
-        ensures { result ≡ total (take b self.now.code.now.blocks) }
+        ensures { result ≡ length self.now.code.now.registers + total (take b self.now.code.now.blocks) }
     {
         self.starts[b]
     }
 }
 
 impl Slot {
-    // The nodes of the bytes of a block.
-    fn block(&self, dag: &Dag, plan: &Plan, b: usize) -> &[Id]
-        requires starts { plan.now.starts.items ≡ starts_from 0 plan.now.code.now.blocks }
+    // The nodes of so many bytes of a block, from an offset on.
+    pub fn bytes(
+        &self,
+        dag: &Dag,
+        plan: &Plan,
+        b: usize,
+        offset: u32,
+        count: u32,
+    ) -> Result<Vec<Id>, AllocError>
+        requires plan { IsPlan plan.now }
         requires within { SlotIn dag.now plan.now.code.now self.now }
-        requires there { b < length plan.now.code.now.blocks }
-        ensures bytes { AreBytes dag.now result.now }
-        ensures size { length result.now ≡ slice_index plan.now.code.now.blocks b }
-        ensures values { (v : ℕ → ℕ) → map (value v dag.now) result.now ≡ block_of (held v dag.now plan.now.code.now self.now).blocks b }
+        requires there { is_within plan.now.code.now.blocks b offset count ≡ true }
+        ensures made { IfOk result (λ ids. AreBytesOf dag.now ids.items (λ v. bytes_of (held v dag.now plan.now.code.now self.now).blocks b offset count)) }
+        ensures size { IfOk result (λ ids. length ids.items ≡ count) }
     {
-        let start = plan.start_of(b);
-        let size = plan.code.blocks()[b] as usize;
-        section(&self.bytes, start, size)
+        let _ = dag.nodes();
+        let start = plan.start_of(b) + offset as usize;
+        let zero = self.zeros.byte;
+        let ids = ids_from(
+            plan.alloc,
+            &self.live,
+            &plan.types,
+            zero,
+            start,
+            count as usize,
+        )?;
+        Ok(ids)
     }
 
     // What a load from a block gives.
@@ -100,49 +152,64 @@ impl Slot {
         offset: u32,
         type_: IntegerType,
     ) -> Result<Id, AllocError>
-        requires starts { plan.now.starts.items ≡ starts_from 0 plan.now.code.now.blocks }
+        requires plan { IsPlan plan.now }
         requires within { SlotIn dag.old plan.now.code.now self.now }
         requires there { is_within plan.now.code.now.blocks b offset (bytes type_) ≡ true }
         ensures extends { Extends dag.old dag.new }
         ensures made { IfOk result (λ i. IsValue dag.new i (type_width type_) (λ v. read_variable (held v dag.old plan.now.code.now self.now).blocks b offset type_)) }
     {
-        let block = self.block(dag, plan, b);
-        let id = loaded(dag, type_, offset as usize, block)?;
+        let bytes = self.bytes(dag, plan, b, offset, type_.size())?;
+        let id = loaded(dag, type_, 0, &bytes)?;
         Ok(id)
     }
 
-    // The nodes of so many bytes of a block, from an offset on.
-    pub fn bytes(
-        &self,
+    // The memory with so many bytes of a block replaced, from an offset on: by these, and by 0 behind them.
+    fn replaced(
+        self,
         dag: &Dag,
         plan: &Plan,
-        b: usize,
+        block: usize,
         offset: u32,
-        count: u32,
-    ) -> Result<Vec<Id>, AllocError>
-        requires starts { plan.now.starts.items ≡ starts_from 0 plan.now.code.now.blocks }
-        requires within { SlotIn dag.now plan.now.code.now self.now }
-        requires there { is_within plan.now.code.now.blocks b offset count ≡ true }
-        ensures made { IfOk result (λ ids. AreBytesOf dag.now ids.items (λ v. bytes_of (held v dag.now plan.now.code.now self.now).blocks b offset count)) }
-        ensures size { IfOk result (λ ids. length ids.items ≡ count) }
+        count: usize,
+        new: &[Id],
+    ) -> Result<Slot, AllocError>
+        requires plan { IsPlan plan.now }
+        requires within { SlotIn dag.now plan.now.code.now self }
+        requires block { is_within plan.now.code.now.blocks block offset count ≡ true }
+        requires few { length new.now ≤ count }
+        requires new { AreBytes dag.now new.now }
+        ensures within { IfOk result (SlotIn dag.now plan.now.code.now) }
+        ensures gone { IfOk result (λ s. (v : ℕ → ℕ) → gone v dag.now plan.now.code.now s ≡ updated (λ m. with_blocks m (put_bytes m.blocks block offset (map (value v dag.now) new.now ++ zeros (count - length new.now)))) (gone v dag.now plan.now.code.now self)) }
     {
-        let block = self.block(dag, plan, b);
-        let bytes = section(block, offset as usize, count as usize).to_vec(plan.alloc)?;
-        Ok(bytes)
+        let _ = dag.nodes();
+        let start = plan.start_of(block) + offset as usize;
+        let live = replaced(plan.alloc, self.live, &plan.types, dag, start, count, new)?;
+        Ok(Slot {
+            guard: self.guard,
+            zeros: self.zeros,
+            live,
+            kept: self.kept,
+        })
     }
 
     // The memory with bytes of a block replaced, from an offset on.
-    pub fn written(mut self, dag: &Dag, plan: &Plan, block: usize, offset: u32, new: &[Id]) -> Slot
-        requires starts { plan.now.starts.items ≡ starts_from 0 plan.now.code.now.blocks }
+    pub fn written(
+        self,
+        dag: &Dag,
+        plan: &Plan,
+        block: usize,
+        offset: u32,
+        new: &[Id],
+    ) -> Result<Slot, AllocError>
+        requires plan { IsPlan plan.now }
         requires within { SlotIn dag.now plan.now.code.now self }
         requires block { is_within plan.now.code.now.blocks block offset (length new.now) ≡ true }
         requires new { AreBytes dag.now new.now }
-        ensures within { SlotIn dag.now plan.now.code.now result }
-        ensures gone { (v : ℕ → ℕ) → gone v dag.now plan.now.code.now result ≡ updated (λ m. with_blocks m (put_bytes m.blocks block offset (map (value v dag.now) new.now))) (gone v dag.now plan.now.code.now self) }
+        ensures within { IfOk result (SlotIn dag.now plan.now.code.now) }
+        ensures gone { IfOk result (λ s. (v : ℕ → ℕ) → gone v dag.now plan.now.code.now s ≡ updated (λ m. with_blocks m (put_bytes m.blocks block offset (map (value v dag.now) new.now))) (gone v dag.now plan.now.code.now self)) }
     {
-        let start = plan.start_of(block) + offset as usize;
-        put(&mut self.bytes, start, new);
-        self
+        let next = self.replaced(dag, plan, block, offset, new.len(), new)?;
+        Ok(next)
     }
 
     // The memory with the lowest bytes of a register's word written into a block.
@@ -155,7 +222,7 @@ impl Slot {
         count: u32,
         operand: usize,
     ) -> Result<Slot, AllocError>
-        requires starts { plan.now.starts.items ≡ starts_from 0 plan.now.code.now.blocks }
+        requires plan { IsPlan plan.now }
         requires within { SlotIn dag.old plan.now.code.now self }
         requires operand { has_bytes plan.now.code.now.registers operand count ≡ true }
         requires block { is_within plan.now.code.now.blocks block offset count ≡ true }
@@ -166,7 +233,7 @@ impl Slot {
         let id = self.register(dag, plan, operand);
         let type_ = plan.code.registers()[operand];
         let bytes = stored(plan.alloc, dag, type_, id, count as usize)?;
-        let next = self.written(dag, plan, block, offset, &bytes);
+        let next = self.written(dag, plan, block, offset, &bytes)?;
         Ok(next)
     }
 
@@ -178,14 +245,14 @@ impl Slot {
         block: usize,
         size: u32,
     ) -> Result<Slot, AllocError>
-        requires starts { plan.now.starts.items ≡ starts_from 0 plan.now.code.now.blocks }
+        requires plan { IsPlan plan.now }
         requires within { SlotIn dag.now plan.now.code.now self }
         requires block { is_block plan.now.code.now.blocks block size ≡ true }
         ensures within { IfOk result (SlotIn dag.now plan.now.code.now) }
         ensures gone { IfOk result (λ s. (v : ℕ → ℕ) → gone v dag.now plan.now.code.now s ≡ updated (calculated (Operation.Clear block size)) (gone v dag.now plan.now.code.now self)) }
     {
-        let bytes = vec![in plan.alloc; self.zeros.byte; size as usize]?;
-        let next = self.written(dag, plan, block, 0, &bytes);
+        let none: Vec<Id> = Vec::new(plan.alloc);
+        let next = self.replaced(dag, plan, block, 0, size as usize, &none)?;
         Ok(next)
     }
 
@@ -199,7 +266,7 @@ impl Slot {
         from: (usize, u32),
         count: u32,
     ) -> Result<Slot, AllocError>
-        requires starts { plan.now.starts.items ≡ starts_from 0 plan.now.code.now.blocks }
+        requires plan { IsPlan plan.now }
         requires within { SlotIn dag.now plan.now.code.now self }
         requires into { is_within plan.now.code.now.blocks into.0 into.1 count ≡ true }
         requires from { is_within plan.now.code.now.blocks from.0 from.1 count ≡ true }
@@ -207,7 +274,7 @@ impl Slot {
         ensures gone { IfOk result (λ s. (v : ℕ → ℕ) → gone v dag.now plan.now.code.now s ≡ updated (calculated (Operation.CopyBytes into.0 into.1 from.0 from.1 count)) (gone v dag.now plan.now.code.now self)) }
     {
         let bytes = self.bytes(dag, plan, from.0, from.1, count)?;
-        let next = self.written(dag, plan, into.0, into.1, &bytes);
+        let next = self.written(dag, plan, into.0, into.1, &bytes)?;
         Ok(next)
     }
 }

@@ -1,19 +1,23 @@
-ghost use Rattle.std.specs.Prelude.{◌≡◌, ◌<◌, ◌^◌, ◌+◌, length, IfOk};
-ghost use Rattle.guarded_ssa.specs.Held.{starts_from};
-ghost use Rattle.guarded_ssa.specs.Reads.{first_checked, second_checked, first_read, second_read, IsRead, Later, Covers};
+ghost use Rattle.std.specs.Prelude.{◌≡◌, ℕ, ◌<◌, ◌^◌, ◌+◌, length, IfOk};
+ghost use Rattle.guarded_ssa.specs.Held.{IsPlan};
+ghost use Rattle.guarded_ssa.specs.Reads.{first_checked, second_checked, first_read, second_read, block_read, IsRead, IsBlockRead, Later, Covers};
 
-use crate::bytes::starts;
+use crate::bytes::{cell_types, owners, starts};
+use c_types::IntegerType;
 use goto_prog::{Code, Condition, Operation};
 use std::alloc::{AllocError, Global};
 
-// Code, for each of its registers the place behind the last instruction that reads it, and where each of its
-// blocks begins among the bytes of all.
+// Code; for each of its registers, and then for each of its blocks, the place behind the last instruction that
+// reads it; the types of its cells; the first cell of each block; and for each cell the number of its register
+// or block, the registers numbered first.
 #[derive(Drop)]
 pub struct Plan<'a> {
     pub alloc: Global,
     pub code: &'a Code,
     pub until: Vec<usize>,
+    pub types: Vec<IntegerType>,
     pub starts: Vec<usize>,
+    pub owner: Vec<usize>,
 }
 
 // The registers that a condition reads.
@@ -138,38 +142,99 @@ fn reads(operation: Operation) -> (Option<usize>, Option<usize>)
     }
 }
 
-// Notes that a register is read at a place.
-fn mark(until: &mut Vec<usize>, register: Option<usize>, place: usize)
+// The block whose bytes an operation reads.
+fn block_read(operation: Operation) -> Option<usize>
+    ensures { result ≡ block_read operation }
+{
+    match operation {
+        Operation::Load {
+            into: _,
+            type_: _,
+            block,
+            offset: _,
+        } => Some(block),
+        Operation::CopyBytes {
+            into: _,
+            at: _,
+            from,
+            offset: _,
+            count: _,
+        } => Some(from),
+        Operation::WriteObject {
+            object: _,
+            offset: _,
+            block,
+            at: _,
+            count: _,
+        } => Some(block),
+        _ => None,
+    }
+}
+
+// Notes that a register or a block, which has this number, is read at a place.
+fn mark(until: &mut Vec<usize>, number: Option<usize>, place: usize)
     requires { place + 1 < 2 ^ 64 }
-    ensures read { IsRead until.new.items place register }
+    ensures read { IsRead until.new.items place number }
     ensures later { Later until.old.items until.new.items }
 {
-    if let Some(r) = register {
+    if let Some(r) = number {
         if r < until.len() && until[r] <= place {
             until[r] = place + 1;
         }
     }
 }
 
+// Notes that a block is read at a place.
+fn mark_block(until: &mut Vec<usize>, registers: usize, block: Option<usize>, place: usize)
+    requires { place + 1 < 2 ^ 64 }
+    ensures read { IsBlockRead registers until.new.items place block }
+    ensures later { Later until.old.items until.new.items }
+{
+    if let Some(b) = block {
+        mark(until, registers.checked_add(b), place);
+    }
+}
+
+// For each register, and then for each block, the place behind the last instruction that reads it.
+fn reading(alloc: Global, code: &Code) -> Result<Vec<usize>, AllocError>
+    ensures size { IfOk result (λ until. length until.items ≡ length code.now.registers + length code.now.blocks) }
+    ensures covers { IfOk result (λ until. Covers (length code.now.registers) until.items 0 code.now.instructions) }
+{
+    let registers = code.registers().len();
+    let mut until = vec![in alloc; 0; registers + code.blocks().len()]?;
+    for (place, instruction) in code.instructions().iter().enumerate() {
+        let (first, second) = reads(instruction.operation);
+        mark(&mut until, first, place);
+        mark(&mut until, second, place);
+        mark_block(
+            &mut until,
+            registers,
+            block_read(instruction.operation),
+            place,
+        );
+    }
+    Ok(until)
+}
+
 impl<'a> Plan<'a> {
     pub fn new(alloc: Global, code: &'a Code) -> Result<Plan<'a>, AllocError>
         ensures code { IfOk result (λ p. p.code.now ≡ code.now) }
-        ensures size { IfOk result (λ p. length p.until.items ≡ length code.now.registers) }
-        ensures starts { IfOk result (λ p. p.starts.items ≡ starts_from 0 code.now.blocks) }
-        ensures covers { IfOk result (λ p. Covers p.until.items 0 code.now.instructions) }
+        ensures plan { IfOk result IsPlan }
+        ensures covers { IfOk result (λ p. Covers (length code.now.registers) p.until.items 0 code.now.instructions) }
     {
-        let starts = starts(alloc, code.blocks())?;
-        let mut until = vec![in alloc; 0; code.registers().len()]?;
-        for (place, instruction) in code.instructions().iter().enumerate() {
-            let (first, second) = reads(instruction.operation);
-            mark(&mut until, first, place);
-            mark(&mut until, second, place);
-        }
+        let registers = code.registers();
+        let blocks = code.blocks();
+        let until = reading(alloc, code)?;
+        let types = cell_types(alloc, registers, blocks)?;
+        let starts = starts(alloc, registers.len(), blocks)?;
+        let owner = owners(alloc, registers.len(), blocks)?;
         Ok(Plan {
             alloc,
             code,
             until,
+            types,
             starts,
+            owner,
         })
     }
 }

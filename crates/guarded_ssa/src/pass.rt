@@ -32,7 +32,7 @@ ghost use Rattle.goto_prog.specs.Running.{is_calculation};
 ghost use Rattle.goto_prog.specs.UnrolledCode.{is_flat};
 ghost use Rattle.guarded_ssa.specs.Forms.{EventIn};
 ghost use Rattle.goto_prog.specs.CodeThread.{first_memory};
-ghost use Rattle.guarded_ssa.specs.Held.{SlotIn, PassIn, Arrives, Tells, Passes, Visits, ways, starts_from};
+ghost use Rattle.guarded_ssa.specs.Held.{SlotIn, PassIn, Arrives, Tells, Passes, Visits, IsPlan, ways};
 
 use crate::answers::{answer_words, bytes_of_words};
 use crate::forms::{Event, EventKind, Nodes};
@@ -93,7 +93,7 @@ impl Pass {
         n: usize,
         slot: Slot,
     ) -> Result<(), AllocError>
-        requires until { length plan.now.until.items ≡ length plan.now.code.now.registers }
+        requires plan { IsPlan plan.now }
         requires room { place + length self.old.pending.items < 2 ^ 64 }
         requires within { PassIn dag.old plan.now.code.now self.old }
         requires slot { SlotIn dag.old plan.now.code.now slot }
@@ -102,7 +102,8 @@ impl Pass {
     {
         if n < self.pending.len() {
             let there = self.pending[n].take();
-            let needed = slot.needed(dag, plan, place + 1 + n)?;
+            let straight = n == 0 && there.is_none();
+            let needed = slot.needed(dag, plan, place + 1 + n, straight)?;
             let slot = needed.met(dag, plan, there)?;
             self.pending[n] = Some(slot);
         }
@@ -127,7 +128,7 @@ impl Pass {
         slot: Slot,
         event: Event,
     ) -> Result<(), AllocError>
-        requires until { length plan.now.until.items ≡ length plan.now.code.now.registers }
+        requires plan { IsPlan plan.now }
         requires room { place + length self.old.pending.items < 2 ^ 64 }
         requires within { PassIn dag.old plan.now.code.now self.old }
         requires slot { SlotIn dag.old plan.now.code.now slot }
@@ -149,8 +150,7 @@ impl Pass {
         i: Instruction,
         slot: Slot,
     ) -> Result<(), AllocError>
-        requires starts { plan.now.starts.items ≡ starts_from 0 plan.now.code.now.blocks }
-        requires until { length plan.now.until.items ≡ length plan.now.code.now.registers }
+        requires plan { IsPlan plan.now }
         requires room { place + length self.old.pending.items < 2 ^ 64 }
         requires within { PassIn dag.old plan.now.code.now self.old }
         requires slot { SlotIn dag.old plan.now.code.now slot }
@@ -174,7 +174,7 @@ impl Pass {
         slot: Slot,
         count: usize,
     ) -> Result<(), AllocError>
-        requires until { length plan.now.until.items ≡ length plan.now.code.now.registers }
+        requires plan { IsPlan plan.now }
         requires room { place + length self.old.pending.items < 2 ^ 64 }
         requires within { PassIn dag.old plan.now.code.now self.old }
         requires slot { SlotIn dag.old plan.now.code.now slot }
@@ -197,7 +197,7 @@ impl Pass {
         operand: usize,
         count: usize,
     ) -> Result<(), AllocError>
-        requires until { length plan.now.until.items ≡ length plan.now.code.now.registers }
+        requires plan { IsPlan plan.now }
         requires room { place + length self.old.pending.items < 2 ^ 64 }
         requires within { PassIn dag.old plan.now.code.now self.old }
         requires slot { SlotIn dag.old plan.now.code.now slot }
@@ -222,7 +222,7 @@ impl Pass {
         slot: Slot,
         condition: Condition,
     ) -> Result<(), AllocError>
-        requires until { length plan.now.until.items ≡ length plan.now.code.now.registers }
+        requires plan { IsPlan plan.now }
         requires room { place + length self.old.pending.items < 2 ^ 64 }
         requires within { PassIn dag.old plan.now.code.now self.old }
         requires slot { SlotIn dag.old plan.now.code.now slot }
@@ -252,7 +252,7 @@ impl Pass {
         slot: Slot,
         operand: usize,
     ) -> Result<(), AllocError>
-        requires until { length plan.now.until.items ≡ length plan.now.code.now.registers }
+        requires plan { IsPlan plan.now }
         requires room { place + length self.old.pending.items < 2 ^ 64 }
         requires within { PassIn dag.old plan.now.code.now self.old }
         requires slot { SlotIn dag.old plan.now.code.now slot }
@@ -285,7 +285,7 @@ impl Pass {
         slot: Slot,
         operand: usize,
     ) -> Result<(), AllocError>
-        requires until { length plan.now.until.items ≡ length plan.now.code.now.registers }
+        requires plan { IsPlan plan.now }
         requires room { place + length self.old.pending.items < 2 ^ 64 }
         requires within { PassIn dag.old plan.now.code.now self.old }
         requires slot { SlotIn dag.old plan.now.code.now slot }
@@ -316,7 +316,7 @@ impl Pass {
         into: usize,
         bits: u32,
     ) -> Result<(), AllocError>
-        requires until { length plan.now.until.items ≡ length plan.now.code.now.registers }
+        requires plan { IsPlan plan.now }
         requires room { place + length self.old.pending.items < 2 ^ 64 }
         requires within { PassIn dag.old plan.now.code.now self.old }
         requires slot { SlotIn dag.old plan.now.code.now slot }
@@ -353,8 +353,7 @@ impl Pass {
         from: (u32, u32),
         count: u32,
     ) -> Result<(), AllocError>
-        requires starts { plan.now.starts.items ≡ starts_from 0 plan.now.code.now.blocks }
-        requires until { length plan.now.until.items ≡ length plan.now.code.now.registers }
+        requires plan { IsPlan plan.now }
         requires room { place + length self.old.pending.items < 2 ^ 64 }
         requires within { PassIn dag.old plan.now.code.now self.old }
         requires slot { SlotIn dag.old plan.now.code.now slot }
@@ -378,7 +377,7 @@ impl Pass {
                 answer: Nodes::new(answer),
             },
         };
-        let next = slot.written(dag, plan, into.0, into.1, &bytes);
+        let next = slot.written(dag, plan, into.0, into.1, &bytes)?;
         self.tell_and_go(dag, plan, place, next, event)?;
         Ok(())
     }
@@ -395,8 +394,7 @@ impl Pass {
         from: (usize, u32),
         count: u32,
     ) -> Result<(), AllocError>
-        requires starts { plan.now.starts.items ≡ starts_from 0 plan.now.code.now.blocks }
-        requires until { length plan.now.until.items ≡ length plan.now.code.now.registers }
+        requires plan { IsPlan plan.now }
         requires room { place + length self.old.pending.items < 2 ^ 64 }
         requires within { PassIn dag.old plan.now.code.now self.old }
         requires slot { SlotIn dag.old plan.now.code.now slot }
@@ -452,7 +450,7 @@ impl Pass {
         slot: Slot,
         class: Class,
     ) -> Result<(), AllocError>
-        requires until { length plan.now.until.items ≡ length plan.now.code.now.registers }
+        requires plan { IsPlan plan.now }
         requires room { place + length self.old.pending.items < 2 ^ 64 }
         requires within { PassIn dag.old plan.now.code.now self.old }
         requires slot { SlotIn dag.old plan.now.code.now slot }
@@ -481,7 +479,7 @@ impl Pass {
         i: Instruction,
         slot: Slot,
     ) -> Result<(), AllocError>
-        requires until { length plan.now.until.items ≡ length plan.now.code.now.registers }
+        requires plan { IsPlan plan.now }
         requires room { place + length self.old.pending.items < 2 ^ 64 }
         requires within { PassIn dag.old plan.now.code.now self.old }
         requires slot { SlotIn dag.old plan.now.code.now slot }
@@ -510,8 +508,7 @@ impl Pass {
         i: Instruction,
         slot: Slot,
     ) -> Result<(), AllocError>
-        requires starts { plan.now.starts.items ≡ starts_from 0 plan.now.code.now.blocks }
-        requires until { length plan.now.until.items ≡ length plan.now.code.now.registers }
+        requires plan { IsPlan plan.now }
         requires room { place + length self.old.pending.items < 2 ^ 64 }
         requires within { PassIn dag.old plan.now.code.now self.old }
         requires slot { SlotIn dag.old plan.now.code.now slot }
@@ -644,8 +641,7 @@ impl Pass {
         place: usize,
         i: Instruction,
     ) -> Result<(), AllocError>
-        requires starts { plan.now.starts.items ≡ starts_from 0 plan.now.code.now.blocks }
-        requires until { length plan.now.until.items ≡ length plan.now.code.now.registers }
+        requires plan { IsPlan plan.now }
         requires room { place + length self.old.pending.items < 2 ^ 64 }
         requires next { 0 < length self.old.pending.items }
         requires within { PassIn dag.old plan.now.code.now self.old }

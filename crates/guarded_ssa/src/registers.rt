@@ -1,19 +1,20 @@
-ghost use Rattle.std.specs.Prelude.{◌≡◌, ◌==◌, ℕ, ◌+◌, ◌<◌, ◌⊎◌, true, Some, length, drop, slice_index, nat_lt, IfOk, if◌then◌else◌};
+ghost use Rattle.std.specs.Prelude.{◌≡◌, ◌==◌, ℕ, ◌+◌, ◌^◌, ◌<◌, ◌≤◌, ◌⊎◌, ◌++◌, true, Some, All, length, take, drop, slice_index, nat_lt, IfOk, if◌then◌else◌};
 ghost use Rattle.std.specs.List.{filter};
 ghost use Rattle.word_dag.specs.Growth.{Extends};
 ghost use Rattle.value_nodes.specs.Values.{IsWord};
 ghost use Rattle.goto_prog.specs.Fitting.{is_there};
-ghost use Rattle.guarded_ssa.specs.Registers.{Rises, IsLive, AreLive, ZerosIn, Written, Merged, find, place_of, least, head_id, head_count, zero_of};
+ghost use Rattle.guarded_ssa.specs.Registers.{Rises, IsLive, AreLive, ZerosIn, Written, Merged, Replaced, find, place_of, least, head_id, head_count, zero_of, ids_from, lives_from};
 
 use c_types::IntegerType;
 use std::alloc::{AllocError, Global};
 use value_nodes::{chosen, constant};
 use word_dag::{Dag, Id};
 
-// A register that is set, and its node.
+// A cell that is set, and its node. The cells are the registers, and then the bytes of the blocks, one block
+// behind the other.
 #[derive(Clone, Copy)]
 pub struct Live {
-    pub register: usize,
+    pub cell: usize,
     pub id: Id,
 }
 
@@ -62,48 +63,55 @@ impl Zeros {
     }
 }
 
-// The node of a register, if it is set.
-pub fn find(live: &[Live], register: usize) -> Option<Id>
-    ensures { result ≡ find live.now register }
+// How many cells stand in front of this one, by halves.
+fn place_of(live: &[Live], cell: usize) -> usize
+    requires { (n : ℕ) × Rises 0 live.now n }
+    ensures is { result ≡ place_of live.now cell }
+    ensures within { result ≤ length live.now }
 {
-    for set in live {
-        if set.register == register {
-            return Some(set.id);
+    let mut low = 0;
+    let mut high = live.len();
+    while low < high {
+        let middle = low + (high - low) / 2;
+        if live[middle].cell < cell {
+            low = middle + 1;
+        } else {
+            high = middle;
         }
+    }
+    low
+}
+
+// The node of a cell, if it is set.
+pub fn find(live: &[Live], cell: usize) -> Option<Id>
+    requires { (n : ℕ) × Rises 0 live.now n }
+    ensures { result ≡ find live.now cell }
+{
+    let place = place_of(live, cell);
+    if place < live.len() && live[place].cell == cell {
+        return Some(live[place].id);
     }
     None
 }
 
-// How many registers stand in front of this one.
-fn place_of(live: &[Live], register: usize) -> usize
-    ensures { result ≡ place_of live.now register }
-{
-    for i in 0..live.len() {
-        if register <= live[i].register {
-            return i;
-        }
-    }
-    live.len()
-}
-
-// The registers with one of them set.
+// The cells with one of them set.
 pub fn written(
     mut live: Vec<Live>,
     types: &[IntegerType],
     dag: &Dag,
-    register: usize,
+    cell: usize,
     id: Id,
 ) -> Result<Vec<Live>, AllocError>
     requires live { AreLive dag.now types.now live.items }
-    requires there { is_there types.now register ≡ true }
-    requires id { IsLive dag.now types.now (record { register = register; id = id }) }
-    ensures { IfOk result (λ r. Written dag.now types.now live.items register id r.items) }
+    requires there { is_there types.now cell ≡ true }
+    requires id { IsLive dag.now types.now (record { cell = cell; id = id }) }
+    ensures { IfOk result (λ r. Written dag.now types.now live.items cell id r.items) }
 {
     let _ = dag.nodes();
     let _ = types.len();
-    let place = place_of(&live, register);
-    let set = Live { register, id };
-    if place < live.len() && live[place].register == register {
+    let place = place_of(&live, cell);
+    let set = Live { cell, id };
+    if place < live.len() && live[place].cell == cell {
         live[place] = set;
     } else {
         live.insert(place, set)?;
@@ -111,51 +119,130 @@ pub fn written(
     Ok(live)
 }
 
-// The registers that an instruction from the place on reads.
+// The cells whose register or block an instruction from the place on reads.
 pub fn needed(
     alloc: Global,
     until: &[usize],
+    owner: &[usize],
     place: usize,
     live: &[Live],
 ) -> Result<Vec<Live>, AllocError>
-    requires { Rises 0 live.now (length until.now) }
-    ensures { IfOk result (λ r. r.items ≡ filter (λ l. nat_lt place (slice_index until.now l.register)) live.now) }
+    requires live { Rises 0 live.now (length owner.now) }
+    requires owner { (c : ℕ) → c < length owner.now → slice_index owner.now c < length until.now }
+    ensures { IfOk result (λ r. r.items ≡ filter (λ l. nat_lt place (slice_index until.now (slice_index owner.now l.cell))) live.now) }
 {
-    let mut kept = Vec::with_capacity(alloc, live.len())?;
+    let mut kept = Vec::new(alloc);
     for set in live {
-        if place < until[set.register] {
+        if place < until[owner[set.cell]] {
             kept.push(*set)?;
         }
     }
     Ok(kept)
 }
 
-// The first of the registers that stand at these places and behind them.
+// The nodes of so many cells from one on, of which those that aren't set have the other node.
+pub fn ids_from(
+    alloc: Global,
+    live: &[Live],
+    types: &[IntegerType],
+    other: Id,
+    at: usize,
+    count: usize,
+) -> Result<Vec<Id>, AllocError>
+    requires live { Rises 0 live.now (length types.now) }
+    requires there { at + count ≤ length types.now }
+    ensures { IfOk result (λ r. r.items ≡ ids_from live.now other at count) }
+{
+    let _ = types.len();
+    let mut ids = Vec::with_capacity(alloc, count)?;
+    let mut i = place_of(live, at);
+    for k in 0..count {
+        let (id, next) = taken(live, i, at + k, other);
+        ids.push(id)?;
+        i = next;
+    }
+    Ok(ids)
+}
+
+// The cells, and then those from one on set to these nodes.
+fn followed(mut live: Vec<Live>, at: usize, ids: &[Id]) -> Result<Vec<Live>, AllocError>
+    requires { at + length ids.now < 2 ^ 64 }
+    ensures { IfOk result (λ r. r.items ≡ live.items ++ lives_from at ids.now) }
+{
+    for k in 0..ids.len() {
+        live.push(Live {
+            cell: at + k,
+            id: ids[k],
+        })?;
+    }
+    Ok(live)
+}
+
+// Puts cells in the place of as many from a place on.
+fn put(live: &mut [Live], at: usize, new: &[Live])
+    requires { at + length new.now ≤ length live.old }
+    ensures { live.new ≡ take at live.old ++ (new.now ++ drop (at + length new.now) live.old) }
+{
+    live[at..at + new.len()].copy_from_slice(new);
+}
+
+// The cells with so many from one on replaced: the first of them are set to these nodes, and no others.
+pub fn replaced(
+    alloc: Global,
+    mut live: Vec<Live>,
+    types: &[IntegerType],
+    dag: &Dag,
+    at: usize,
+    count: usize,
+    ids: &[Id],
+) -> Result<Vec<Live>, AllocError>
+    requires live { AreLive dag.now types.now live.items }
+    requires there { at + count ≤ length types.now }
+    requires few { length ids.now ≤ count }
+    requires ids { All (IsLive dag.now types.now) (lives_from at ids.now) }
+    ensures { IfOk result (λ r. Replaced dag.now types.now live.items at count ids.now r.items) }
+{
+    let _ = dag.nodes();
+    let _ = types.len();
+    let first = place_of(&live, at);
+    let last = place_of(&live, at + count);
+    let new = followed(Vec::with_capacity(alloc, ids.len())?, at, ids)?;
+    if first + new.len() == last {
+        put(&mut live, first, &new);
+        return Ok(live);
+    }
+    let mut cells = live[..first].to_vec(alloc)?;
+    cells.extend_from_slice(&new)?;
+    cells.extend_from_slice(&live[last..])?;
+    Ok(cells)
+}
+
+// The first of the cells that stand at these places and behind them.
 fn least(first: &[Live], i: usize, second: &[Live], j: usize) -> usize
     requires { (i < length first.now) ⊎ (j < length second.now) }
     ensures { result ≡ least (drop i first.now) (drop j second.now) }
 {
-    if j < second.len() && (i >= first.len() || second[j].register < first[i].register) {
-        second[j].register
+    if j < second.len() && (i >= first.len() || second[j].cell < first[i].cell) {
+        second[j].cell
     } else {
-        first[i].register
+        first[i].cell
     }
 }
 
-// The node of a register where it stands at this place, else the other node, and the place that follows.
-fn taken(live: &[Live], i: usize, register: usize, other: Id) -> (Id, usize)
-    ensures id { result.0 ≡ head_id (drop i live.now) register other }
-    ensures next { result.1 ≡ i + head_count (drop i live.now) register }
+// The node of a cell where it stands at this place, else the other node, and the place that follows.
+fn taken(live: &[Live], i: usize, cell: usize, other: Id) -> (Id, usize)
+    ensures id { result.0 ≡ head_id (drop i live.now) cell other }
+    ensures next { result.1 ≡ i + head_count (drop i live.now) cell }
 {
-    if i < live.len() && live[i].register == register {
+    if i < live.len() && live[i].cell == cell {
         (live[i].id, i + 1)
     } else {
         (other, i)
     }
 }
 
-// The registers that are set on one of two sides, or on both: of the first side where the test is true,
-// else of the second. On a side where a register isn't set, it is 0.
+// The cells that are set on one of two sides, or on both: of the first side where the test is true,
+// else of the second. On a side where a cell isn't set, it is 0.
 pub fn merged(
     alloc: Global,
     dag: &mut Dag,
@@ -176,12 +263,12 @@ pub fn merged(
     let mut i = 0;
     let mut j = 0;
     while i < first.len() || j < second.len() {
-        let register = least(first, i, second, j);
-        let zero = zeros.of(types[register]);
-        let (one, next_i) = taken(first, i, register, zero);
-        let (other, next_j) = taken(second, j, register, zero);
+        let cell = least(first, i, second, j);
+        let zero = zeros.of(types[cell]);
+        let (one, next_i) = taken(first, i, cell, zero);
+        let (other, next_j) = taken(second, j, cell, zero);
         let id = chosen(dag, test, one, other)?;
-        live.push(Live { register, id })?;
+        live.push(Live { cell, id })?;
         i = next_i;
         j = next_j;
     }

@@ -1,22 +1,6 @@
-ghost use Rattle.std.specs.Prelude.{
-  ◌≡◌,
-  ◌==◌,
-  ℕ,
-  true,
-  ◌+◌,
-  ◌<◌,
-  not,
-  Some,
-  All,
-  length,
-  slice_index_or,
-  map,
-  None,
-  IfOk,
-  if◌then◌else◌,
-};
-ghost use Rattle.word_dag.specs.Growth.{Within, Extends};
-ghost use Rattle.word_dag.specs.Meaning.{width, value, holds};
+ghost use Rattle.std.specs.Prelude.{◌≡◌, ◌==◌, ℕ, true, ◌<◌, not, Some, length, slice_index_or, None, IfOk, if◌then◌else◌};
+ghost use Rattle.word_dag.specs.Growth.{Extends};
+ghost use Rattle.word_dag.specs.Meaning.{value, holds};
 ghost use Rattle.value_nodes.specs.Values.{IsWord};
 ghost use Rattle.goto_prog.specs.Fitting.{is_there, operation_fits};
 ghost use Rattle.goto_prog.specs.Running.{is_calculation};
@@ -26,9 +10,8 @@ ghost use Rattle.goto_prog.specs.Meaning.{register, with_register, calculated};
 ghost use Rattle.goto_prog.specs.CodeThread.{first_memory};
 ghost use Rattle.guarded_ssa.specs.Ways.{either as either_way, kept, updated};
 ghost use Rattle.guarded_ssa.specs.Reads.{Alike};
-ghost use Rattle.guarded_ssa.specs.Held.{SlotIn, PendingIn, Joined, gone, way, starts_from};
+ghost use Rattle.guarded_ssa.specs.Held.{SlotIn, PendingIn, IsPlan, gone, way};
 
-use crate::bytes::size_of_all;
 use crate::liveness::Plan;
 use crate::registers;
 use crate::registers::{Live, Zeros};
@@ -38,38 +21,15 @@ use std::alloc::{AllocError, Global};
 use value_nodes::{both, chosen, either, inverse, zero_test};
 use word_dag::{Dag, Id, Node};
 
-// The memory with which a place is reached, where the guard is true: the registers that are set, in rising
-// order, while the others are 0, and the bytes of the blocks, one block behind the other, a node of 8 bits
-// each.
+// The memory with which a place is reached, where the guard is true: the cells that are set, in rising order,
+// and how many of them there were when those that nobody reads later were last dropped. A cell that isn't among
+// them is 0, or no instruction from the place on reads its register or block.
 #[derive(Drop)]
 pub struct Slot {
     pub guard: Id,
     pub zeros: Zeros,
-    pub registers: Vec<Live>,
-    pub bytes: Vec<Id>,
-}
-
-// For each two words one that is the first where the test is true, else the second.
-fn joined(
-    alloc: Global,
-    dag: &mut Dag,
-    test: Id,
-    first: &[Id],
-    second: &[Id],
-) -> Result<Vec<Id>, AllocError>
-    requires test { IsWord dag.old test 1 }
-    requires first { All (Within dag.old) first.now }
-    requires second { All (Within dag.old) second.now }
-    requires widths { map (width dag.old) second.now ≡ map (width dag.old) first.now }
-    ensures extends { Extends dag.old dag.new }
-    ensures joined { IfOk result (λ r. Joined dag.old dag.new test first.now second.now r.items) }
-{
-    let mut ids = Vec::with_capacity(alloc, first.len())?;
-    for i in 0..first.len() {
-        let id = chosen(dag, test, first[i], second[i])?;
-        ids.push(id)?;
-    }
-    Ok(ids)
+    pub live: Vec<Live>,
+    pub kept: usize,
 }
 
 impl Slot {
@@ -81,18 +41,18 @@ impl Slot {
     {
         let guard = dag.make(Node::Constant(1, 1))?;
         let zeros = Zeros::new(dag)?;
-        let size = size_of_all(code.blocks())?;
-        let bytes = vec![in alloc; zeros.byte; size]?;
+        let live = Vec::new(alloc);
         Ok(Slot {
             guard,
             zeros,
-            registers: Vec::new(alloc),
-            bytes,
+            live,
+            kept: 0,
         })
     }
 
     // The memory where two ways meet.
     fn merged(dag: &mut Dag, plan: &Plan, first: &Slot, second: &Slot) -> Result<Slot, AllocError>
+        requires plan { IsPlan plan.now }
         requires first { SlotIn dag.old plan.now.code.now first.now }
         requires second { SlotIn dag.old plan.now.code.now second.now }
         ensures extends { Extends dag.old dag.new }
@@ -100,27 +60,26 @@ impl Slot {
         ensures gone { IfOk result (λ s. (v : ℕ → ℕ) → gone v dag.new plan.now.code.now s ≡ either_way (gone v dag.old plan.now.code.now first.now) (gone v dag.old plan.now.code.now second.now)) }
     {
         let guard = either(dag, first.guard, second.guard)?;
-        let types = plan.code.registers();
-        let registers = registers::merged(
+        let live = registers::merged(
             plan.alloc,
             dag,
             first.zeros,
-            types,
+            &plan.types,
             first.guard,
-            &first.registers,
-            &second.registers,
+            &first.live,
+            &second.live,
         )?;
-        let bytes = joined(plan.alloc, dag, first.guard, &first.bytes, &second.bytes)?;
         Ok(Slot {
             guard,
             zeros: first.zeros,
-            registers,
-            bytes,
+            kept: live.len(),
+            live,
         })
     }
 
     // The memory where it meets another way, if there is one.
     pub fn met(self, dag: &mut Dag, plan: &Plan, there: Option<Slot>) -> Result<Slot, AllocError>
+        requires plan { IsPlan plan.now }
         requires within { SlotIn dag.old plan.now.code.now self }
         requires there { PendingIn dag.old plan.now.code.now there }
         ensures extends { Extends dag.old dag.new }
@@ -133,34 +92,54 @@ impl Slot {
         }
     }
 
-    // The memory without the registers that no instruction from the place on reads.
-    pub fn needed(self, dag: &Dag, plan: &Plan, place: usize) -> Result<Slot, AllocError>
-        requires until { length plan.now.until.items ≡ length plan.now.code.now.registers }
+    // The memory without the registers and blocks that no instruction from the place on reads.
+    fn trimmed(self, dag: &Dag, plan: &Plan, place: usize) -> Result<Slot, AllocError>
+        requires plan { IsPlan plan.now }
         requires within { SlotIn dag.now plan.now.code.now self }
         ensures within { IfOk result (SlotIn dag.now plan.now.code.now) }
-        ensures alike { IfOk result (λ s. (v : ℕ → ℕ) → Alike plan.now.until.items place (gone v dag.now plan.now.code.now s) (gone v dag.now plan.now.code.now self)) }
+        ensures alike { IfOk result (λ s. (v : ℕ → ℕ) → Alike (length plan.now.code.now.registers) plan.now.until.items place (gone v dag.now plan.now.code.now s) (gone v dag.now plan.now.code.now self)) }
     {
-        let registers = registers::needed(plan.alloc, &plan.until, place, &self.registers)?;
+        let live = registers::needed(plan.alloc, &plan.until, &plan.owner, place, &self.live)?;
         Ok(Slot {
             guard: self.guard,
             zeros: self.zeros,
-            registers,
-            bytes: self.bytes,
+            kept: live.len(),
+            live,
         })
+    }
+
+    // The same, but a memory that goes straight on to the next place keeps them until it has twice the cells that
+    // it had when they were last dropped.
+    pub fn needed(
+        self,
+        dag: &Dag,
+        plan: &Plan,
+        place: usize,
+        straight: bool,
+    ) -> Result<Slot, AllocError>
+        requires plan { IsPlan plan.now }
+        requires within { SlotIn dag.now plan.now.code.now self }
+        ensures within { IfOk result (SlotIn dag.now plan.now.code.now) }
+        ensures alike { IfOk result (λ s. (v : ℕ → ℕ) → Alike (length plan.now.code.now.registers) plan.now.until.items place (gone v dag.now plan.now.code.now s) (gone v dag.now plan.now.code.now self)) }
+    {
+        if straight && self.live.len() / 2 <= self.kept {
+            return Ok(self);
+        }
+        let next = self.trimmed(dag, plan, place)?;
+        Ok(next)
     }
 
     // The same memory.
     fn copied(&self, alloc: Global) -> Result<Slot, AllocError>
         ensures guard { IfOk result (λ s. s.guard ≡ self.now.guard) }
         ensures zeros { IfOk result (λ s. s.zeros ≡ self.now.zeros) }
-        ensures registers { IfOk result (λ s. s.registers.items ≡ self.now.registers.items) }
-        ensures bytes { IfOk result (λ s. s.bytes.items ≡ self.now.bytes.items) }
+        ensures live { IfOk result (λ s. s.live.items ≡ self.now.live.items) }
     {
         Ok(Slot {
             guard: self.guard,
             zeros: self.zeros,
-            registers: self.registers.to_vec(alloc)?,
-            bytes: self.bytes.to_vec(alloc)?,
+            live: self.live.to_vec(alloc)?,
+            kept: self.kept,
         })
     }
 
@@ -176,8 +155,8 @@ impl Slot {
         Ok(Slot {
             guard,
             zeros: self.zeros,
-            registers: self.registers,
-            bytes: self.bytes,
+            live: self.live,
+            kept: self.kept,
         })
     }
 
@@ -207,25 +186,25 @@ impl Slot {
 
     // The memory with a register set.
     pub fn put(self, dag: &Dag, plan: &Plan, into: usize, id: Id) -> Result<Slot, AllocError>
+        requires plan { IsPlan plan.now }
         requires within { SlotIn dag.now plan.now.code.now self }
         requires into { is_there plan.now.code.now.registers into ≡ true }
         requires id { IsWord dag.now id (type_width (slice_index_or plan.now.code.now.registers into IntegerType.Int)) }
         ensures within { IfOk result (SlotIn dag.now plan.now.code.now) }
         ensures gone { IfOk result (λ s. (v : ℕ → ℕ) → gone v dag.now plan.now.code.now s ≡ updated (λ m. with_register m into (value v dag.now id)) (gone v dag.now plan.now.code.now self)) }
     {
-        let types = plan.code.registers();
-        let registers = registers::written(self.registers, types, dag, into, id)?;
+        let live = registers::written(self.live, &plan.types, dag, into, id)?;
         Ok(Slot {
             guard: self.guard,
             zeros: self.zeros,
-            registers,
-            bytes: self.bytes,
+            live,
+            kept: self.kept,
         })
     }
 
     // The memory with a register set to what an operation gives.
     fn assigned(self, dag: &mut Dag, plan: &Plan, operation: Operation) -> Result<Slot, AllocError>
-        requires starts { plan.now.starts.items ≡ starts_from 0 plan.now.code.now.blocks }
+        requires plan { IsPlan plan.now }
         requires within { SlotIn dag.old plan.now.code.now self }
         requires fits { operation_fits plan.now.code.now.registers plan.now.code.now.blocks 0 operation ≡ true }
         requires sets { sets_register operation ≡ true }
@@ -246,7 +225,7 @@ impl Slot {
         plan: &Plan,
         operation: Operation,
     ) -> Result<Slot, AllocError>
-        requires starts { plan.now.starts.items ≡ starts_from 0 plan.now.code.now.blocks }
+        requires plan { IsPlan plan.now }
         requires within { SlotIn dag.old plan.now.code.now self }
         requires fits { operation_fits plan.now.code.now.registers plan.now.code.now.blocks 0 operation ≡ true }
         requires calculation { is_calculation operation ≡ true }

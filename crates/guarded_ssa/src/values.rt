@@ -7,7 +7,7 @@ ghost use Rattle.word_dag.specs.Meaning.{value};
 ghost use Rattle.value_nodes.specs.Values.{IsWord, IsValue, IsTest};
 ghost use Rattle.goto_prog.specs.Fitting.{is_there, is_register, is_wide, check_fits, operation_fits};
 ghost use Rattle.goto_prog.specs.Meaning.{register, check_class};
-ghost use Rattle.guarded_ssa.specs.Held.{SlotIn, held, starts_from};
+ghost use Rattle.guarded_ssa.specs.Held.{SlotIn, IsPlan, held};
 ghost use Rattle.guarded_ssa.specs.Results.{sets_register, into_of, result_of, class_of};
 
 use crate::liveness::Plan;
@@ -33,7 +33,7 @@ impl Slot {
         ensures value { (v : ℕ → ℕ) → value v dag.now result ≡ register (held v dag.now plan.now.code.now self.now) r }
     {
         let _ = dag.nodes();
-        match find(&self.registers, r) {
+        match find(&self.live, r) {
             Some(id) => id,
             None => self.zeros.of(plan.code.registers()[r]),
         }
@@ -130,7 +130,7 @@ impl Slot {
 
     // What an operation gives a register.
     pub fn result(&self, dag: &mut Dag, plan: &Plan, operation: Operation) -> Result<Id, AllocError>
-        requires starts { plan.now.starts.items ≡ starts_from 0 plan.now.code.now.blocks }
+        requires plan { IsPlan plan.now }
         requires within { SlotIn dag.old plan.now.code.now self.now }
         requires fits { operation_fits plan.now.code.now.registers plan.now.code.now.blocks 0 operation ≡ true }
         requires sets { sets_register operation ≡ true }

@@ -6,14 +6,14 @@ use Rattle.guarded_ssa.proofs.registers.merged.Goals.{then-i-first, else-i-first
 pub loop-i-init : goal.loop-i-init
 loop-i-init c = (0, joining_none c.args.dag.now c.args.types.now c.args.test c.args.first.now c.args.second.now _ c.requires.first c.requires.second c.in_ok-live.ensures.items)
 
-pub bounds-types-register : goal.bounds-types-register
-bounds-types-register c =
+pub bounds-types-cell : goal.bounds-types-cell
+bounds-types-cell c =
     let left : 0 < length (drop c.loop-i.i c.args.first.now) + length (drop c.loop-i.j c.args.second.now) =
     elim c.if-i-first.branch [
       | then-i-first w ↦ one_left c.args.first.now c.args.second.now c.loop-i.i c.loop-i.j w.if-i-first.true
       | else-i-first+then-j-second w ↦ other_left c.args.first.now c.args.second.now c.loop-i.i c.loop-i.j w.if-j-second.true
     ] in
-    subst (λ r. r < length c.args.types.now) (sym c.least-register.ensures) (next_within c.args.dag.now c.loop-i.dag c.args.types.now c.args.test c.args.first.now c.args.second.now c.loop-i.live.items c.loop-i.i c.loop-i.j c.loop-i.invariant.0 c.args.zeros c.requires.first c.requires.second c.requires.zeros c.loop-i.invariant.1 left)
+    subst (λ r. r < length c.args.types.now) (sym c.least-cell.ensures) (next_within c.args.dag.now c.loop-i.dag c.args.types.now c.args.test c.args.first.now c.args.second.now c.loop-i.live.items c.loop-i.i c.loop-i.j c.loop-i.invariant.0 c.args.zeros c.requires.first c.requires.second c.requires.zeros c.loop-i.invariant.1 left)
 
 pub chosen-requires-clause-a : goal.chosen-requires-clause-a
 chosen-requires-clause-a c =
@@ -22,7 +22,7 @@ chosen-requires-clause-a c =
       | then-i-first w ↦ one_left c.args.first.now c.args.second.now c.loop-i.i c.loop-i.j w.if-i-first.true
       | else-i-first+then-j-second w ↦ other_left c.args.first.now c.args.second.now c.loop-i.i c.loop-i.j w.if-j-second.true
     ] in
-    (next_a c.args.dag.now c.loop-i.dag c.args.types.now c.args.test c.args.first.now c.args.second.now c.loop-i.live.items c.loop-i.i c.loop-i.j c.loop-i.invariant.0 c.args.zeros c.requires.first c.requires.second c.requires.zeros c.loop-i.invariant.1 left c.least-register.result c.of-zero.result c.taken-next_i.result.0 c.taken-next_j.result.0 c.least-register.ensures c.of-zero.ensures c.taken-next_i.ensures.id c.taken-next_j.ensures.id).there
+    (next_a c.args.dag.now c.loop-i.dag c.args.types.now c.args.test c.args.first.now c.args.second.now c.loop-i.live.items c.loop-i.i c.loop-i.j c.loop-i.invariant.0 c.args.zeros c.requires.first c.requires.second c.requires.zeros c.loop-i.invariant.1 left c.least-cell.result c.of-zero.result c.taken-next_i.result.0 c.taken-next_j.result.0 c.least-cell.ensures c.of-zero.ensures c.taken-next_i.ensures.id c.taken-next_j.ensures.id).there
 
 pub chosen-requires-clause-b : goal.chosen-requires-clause-b
 chosen-requires-clause-b c =
@@ -31,7 +31,7 @@ chosen-requires-clause-b c =
       | then-i-first w ↦ one_left c.args.first.now c.args.second.now c.loop-i.i c.loop-i.j w.if-i-first.true
       | else-i-first+then-j-second w ↦ other_left c.args.first.now c.args.second.now c.loop-i.i c.loop-i.j w.if-j-second.true
     ] in
-    next_b c.args.dag.now c.loop-i.dag c.args.types.now c.args.test c.args.first.now c.args.second.now c.loop-i.live.items c.loop-i.i c.loop-i.j c.loop-i.invariant.0 c.args.zeros c.requires.first c.requires.second c.requires.zeros c.loop-i.invariant.1 left c.least-register.result c.of-zero.result c.taken-next_i.result.0 c.taken-next_j.result.0 c.least-register.ensures c.of-zero.ensures c.taken-next_i.ensures.id c.taken-next_j.ensures.id
+    next_b c.args.dag.now c.loop-i.dag c.args.types.now c.args.test c.args.first.now c.args.second.now c.loop-i.live.items c.loop-i.i c.loop-i.j c.loop-i.invariant.0 c.args.zeros c.requires.first c.requires.second c.requires.zeros c.loop-i.invariant.1 left c.least-cell.result c.of-zero.result c.taken-next_i.result.0 c.taken-next_j.result.0 c.least-cell.ensures c.of-zero.ensures c.taken-next_i.ensures.id c.taken-next_j.ensures.id
 
 pub loop-i-smaller : goal.loop-i-smaller
 loop-i-smaller c =
@@ -40,7 +40,7 @@ loop-i-smaller c =
       | then-i-first w ↦ one_left c.args.first.now c.args.second.now c.loop-i.i c.loop-i.j w.if-i-first.true
       | else-i-first+then-j-second w ↦ other_left c.args.first.now c.args.second.now c.loop-i.i c.loop-i.j w.if-j-second.true
     ] in
-    joining_smaller c.args.dag.now c.loop-i.dag c.args.types.now c.args.test c.args.first.now c.args.second.now c.loop-i.live.items c.loop-i.i c.loop-i.j c.loop-i.invariant.0 c.args.zeros c.requires.first c.requires.second c.requires.zeros c.loop-i.invariant.1 left c.least-register.result c.taken-next_i.result.1 c.taken-next_j.result.1 c.least-register.ensures c.taken-next_i.ensures.next c.taken-next_j.ensures.next
+    joining_smaller c.args.dag.now c.loop-i.dag c.args.types.now c.args.test c.args.first.now c.args.second.now c.loop-i.live.items c.loop-i.i c.loop-i.j c.loop-i.invariant.0 c.args.zeros c.requires.first c.requires.second c.requires.zeros c.loop-i.invariant.1 left c.least-cell.result c.taken-next_i.result.1 c.taken-next_j.result.1 c.least-cell.ensures c.taken-next_i.ensures.next c.taken-next_j.ensures.next
 
 pub loop-i-preserved : goal.loop-i-preserved
 loop-i-preserved c =
@@ -49,7 +49,7 @@ loop-i-preserved c =
       | then-i-first w ↦ one_left c.args.first.now c.args.second.now c.loop-i.i c.loop-i.j w.if-i-first.true
       | else-i-first+then-j-second w ↦ other_left c.args.first.now c.args.second.now c.loop-i.i c.loop-i.j w.if-j-second.true
     ] in
-    joining_next c.args.dag.now c.loop-i.dag c.args.types.now c.args.test c.args.first.now c.args.second.now c.loop-i.live.items c.loop-i.i c.loop-i.j c.loop-i.invariant.0 c.args.zeros c.requires.first c.requires.second c.requires.zeros c.loop-i.invariant.1 left c.least-register.result c.of-zero.result c.taken-next_i.result.0 c.taken-next_j.result.0 c.least-register.ensures c.of-zero.ensures c.taken-next_i.ensures.id c.taken-next_j.ensures.id
+    joining_next c.args.dag.now c.loop-i.dag c.args.types.now c.args.test c.args.first.now c.args.second.now c.loop-i.live.items c.loop-i.i c.loop-i.j c.loop-i.invariant.0 c.args.zeros c.requires.first c.requires.second c.requires.zeros c.loop-i.invariant.1 left c.least-cell.result c.of-zero.result c.taken-next_i.result.0 c.taken-next_j.result.0 c.least-cell.ensures c.of-zero.ensures c.taken-next_i.ensures.id c.taken-next_j.ensures.id
     c.taken-next_i.result.1 c.taken-next_j.result.1 c.taken-next_i.ensures.next c.taken-next_j.ensures.next c.chosen.new.dag c.in_ok-id.id c.push.new.self.items c.chosen.ensures.extends c.requires.test.there c.in_ok-id.ensures.made c.in_ok-push.ensures.items
 
 pub returns-clause-merged : goal.returns-clause-merged

@@ -4,4 +4,4 @@ use Rattle.std.specs.List.{filter}
 use Rattle.guarded_ssa.proofs.registers.needed.Given as goal
 
 abbrev pub invariant-loop-set : goal.invariant-loop-set
-invariant-loop-set l = l.kept.items ≡ filter (λ m. nat_lt l.place (slice_index l.until m.register)) (take l.set-index l.live)
+invariant-loop-set l = l.kept.items ≡ filter (λ m. nat_lt l.place (slice_index l.until (slice_index l.owner m.cell))) (take l.set-index l.live)

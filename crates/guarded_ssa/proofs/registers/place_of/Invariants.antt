@@ -1,6 +1,13 @@
-use Rattle.std.proofs.Common.{◌≡◌, ◌+◌, drop}
+use Rattle.std.proofs.Common.{◌-◌, ◌≤◌, length}
 use Rattle.guarded_ssa.specs.Registers.{place_of}
 use Rattle.guarded_ssa.proofs.registers.place_of.Given as goal
 
-abbrev pub invariant-loop-i : goal.invariant-loop-i
-invariant-loop-i l = place_of l.live l.register ≡ l.i + place_of (drop l.i l.live) l.register
+abbrev pub invariant-loop-low : goal.invariant-loop-low
+invariant-loop-low l = record {
+  above : l.low ≤ place_of l.live l.cell;
+  below : place_of l.live l.cell ≤ l.high;
+  within : l.high ≤ length l.live;
+}
+
+abbrev pub decreases-loop-low : goal.decreases-loop-low
+decreases-loop-low l = l.high - l.low

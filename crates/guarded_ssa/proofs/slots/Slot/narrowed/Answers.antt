@@ -5,10 +5,10 @@ use Rattle.guarded_ssa.proofs.slots.Slot.narrowed.Goals as goal
 
 pub returns-clause-within : goal.returns-clause-within
 returns-clause-within c =
-    let t : Slot = record { guard = c.in_ok-guard.guard; zeros = c.args.self.zeros; registers = c.args.self.registers; bytes = c.args.self.bytes } in
-    narrowed_in _ _ _ c.args.self t _ c.both.ensures.extends c.requires.within c.in_ok-guard.ensures.made refl refl refl
+    let t : Slot = record { guard = c.in_ok-guard.guard; zeros = c.args.self.zeros; live = c.args.self.live; kept = c.args.self.kept } in
+    narrowed_in _ _ _ c.args.self t _ c.both.ensures.extends c.requires.within c.in_ok-guard.ensures.made refl refl
 
 pub returns-clause-gone : goal.returns-clause-gone
 returns-clause-gone c =
-    let t : Slot = record { guard = c.in_ok-guard.guard; zeros = c.args.self.zeros; registers = c.args.self.registers; bytes = c.args.self.bytes } in
-    narrowed_gone _ _ c.args.plan.now.code.now c.args.self t c.args.test c.both.ensures.extends c.requires.within c.in_ok-guard.ensures.made refl refl
+    let t : Slot = record { guard = c.in_ok-guard.guard; zeros = c.args.self.zeros; live = c.args.self.live; kept = c.args.self.kept } in
+    narrowed_gone _ _ c.args.plan.now.code.now c.args.self t c.args.test c.both.ensures.extends c.requires.within c.in_ok-guard.ensures.made refl
