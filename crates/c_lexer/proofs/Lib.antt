@@ -13,3 +13,4 @@ pub mod Standing
 pub mod Marks
 pub mod Quotes
 pub mod Comments
+pub mod Spellings

@@ -7,7 +7,6 @@ use Rattle.c_lexer.specs.Forms.{is_empty, begins}
 use Rattle.c_lexer.specs.declared.token.Constant.{Constant}
 use Rattle.c_lexer.specs.declared.token.ConstantType.{ConstantType}
 use Rattle.c_lexer.specs.declared.token.ConstantType.TheVariants.{Int, UnsignedInt, Long, UnsignedLong, LongLong, UnsignedLongLong}
-use Rattle.c_lexer.specs.declared.token.TheConstants.{CONSTANT_TYPES}
 use Rattle.c_lexer.specs.declared.constant.Suffix.{Suffix}
 
 -- the value of a digit of base 16, and 16 for a byte that isn't one
@@ -84,6 +83,10 @@ longs_of UnsignedLong = 1
 longs_of LongLong = 2
 longs_of UnsignedLongLong = 2
 
+-- the types of integer constants, in the order of C11 6.4.4.1
+abbrev pub constant_types : List ConstantType
+constant_types = Int ∷ UnsignedInt ∷ Long ∷ UnsignedLong ∷ LongLong ∷ UnsignedLongLong ∷ []
+
 -- The type stands in the constant's list: the unsigned types with u, the signed ones in base 10 without u, all in another
 -- base, from as many l's on as the suffix has. And it holds the value.
 abbrev pub admits : ℕ → Suffix → ℕ → ConstantType → Bool
@@ -95,7 +98,7 @@ admits base suffix value type =
 -- the first type of the list that holds the value
 unfoldable pub typed : ℕ → Suffix → ℕ → Option Constant
 typed base suffix value =
-    option_map (λ type. record { value = value; type_ = type }) (find (admits base suffix value) CONSTANT_TYPES)
+    option_map (λ type. record { value = value; type_ = type }) (find (admits base suffix value) constant_types)
 
 -- what the text of a number is as an integer constant
 unfoldable pub constant_of : List ℕ → Option Constant

@@ -92,10 +92,10 @@ mark_text marks.BarEqual = codes "|="
 mark_text marks.Comma = codes ","
 mark_text marks.Hash = codes "#"
 
--- the keyword that a text spells
+-- the keyword that a text spells, by the program's table, which has each keyword (the law `each_keyword_is_spelled`)
 abbrev pub keyword_of : List ℕ → Option Keyword
 keyword_of text = find (λ keyword. bytes_eq (keyword_text keyword) text) KEYWORDS
 
--- the mark that a text spells
+-- the mark that a text spells, by the program's table, which has each mark (the law `each_mark_is_spelled`)
 abbrev pub mark_of : List ℕ → Option Mark
 mark_of text = find (λ mark. bytes_eq (mark_text mark) text) MARKS

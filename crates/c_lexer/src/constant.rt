@@ -3,7 +3,7 @@
 ghost use Rattle.std.specs.Prelude.{◌≡◌, ◌≤◌, ◌<◌, ◌^◌, ◌-◌, length, slice_index, find, take, drop, nat_lt, option_map};
 ghost use Rattle.std.specs.Option.{SomeIff};
 ghost use Rattle.c_lexer.specs.Forms.{begins};
-ghost use Rattle.c_lexer.specs.Constants.{digit_value, digits, number, base_of, behind_prefix, is_u, long_suffix, suffix, suffix_of, limit_of, is_unsigned, longs_of, admits, typed, constant_of};
+ghost use Rattle.c_lexer.specs.Constants.{digit_value, digits, number, base_of, behind_prefix, is_u, long_suffix, suffix, suffix_of, limit_of, is_unsigned, longs_of, constant_types, admits, typed, constant_of};
 
 use crate::class::spells;
 use crate::token::{CONSTANT_TYPES, Constant, ConstantType};
@@ -177,7 +177,7 @@ fn admits(base: u8, suffix: Suffix, value: u64, type_: ConstantType) -> bool
 
 /// The first type of the list that holds the value.
 fn type_of(base: u8, suffix: Suffix, value: u64) -> Option<ConstantType>
-    ensures { result ≡ find (admits base suffix value) CONSTANT_TYPES }
+    ensures { result ≡ find (admits base suffix value) constant_types }
 {
     CONSTANT_TYPES
         .iter()

@@ -17,5 +17,8 @@ mod tokens;
 pub use fault::LexError;
 pub use lexing::{lex, one_cutting};
 pub use literal::{Element, element_at, string_bytes};
-pub use token::{Constant, ConstantType, Keyword, Kind, Mark, Token};
+pub use token::{
+    Constant, ConstantType, Keyword, Kind, Mark, Token, each_keyword_is_spelled,
+    each_mark_is_spelled,
+};
 pub use tokens::{Tokens, text_of};

@@ -1,6 +1,6 @@
 //! What a token is.
 
-ghost use Rattle.std.specs.Prelude.{◌≡◌, find};
+ghost use Rattle.std.specs.Prelude.{◌≡◌, Some, find};
 ghost use Rattle.c_lexer.specs.Spelling.{keyword_text, mark_text, keyword_of, mark_of};
 
 /// A keyword of C11 6.4.1 that the profile has.
@@ -241,6 +241,11 @@ pub fn keyword_of(text: &[u8]) -> Option<Keyword>
         .find(|keyword| keyword.text() == text)
 }
 
+/// Each keyword is the one that its spelling spells.
+pub fn each_keyword_is_spelled()
+    ensures { (keyword : Keyword) → keyword_of (keyword_text keyword) ≡ Some keyword }
+{}
+
 /// Each mark.
 pub const MARKS: [Mark; 47] = [
     Mark::LeftBracket,
@@ -355,3 +360,8 @@ pub fn mark_of(text: &[u8]) -> Option<Mark>
 {
     MARKS.iter().copied().find(|mark| mark.text() == text)
 }
+
+/// Each mark is the one that its spelling spells.
+pub fn each_mark_is_spelled()
+    ensures { (mark : Mark) → mark_of (mark_text mark) ≡ Some mark }
+{}
