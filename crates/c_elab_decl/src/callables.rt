@@ -11,7 +11,7 @@ ghost use Rattle.c_elab_decl.specs.Functions.{is_one_scalar, is_nothing, is_inte
 
 use crate::derivations::{Parameter, copied_function, full_line, name_line};
 use crate::initializing::no_initializer;
-use crate::naming::{name_of, same_function};
+use crate::naming::{is_too_long, name_of, same_function};
 use crate::regions::{Region, built_in_function, earlier, is_built_in_function};
 use c_elab_expr::{
     Broken, Callable, FunctionType, Functions, Meaning, Scope, TypingError, type_size,
@@ -289,6 +289,9 @@ pub fn declared_callable(
     match scope.functions().named(name) {
         None => {
             if scope.functions().len() >= FUNCTIONS {
+                return Err(AllocError);
+            }
+            if is_too_long(scope.functions(), type_) {
                 return Err(AllocError);
             }
             let callable = first_callable(alloc, declarator, type_, defines, scope.functions())?;

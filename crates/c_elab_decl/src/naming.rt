@@ -11,13 +11,19 @@ ghost use Rattle.c_elab_decl.specs.Declarators.{same_ctype, same_flag, is_named,
 use crate::derivations::{full_line, function_named};
 use crate::initializing::no_initializer;
 use crate::regions::{Region, earlier};
-use c_elab_expr::{FunctionType, Meaning, QualifiedType, Scope, TypingError, array_type};
+use c_elab_expr::{
+    FunctionType, Functions, Meaning, QualifiedType, Scope, TypingError, array_type,
+};
 use c_tree::{FullDeclarator, InitDeclarator};
 use c_types::{Ty, same};
 use std::alloc::{AllocError, Global};
 
 // More types than this have no memory.
 const TYPES: usize = 0x7fff_ffff;
+
+// Functions and function types that typedefs name have no memory for more parameters than this in all. A file comes to so many
+// only where a typedef's name stands for most of them.
+const PARAMETERS: usize = 0x40_0000;
 
 /// The name that a declarator declares, empty where it has none.
 pub fn name_of(declarator: &FullDeclarator) -> &[u8]
@@ -162,6 +168,30 @@ pub fn same_function(a: &FunctionType, b: &FunctionType) -> bool
         && same_types(&a.parameters, &b.parameters)
 }
 
+// How many parameters the functions and the function types have so far.
+fn parameters_so_far(functions: &Functions) -> usize {
+    let mut count: usize = 0;
+    for number in 0..functions.len().min(TYPES) as u32 {
+        if let Some(callable) = functions.function(number) {
+            count = count.saturating_add(callable.type_.parameters.len());
+        }
+    }
+    for number in 0..functions.type_count().min(TYPES) as u32 {
+        if let Some(type_) = functions.type_at(number) {
+            count = count.saturating_add(type_.parameters.len());
+        }
+    }
+    count
+}
+
+/// Whether there is no memory for the parameters of one more function of this type.
+pub fn is_too_long(functions: &Functions, type_: &FunctionType) -> bool {
+    let own = type_.parameters.len();
+    let others = functions.len().saturating_add(functions.type_count());
+    others.saturating_mul(own) > PARAMETERS
+        && parameters_so_far(functions).saturating_add(own) > PARAMETERS
+}
+
 // Whether it is a typedef of this function type.
 fn is_typedef_of_function(type_: &FunctionType, meaning: Meaning, scope: &Scope) -> bool
     ensures { result ≡ is_typedef_of_function scope.now (view_function_type type_.now) meaning }
@@ -222,6 +252,9 @@ pub fn typed_function_typedef(
     let name = name_of(declarator);
     let type_ = function_typedef_node(made, earlier(name, region, scope), line, scope)?;
     if scope.type_count() > TYPES || scope.functions().type_count() > TYPES {
+        return Err(TypingError::Memory);
+    }
+    if is_too_long(scope.functions(), &type_) {
         return Err(TypingError::Memory);
     }
     let number = scope.add_function_type(type_)?;
