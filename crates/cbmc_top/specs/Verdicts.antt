@@ -98,11 +98,18 @@ IsTraced limits file (findings.Refused r) = Unit {0}
 IsTraced limits file (findings.Limited limit) = Unit {0}
 IsTraced limits file (findings.Budget used) = Unit {0}
 
--- what is said of a file
+-- the trace is that of a failure which decides the file
+abbrev pub IsFailure : Limits → ℕ → List ℕ → Trace → Type 0
+IsFailure limits budget file t = (f : Failing) × (f.trace ≡ t) × Decides limits budget file (failed (failure_of f))
+
+-- what is said of a file: an answer that decides it, and what that says of its program
 abbrev pub IsVerdict : Limits → ℕ → List ℕ → Verdict → Type 0
 IsVerdict limits budget file (verdicts.Successful used) =
-    (core : TypedFile) × IsFileOf file core × IsVerified limits core × IsRefuted limits budget core used
-IsVerdict limits budget file (verdicts.Failed t) = (core : TypedFile) × IsFileOf file core × IsBroken limits core t
+    Decides limits budget file (successful used)
+    × ((core : TypedFile) × IsFileOf file core × IsVerified limits core × IsRefuted limits budget core used)
+IsVerdict limits budget file (verdicts.Failed t) =
+    IsFailure limits budget file t × ((core : TypedFile) × IsFileOf file core × IsBroken limits core t)
 IsVerdict limits budget file (verdicts.Refused r) = Decides limits budget file (refused r)
 IsVerdict limits budget file (verdicts.Limited limit) = Decides limits budget file (limited limit)
-IsVerdict limits budget file (verdicts.Budget used) = (core : TypedFile) × IsFileOf file core × IsUsedUp limits budget core used
+IsVerdict limits budget file (verdicts.Budget used) =
+    Decides limits budget file (used_up used) × ((core : TypedFile) × IsFileOf file core × IsUsedUp limits budget core used)
