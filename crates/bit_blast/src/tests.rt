@@ -243,88 +243,230 @@ fn random_goals_are_true_where_their_form_has_a_model(rt: HostRuntime) -> Result
     Ok(())
 }
 
-// Words of eight bits over three variables, and then words of four bits over two more.
-static WORDS: [Node; 42] = [
-    Node::Variable(0, 8),
-    Node::Variable(1, 8),
-    Node::Variable(2, 8),
-    Node::Constant(1, 8),
-    Node::Constant(3, 8),
-    Node::Constant(8, 8),
-    Node::Binary(BinaryOperator::Add, Id { index: 0 }, Id { index: 1 }),
-    Node::Binary(BinaryOperator::Add, Id { index: 1 }, Id { index: 0 }),
-    Node::Negate(Id { index: 1 }),
-    Node::Binary(BinaryOperator::Subtract, Id { index: 0 }, Id { index: 1 }),
-    Node::Binary(BinaryOperator::Add, Id { index: 0 }, Id { index: 8 }),
-    Node::Binary(BinaryOperator::And, Id { index: 0 }, Id { index: 1 }),
-    Node::Binary(BinaryOperator::Or, Id { index: 0 }, Id { index: 1 }),
-    Node::Binary(BinaryOperator::Xor, Id { index: 0 }, Id { index: 1 }),
-    Node::Binary(BinaryOperator::Subtract, Id { index: 12 }, Id { index: 11 }),
-    Node::Binary(BinaryOperator::And, Id { index: 0 }, Id { index: 2 }),
-    Node::Binary(BinaryOperator::Or, Id { index: 11 }, Id { index: 15 }),
-    Node::Binary(BinaryOperator::Or, Id { index: 1 }, Id { index: 2 }),
-    Node::Binary(BinaryOperator::And, Id { index: 0 }, Id { index: 17 }),
-    Node::Not(Id { index: 0 }),
-    Node::Binary(BinaryOperator::Add, Id { index: 19 }, Id { index: 3 }),
-    Node::Negate(Id { index: 0 }),
-    Node::Shift(ShiftKind::Left, Id { index: 0 }, Id { index: 3 }),
-    Node::Binary(BinaryOperator::Add, Id { index: 0 }, Id { index: 0 }),
-    Node::Shift(ShiftKind::Left, Id { index: 0 }, Id { index: 4 }),
-    Node::Binary(BinaryOperator::Multiply, Id { index: 0 }, Id { index: 5 }),
-    Node::SignExtend(Id { index: 0 }, 16),
-    Node::Cut(Id { index: 26 }, 0, 8),
-    Node::Cut(Id { index: 0 }, 4, 4),
-    Node::Cut(Id { index: 0 }, 0, 4),
-    Node::Join(Id { index: 28 }, Id { index: 29 }),
-    Node::Variable(3, 4),
-    Node::Variable(4, 4),
-    Node::Binary(BinaryOperator::Multiply, Id { index: 31 }, Id { index: 32 }),
-    Node::Binary(BinaryOperator::Multiply, Id { index: 32 }, Id { index: 31 }),
-    Node::Binary(
-        BinaryOperator::UnsignedDivide,
-        Id { index: 31 },
-        Id { index: 32 },
-    ),
-    Node::Binary(
-        BinaryOperator::UnsignedRemainder,
-        Id { index: 31 },
-        Id { index: 32 },
-    ),
-    Node::Binary(BinaryOperator::Multiply, Id { index: 35 }, Id { index: 32 }),
-    Node::Binary(BinaryOperator::Add, Id { index: 37 }, Id { index: 36 }),
-    Node::Constant(0, 4),
-    Node::Compare(Comparison::Equal, Id { index: 32 }, Id { index: 39 }),
-    Node::Choice(Id { index: 40 }, Id { index: 31 }, Id { index: 38 }),
-];
+// Words by names of one letter.
+#[derive(Drop)]
+struct Words {
+    dag: Dag,
+    named: Vec<(u8, Id)>,
+}
 
-// Words of these that are equal whatever the variables are: laws of sums, products and bits, and that a
-// quotient times the divisor, and the remainder, are the dividend.
-static LAWS: [(usize, usize); 11] = [
-    (6, 7),
-    (9, 10),
-    (13, 14),
-    (16, 18),
-    (20, 21),
-    (22, 23),
-    (24, 25),
-    (0, 27),
-    (0, 30),
-    (33, 34),
-    (31, 41),
+// A node of two words.
+fn of_two(sign: u8, a: Id, b: Id) -> Option<Node> {
+    match sign {
+        b'+' => Some(Node::Binary(BinaryOperator::Add, a, b)),
+        b'-' => Some(Node::Binary(BinaryOperator::Subtract, a, b)),
+        b'*' => Some(Node::Binary(BinaryOperator::Multiply, a, b)),
+        b'/' => Some(Node::Binary(BinaryOperator::UnsignedDivide, a, b)),
+        b'%' => Some(Node::Binary(BinaryOperator::UnsignedRemainder, a, b)),
+        b'D' => Some(Node::Binary(BinaryOperator::SignedDivide, a, b)),
+        b'R' => Some(Node::Binary(BinaryOperator::SignedRemainder, a, b)),
+        b'&' => Some(Node::Binary(BinaryOperator::And, a, b)),
+        b'|' => Some(Node::Binary(BinaryOperator::Or, a, b)),
+        b'^' => Some(Node::Binary(BinaryOperator::Xor, a, b)),
+        b'<' => Some(Node::Shift(ShiftKind::Left, a, b)),
+        b'>' => Some(Node::Shift(ShiftKind::Logical, a, b)),
+        b'A' => Some(Node::Shift(ShiftKind::Arithmetic, a, b)),
+        b'=' => Some(Node::Compare(Comparison::Equal, a, b)),
+        b'U' => Some(Node::Compare(Comparison::UnsignedLess, a, b)),
+        b'S' => Some(Node::Compare(Comparison::SignedLess, a, b)),
+        b'F' => Some(Node::Fits(FitsTest::Sum, a, b)),
+        b'G' => Some(Node::Fits(FitsTest::Difference, a, b)),
+        b'P' => Some(Node::Fits(FitsTest::Product, a, b)),
+        b'Q' => Some(Node::Fits(FitsTest::LeftShift, a, b)),
+        b'J' => Some(Node::Join(a, b)),
+        _ => None,
+    }
+}
+
+// A node of one word.
+fn of_one(sign: u8, a: Id) -> Option<Node> {
+    match sign {
+        b'~' => Some(Node::Not(a)),
+        b'N' => Some(Node::Negate(a)),
+        b'Z' => Some(Node::ZeroExtend(a, 16)),
+        b'X' => Some(Node::SignExtend(a, 16)),
+        b'L' => Some(Node::Cut(a, 0, 4)),
+        b'H' => Some(Node::Cut(a, 4, 4)),
+        b'B' => Some(Node::Cut(a, 0, 8)),
+        _ => None,
+    }
+}
+
+impl Words {
+    // Four variables of eight bits are w, x, y and z.
+    fn new(alloc: Global) -> Result<Words, Fail> {
+        let mut words = Words {
+            dag: Dag::new(alloc),
+            named: Vec::new(alloc),
+        };
+        for (number, name) in b"wxyz".iter().enumerate() {
+            let id = made(&mut words.dag, Node::Variable(number as u32, 8))?;
+            words.named.push((*name, id))?;
+        }
+        Ok(words)
+    }
+
+    // The word that was last named so.
+    fn named(&self, name: u8) -> Option<Id> {
+        for (other, id) in self.named.iter().rev() {
+            if *other == name {
+                return Some(*id);
+            }
+        }
+        None
+    }
+
+    fn name(&mut self, name: u8, id: Id) -> Result<(), Fail> {
+        Ok(self.named.push((name, id))?)
+    }
+
+    // The node of a sign, with its operands, the last of which is on top.
+    fn node(&self, sign: u8, operands: &mut Vec<Id>) -> Result<Node, Fail> {
+        if let b'0'..=b'9' = sign {
+            return Ok(Node::Constant((sign - b'0') as u64, 8));
+        }
+        let last = operands.pop().ok_or("no operand")?;
+        if let Some(node) = of_one(sign, last) {
+            return Ok(node);
+        }
+        let first = operands.pop().ok_or("one operand")?;
+        if let Some(node) = of_two(sign, first, last) {
+            return Ok(node);
+        }
+        let condition = operands.pop().ok_or("two operands")?;
+        Ok(Node::Choice(condition, first, last))
+    }
+
+    // The word of a text that has its operators behind their operands.
+    fn word(&mut self, alloc: Global, text: &[u8]) -> Result<Id, Fail> {
+        let mut operands = Vec::new(alloc);
+        for sign in text {
+            let id = match self.named(*sign) {
+                Some(id) => id,
+                None => {
+                    let node = self.node(*sign, &mut operands)?;
+                    made(&mut self.dag, node)?
+                }
+            };
+            operands.push(id)?;
+        }
+        Ok(operands.pop().ok_or("no word")?)
+    }
+
+    // Whether no values of the variables make the word of this text 1.
+    fn is_never(&mut self, alloc: Global, text: &[u8]) -> Result<bool, Fail> {
+        let goal = self.word(alloc, text)?;
+        Ok(solved(alloc, &self.dag, goal)?.is_none())
+    }
+}
+
+// What is never 1, since two words are equal whatever the variables are: laws of two operators at eight bits. The operators stand
+// behind their operands.
+static NEVER: [&[u8]; 45] = [
+    b"xy+yx+=~",
+    b"xy+z+xyz++=~",
+    b"wx+yz++wy+xz++=~",
+    b"xy-xyN+=~",
+    b"xy+y-x=~",
+    b"xy+NxNyN+=~",
+    b"xNx~1+=~",
+    b"xN~x1-=~",
+    b"xx+x1<=~",
+    b"xy&xy|+xy+=~",
+    b"xy|xy&-xy^=~",
+    b"xyz|&xy&xz&|=~",
+    b"xyz&|xy|xz|&=~",
+    b"xyz^&xy&xz&^=~",
+    b"xxy&|x=~",
+    b"xy&~x~y~|=~",
+    b"xy^~x~y^=~",
+    b"xy^y^x=~",
+    b"x3>3<x7~&=~",
+    b"x3<x8*=~",
+    b"x3>x8/=~",
+    b"x8%x7&=~",
+    b"xy+3<x3<y3<+=~",
+    b"xy&z>xz>yz>&=~",
+    b"xy^zAxzAyzA^=~",
+    b"x~3Ax3A~=~",
+    b"xy*yx*=~",
+    b"xyN*xy*N=~",
+    b"x1y+*xxy*+=~",
+    b"x3<y*xy*3<=~",
+    b"xy/y*xy%+x=~y0=~&",
+    b"xyDy*xyR+x=~y0=~&",
+    b"xy%yU~y0=~&",
+    b"xyUyxUxy=|~=~",
+    b"xySx17<^y17<^U=~",
+    b"xyFxXyX+xy+X==~",
+    b"xyGxXyX-xy-X==~",
+    b"xyQxy<yAx=x0S~&=~y8U&",
+    b"xyPxXyX*xy*X==~",
+    b"xHxLJx=~",
+    b"xXBx=~",
+    b"xZBx=~",
+    b"xy+LxLyL+=~",
+    b"xyUxy?z+xyUxz+yz+?=~",
+    b"xy^ZxZyZ^=~",
 ];
 
 #[test]
-fn laws_of_words_hold(rt: HostRuntime) -> Result<(), Fail> {
+fn laws_of_two_operators_hold(rt: HostRuntime) -> Result<(), Fail> {
     let alloc = rt.alloc();
-    let mut dag = Dag::new(alloc);
-    for node in &WORDS {
-        made(&mut dag, *node)?;
+    for text in &NEVER {
+        let mut words = Words::new(alloc)?;
+        assert!(rt; words.is_never(alloc, text)?, "{text:?}");
     }
-    for (left, right) in &LAWS {
-        let same = equal(&mut dag, Id { index: *left }, Id { index: *right })?;
-        let goal = made(&mut dag, Node::Not(same))?;
-        assert!(rt; solved(alloc, &dag, goal)?.is_none(), "{left} {right}");
+    Ok(())
+}
+
+// Words of a product from one bit k of x to the next: m is the bits of x below k, and n these and bit k. Each by y, by z and by their
+// sum: a, b and c are the products by m, d, e and f those by n, and g, h and i the rows of bit k.
+static BIT: [(u8, &[u8]); 14] = [
+    (b's', b"yz+"),
+    (b'm', b"x1k<1-&"),
+    (b'n', b"x1k1+<1-&"),
+    (b'a', b"my*"),
+    (b'b', b"mz*"),
+    (b'c', b"ms*"),
+    (b'd', b"ny*"),
+    (b'e', b"nz*"),
+    (b'f', b"ns*"),
+    (b'q', b"x1k<&0="),
+    (b'g', b"q0yk<?"),
+    (b'h', b"q0zk<?"),
+    (b'i', b"q0sk<?"),
+    (b'u', b"gh+"),
+];
+
+// Below bit 0 the product by the sum is the sum of products; a product by n is that by m and the row; the row of the sum is the sum
+// of rows; and with bit 7, n is x.
+static BIT_NEVER: [&[u8]; 4] = [b"k0=cab+=~&", b"dag+=~", b"iu=~", b"k7=nx=~&"];
+
+// So the product by the sum is the sum of products at each next bit, whatever the words are.
+static NEXT_BIT: &[u8] = b"cab+=igh+=&dag+=&ebh+=&fci+=&fde+=~&";
+
+#[test]
+fn a_product_by_a_sum_is_the_sum_of_products(rt: HostRuntime) -> Result<(), Fail> {
+    let alloc = rt.alloc();
+    for bit in 0..8 {
+        let mut words = Words::new(alloc)?;
+        let place = made(&mut words.dag, Node::Constant(bit, 8))?;
+        words.name(b'k', place)?;
+        for (name, text) in &BIT {
+            let id = words.word(alloc, text)?;
+            words.name(*name, id)?;
+        }
+        for text in &BIT_NEVER {
+            assert!(rt; words.is_never(alloc, text)?, "{bit} {text:?}");
+        }
     }
+    let mut words = Words::new(alloc)?;
+    for (number, name) in b"abcdefghi".iter().enumerate() {
+        let id = made(&mut words.dag, Node::Variable(number as u32, 8))?;
+        words.name(*name, id)?;
+    }
+    assert!(rt; words.is_never(alloc, NEXT_BIT)?);
     Ok(())
 }
 
