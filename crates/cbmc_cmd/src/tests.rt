@@ -77,7 +77,37 @@ fn outcome(
 }
 
 /// Files with objects that live as long as the program, with their answers.
-static OBJECTS: [(&str, u8, &str); 5] = [
+static OBJECTS: [(&str, u8, &str); 11] = [
+    (
+        "static char a[65537];int main(void){return 0;}",
+        7,
+        "limit object-bytes 65536\n",
+    ),
+    (
+        "int main(void){char a[2147483647];return 0;}",
+        7,
+        "limit object-bytes 65536\n",
+    ),
+    (
+        "int a[1][2][3][4][5];int main(void){return sizeof a==480?0:1/0;}",
+        0,
+        SAFE,
+    ),
+    (
+        "struct S{int x;};int f(struct S a,struct S b,struct S c,struct S d,struct S e){return a.x+e.x;}\nint main(void){struct S s;s.x=3;struct S t;t.x=4;return f(s,s,s,s,t)==7?0:1/0;}",
+        0,
+        SAFE,
+    ),
+    (
+        "int main(void){int x=1;goto c;a:;b:;x=0;c:;return 1/x;}",
+        0,
+        SAFE,
+    ),
+    (
+        "int main(void){long x=5000000000;return x/5000000000==1?0:1/0;}",
+        0,
+        SAFE,
+    ),
     (
         "int x;int main(void){x=nondet_int();assert(x!=7);return 0;}",
         10,
