@@ -1,6 +1,5 @@
 -- Marks, keywords and names at the front of tokens.
 use Rattle.std.proofs.Common.{◌≡◌, List, [], ◌∷◌, Bool, true, false, cond, Some, None, refl, ap, sym, subst, ◌∙◌}
-use Rattle.std.specs.Prelude.{ℕ, codes, ◌&&◌}
 use Rattle.std.specs.Str.{bytes_eq}
 use Rattle.std.proofs.lemmas.Option.{cond_some}
 use Rattle.std.proofs.lemmas.Slice.Eq.{bytes_eq-Decides}
@@ -8,99 +7,12 @@ use Rattle.c_lexer.specs.declared.token.Token.{Token}
 use Rattle.c_lexer.specs.declared.token.Kind.{Kind}
 use Rattle.c_lexer.specs.declared.token.Kind.TheVariants as kinds
 use Rattle.c_lexer.specs.declared.token.Keyword.{Keyword}
-use Rattle.c_lexer.specs.declared.token.Keyword.TheVariants as keywords
 use Rattle.c_lexer.specs.declared.token.Mark.{Mark}
-use Rattle.c_lexer.specs.declared.token.Mark.TheVariants as marks
 use Rattle.c_lexer.specs.Spelling.{keyword_text, mark_text, keyword_of, mark_of}
-use Rattle.c_lexer.specs.Kinds.{text_of}
+use Rattle.c_lexer.proofs.Spellings.{keyword_back, mark_back}
 use Rattle.c_parse_expr.specs.Reading.{is_mark, is_identifier}
 use Rattle.c_parse_decl.specs.Reading.{Read, is_keyword, token_at}
 use Rattle.c_parse_decl.proofs.Lists.{some_is}
-
-pub mark_back : (m : Mark) → mark_of (mark_text m) ≡ Some m
-mark_back marks.LeftBracket = refl
-mark_back marks.RightBracket = refl
-mark_back marks.LeftParenthesis = refl
-mark_back marks.RightParenthesis = refl
-mark_back marks.LeftBrace = refl
-mark_back marks.RightBrace = refl
-mark_back marks.Dot = refl
-mark_back marks.Arrow = refl
-mark_back marks.PlusPlus = refl
-mark_back marks.MinusMinus = refl
-mark_back marks.Ampersand = refl
-mark_back marks.Star = refl
-mark_back marks.Plus = refl
-mark_back marks.Minus = refl
-mark_back marks.Tilde = refl
-mark_back marks.Exclamation = refl
-mark_back marks.Slash = refl
-mark_back marks.Percent = refl
-mark_back marks.ShiftLeft = refl
-mark_back marks.ShiftRight = refl
-mark_back marks.Less = refl
-mark_back marks.Greater = refl
-mark_back marks.LessEqual = refl
-mark_back marks.GreaterEqual = refl
-mark_back marks.EqualEqual = refl
-mark_back marks.NotEqual = refl
-mark_back marks.Caret = refl
-mark_back marks.Bar = refl
-mark_back marks.AndAnd = refl
-mark_back marks.OrOr = refl
-mark_back marks.Question = refl
-mark_back marks.Colon = refl
-mark_back marks.Semicolon = refl
-mark_back marks.Ellipsis = refl
-mark_back marks.Equal = refl
-mark_back marks.StarEqual = refl
-mark_back marks.SlashEqual = refl
-mark_back marks.PercentEqual = refl
-mark_back marks.PlusEqual = refl
-mark_back marks.MinusEqual = refl
-mark_back marks.ShiftLeftEqual = refl
-mark_back marks.ShiftRightEqual = refl
-mark_back marks.AmpersandEqual = refl
-mark_back marks.CaretEqual = refl
-mark_back marks.BarEqual = refl
-mark_back marks.Comma = refl
-mark_back marks.Hash = refl
-
-keyword_back : (k : Keyword) → keyword_of (keyword_text k) ≡ Some k
-keyword_back keywords.Auto = refl
-keyword_back keywords.Break = refl
-keyword_back keywords.Case = refl
-keyword_back keywords.Char = refl
-keyword_back keywords.Const = refl
-keyword_back keywords.Continue = refl
-keyword_back keywords.Default = refl
-keyword_back keywords.Do = refl
-keyword_back keywords.Else = refl
-keyword_back keywords.Enum = refl
-keyword_back keywords.Extern = refl
-keyword_back keywords.For = refl
-keyword_back keywords.Goto = refl
-keyword_back keywords.If = refl
-keyword_back keywords.Inline = refl
-keyword_back keywords.Int = refl
-keyword_back keywords.Long = refl
-keyword_back keywords.Register = refl
-keyword_back keywords.Restrict = refl
-keyword_back keywords.Return = refl
-keyword_back keywords.Short = refl
-keyword_back keywords.Signed = refl
-keyword_back keywords.Sizeof = refl
-keyword_back keywords.Static = refl
-keyword_back keywords.Struct = refl
-keyword_back keywords.Switch = refl
-keyword_back keywords.Typedef = refl
-keyword_back keywords.Union = refl
-keyword_back keywords.Unsigned = refl
-keyword_back keywords.Void = refl
-keyword_back keywords.Volatile = refl
-keyword_back keywords.While = refl
-keyword_back keywords.Bool = refl
-keyword_back keywords.Noreturn = refl
 
 -- tokens of one text are of one kind
 same_mark : (a b : Mark) → bytes_eq (mark_text a) (mark_text b) ≡ true → a ≡ b
