@@ -7,7 +7,7 @@ ghost use Rattle.c_elab_expr.specs.Scopes.{FunctionType, view_function_type, vie
 ghost use Rattle.c_elab_expr.specs.Typing.{Gives, on_line};
 ghost use Rattle.c_elab_decl.specs.Derivations.{full_line, view_made, view_parameters};
 ghost use Rattle.c_elab_decl.specs.Regions.{is_built_in_function, built_in_function};
-ghost use Rattle.c_elab_decl.specs.Functions.{is_one_scalar, is_nothing, is_integer_type, is_statement_type, is_no_parameter, is_draw_type, is_built_in_type, drawn_type, draws_of, is_own_function, is_function_again, function_again, is_own_built_in, built_in_again, function_made, function_node, first_callable, callable_again, declared_callable, declared_function, declared_or_built_in, typed_function, is_named_so, have_names, definition_node};
+ghost use Rattle.c_elab_decl.specs.Functions.{is_one_scalar, is_nothing, is_integer_type, is_statement_type, is_no_parameter, is_draw_type, is_built_in_type, drawn_type, draws_of, is_own_function, is_function_again, function_again, is_own_built_in, built_in_again, function_made, function_node, first_callable, callable_again, changed_callable, declared_callable, declared_function, declared_or_built_in, typed_function, is_named_so, have_names, definition_node};
 
 use crate::derivations::{Parameter, copied_function, full_line, name_line};
 use crate::initializing::no_initializer;
@@ -248,31 +248,45 @@ fn first_callable(
     })
 }
 
-// And behind one more.
+// And behind its definition.
 fn callable_again(
     alloc: Global,
     declarator: &FullDeclarator,
-    defines: bool,
     callable: &Callable,
 ) -> Result<Callable, AllocError>
-    ensures { IfOk result (λ f. view_callable f ≡ callable_again (view_full declarator.now) defines (view_callable callable.now)) }
+    ensures { IfOk result (λ f. view_callable f ≡ callable_again (view_full declarator.now) true (view_callable callable.now)) }
 {
-    let line = if defines {
-        name_line(declarator)
-    } else {
-        callable.line
-    };
     Ok(Callable {
         name: callable.name.to_vec(alloc)?,
-        line,
+        line: name_line(declarator),
         type_: copied_function(alloc, &callable.type_)?,
         ellipsis: callable.ellipsis,
         draws: callable.draws,
-        defined: defines || callable.defined,
+        defined: true,
     })
 }
 
+// Defines a function that is declared already.
+fn define_again(
+    alloc: Global,
+    declarator: &FullDeclarator,
+    number: u32,
+    scope: &mut Scope,
+) -> Result<(), AllocError>
+    ensures { OnOk result (scope.new ≡ record scope.old {
+      functions = record scope.old.functions { all = changed_callable scope.old.functions.all number (callable_again (view_full declarator.now) true) (slice_get scope.old.functions.all number) };
+    }) }
+{
+    let changed = match scope.functions().function(number) {
+        Some(callable) => callable_again(alloc, declarator, callable)?,
+        None => return Ok(()),
+    };
+    scope.set_function(number, changed);
+    Ok(())
+}
+
 /// The number of a function behind one more declarator or its first.
+#[tactic(auto, using(crate::proofs::Functions::declared_again))]
 pub fn declared_callable(
     alloc: Global,
     declarator: &FullDeclarator,
@@ -298,11 +312,9 @@ pub fn declared_callable(
             scope.add_function(alloc, name, callable)
         }
         Some(number) => {
-            let changed = match scope.functions().function(number) {
-                Some(callable) => callable_again(alloc, declarator, defines, callable)?,
-                None => return Ok(number),
-            };
-            scope.set_function(number, changed);
+            if defines {
+                define_again(alloc, declarator, number, scope)?;
+            }
             Ok(number)
         }
     }

@@ -21,8 +21,8 @@ use std::alloc::{AllocError, Global};
 // More types than this have no memory.
 const TYPES: usize = 0x7fff_ffff;
 
-// Functions and function types that typedefs name have no memory for more parameters than this in all. A file comes to so many
-// only where a typedef's name stands for most of them.
+// Functions and function types that typedefs name have no memory for more parameters than this in all, which is asked where
+// one's own, times the number of those before it, are more than this too. Only typedef names bring a file within the limits so far.
 const PARAMETERS: usize = 0x40_0000;
 
 /// The name that a declarator declares, empty where it has none.
