@@ -186,6 +186,25 @@ fn put(live: &mut [Live], at: usize, new: &[Live])
     live[at..at + new.len()].copy_from_slice(new);
 }
 
+// The cells with those from one place on to before another replaced. Those in front stay where they are.
+#[tactic(auto, using(crate::proofs::Spans::all_behind))]
+fn spliced(
+    alloc: Global,
+    mut live: Vec<Live>,
+    first: usize,
+    last: usize,
+    new: &[Live],
+) -> Result<Vec<Live>, AllocError>
+    requires { last ≤ length live.items }
+    ensures { IfOk result (λ r. r.items ≡ (take first live.items ++ new.now) ++ drop last live.items) }
+{
+    let behind = live[last..].to_vec(alloc)?;
+    live.truncate(first);
+    live.extend_from_slice(new)?;
+    live.extend_from_slice(&behind)?;
+    Ok(live)
+}
+
 // The cells with so many from one on replaced: the first of them are set to these nodes, and no others.
 pub fn replaced(
     alloc: Global,
@@ -211,9 +230,7 @@ pub fn replaced(
         put(&mut live, first, &new);
         return Ok(live);
     }
-    let mut cells = live[..first].to_vec(alloc)?;
-    cells.extend_from_slice(&new)?;
-    cells.extend_from_slice(&live[last..])?;
+    let cells = spliced(alloc, live, first, last, &new)?;
     Ok(cells)
 }
 

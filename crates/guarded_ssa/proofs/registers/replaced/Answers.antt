@@ -1,7 +1,7 @@
-use Rattle.std.proofs.Common.{◌≡◌, ◌++◌, ◌+◌, ◌-◌, ◌∙◌, refl, ap, drop, take, length, arith}
+use Rattle.std.proofs.Common.{◌≡◌, ◌++◌, ◌+◌, ◌∙◌, refl, ap, drop, take, length, arith}
 use Rattle.std.proofs.lemmas.List.{with_items_is}
 use Rattle.guarded_ssa.specs.Registers.{lives_from, place_of}
-use Rattle.guarded_ssa.proofs.Spans.{all_behind, put_parts, put_size, replaced_all}
+use Rattle.guarded_ssa.proofs.Spans.{put_parts, put_size, replaced_all}
 use Rattle.guarded_ssa.proofs.registers.replaced.Goals as goal
 
 pub returns-then-first-len : goal.returns-then-first-len
@@ -24,9 +24,6 @@ returns c =
     let p = c.place_of-first.result in
     let q = c.place_of-last.result in
     let new_is = c.in_ok-new.ensures ∙ ap (λ xs. xs ++ own) c.in_ok-with_capacity.ensures.items in
-    let first = c.in_ok-cells.ensures.items_if_clones_equal (λ x y h. h) ∙ ap (take p) c.deref-3.ensures.value in
-    let middle = c.deref-4.ensures.value ∙ new_is in
-    let front = c.in_ok-extend_from_slice.ensures.items in
-    let behind = ap (λ xs. take (length xs - q) (drop q xs)) c.deref-5.ensures.value ∙ all_behind q ls in
+    let middle = c.deref-3.ensures.value ∙ new_is in
     replaced_all c.args.dag.now c.args.types.now ls _ c.args.at c.args.count p q (c.args.at + c.args.count) c.args.ids.now c.requires.live c.requires.there c.requires.few c.requires.ids
-    (c.place_of-first.ensures.is ∙ ap (λ xs. place_of xs c.args.at) c.deref.ensures.value) refl (c.place_of-last.ensures.is ∙ ap (λ xs. place_of xs (c.args.at + c.args.count)) c.deref-2.ensures.value) (c.in_ok-extend_from_slice-2.ensures.items ∙ (λ i. (front ∙ (λ j. first j ++ middle j)) i ++ behind i))
+    (c.place_of-first.ensures.is ∙ ap (λ xs. place_of xs c.args.at) c.deref.ensures.value) refl (c.place_of-last.ensures.is ∙ ap (λ xs. place_of xs (c.args.at + c.args.count)) c.deref-2.ensures.value) (c.in_ok-cells.ensures ∙ ap (λ xs. (take p ls ++ xs) ++ drop q ls) middle)
