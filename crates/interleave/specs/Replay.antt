@@ -24,8 +24,9 @@ used_of (Some m) = m.counts.used
 abbrev pub used_by : World → ℕ → ℕ
 used_by w t = used_of (member_at w.members t)
 
--- where a draw is next, the word that it takes has no more bits than it asks for
+-- where a draw is next, there is a word for it to take, which has no more bits than it asks for
 abbrev pub IsDrawnWhole : Option Next → Option ℕ → Type 0
+IsDrawnWhole (Some (Act (Draw n) line function)) None = ⊥
 IsDrawnWhole (Some (Act (Draw n) line function)) (Some word) = word < 2 ^ n
 IsDrawnWhole _ word = Unit {0}
 
