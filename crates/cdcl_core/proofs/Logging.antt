@@ -13,7 +13,7 @@ use Rattle.sat_form.specs.declared.logs.Entry.TheVariants.{Added, Deleted}
 use Rattle.sat_form.proofs.Databases.{added_clauses-append}
 use Rattle.sat_form.proofs.Refutations.{numbered_clauses-added}
 use Rattle.sat_form.proofs.Chains.{IsDerivation-allowed}
-use Rattle.cdcl_core.specs.Answers.{has_literal, unit_count, IsLogged}
+use Rattle.cdcl_core.specs.Answers.{has_literal, unit_count, EndsAllowed, IsLogged}
 
 -- a place in a list with one more element is an old one or the last
 split_last :
@@ -107,6 +107,7 @@ IsSpent-from form n cs log logged full some undecided = (
 pub IsRefutation-from :
     (form : Form) (n : ℕ) (cs : List (List Literal)) (log : List Entry) (hints : List ℕ) → IsLogged form n cs log → Follows cs [] →
     IsRefutation form.clauses (log ++ Added [] hints ∷ []) × (unit_count (log ++ Added [] hints ∷ []) ≤ n) × AreEntriesWithin form.variables (log ++ Added [] hints ∷ [])
+    × EndsAllowed form.clauses (log ++ Added [] hints ∷ [])
 IsRefutation-from form n cs log hints logged follows =
     let here : Follows (database form.clauses log) [] = subst (λ x. Follows x []) (logged.numbered ∙ sym (database-live form.clauses log logged.live)) follows in
     let units : unit_count (log ++ Added [] hints ∷ []) ≡ unit_count log + 0 =
@@ -118,4 +119,5 @@ IsRefutation-from form n cs log hints logged follows =
       },
       omega (arith, units, fewer, length-added_clauses log logged.live, logged.count),
       all_added form.variables log (Added [] hints) logged.within tt,
+      record { front = log; hints = hints; ends = refl; allowed = logged.allowed },
     )

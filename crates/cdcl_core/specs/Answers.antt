@@ -1,10 +1,11 @@
 -- What a search for a model knows, and what it may answer.
-use Rattle.std.specs.Prelude.{◌≡◌, ℕ, ◌<◌, ◌≤◌, Bool, true, false, List, [], ◌∷◌, Option, Some, None, length, count_by, slice_get, IsSomeAnd}
+use Rattle.std.specs.Prelude.{◌≡◌, ℕ, ◌<◌, ◌≤◌, Bool, true, false, List, [], ◌∷◌, ◌++◌, Option, Some, None, length, count_by, slice_get, IsSomeAnd}
 use Rattle.sat_form.specs.Satisfaction.{Literal, Form, Satisfies, assignment_of}
 use Rattle.sat_form.specs.Databases.{added_clauses, deleted_numbers, numbered_clauses, AreEntriesWithin}
 use Rattle.sat_form.specs.Refutation.{IsRefutation}
 use Rattle.sat_form.specs.Budget.{AreAllowed, IsSpent}
 use Rattle.sat_form.specs.declared.logs.Entry.{Entry}
+use Rattle.sat_form.specs.declared.logs.Entry.TheVariants.{Added}
 use Rattle.cdcl_core.specs.Steps.{oldest, decision_places}
 use Rattle.cdcl_core.specs.Settled.{AreFalse}
 use Rattle.cdcl_core.specs.Learning.{IsClear}
@@ -23,11 +24,20 @@ has_literal (l ∷ ls) = true
 abbrev pub unit_count : List Entry → ℕ
 unit_count log = count_by has_literal (added_clauses log)
 
--- a model of the form over its variables; a refutation of at most n units; or a log that has spent a budget of n units
+-- each entry but the last adds a unit of the budget, or deletes, as a budget allows, a clause that the log added; the last
+-- adds the empty clause
+pub record EndsAllowed (form : List (List Literal)) (log : List Entry) : Type 0 where
+  pub front : List Entry
+  pub hints : List ℕ
+  pub ends : log ≡ front ++ Added [] hints ∷ []
+  pub allowed : AreAllowed form front
+
+-- a model of the form over its variables; a refutation that adds at most n units and then the empty clause; or a log that
+-- has spent a budget of n units
 abbrev pub IsAnswer : Form → ℕ → Answer → Type 0
 IsAnswer form n (Sat model) = (length model ≡ form.variables) × Satisfies (assignment_of model) form.clauses
 IsAnswer form n (Unsat log) =
-    IsRefutation form.clauses log × (unit_count log ≤ n) × AreEntriesWithin form.variables log
+    IsRefutation form.clauses log × (unit_count log ≤ n) × AreEntriesWithin form.variables log × EndsAllowed form.clauses log
 IsAnswer form n (Spent log) = IsSpent form.clauses log n × AreEntriesWithin form.variables log
 
 -- the clauses are those of the form and of the log, which has only units, at most n

@@ -393,8 +393,8 @@ fn copied(alloc: Global, clauses: &[Clause]) -> Result<Vec<Clause>, AllocError>
     Ok(copies)
 }
 
-/// A model of the form; a refutation of it with at most `budget` learned clauses; or as many learned
-/// clauses, each a unit of the budget, where these did not decide it.
+/// A model of the form; a refutation of it by at most `budget` learned clauses, each a unit of the
+/// budget, and then the empty clause; or as many units as the budget, where these did not decide it.
 pub fn solve(alloc: Global, cnf: &Cnf, budget: u64) -> Result<Answer, AllocError>
     requires { 1 ≤ budget }
     ensures { IfOk result (IsAnswer cnf.now budget) }

@@ -63,13 +63,23 @@ pub fn negation_fails(dag: &mut Dag, type_: IntegerType, a: Id) -> Result<Id, Al
     Ok(id)
 }
 
+// The negation of a word.
+fn negation(dag: &mut Dag, a: Id, width: u32) -> Result<Id, AllocError>
+    requires a { IsWord dag.old a width }
+    ensures extends { Extends dag.old dag.new }
+    ensures made { IfOk result (λ i. IsValue dag.new i width (λ v. word_negation width (value v dag.old a))) }
+{
+    let id = dag.make(Node::Negate(a))?;
+    Ok(id)
+}
+
 // Whether a word is the least of its width, and not 0.
 fn is_least(dag: &mut Dag, a: Id, width: u32) -> Result<Id, AllocError>
     requires a { IsWord dag.old a width }
     ensures extends { Extends dag.old dag.new }
     ensures made { IfOk result (λ i. IsTest dag.new i (λ v. (value v dag.old a == word_negation width (value v dag.old a)) && not (value v dag.old a == 0))) }
 {
-    let negated = dag.make(Node::Negate(a))?;
+    let negated = negation(dag, a, width)?;
     let same = equal(dag, a, negated, width)?;
     let nonzero = nonzero_test(dag, a)?;
     let id = both(dag, same, nonzero)?;

@@ -43,6 +43,10 @@ pub record Makes (d e : List Node) (n : Node) (i : Id) : Type 0 where
 abbrev pub Grows : List Node → List Node → Node → Type 0
 Grows d e n = (e ≡ d) ⊎ ((e ≡ d ++ n ∷ []) ⊎ ((bits : ℕ) × (w : ℕ) × (e ≡ d ++ Constant bits w ∷ [])))
 
+-- e is d with one more node, a constant
+abbrev pub GrowsByConstant : List Node → List Node → Type 0
+GrowsByConstant d e = (bits : ℕ) × (w : ℕ) × (e ≡ d ++ Constant bits w ∷ [])
+
 -- the word is what n means behind the nodes of d, whatever the variables are
 pub record IsDecided (d : List Node) (n : Node) (w : BitVector) : Type 0 where
   pub width_is : w.width ≡ node_width (widths d) n

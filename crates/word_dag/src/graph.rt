@@ -6,6 +6,7 @@ ghost use Rattle.std.specs.Prelude.{
   ◌<◌,
   ◌≤◌,
   IsTrue,
+  IsFalse,
   is_some,
   ◌↔◌,
   List,
@@ -27,7 +28,7 @@ ghost use Rattle.words.specs.BitVector.{BitVector, word};
 ghost use Rattle.word_dag.specs.Meaning.{node_width, node_value, widths, values, width, value, valuation_of};
 ghost use Rattle.word_dag.specs.Fitting.{is_width, is_there, are_alike, fits, is_ordered};
 ghost use Rattle.word_dag.specs.Folding.{is_constant, folds, chooses};
-ghost use Rattle.word_dag.specs.Growth.{Within, Extends, Makes, Grows, IsDecided, IsFitting};
+ghost use Rattle.word_dag.specs.Growth.{Within, Extends, Makes, Grows, GrowsByConstant, IsDecided, IsFitting};
 
 use crate::evaluate;
 use crate::nodes::{Id, Node};
@@ -110,7 +111,8 @@ impl Dag {
     }
 
     /// Makes a node, and gives its Id. A node of constants is made as the constant that it comes to,
-    /// and for a choice by a constant the Id of the chosen operand is given. The only error is that
+    /// the one node that is added, and for a choice by a constant the Id of the chosen operand is given
+    /// and nothing is added. Any other node is added as it is, and no other. The only error is that
     /// there is no memory; the graph is then unchanged.
     pub fn make(&mut self, node: Node) -> Result<Id, AllocError>
         requires { IsFitting self.old node }
@@ -118,7 +120,9 @@ impl Dag {
         ensures made { IfOk result (Makes self.old self.new node) }
         ensures grows { Grows self.old self.new node }
         ensures folded { IsTrue (folds self.old node) → IfOk result (λ i. IsTrue (is_constant self.new i)) }
+        ensures constant { IsTrue (folds self.old node) → OnOk result (GrowsByConstant self.old self.new) }
         ensures chosen { IsTrue (chooses self.old node) → self.new ≡ self.old }
+        ensures plain { IsFalse (folds self.old node) → IsFalse (chooses self.old node) → OnOk result (self.new ≡ self.old ++ node ∷ []) }
         ensures err { OnErr result (self.new ≡ self.old) }
     {
         if let Some(id) = self.chosen(node) {

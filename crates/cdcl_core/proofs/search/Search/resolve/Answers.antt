@@ -10,7 +10,7 @@ use Rattle.sat_form.specs.Propagation.{Follows}
 use Rattle.cdcl_core.specs.declared.analysis.Lesson.TheVariants.{Learned, Refuted}
 use Rattle.cdcl_core.specs.Learning.{IsLesson}
 use Rattle.cdcl_core.specs.Settled.{AreSettled}
-use Rattle.cdcl_core.specs.Answers.{unit_count}
+use Rattle.cdcl_core.specs.Answers.{unit_count, EndsAllowed}
 use Rattle.cdcl_core.proofs.Starting.{undecided}
 use Rattle.cdcl_core.proofs.Logging.{IsSpent-from, IsRefutation-from}
 use Rattle.cdcl_core.proofs.Settling.{AreSettled-quiet}
@@ -34,7 +34,7 @@ returns-in_ok-add-in-Refuted c = λ form ready.
     let follows : Follows c.args.self.now.clauses.items [] = subst (λ (x : List (List Literal)). Follows x []) c.deref.ensures.value refuted.1 in
     let log : c.replace-in-Refuted.result ≡ c.args.self.now.log ++ Added [] c.in-Refuted.hints ∷ [] =
     c.replace-in-Refuted.ensures.value ∙ c.in_ok-add-in-Refuted.ensures.ok ∙ ap (λ (x : List Literal). c.args.self.now.log ++ Added x c.in-Refuted.hints ∷ []) c.new-in-Refuted.ensures in
-    subst (λ (x : List Entry). IsRefutation form.clauses x × (unit_count x ≤ c.args.budget) × AreEntriesWithin form.variables x) (sym log)
+    subst (λ (x : List Entry). IsRefutation form.clauses x × (unit_count x ≤ c.args.budget) × AreEntriesWithin form.variables x × EndsAllowed form.clauses x) (sym log)
     (IsRefutation-from form c.args.budget c.args.self.now.clauses.items c.args.self.now.log c.in-Refuted.hints ready.logged follows)
 
 pub returns-in_ok-learn-in-Learned : goal.returns-in_ok-learn-in-Learned
