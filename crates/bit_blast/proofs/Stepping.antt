@@ -13,9 +13,9 @@ use Rattle.word_dag.specs.Fitting.{are_alike, fits, is_ordered}
 use Rattle.word_dag.proofs.Folds.{length_widths, width-take}
 use Rattle.word_dag.proofs.Order.{fits-at, width_is_final}
 use Rattle.word_dag.proofs.Bounds.{width_is_range}
-use Rattle.gate_arith.specs.Growth.{Grows, added_to}
+use Rattle.gate_arith.specs.Growth.{Grows, added_to, known_part}
 use Rattle.gate_arith.specs.Truth.{IsTruth, IsNumber}
-use Rattle.gate_arith.proofs.Steps.{old-new}
+use Rattle.gate_arith.proofs.Knowing.{IsTruth-known_later}
 use Rattle.bit_blast.specs.Numbers.{literals_at, numbers_of, counts_of, lifted}
 use Rattle.bit_blast.specs.Reach.{operands, node_at, AreMarks}
 use Rattle.bit_blast.specs.Variables.{width_read, variable_width}
@@ -67,9 +67,9 @@ pub record Ready (form : Form) (before variables : List (List Literal)) (n : Nod
   pub wide : (k : ℕ) → width_read n k ≤ length (literals_at variables k)
   pub before_within : AreWithin form.variables before
   pub variables_within : AreWithin form.variables variables
-  pub one_is : IsTruth form one (λ _. true)
+  pub one_is : IsTruth (known_part form) one (λ _. true)
 
-pub ready : (ns : List Node) (goal : ℕ) (marks : List Bool) (variables : List (List Literal)) (first : Form) (k : ℕ) (form : Form) (literals : List (List Literal)) (one : Literal) → is_ordered ns ≡ true → AreMarks ns goal marks → k < length ns → Marked marks k → AreWithin first.variables variables → ((j : ℕ) → length (literals_at variables j) ≡ variable_width ns j) → IsTruth first one (λ _. true) → AreSteps ns marks variables first k form literals → Ready form literals variables (node_at ns k) one
+pub ready : (ns : List Node) (goal : ℕ) (marks : List Bool) (variables : List (List Literal)) (first : Form) (k : ℕ) (form : Form) (literals : List (List Literal)) (one : Literal) → is_ordered ns ≡ true → AreMarks ns goal marks → k < length ns → Marked marks k → AreWithin first.variables variables → ((j : ℕ) → length (literals_at variables j) ≡ variable_width ns j) → IsTruth (known_part first) one (λ _. true) → AreSteps ns marks variables first k form literals → Ready form literals variables (node_at ns k) one
 ready ns goal marks variables first k form literals one ordered are l m within wide has steps =
     let so : Known ns marks variables first k form literals = known ns goal marks variables first ordered are k form literals (omega arith) steps in
     let js : List ℕ = operands (node_at ns k) in
@@ -89,7 +89,7 @@ ready ns goal marks variables first k form literals one ordered are l m within w
       wide = λ j. omega (arith, read_width ns k j l, wide j);
       before_within = so.within;
       variables_within = AreWithin-weaker first.variables form.variables variables so.grows.variables within;
-      one_is = record { within = omega (arith, has.within, so.grows.variables); is = λ x all. has.is x (old-new so.grows x all) };
+      one_is = IsTruth-known_later has so.grows;
     }
 
 -- ---- one step more

@@ -11,7 +11,7 @@ use Rattle.bit_blast.specs.Numbers.{literals_at, numbers_of, lifted}
 use Rattle.bit_blast.specs.Reach.{node_at, AreMarks}
 use Rattle.bit_blast.specs.Variables.{IsBeginning}
 
--- The step of a node, over the widths ws of the nodes and the literals of those before it. The form only grows: each model of the old one extends to the added clauses at new variables alone. In each assignment that satisfies the added clauses, the node's own literals give what the node means over the numbers of its operands and of the variables.
+-- The step of a node, over the widths ws of the nodes and the literals of those before it. The form only grows: each model of the old one extends to the added clauses at new variables alone, and so does each assignment in which the literal of the form's first clause is true. In each assignment that satisfies the added clauses, the node's own literals give what the node means over the numbers of its operands and of the variables.
 pub record IsEncoded (ws : List ℕ) (variables before : List (List Literal)) (n : Node) (old new : Form) (own : List Literal) : Type 0 where
   pub grows : Grows old new
   pub is : IsNumber (added_to old new) (node_width ws n) own (λ x. node_value (lifted variables x) ws (numbers_of before x) n)

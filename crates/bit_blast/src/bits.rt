@@ -1,18 +1,20 @@
+#![tactic(auto, using(gate_arith::proofs::Steps::steps))]
+
 ghost use Rattle.std.specs.Prelude.{◌≡◌, ℕ, ◌+◌, ◌^◌, ◌<◌, ◌≤◌, true, Bool, [], ◌∷◌, ◌++◌, IfOk, OnOk, length, replicate, if◌then◌else◌};
 ghost use Rattle.sat_form.specs.Satisfaction.{Form, literal_value, Satisfies, IsWithin, inverse_of};
 ghost use Rattle.sat_form.specs.Numbers.{value_of};
 ghost use Rattle.words.specs.Operators.{low_bits, logical_shift, sign_extension};
 ghost use Rattle.word_dag.specs.Meaning.{joined};
-ghost use Rattle.gate_arith.specs.Growth.{Grows, added_to};
+ghost use Rattle.gate_arith.specs.Growth.{Grows, added_to, known_part};
 ghost use Rattle.gate_arith.specs.Truth.{IsTruth, IsNumber};
 
 use gate_arith::Lits;
 use sat_form::{Cnf, Lit};
 use std::alloc::{AllocError, Global};
 
-// Says once more that the literal is true.
+// Says once more that the literal is true, which the form's first clause says alone.
 fn state(alloc: Global, cnf: &mut Cnf, one: Lit) -> Result<(), AllocError>
-    requires one { IsTruth cnf.old one (λ _. true) }
+    requires one { IsTruth (known_part cnf.old) one (λ _. true) }
     ensures grows { Grows cnf.old cnf.new }
     ensures is { OnOk result (IsTruth (added_to cnf.old cnf.new) one (λ _. true)) }
 {
@@ -61,7 +63,7 @@ pub fn constant(
     one: Lit,
 ) -> Result<Lits, AllocError>
     requires bits { bits < 2 ^ width }
-    requires one { IsTruth cnf.old one (λ _. true) }
+    requires one { IsTruth (known_part cnf.old) one (λ _. true) }
     ensures grows { Grows cnf.old cnf.new }
     ensures is { IfOk result (λ r. IsNumber (added_to cnf.old cnf.new) width r (λ _. bits)) }
 {
@@ -79,7 +81,7 @@ pub fn zero_extended(
     one: Lit,
 ) -> Result<Lits, AllocError>
     requires wider { length a.now ≤ width }
-    requires one { IsTruth cnf.old one (λ _. true) }
+    requires one { IsTruth (known_part cnf.old) one (λ _. true) }
     requires a { IsWithin cnf.old.variables a.now }
     ensures grows { Grows cnf.old cnf.new }
     ensures is { IfOk result (λ r. IsNumber (added_to cnf.old cnf.new) width r (λ x. value_of a.now x)) }

@@ -3,6 +3,7 @@ ghost use Rattle.sat_form.specs.Satisfaction.{AreWithin, Satisfies};
 ghost use Rattle.word_dag.specs.Meaning.{width, value};
 ghost use Rattle.word_dag.specs.Growth.{Within};
 ghost use Rattle.word_dag.specs.Fitting.{is_ordered};
+ghost use Rattle.gate_arith.specs.Growth.{known_part};
 ghost use Rattle.gate_arith.specs.Truth.{IsTruth};
 ghost use Rattle.bit_blast.specs.Numbers.{literals_at, lifted};
 ghost use Rattle.bit_blast.specs.Reach.{AreMarks};
@@ -29,7 +30,7 @@ pub struct Blasted {
 // The form before the first node, the literals of the variables, and a literal that is true.
 fn begin(alloc: Global, dag: &Dag) -> Result<(Cnf, LitLists, Lit), AllocError>
     ensures begins { IfOk result (λ r. IsBeginning dag.now r.1 r.0) }
-    ensures one { IfOk result (λ r. IsTruth r.0 r.2 (λ _. true)) }
+    ensures one { IfOk result (λ r. IsTruth (known_part r.0) r.2 (λ _. true)) }
 {
     let widths = variable_widths(alloc, dag.nodes())?;
     let mut cnf = Cnf::new(alloc);
@@ -52,7 +53,7 @@ fn encode(
     requires marks { (goal : ℕ) × AreMarks nodes.now goal marks.now }
     requires within { AreWithin cnf.old.variables variables.now }
     requires wide { (k : ℕ) → length (literals_at variables.now k) ≡ variable_width nodes.now k }
-    requires one { IsTruth cnf.old one (λ _. true) }
+    requires one { IsTruth (known_part cnf.old) one (λ _. true) }
     ensures { IfOk result (λ literals. AreSteps nodes.now marks.now variables.now cnf.old (length nodes.now) cnf.new literals) }
 {
     let mut literals = LitLists::new(alloc);

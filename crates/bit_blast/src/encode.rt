@@ -6,7 +6,7 @@ ghost use Rattle.sat_form.specs.Satisfaction.{IsWithin, AreWithin};
 ghost use Rattle.sat_form.specs.Numbers.{value_of};
 ghost use Rattle.word_dag.specs.Meaning.{at, node_width, node_value};
 ghost use Rattle.word_dag.specs.Fitting.{fits};
-ghost use Rattle.gate_arith.specs.Growth.{Grows, added_to};
+ghost use Rattle.gate_arith.specs.Growth.{Grows, added_to, known_part};
 ghost use Rattle.gate_arith.specs.Truth.{IsTruth, IsNumber};
 ghost use Rattle.bit_blast.specs.Numbers.{literals_at, numbers_of, counts_of, lifted};
 ghost use Rattle.bit_blast.specs.Reach.{operands};
@@ -47,7 +47,7 @@ pub fn node_literals(
     requires wide { (k : ℕ) → width_read node k ≤ length (literals_at variables.now k) }
     requires before { AreWithin cnf.old.variables before.now }
     requires variables { AreWithin cnf.old.variables variables.now }
-    requires one { IsTruth cnf.old one (λ _. true) }
+    requires one { IsTruth (known_part cnf.old) one (λ _. true) }
     ensures grows { Grows cnf.old cnf.new }
     ensures is { IfOk result (λ r. IsNumber (added_to cnf.old cnf.new) (node_width (counts_of before.now) node) r (λ x. node_value (lifted variables.now x) (counts_of before.now) (numbers_of before.now x) node)) }
 {

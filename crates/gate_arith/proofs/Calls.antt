@@ -3,8 +3,9 @@ use Rattle.std.proofs.Common.{◌≡◌, ℕ, ◌≤◌, Bool, true, false, ◌&
 use Rattle.sat_form.specs.Satisfaction.{Literal, Form, Satisfies, IsWithin, AreWithin, AgreeBelow}
 use Rattle.sat_form.proofs.Truth.{Satisfies-append, Satisfies-agree}
 use Rattle.sat_form.proofs.Within.{AreWithin-weaker, AreWithin-append}
-use Rattle.gate_arith.specs.Growth.{Grows, GrowsFreely, IsPart, added_to}
+use Rattle.gate_arith.specs.Growth.{Grows, GrowsFreely, IsPart, added_to, known_clauses, known_part}
 use Rattle.gate_arith.specs.Truth.{IsTruth, IsNumber}
+use Rattle.gate_arith.proofs.Knowing.{known-holds, known-within}
 use Rattle.gate_arith.proofs.Steps.{Grows-refl, Grows-same, added_to-is}
 
 -- a part of which the form's first clause is known
@@ -15,6 +16,12 @@ Grows-part {f} {p} {q} {g} part grows is =
     let same : p.variables ≡ f.variables = part.variables in
     let more : p.variables ≤ q.variables = grows.variables in
     let within : AreWithin q.variables q.clauses = subst (AreWithin q.variables) (sym grows.clauses) (AreWithin-append q.variables p.clauses grows.added (AreWithin-weaker p.variables q.variables p.clauses more part.within) grows.within) in
+    let agree : (x : ℕ → Bool) → AgreeBelow f.variables x (grows.extends x).0 = λ x. subst (λ (n : ℕ). AgreeBelow n x (grows.extends x).0) same (grows.extends x).1 in
+    let whole : (x : ℕ → Bool) → Satisfies x (known_clauses f.clauses) → Satisfies (grows.extends x).0 q.clauses =
+    λ x all.
+    let one = grows.extends x in
+    let begun : Satisfies one.0 p.clauses = Satisfies-agree p.variables x one.0 p.clauses one.1 part.within (part.is x all) in
+    subst (Satisfies one.0) (sym grows.clauses) (Satisfies-append one.0 p.clauses grows.added begun one.2) in
     record {
       added = q.clauses;
       clauses = clauses;
@@ -22,11 +29,12 @@ Grows-part {f} {p} {q} {g} part grows is =
       within = subst (λ (n : ℕ). AreWithin n q.clauses) (sym variables) within;
       extends = λ x all.
           let one = grows.extends x in
-          let agree : AgreeBelow f.variables x one.0 = subst (λ (n : ℕ). AgreeBelow n x one.0) same one.1 in
-          let begun : Satisfies one.0 p.clauses = Satisfies-agree p.variables x one.0 p.clauses one.1 part.within (part.is x all) in
-          let whole : Satisfies one.0 q.clauses = subst (Satisfies one.0) (sym grows.clauses) (Satisfies-append one.0 p.clauses grows.added begun one.2) in
-          let old : Satisfies one.0 f.clauses = Satisfies-agree f.variables x one.0 f.clauses agree part.form_within all in
-          (one.0, agree, subst (Satisfies one.0) (sym clauses) (Satisfies-append one.0 f.clauses q.clauses old whole));
+          let old : Satisfies one.0 f.clauses = Satisfies-agree f.variables x one.0 f.clauses (agree x) part.form_within all in
+          (one.0, agree x, subst (Satisfies one.0) (sym clauses) (Satisfies-append one.0 f.clauses q.clauses old (whole x (known-holds x f.clauses all))));
+      freely = λ x all.
+          let one = grows.extends x in
+          let old : Satisfies one.0 (known_clauses f.clauses) = Satisfies-agree f.variables x one.0 (known_clauses f.clauses) (agree x) (known-within f.variables f.clauses part.form_within) all in
+          (one.0, agree x, Satisfies-append one.0 (known_clauses f.clauses) q.clauses old (whole x all));
     }
 
 pub Part_none : (f p : Form) → AreWithin f.variables f.clauses → p ≡ record { variables = f.variables; clauses = [] } → IsPart f p
@@ -37,7 +45,7 @@ Part_none f p within is = record {
   is = λ x all. subst (λ (e : Form). Satisfies x e.clauses) (sym is) refl;
 }
 
-pub Part_one : (f e p : Form) (l : Literal) → AreWithin f.variables f.clauses → IsTruth f l (λ x. true) → e ≡ record { variables = f.variables; clauses = [] } → p ≡ record e { clauses = e.clauses ++ (l ∷ []) ∷ [] } → IsPart f p
+pub Part_one : (f e p : Form) (l : Literal) → AreWithin f.variables f.clauses → IsTruth (known_part f) l (λ x. true) → e ≡ record { variables = f.variables; clauses = [] } → p ≡ record e { clauses = e.clauses ++ (l ∷ []) ∷ [] } → IsPart f p
 Part_one f e p l within one none is =
     let whole : p ≡ record { variables = f.variables; clauses = (l ∷ []) ∷ [] } = is ∙ ap (λ (d : Form). record d { clauses = d.clauses ++ (l ∷ []) ∷ [] }) none in
     record {

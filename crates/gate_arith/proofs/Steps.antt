@@ -1,12 +1,13 @@
 -- Steps of a form that grows by calls: what was added by one step is among what was added by more.
-use Rattle.std.proofs.Common.{◌≡◌, ℕ, Bool, List, [], ◌++◌, drop, length, sym, ap, ◌∙◌, subst, arith, append_assoc}
+use Rattle.std.proofs.Common.{◌≡◌, ℕ, Bool, List, [], ◌++◌, drop, length, refl, sym, ap, ◌∙◌, subst, arith, append_assoc}
 use Rattle.std.proofs.Math.Seq.{drop-append_seam}
 use Rattle.std.proofs.lemmas.List.{append-nil}
 use Rattle.sat_form.specs.Satisfaction.{Literal, Form, Satisfies}
-use Rattle.sat_form.proofs.Truth.{Satisfies-front, Satisfies-back, AgreeBelow-refl, AgreeBelow-trans}
+use Rattle.sat_form.proofs.Truth.{Satisfies-append, Satisfies-front, Satisfies-back, Satisfies-agree, AgreeBelow-refl, AgreeBelow-trans}
 use Rattle.sat_form.proofs.Within.{IsWithin-weaker, AreWithin-weaker, AreWithin-append}
-use Rattle.gate_arith.specs.Growth.{Grows, added_to}
+use Rattle.gate_arith.specs.Growth.{Grows, added_to, known_clauses}
 use Rattle.gate_arith.specs.Truth.{IsTruth, IsNumber}
+use Rattle.gate_arith.proofs.Knowing.{known-front, known-whole}
 
 -- ---- growth
 
@@ -17,6 +18,7 @@ Grows-refl f = record {
   variables = omega arith;
   within = tt;
   extends = λ x all. (x, AgreeBelow-refl f.variables x, all);
+  freely = λ x all. (x, AgreeBelow-refl f.variables x, Satisfies-append x (known_clauses f.clauses) [] all refl);
 }
 
 pub Grows-same : (f g : Form) → g ≡ f → Grows f g
@@ -32,6 +34,16 @@ Grows-then {f} {g} {h} first second = record {
       let one = first.extends x all in
       let two = second.extends one.0 one.2 in
       (two.0, AgreeBelow-trans f.variables g.variables x one.0 two.0 first.variables one.1 two.1, two.2);
+  freely = λ x all.
+      let one = first.freely x all in
+      let two = second.freely one.0 (subst (λ (cs : List (List Literal)). Satisfies one.0 (known_clauses cs)) (sym first.clauses) (known-whole one.0 f.clauses first.added one.2)) in
+      let old : Satisfies two.0 (known_clauses f.clauses) = known-front two.0 f.clauses first.added (subst (λ (cs : List (List Literal)). Satisfies two.0 (known_clauses cs)) first.clauses (Satisfies-front two.0 (known_clauses g.clauses) second.added two.2)) in
+      let middle : Satisfies two.0 first.added = Satisfies-agree g.variables one.0 two.0 first.added two.1 first.within (Satisfies-back one.0 (known_clauses f.clauses) first.added one.2) in
+      let last : Satisfies two.0 second.added = Satisfies-back two.0 (known_clauses g.clauses) second.added two.2 in (
+        two.0,
+        AgreeBelow-trans f.variables g.variables x one.0 two.0 first.variables one.1 two.1,
+        Satisfies-append two.0 (known_clauses f.clauses) (first.added ++ second.added) old (Satisfies-append two.0 first.added second.added middle last),
+      );
 }
 
 -- ---- what was added

@@ -3,7 +3,7 @@
 ghost use Rattle.std.specs.Prelude.{◌≡◌, ℕ, ◌<◌, ◌++◌, true, Bool, ◌&&◌, ◌||◌, IfOk, OnOk, IfSome, if◌then◌else◌};
 ghost use Rattle.sat_form.specs.Satisfaction.{literal_value, AreWithin};
 ghost use Rattle.gate_arith.specs.Clauses.{choice_clauses, most_clauses};
-ghost use Rattle.gate_arith.specs.Growth.{GrowsFreely, Takes};
+ghost use Rattle.gate_arith.specs.Growth.{GrowsFreely, Takes, known_part};
 ghost use Rattle.gate_arith.specs.Truth.{IsTruth, IsFixed, differs, most};
 
 use sat_form::{Cnf, Lit};
@@ -12,6 +12,7 @@ use std::alloc::{AllocError, Global};
 // The literal that the form's first clause holds alone, if it does.
 pub fn known(cnf: &Cnf) -> Option<Lit>
     ensures is { IfSome result (λ l. IsTruth cnf.now l (λ _. true)) }
+    ensures first { IfSome result (λ l. IsTruth (known_part cnf.now) l (λ _. true)) }
     ensures within { AreWithin cnf.now.variables cnf.now.clauses }
 {
     match cnf.clauses() {
