@@ -8,7 +8,7 @@ use Rattle.word_dag.specs.declared.nodes.Id.{Id}
 use Rattle.word_dag.specs.declared.nodes.Node.{Node}
 use Rattle.word_dag.specs.Meaning.{value, valuation_of}
 use Rattle.bit_blast.specs.Steps.{IsBlasted}
-use Rattle.cdcl_core.specs.Answers.{unit_count}
+use Rattle.cdcl_core.specs.Answers.{EndsAllowed, unit_count}
 use Rattle.core_tree.specs.Trees.{TypedFile}
 use Rattle.core_tree.specs.Ranges.{Limits}
 use Rattle.interleave.specs.Inputs.{InputLists}
@@ -76,7 +76,7 @@ abbrev pub IsSolved : List Node → Id → ℕ → Solved → Type 0
 IsSolved nodes goal budget (solutions.Values v) = value (valuation_of v) nodes goal ≡ 1
 IsSolved nodes goal budget (solutions.Refuted used) =
     ((v : ℕ → ℕ) → value v nodes goal ≡ 1 → ⊥) × HasForm nodes goal used.form × IsRefutation used.form.clauses used.log
-    × (unit_count used.log ≤ budget)
+    × (unit_count used.log ≤ budget) × EndsAllowed used.form.clauses used.log
 IsSolved nodes goal budget (solutions.Budget used) = HasForm nodes goal used.form × IsSpent used.form.clauses used.log budget
 
 -- what a search of a program's runs found: none that breaks a check, with the refutation of its clauses; a run that breaks

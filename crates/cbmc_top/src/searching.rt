@@ -9,6 +9,7 @@ ghost use Rattle.c_interp.specs.Source.{source_thread, first_objects};
 ghost use Rattle.interleave.specs.World.{first_world};
 ghost use Rattle.goto_prog.specs.Flat.{plain_thread};
 ghost use Rattle.goto_unwind.specs.Counts.{passed};
+ghost use Rattle.guarded_ssa.specs.Forms.{IsForm};
 ghost use Rattle.mem_seq.specs.Accesses.{AreObjects};
 ghost use Rattle.mem_seq.specs.Formulas.{IsFormula, FormulaIn};
 ghost use Rattle.cbmc_top.specs.Stops.{StopsWith, IsPassed};
@@ -87,6 +88,7 @@ fn unrolled_code(alloc: Global, file: &Admitted, bounds: &Bounds) -> Result<Unro
 /// The formula of the runs of unrolled code that break a check.
 fn formula_of(alloc: Global, dag: &mut Dag, unrolled: &Unrolled) -> Result<Formula, AllocError>
     ensures within { IfOk result (λ f. FormulaIn dag.new f) }
+    ensures form { IfOk result (λ f. (t : Thread) → (plain_thread unrolled.now).behaves ≡ t.behaves → IsForm t.behaves dag.new f.form.events) }
     ensures formula { IfOk result (λ f. (t : Thread) → AreObjects unrolled.now.store → (plain_thread unrolled.now).behaves ≡ t.behaves → IsFormula (first_world t unrolled.now.store) dag.new f) }
 {
     let forms = threads(alloc, unrolled, dag)?;

@@ -319,6 +319,15 @@ pub test_of : (m e : List Node) (goal : Id) (given : Form) (store : Objects) (es
 test_of m e goal given store es store_is es_are test =
     same_test e goal _ _ (λ v. (λ i. agrees (store_is i) (checked (store_is i) (run_read v m (es_are i))) && breaks (checked (store_is i) (run_read v m (es_are i))))) test
 
+-- a form of a thread is one in a larger graph too
+pub is_form_later : (d m e : List Node) (own given : Form) (t : Thread) → own ≡ given → Extends d m → Extends m e → FormIn d given.events → IsForm t.behaves d given.events → IsForm t.behaves e own.events
+is_form_later d m e own given t same x y there form =
+    let stays : (v : ℕ → ℕ) → run_read v e given.events ≡ run_read v d given.events = λ v. run_stays v d e given.events (extends_more d m e x y) there in
+    subst (λ (g : Form). IsForm t.behaves e g.events) (sym same) (record {
+      gives = λ v run next begins. form.gives v run next (subst (λ (r : Run). Begins run next r) (stays v) begins);
+      has = λ run next local. let h = form.has run next local in (h.0, subst (λ (r : Run). Begins run next r) (sym (stays h.0)) h.1);
+    })
+
 -- the goal is made in the graph that the notes leave
 pub formula_made : (d m e : List Node) (f : Formula) (given : Form) (t : Thread) → f.form ≡ given → is_ordered d ≡ true → Extends d m → Extends m e → FormIn d given.events → IsTest e f.goal (λ v. breaks_in v m given)
     → AreObjects given.store → IsForm t.behaves d given.events → IsFormula (first_world t given.store) e f

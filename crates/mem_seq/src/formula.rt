@@ -148,7 +148,7 @@ fn goal(dag: &mut Dag, store: &Store, events: &[Event], notes: &[Note]) -> Resul
 }
 
 /// The formula of the runs of one thread that break a check, over the form of the thread and from its store
-/// on. The only error is that there is no memory.
+/// on. It keeps the form, so that each run of the thread has a valuation that tells it. The only error is that there is no memory.
 pub fn sequential(
     alloc: Global,
     dag: &mut Dag,
@@ -158,6 +158,7 @@ pub fn sequential(
     requires { FormIn dag.old form.now.events }
     ensures extends { Extends dag.old dag.new }
     ensures within { IfOk result (λ f. FormulaIn dag.new f) }
+    ensures form { IfOk result (λ f. (t : Thread) → IsForm t.behaves dag.old form.now.events → IsForm t.behaves dag.new f.form.events) }
     ensures formula { IfOk result (λ f. (t : Thread) → AreObjects form.now.store → IsForm t.behaves dag.old form.now.events → IsFormula (first_world t form.now.store) dag.new f) }
 {
     let _ = dag.nodes();

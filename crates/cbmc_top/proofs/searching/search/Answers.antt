@@ -33,9 +33,10 @@ returns-in-Refuted-clause-found c =
         at_all = λ on. c.safe_at_all.ensures core c.args.bounds.now on (safe_without (source_world core c.args.bounds.now) d f is x.0);
       },
       record {
-        form = record { nodes = d; formula = f; within = c.in_ok-formula.ensures.within; of_runs = is; variables = x.1.0; blasted = x.1.1 };
+        form = record { nodes = d; formula = f; within = c.in_ok-formula.ensures.within; of_runs = is; told = c.in_ok-formula.ensures.form (source_thread core c.args.bounds.now) c.in_ok-unrolled.ensures.same; variables = x.1.0; blasted = x.1.1 };
         refutes = x.2;
         few = x.3;
+        units = x.4;
       },
     )
 
@@ -47,6 +48,6 @@ returns-clause-found c =
     let is = from_store core c.args.bounds.now d f c.in_ok-unrolled.unrolled.store c.in_ok-unrolled.ensures.store (c.in_ok-formula.ensures.formula (source_thread core c.args.bounds.now) c.in_ok-unrolled.ensures.objects c.in_ok-unrolled.ensures.same) in
     let x = subst (IsSolved d f.goal c.args.budget) c.in-Budget.is c.in_ok-solved.ensures in
     record {
-      form = record { nodes = d; formula = f; within = c.in_ok-formula.ensures.within; of_runs = is; variables = x.0.0; blasted = x.0.1 };
+      form = record { nodes = d; formula = f; within = c.in_ok-formula.ensures.within; of_runs = is; told = c.in_ok-formula.ensures.form (source_thread core c.args.bounds.now) c.in_ok-unrolled.ensures.same; variables = x.0.0; blasted = x.0.1 };
       spent = x.1;
     }

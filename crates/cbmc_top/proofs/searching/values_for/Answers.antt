@@ -10,4 +10,5 @@ returns-else-not-check c =
       (blasted.map, c.in_ok-blasted.ensures.steps),
       found.0,
       found.1,
+      found.3,
     )
