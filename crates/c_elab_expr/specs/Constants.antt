@@ -14,7 +14,7 @@ use Rattle.core_tree.specs.Operations.{converted, is_true, truth_bits, arithmeti
 use Rattle.core_tree.specs.Trees.{Expression, constant, read, convert, sign, is_zero, arithmetic, compare, logical, choice, assign, update, step, comma, assertion, assumption, draw, part, discard, discard_structure, call, function_name}
 use Rattle.c_values.specs.Numbers.{TypedNumber, typed, same_width, are_operands_of}
 
--- no variable, assignment, call or comma stands in it, not even where it isn't evaluated
+-- no variable, assignment or call stands in it, not even where it isn't evaluated; a comma stands in it only where it isn't
 abbrev pub is_constant_form : Expression → Bool
 is_constant_form (constant line t bits) = true
 is_constant_form (read p) = false
@@ -28,7 +28,7 @@ is_constant_form (choice line test a b) = is_constant_form test && is_constant_f
 is_constant_form (assign line p e) = false
 is_constant_form (update line p op t e) = false
 is_constant_form (step line p op before) = false
-is_constant_form (comma line a b) = false
+is_constant_form (comma line a b) = is_constant_form a && is_constant_form b
 is_constant_form (assertion line e) = false
 is_constant_form (assumption line e) = false
 is_constant_form (draw line t) = false

@@ -62,12 +62,12 @@ built_in_types =
     ∷ plain (ctypes.aggregate 0)
     ∷ []
 
--- a struct with a member of type unsigned, which has no name
+-- a struct with a member of type unsigned
 abbrev pub built_in_records : Records
 built_in_records = record { declared = Struct ∷ []; done = record { place = 0; kind = Struct; members = ctypes.integer types.UnsignedInt ∷ [] } ∷ [] }
 
 abbrev pub built_in_members : List Members
-built_in_members = record { named = []; constant = false } ∷ []
+built_in_members = record { named = record { name = codes "__cell"; path = 0 ∷ []; constant = false } ∷ []; constant = false } ∷ []
 
 -- the names that each file may use without a declaration
 abbrev pub built_ins : Environment

@@ -72,9 +72,9 @@ fn is_constant_form(expr: &CoreExpr) -> bool
         } => false,
         CoreExpr::Comma {
             line: _,
-            left: _,
-            right: _,
-        } => false,
+            left,
+            right,
+        } => is_constant_form(left) && is_constant_form(right),
         CoreExpr::Assertion {
             line: _,
             condition: _,

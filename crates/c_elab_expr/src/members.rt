@@ -1,6 +1,6 @@
 //! The members that `.` finds in structs and unions by their names.
 
-ghost use Rattle.std.specs.Prelude.{◌≡◌, ◌||◌, [], map, option_map, IfOk, OnOk};
+ghost use Rattle.std.specs.Prelude.{◌≡◌, ◌||◌, false, [], ◌∷◌, map, option_map, IfOk, OnOk};
 ghost use Rattle.c_types.specs.Types.{view, views, aggregate};
 ghost use Rattle.c_elab_expr.specs.Members.{Member, Members, view_field, view_fields, field_types, no_members, members_in, through, ways_of, named_of, among, with_member, with_members, named_from, has_constant, members_by, found, member_in, part_at, view_way, view_ways, view_members, view_tables};
 ghost use Rattle.c_elab_expr.specs.Nodes.{required};
@@ -52,6 +52,22 @@ impl MemberTable {
             ways: no_ways(alloc),
             constant: false,
         }
+    }
+
+    /// The names of a struct whose one member has this name.
+    pub fn of_one(alloc: Global, name: &[u8]) -> Result<MemberTable, AllocError>
+        ensures { IfOk result (λ t. view_members t ≡ record { named = record { name = name.now; path = 0 ∷ []; constant = false } ∷ []; constant = false }) }
+    {
+        let mut ways = no_ways(alloc);
+        let way = Way {
+            path: vec![in alloc; 0]?,
+            constant: false,
+        };
+        add_way(&mut ways, name.to_vec(alloc)?, way)?;
+        Ok(MemberTable {
+            ways,
+            constant: false,
+        })
     }
 
     /// The way of a name.

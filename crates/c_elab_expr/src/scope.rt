@@ -112,11 +112,11 @@ fn built_in_layouts(alloc: Global) -> Result<Layouts, AllocError>
     }
 }
 
-// No name of a member of it is known.
+// The name of its member.
 fn built_in_tables(alloc: Global) -> Result<Vec<MemberTable>, AllocError>
     ensures { IfOk result (λ v. view_tables v.items ≡ built_in_members) }
 {
-    let tables = vec![in alloc; MemberTable::new(alloc)]?;
+    let tables = vec![in alloc; MemberTable::of_one(alloc, b"__cell")?]?;
     Ok(tables)
 }
 
