@@ -1,14 +1,10 @@
 -- A function that is declared once more stays what it is.
-use Rattle.std.proofs.Common.{◌≡◌, ℕ, zero, suc, Bool, false, List, [], ◌∷◌, Option, Some, None, refl, ap, ap₂, sym, ◌∙◌}
-use Rattle.std.specs.Prelude.{slice_get, slice_set}
+use Rattle.std.proofs.Common.{◌≡◌, ℕ, Bool, false, List, Option, Some, None, refl, ap, ap₂, sym, ◌∙◌}
+use Rattle.std.specs.Prelude.{slice_get}
 use Rattle.c_tree.specs.Declarations.{Full}
 use Rattle.c_elab_expr.specs.Scopes.{Callable, FunctionType, Scoped}
 use Rattle.c_elab_decl.specs.Functions.{callable_again, changed_callable, declared_callable}
-
-set_own : (all : List Callable) (k : ℕ) (c : Callable) → slice_get all k ≡ Some c → slice_set all k c ≡ all
-set_own [] k c e = let none : ⊥ = cc in absurd none
-set_own (x ∷ all) zero c e = cc
-set_own (x ∷ all) (suc k) c e = ap (λ (xs : List Callable). x ∷ xs) (set_own all k c e)
+use Rattle.c_elab_decl.proofs.Again.{set_own}
 
 changed_own : (d : Full) (all : List Callable) (k : ℕ) (o : Option Callable) → slice_get all k ≡ o → changed_callable all k (callable_again d false) o ≡ all
 changed_own d all k None e = refl

@@ -561,7 +561,8 @@ object_set s i o p h le =
       same = refl;
     }
 
-object_get : (s : Scoped) (k : ℕ) (o : Lasting) → object_at s k ≡ Some o → slice_get s.objects (k - 1) ≡ Some o
+-- where an object is found
+pub object_get : (s : Scoped) (k : ℕ) (o : Lasting) → object_at s k ≡ Some o → slice_get s.objects (k - 1) ≡ Some o
 object_get s k o h = by (k == 0) h where
   by : (b : Bool) → (if b then None else slice_get s.objects (k - 1)) ≡ Some o → slice_get s.objects (k - 1) ≡ Some o
   by true e = let none : ⊥ = cc in absurd none

@@ -1,3 +1,4 @@
+pub mod Again
 pub mod Functions
 pub mod Steps
 pub mod Lists

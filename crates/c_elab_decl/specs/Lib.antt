@@ -4,6 +4,7 @@ pub mod Derivations
 pub mod Initializers
 pub mod Enumerations
 pub mod Declarators
+pub mod Settled
 pub mod Functions
 pub mod Tags
 pub mod Specifiers

@@ -7,6 +7,7 @@ ghost use Rattle.c_elab_expr.specs.Scopes.{view_named, view_lasting, linked_to, 
 ghost use Rattle.c_elab_decl.specs.Derivations.{full_line};
 ghost use Rattle.c_elab_expr.specs.Typing.{Gives, on_line};
 ghost use Rattle.c_elab_decl.specs.Declarators.{is_open, lasting_type, is_array_of, compatible, is_again, is_linked_to, linked_object, lasting_node, declared_again, counted_by, element_of, IsObjectThere, with_object, added_object, changed_object, declared_object, initialized_object, may_define, function_or, earlier_linked, typed_object};
+ghost use Rattle.c_elab_decl.specs.Settled.{is_settled};
 ghost use Rattle.c_elab_decl.specs.Initializers.{view_value};
 
 use crate::derivations::full_line;
@@ -191,7 +192,7 @@ fn declared_again(
 }
 
 // Changes what is known of an object.
-fn declare_again(
+fn change_object(
     alloc: Global,
     number: u32,
     type_: &Ty,
@@ -207,6 +208,34 @@ fn declare_again(
     };
     scope.set_object(number, changed);
     Ok(())
+}
+
+// One more declarator says nothing new of an object, or there is none.
+fn is_settled(object: Option<&Lasting>, defines: bool) -> bool
+    ensures { result ≡ is_settled (option_map (λ o. view_lasting o.now) object.entry) defines }
+{
+    match object {
+        None => true,
+        Some(object) => !object.unknown_length && (object.defined || !defines),
+    }
+}
+
+// What is known of an object behind one more declarator, which often says nothing new.
+fn declare_again(
+    alloc: Global,
+    number: u32,
+    type_: &Ty,
+    unknown_length: bool,
+    defines: bool,
+    scope: &mut Scope,
+) -> Result<(), AllocError>
+    ensures { OnOk result (scope.new ≡ changed_object scope.old number (λ o. declared_again o (type_view type_.now, unknown_length) defines)) }
+{
+    let settled = is_settled(scope.object(number), defines);
+    if settled {
+        return Ok(());
+    }
+    change_object(alloc, number, type_, unknown_length, defines, scope)
 }
 
 // One more object, with linkage or none, and its number.
