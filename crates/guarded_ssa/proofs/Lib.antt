@@ -5,6 +5,7 @@ pub mod Valuations
 pub mod Needs
 pub mod Sorted
 pub mod Spans
+pub mod Turning
 pub mod Stays
 pub mod Joining
 pub mod Setting

@@ -59,7 +59,7 @@ stored_chosen sizes false b1 b2 = refl
 
 module _ (d e : List Node) (code : Listing) (first second s : Slot)
     (guard : IsTest e s.guard (λ v. holds (value v d first.guard) || holds (value v d second.guard))) (zeros : ZerosIn e s.zeros)
-    (live : Merged d e (cells code) first.guard first.live.items second.live.items s.live.items) where
+    (live : Merged d e (cells code) first.guard first.live second.live s.live) where
   merged_in : SlotIn e code s
   merged_in = record {
     guard = record { there = guard.there; width_is = guard.width_is };
@@ -73,14 +73,14 @@ module _ (d e : List Node) (code : Listing) (first second s : Slot)
       let h1 = holds (f first.guard) in
       let h2 = holds (f second.guard) in
       let n = total code.blocks in
-      let b1 = bytes_from f first.live.items (length code.registers) n in
-      let b2 = bytes_from f second.live.items (length code.registers) n in
+      let b1 = bytes_from f first.live (length code.registers) n in
+      let b2 = bytes_from f second.live (length code.registers) n in
       let g : holds (value v e s.guard) ≡ (h1 || h2) = ap holds (guard.value_is v) ∙ holds_bit (h1 || h2) in
-      let bytes : bytes_from (value v e) s.live.items (length code.registers) n ≡ (if h1 then b1 else b2) =
-      words_joined f (value v e) h1 first.live.items second.live.items s.live.items (length code.registers) (replicate n types.Char) (live.words v) in
+      let bytes : bytes_from (value v e) s.live (length code.registers) n ≡ (if h1 then b1 else b2) =
+      words_joined f (value v e) h1 first.live second.live s.live (length code.registers) (replicate n types.Char) (live.words v) in
       ap (λ b. if b then Some (held v e code s) else None) g
       ∙ meets (held v d code first).registers (held v d code second).registers (stored code.blocks b1) (stored code.blocks b2) h1 h2 (held v e code s).registers (held v e code s).blocks
-      (words_joined f (value v e) h1 first.live.items second.live.items s.live.items 0 code.registers (live.words v)) (ap (stored code.blocks) bytes ∙ stored_chosen code.blocks h1 b1 b2)
+      (words_joined f (value v e) h1 first.live second.live s.live 0 code.registers (live.words v)) (ap (stored code.blocks) bytes ∙ stored_chosen code.blocks h1 b1 b2)
 
 -- ---- one slot
 
@@ -95,7 +95,7 @@ under true false m = refl
 under false true m = refl
 under false false m = refl
 
-pub narrowed_in : (d e : List Node) (code : Listing) (s t : Slot) (f : (ℕ → ℕ) → Bool) → Extends d e → SlotIn d code s → IsTest e t.guard f → t.zeros ≡ s.zeros → t.live.items ≡ s.live.items → SlotIn e code t
+pub narrowed_in : (d e : List Node) (code : Listing) (s t : Slot) (f : (ℕ → ℕ) → Bool) → Extends d e → SlotIn d code s → IsTest e t.guard f → t.zeros ≡ s.zeros → t.live ≡ s.live → SlotIn e code t
 narrowed_in d e code s t f x h made z p =
     let k = slot_stays d e x code s h in
     record {
@@ -105,14 +105,14 @@ narrowed_in d e code s t f x h made z p =
     }
 
 -- the same cells
-same_held : (v : ℕ → ℕ) (d : List Node) (code : Listing) (s t : Slot) → t.live.items ≡ s.live.items → held v d code t ≡ held v d code s
+same_held : (v : ℕ → ℕ) (d : List Node) (code : Listing) (s t : Slot) → t.live ≡ s.live → held v d code t ≡ held v d code s
 same_held v d code s t p = λ i. record {
   registers = words_from (value v d) (p i) 0 code.registers;
   blocks = stored code.blocks (bytes_from (value v d) (p i) (length code.registers) (total code.blocks));
 }
 
 pub narrowed_gone : (d e : List Node) (code : Listing) (s t : Slot) (test : Id) → Extends d e → SlotIn d code s → IsTest e t.guard (λ v. holds (value v d s.guard) && holds (value v d test))
-    → t.live.items ≡ s.live.items → (v : ℕ → ℕ) → gone v e code t ≡ (if holds (value v d test) then gone v d code s else None)
+    → t.live ≡ s.live → (v : ℕ → ℕ) → gone v e code t ≡ (if holds (value v d test) then gone v d code s else None)
 narrowed_gone d e code s t test x h made p v =
     let g = holds (value v d s.guard) in
     let k = holds (value v d test) in
@@ -122,14 +122,14 @@ narrowed_gone d e code s t test x h made p v =
     same ∙ under g k (held v d code s)
 
 -- the same memory elsewhere
-pub copied_in : (d : List Node) (code : Listing) (s t : Slot) → t.guard ≡ s.guard → t.zeros ≡ s.zeros → t.live.items ≡ s.live.items → SlotIn d code s → SlotIn d code t
+pub copied_in : (d : List Node) (code : Listing) (s t : Slot) → t.guard ≡ s.guard → t.zeros ≡ s.zeros → t.live ≡ s.live → SlotIn d code s → SlotIn d code t
 copied_in d code s t g z p h = record {
   guard = subst (λ i. IsWord d i 1) (sym g) h.guard;
   zeros = subst (ZerosIn d) (sym z) h.zeros;
   live = subst (AreLive d (cells code)) (sym p) h.live;
 }
 
-pub copied_gone : (v : ℕ → ℕ) (d : List Node) (code : Listing) (s t : Slot) → t.guard ≡ s.guard → t.live.items ≡ s.live.items → gone v d code t ≡ gone v d code s
+pub copied_gone : (v : ℕ → ℕ) (d : List Node) (code : Listing) (s t : Slot) → t.guard ≡ s.guard → t.live ≡ s.live → gone v d code t ≡ gone v d code s
 copied_gone v d code s t g p = let q = same_held v d code s t p in λ i. if holds (value v d (g i)) then Some (q i) else None
 
 -- the memory where a test of it holds too
@@ -142,7 +142,7 @@ no_words : (f : Id → ℕ) (k : ℕ) (ts : List IntegerType) → words_from f [
 no_words f k [] = refl
 no_words f k (t ∷ ts) = ap (λ ws. 0 ∷ ws) (no_words f (suc k) ts)
 
-module _ (d e f : List Node) (code : Listing) (s : Slot) (y : Extends e f) (made : Makes d e (Constant 1 1) s.guard) (zeros : ZerosIn f s.zeros) (live : s.live.items ≡ []) where
+module _ (d e f : List Node) (code : Listing) (s : Slot) (y : Extends e f) (made : Makes d e (Constant 1 1) s.guard) (zeros : ZerosIn f s.zeros) (live : s.live ≡ []) where
   pub started_in : SlotIn f code s
   started_in = record {
     guard = record { there = within_stays e f s.guard y made.there; width_is = y.width_stays s.guard made.there ∙ made.width_is };
@@ -167,7 +167,7 @@ zero_holds v d e f code s operand node test x made is = ap holds (x.value_stays 
 pub other_holds : (v : ℕ → ℕ) (d e f : List Node) (test other : Id) (b : Bool) → Extends e f → holds (value v d test) ≡ b → IsTest e other (λ v. not (holds (value v d test))) → holds (value v f other) ≡ not b
 other_holds v d e f test other b x is made = ap holds (x.value_stays v other made.there ∙ made.value_is v) ∙ holds_bit (not (holds (value v d test))) ∙ ap not is
 
-pub side_gone : (v : ℕ → ℕ) (d e f g : List Node) (code : Listing) (s copy t : Slot) (test : Id) (keeps : Memory → Bool) → Extends d e → Extends f g → SlotIn d code s → SlotIn f code t → copy.guard ≡ s.guard → copy.live.items ≡ s.live.items
+pub side_gone : (v : ℕ → ℕ) (d e f g : List Node) (code : Listing) (s copy t : Slot) (test : Id) (keeps : Memory → Bool) → Extends d e → Extends f g → SlotIn d code s → SlotIn f code t → copy.guard ≡ s.guard → copy.live ≡ s.live
     → holds (value v e test) ≡ keeps (held v d code s) → gone v f code t ≡ (if holds (value v e test) then gone v e code copy else None) → gone v g code t ≡ kept keeps (gone v d code s)
 side_gone v d e f g code s copy t test keeps x y h k p q is so =
     let a : gone v e code copy ≡ gone v d code s = copied_gone v e code s copy p q ∙ gone_stays d e x v code s h in
@@ -180,25 +180,25 @@ side_gone v d e f g code s copy t test keeps x y h k p q is so =
 module _ (d0 d1 d2 : List Node) (code : Listing) (first second s : Slot) (ts : List IntegerType) (l1 l2 : List Live)
     (x : Extends d0 d1) (y : Extends d1 d2) (one : SlotIn d0 code first) (two : SlotIn d0 code second)
     (guard : IsTest d1 s.guard (λ v. holds (value v d0 first.guard) || holds (value v d0 second.guard))) (zeros : s.zeros ≡ first.zeros)
-    (ts_is : ts ≡ cells code) (l1_is : l1 ≡ first.live.items) (l2_is : l2 ≡ second.live.items) (live : Merged d1 d2 ts first.guard l1 l2 s.live.items) where
+    (ts_is : ts ≡ cells code) (l1_is : l1 ≡ first.live) (l2_is : l2 ≡ second.live) (live : Merged d1 d2 ts first.guard l1 l2 s.live) where
   grown_guard : IsTest d2 s.guard (λ v. holds (value v d0 first.guard) || holds (value v d0 second.guard))
   grown_guard = record { there = within_stays d1 d2 s.guard y guard.there; width_is = y.width_stays s.guard guard.there ∙ guard.width_is; value_is = λ v. y.value_stays v s.guard guard.there ∙ guard.value_is v }
 
   grown_zeros : ZerosIn d2 s.zeros
   grown_zeros = subst (ZerosIn d2) (sym zeros) (slot_stays d0 d2 (extends_more d0 d1 d2 x y) code first one).zeros
 
-  own_live : Merged d1 d2 (cells code) first.guard first.live.items second.live.items s.live.items
+  own_live : Merged d1 d2 (cells code) first.guard first.live second.live s.live
   own_live =
-      subst (λ l. Merged d1 d2 (cells code) first.guard first.live.items l s.live.items) l2_is
-      (subst (λ l. Merged d1 d2 (cells code) first.guard l l2 s.live.items) l1_is (subst (λ us. Merged d1 d2 us first.guard l1 l2 s.live.items) ts_is live))
+      subst (λ l. Merged d1 d2 (cells code) first.guard first.live l s.live) l2_is
+      (subst (λ l. Merged d1 d2 (cells code) first.guard l l2 s.live) l1_is (subst (λ us. Merged d1 d2 us first.guard l1 l2 s.live) ts_is live))
 
-  grown_live : Merged d0 d2 (cells code) first.guard first.live.items second.live.items s.live.items
+  grown_live : Merged d0 d2 (cells code) first.guard first.live second.live s.live
   grown_live = record {
     live = own_live.live;
     words = λ v r.
         let t = x.value_stays v first.guard one.guard.there in
-        let p = found_stays d0 d1 x v (cells code) r first.live.items one.live.words in
-        let q = found_stays d0 d1 x v (cells code) r second.live.items two.live.words in
+        let p = found_stays d0 d1 x v (cells code) r first.live one.live.words in
+        let q = found_stays d0 d1 x v (cells code) r second.live two.live.words in
         own_live.words v r ∙ (λ k. if holds (t k) then p k else q k);
   }
 
@@ -220,17 +220,17 @@ owner_lent code until own owner lent size own_is owner_is lent_is c lt =
     let same = lent_is ∙ owner_is in
     omega (arith, size, ap length own_is, ap (λ (xs : List ℕ). slice_index xs c) same, owner_there code c (omega (arith, lt, ap length same)))
 
-pub live_lent : (d : List Node) (code : Listing) (s : Slot) (live : List Live) (owner lent : List ℕ) → SlotIn d code s → live ≡ s.live.items → owner ≡ owners code → lent ≡ owner → Rises 0 live (length lent)
+pub live_lent : (d : List Node) (code : Listing) (s : Slot) (live : List Live) (owner lent : List ℕ) → SlotIn d code s → live ≡ s.live → owner ≡ owners code → lent ≡ owner → Rises 0 live (length lent)
 live_lent d code s live owner lent h live_is owner_is lent_is =
     let size : length (cells code) ≡ length lent = sym (ap length (lent_is ∙ owner_is) ∙ all_owners code) in
     subst (Rises 0 live) size (subst (λ ls. Rises 0 ls (length (cells code))) (sym live_is) h.live.rise)
 
 module _ (d : List Node) (code : Listing) (until owner : List ℕ) (place : ℕ) (s t : Slot) (own lent : List ℕ) (live : List Live) (size : length until ≡ length code.registers + length code.blocks) (owner_is : owner ≡ owners code) (h : SlotIn d code s) (guard : t.guard ≡ s.guard) (zeros : t.zeros ≡ s.zeros)
-    (own_is : own ≡ until) (lent_is : lent ≡ owner) (live_is : live ≡ s.live.items) (kept_is : t.live.items ≡ filter (λ l. nat_lt place (slice_index own (slice_index lent l.cell))) live) where
+    (own_is : own ≡ until) (lent_is : lent ≡ owner) (live_is : live ≡ s.live) (kept_is : t.live ≡ filter (λ l. nat_lt place (slice_index own (slice_index lent l.cell))) live) where
   abbrev keeps : ℕ → Bool
   keeps c = nat_lt place (slice_index until (slice_index (owners code) c))
 
-  live_are : t.live.items ≡ filter (λ l. keeps l.cell) s.live.items
+  live_are : t.live ≡ filter (λ l. keeps l.cell) s.live
   live_are = kept_is ∙ (let q = lent_is ∙ owner_is in λ i. filter (λ l. nat_lt place (slice_index (own_is i) (slice_index (q i) l.cell))) (live_is i))
 
   pub needed_in : SlotIn d code t
@@ -238,34 +238,34 @@ module _ (d : List Node) (code : Listing) (until owner : List ℕ) (place : ℕ)
     guard = subst (λ i. IsWord d i 1) (sym guard) h.guard;
     zeros = subst (ZerosIn d) (sym zeros) h.zeros;
     live = subst (AreLive d (cells code)) (sym live_are) (record {
-      rise = kept_rise keeps 0 (length (cells code)) s.live.items h.live.rise;
-      words = All-filter (λ l. keeps l.cell) (IsLive d (cells code)) s.live.items h.live.words;
+      rise = kept_rise keeps 0 (length (cells code)) s.live h.live.rise;
+      words = All-filter (λ l. keeps l.cell) (IsLive d (cells code)) s.live h.live.words;
     });
   }
 
   -- a cell of what is read is kept
-  kept_cell : (c k : ℕ) → slice_index (owners code) c ≡ k → k < length until → IsRead until place (Some k) → find t.live.items c ≡ find s.live.items c
+  kept_cell : (c k : ℕ) → slice_index (owners code) c ≡ k → k < length until → IsRead until place (Some k) → find t.live c ≡ find s.live c
   kept_cell c k is lt read =
-      ap (λ ls. find ls c) live_are ∙ kept_found keeps c s.live.items (ap (λ n. nat_lt place (slice_index until n)) is ∙ keeps_read until place k (read lt))
+      ap (λ ls. find ls c) live_are ∙ kept_found keeps c s.live (ap (λ n. nat_lt place (slice_index until n)) is ∙ keeps_read until place k (read lt))
 
   needed_agree : (v : ℕ → ℕ) → Agree (length code.registers) until place (held v d code t) (held v d code s)
   needed_agree v = record {
-    size = all_words (value v d) t.live.items 0 code.registers ∙ sym (all_words (value v d) s.live.items 0 code.registers);
+    size = all_words (value v d) t.live 0 code.registers ∙ sym (all_words (value v d) s.live 0 code.registers);
     needed = λ r read.
         elim (cases_lt r (length code.registers)) [
-          | inl lt ↦ words_first (value v d) t.live.items r code.registers lt ∙ ap (word_or_0 (value v d)) (kept_cell r r (register_owner code r lt) (omega (arith, lt, size)) read)
-              ∙ sym (words_first (value v d) s.live.items r code.registers lt)
-          | inr le ↦ words_behind (value v d) t.live.items 0 r code.registers le ∙ sym (words_behind (value v d) s.live.items 0 r code.registers le)
+          | inl lt ↦ words_first (value v d) t.live r code.registers lt ∙ ap (word_or_0 (value v d)) (kept_cell r r (register_owner code r lt) (omega (arith, lt, size)) read)
+              ∙ sym (words_first (value v d) s.live r code.registers lt)
+          | inr le ↦ words_behind (value v d) t.live 0 r code.registers le ∙ sym (words_behind (value v d) s.live 0 r code.registers le)
         ];
-    count = stored_length code.blocks (bytes_from (value v d) t.live.items (length code.registers) (total code.blocks)) ∙ sym (stored_length code.blocks (bytes_from (value v d) s.live.items (length code.registers) (total code.blocks)));
+    count = stored_length code.blocks (bytes_from (value v d) t.live (length code.registers) (total code.blocks)) ∙ sym (stored_length code.blocks (bytes_from (value v d) s.live (length code.registers) (total code.blocks)));
     blocks = λ b read.
         let f = value v d in
         let first = length code.registers in
         elim (cases_lt b (length code.blocks)) [
-          | inl lt ↦ block_words f t.live.items first b code.blocks lt
-              ∙ bytes_alike f s.live.items t.live.items (first + total (take b code.blocks)) (slice_index code.blocks b) (λ c from below. kept_cell c (first + b) (byte_owner code b c lt from below) (omega (arith, lt, size)) read)
-              ∙ sym (block_words f s.live.items first b code.blocks lt)
-          | inr le ↦ no_block code.blocks (bytes_from f t.live.items first (total code.blocks)) b le ∙ sym (no_block code.blocks (bytes_from f s.live.items first (total code.blocks)) b le)
+          | inl lt ↦ block_words f t.live first b code.blocks lt
+              ∙ bytes_alike f s.live t.live (first + total (take b code.blocks)) (slice_index code.blocks b) (λ c from below. kept_cell c (first + b) (byte_owner code b c lt from below) (omega (arith, lt, size)) read)
+              ∙ sym (block_words f s.live first b code.blocks lt)
+          | inr le ↦ no_block code.blocks (bytes_from f t.live first (total code.blocks)) b le ∙ sym (no_block code.blocks (bytes_from f s.live first (total code.blocks)) b le)
         ];
   }
 
@@ -299,15 +299,15 @@ module _ (d : List Node) (code : Listing) (s : Slot) (r : ℕ) (h : SlotIn d cod
   abbrev TheWord : Id → Type 0
   TheWord id = IsValue d id (type_width (slice_index_or code.registers r types.Int)) (λ v. register (held v d code s) r)
 
-  held_word : (v : ℕ → ℕ) → register (held v d code s) r ≡ word_or_0 (value v d) (find s.live.items r)
-  held_word v = words_first (value v d) s.live.items r code.registers (test_below r (length code.registers) there)
+  held_word : (v : ℕ → ℕ) → register (held v d code s) r ≡ word_or_0 (value v d) (find s.live r)
+  held_word v = words_first (value v d) s.live r code.registers (test_below r (length code.registers) there)
 
-  pub register_set : (id : Id) → find s.live.items r ≡ Some id → TheWord id
+  pub register_set : (id : Id) → find s.live r ≡ Some id → TheWord id
   register_set id is =
-      let word = found_word d (cells code) r id s.live.items h.live.words is in
+      let word = found_word d (cells code) r id s.live h.live.words is in
       record { there = word.there; width_is = word.width_is ∙ ap type_width (register_type code r (test_below r (length code.registers) there)); value_is = λ v. sym (held_word v ∙ ap (word_or_0 (value v d)) is) }
 
-  pub register_unset : (ts : List IntegerType) (id : Id) → ts ≡ code.registers → id ≡ zero_of s.zeros (get_or ts r types.Bool) → find s.live.items r ≡ None → TheWord id
+  pub register_unset : (ts : List IntegerType) (id : Id) → ts ≡ code.registers → id ≡ zero_of s.zeros (get_or ts r types.Bool) → find s.live r ≡ None → TheWord id
   register_unset ts id same at is =
       let lt = test_below r (length code.registers) there in
       let t_is : get_or ts r types.Bool ≡ slice_index_or code.registers r types.Int = ap (λ us. get_or us r types.Bool) same ∙ get_or_default code.registers r types.Bool types.Int lt in
@@ -328,7 +328,7 @@ cell_word d code ts r id same there word = record {
   width_is = word.width_is ∙ sym (ap type_width (ap (λ (us : List IntegerType). slice_index_or us r types.Int) same ∙ register_type code r (test_below r (length code.registers) there)));
 }
 
-pub live_lent_by : (d : List Node) (code : Listing) (s : Slot) (ts : List IntegerType) (live : List Live) → SlotIn d code s → ts ≡ cells code → live ≡ s.live.items → AreLive d ts live
+pub live_lent_by : (d : List Node) (code : Listing) (s : Slot) (ts : List IntegerType) (live : List Live) → SlotIn d code s → ts ≡ cells code → live ≡ s.live → AreLive d ts live
 live_lent_by d code s ts live h same live_is = subst (λ us. AreLive d us live) (sym same) (subst (AreLive d (cells code)) (sym live_is) h.live)
 
 pub is_typed : (ts : List IntegerType) (r : ℕ) (t : IntegerType) → is_register ts r t ≡ true → (r < length ts) × (same_integer (slice_index_or ts r types.Int) t ≡ true)

@@ -66,22 +66,22 @@ set_word : (f : Id → ℕ) (b : Bool) (id : Id) (x : Option Id) → word_or_0 f
 set_word f true id x = refl
 set_word f false id x = refl
 
-pub put_in : (d : List Node) (code : Listing) (s t : Slot) (ts : List IntegerType) (r : ℕ) (id : Id) → ts ≡ cells code → SlotIn d code s → Written d ts s.live.items r id t.live.items → t.guard ≡ s.guard → t.zeros ≡ s.zeros → SlotIn d code t
+pub put_in : (d : List Node) (code : Listing) (s t : Slot) (ts : List IntegerType) (r : ℕ) (id : Id) → ts ≡ cells code → SlotIn d code s → Written d ts s.live r id t.live → t.guard ≡ s.guard → t.zeros ≡ s.zeros → SlotIn d code t
 put_in d code s t ts r id same h written g z = record {
   guard = subst (λ i. IsWord d i 1) (sym g) h.guard;
   zeros = subst (ZerosIn d) (sym z) h.zeros;
-  live = subst (λ us. AreLive d us t.live.items) same written.live;
+  live = subst (λ us. AreLive d us t.live) same written.live;
 }
 
-pub put_gone : (v : ℕ → ℕ) (d : List Node) (code : Listing) (s t : Slot) (r : ℕ) (id : Id) → is_there code.registers r ≡ true → t.guard ≡ s.guard → ((k : ℕ) → find t.live.items k ≡ (if r == k then Some id else find s.live.items k))
+pub put_gone : (v : ℕ → ℕ) (d : List Node) (code : Listing) (s t : Slot) (r : ℕ) (id : Id) → is_there code.registers r ≡ true → t.guard ≡ s.guard → ((k : ℕ) → find t.live k ≡ (if r == k then Some id else find s.live k))
     → gone v d code t ≡ updated (λ m. with_register m r (value v d id)) (gone v d code s)
 put_gone v d code s t r id there g p =
     let f = value v d in
     let at : 0 + r ≡ r = omega arith in
-    let a = registers_set f s.live.items t.live.items 0 r (value v d id) code.registers
-    (λ k. ap (word_or_0 f) (p k) ∙ set_word f (r == k) id (find s.live.items k) ∙ ap (λ (n : ℕ). if n == k then f id else word_or_0 f (find s.live.items k)) (sym at)) in
-    let b = bytes_alike f s.live.items t.live.items (length code.registers) (total code.blocks)
-    (λ c le lt. p c ∙ if_false (r == c) (Some id) (find s.live.items c) (is_below r c (omega (arith, le, test_below r (length code.registers) there)))) in
+    let a = registers_set f s.live t.live 0 r (value v d id) code.registers
+    (λ k. ap (word_or_0 f) (p k) ∙ set_word f (r == k) id (find s.live k) ∙ ap (λ (n : ℕ). if n == k then f id else word_or_0 f (find s.live k)) (sym at)) in
+    let b = bytes_alike f s.live t.live (length code.registers) (total code.blocks)
+    (λ c le lt. p c ∙ if_false (r == c) (Some id) (find s.live c) (is_below r c (omega (arith, le, test_below r (length code.registers) there)))) in
     let same : gone v d code t ≡ (if holds (value v d s.guard) then Some (with_register (held v d code s) r (value v d id)) else None) =
     (λ i. if holds (value v d (g i)) then Some (record { registers = a i; blocks = stored code.blocks (b i) }) else None) in
     same ∙ updated_by (holds (value v d s.guard)) (held v d code s) (with_register (held v d code s) r (value v d id)) (λ m. with_register m r (value v d id)) refl

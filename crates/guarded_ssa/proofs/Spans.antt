@@ -1,11 +1,11 @@
 -- Cells that follow one another.
-use Rattle.std.proofs.Common.{◌≡◌, ℕ, zero, suc, ◌+◌, ◌-◌, ◌<◌, ◌≤◌, true, false, nat_lt, List, [], ◌∷◌, ◌++◌, length, take, drop, get_or, Option, Some, None, inl, inr, refl, sym, ap, subst, ◌∙◌, arith, append_assoc}
+use Rattle.std.proofs.Common.{◌≡◌, ℕ, zero, suc, ◌+◌, ◌-◌, ◌<◌, ◌≤◌, true, false, nat_lt, List, [], ◌∷◌, ◌++◌, length, take, drop, get_or, Option, Some, None, inl, inr, refl, sym, ap, subst, ◌∙◌, arith}
 use Rattle.std.specs.Prelude.{◌==◌, if◌then◌else◌, slice_get}
 use Rattle.std.specs.List.{All}
 use Rattle.std.proofs.lemmas.Bool.{cases_lt, cases_Bool}
 use Rattle.std.proofs.Math.Seq.{drop-cons}
 use Rattle.std.proofs.Math.ListN.{drop_of_length-le}
-use Rattle.std.proofs.lemmas.List.{length-append, length-take-le, length-drop, drop-drop}
+use Rattle.std.proofs.lemmas.List.{length-drop, drop-drop}
 use Rattle.std.proofs.lemmas.List.Elements.{All-append, All-take, All-drop}
 use Rattle.c_types.specs.declared.integers.IntegerType.{IntegerType}
 use Rattle.word_dag.specs.declared.nodes.Id.{Id}
@@ -173,15 +173,6 @@ replaced_all d ts ls new at count p q end ids live there few words p_is end_is q
       here = λ k lt. find_first (at + count) n (at + k) (F ++ L) B (omega (arith, lt)) b ∙ find_second 0 at (at + k) F L f (omega arith) ∙ lives_found at k ids;
       behind = λ k le. find_second 0 (at + count) k (F ++ L) B fl le ∙ behind_found (at + count) k ls le;
     })
-
--- as many cells in the place of others
-pub put_parts : (ls lent new own put : List Live) (p q : ℕ) → lent ≡ ls → new ≡ own → p + length own ≡ q → put ≡ take p lent ++ (new ++ drop (p + length new) lent) → put ≡ (take p ls ++ own) ++ drop q ls
-put_parts ls lent new own put p q lent_is new_is q_is is =
-    let at : p + length new ≡ q = ap (λ xs. p + length xs) new_is ∙ q_is in
-    is ∙ (λ i. take p (lent_is i) ++ (new_is i ++ drop (at i) (lent_is i))) ∙ sym (append_assoc (take p ls) own (drop q ls))
-
-pub put_size : (ls own : List Live) (p q : ℕ) → p + length own ≡ q → q ≤ length ls → length ((take p ls ++ own) ++ drop q ls) ≡ length ls
-put_size ls own p q q_is le = omega (arith, q_is, le, length-append (take p ls ++ own) (drop q ls), length-append (take p ls) own, length-take-le p ls (omega (arith, q_is, le)), length-drop q ls)
 
 -- ---- the nodes of cells
 

@@ -66,13 +66,13 @@ module _ (d e : List Node) (x : Extends d e) where
   slot_stays code s h = record {
     guard = word_stays s.guard 1 h.guard;
     zeros = zeros_stay s.zeros h.zeros;
-    live = live_stay (cells code) s.live.items h.live;
+    live = live_stay (cells code) s.live h.live;
   }
 
   pub held_stays : (v : ℕ → ℕ) (code : Listing) (s : Slot) → SlotIn d code s → held v e code s ≡ held v d code s
   held_stays v code s h =
-      let q = words_of_stay v (cells code) code.registers 0 s.live.items h.live.words in
-      let r = words_of_stay v (cells code) (replicate (total code.blocks) types.Char) (length code.registers) s.live.items h.live.words in
+      let q = words_of_stay v (cells code) code.registers 0 s.live h.live.words in
+      let r = words_of_stay v (cells code) (replicate (total code.blocks) types.Char) (length code.registers) s.live h.live.words in
       λ i. record { registers = q i; blocks = stored code.blocks (r i) }
 
   pub gone_stays : (v : ℕ → ℕ) (code : Listing) (s : Slot) → SlotIn d code s → gone v e code s ≡ gone v d code s

@@ -54,18 +54,18 @@ new_live d code ts b offset start count ids same there start_is few all =
     subst (λ us. All (IsLive d us) (lives_from (start + offset) ids)) (sym same) (live_bytes d code (start + offset) ids (omega (arith, start_is)) (omega (arith, high, few, cells_length code, ap length same)) all)
 
 module _ (d : List Node) (code : Listing) (s t : Slot) (b offset start count : ℕ) (ids : List Id) (ts : List IntegerType) (live : List Live) (there : is_within code.blocks b offset count ≡ true) (few : length ids ≤ count)
-    (start_is : start ≡ length code.registers + total (take b code.blocks)) (ts_is : ts ≡ cells code) (live_is : live ≡ s.live.items) (made : Replaced d ts live (start + offset) count ids t.live.items) (g : t.guard ≡ s.guard) where
+    (start_is : start ≡ length code.registers + total (take b code.blocks)) (ts_is : ts ≡ cells code) (live_is : live ≡ s.live) (made : Replaced d ts live (start + offset) count ids t.live) (g : t.guard ≡ s.guard) where
   abbrev o : ℕ
   o = total (take b code.blocks) + offset
 
   abbrev first : ℕ
   first = length code.registers
 
-  own : Replaced d (cells code) s.live.items (first + o) count ids t.live.items
+  own : Replaced d (cells code) s.live (first + o) count ids t.live
   own =
       let at : start + offset ≡ first + o = omega (arith, start_is) in
-      subst (λ k. Replaced d (cells code) s.live.items k count ids t.live.items) at
-      (subst (λ ls. Replaced d (cells code) ls (start + offset) count ids t.live.items) live_is (subst (λ us. Replaced d us live (start + offset) count ids t.live.items) ts_is made))
+      subst (λ k. Replaced d (cells code) s.live k count ids t.live) at
+      (subst (λ ls. Replaced d (cells code) ls (start + offset) count ids t.live) live_is (subst (λ us. Replaced d us live (start + offset) count ids t.live) ts_is made))
 
   pub replaced_in : SlotIn d code s → t.zeros ≡ s.zeros → SlotIn d code t
   replaced_in h z = record { guard = subst (λ i. IsWord d i 1) (sym g) h.guard; zeros = subst (ZerosIn d) (sym z) h.zeros; live = own.live }
@@ -75,13 +75,13 @@ module _ (d : List Node) (code : Listing) (s t : Slot) (b offset start count : �
       let f = value v d in
       let n = total code.blocks in
       let W = map f ids ++ zeros (count - length ids) in
-      let old = bytes_from f s.live.items first n in
+      let old = bytes_from f s.live first n in
       let parts = lies code.blocks b offset count there in
       let long : length W ≡ count = omega (arith, few, length-append (map f ids) (zeros (count - length ids)), length-map ids f, length-replicate {A = ℕ} (count - length ids) 0) in
       let fits : o + count ≤ n = omega (arith, parts.1, block_ends code.blocks b parts.0) in
-      let a = words_alike f s.live.items t.live.items 0 code.registers (λ c le lt. own.front c (omega (arith, lt))) in
-      let bytes = put_words f s.live.items t.live.items first o n count ids fits few own.front own.here own.behind in
-      let c = ap (stored code.blocks) bytes ∙ stored_put code.blocks old W b offset parts.0 (omega (arith, parts.1, long)) (omega (arith, byte_words f s.live.items first n)) in
+      let a = words_alike f s.live t.live 0 code.registers (λ c le lt. own.front c (omega (arith, lt))) in
+      let bytes = put_words f s.live t.live first o n count ids fits few own.front own.here own.behind in
+      let c = ap (stored code.blocks) bytes ∙ stored_put code.blocks old W b offset parts.0 (omega (arith, parts.1, long)) (omega (arith, byte_words f s.live first n)) in
       let m = held v d code s in
       let new : Memory = with_blocks m (put_bytes m.blocks b offset W) in
       let same : gone v d code t ≡ (if holds (f s.guard) then Some new else None) = (λ i. if holds (f (g i)) then Some (record { registers = a i; blocks = c i }) else None) in
@@ -114,8 +114,8 @@ clear_gone v d code s t b size n ids there n_is none so =
     let f = value v d in
     let parts = is_whole code.blocks b size there in
     let total_bytes = total code.blocks in
-    let old = bytes_from f s.live.items (length code.registers) total_bytes in
-    let long : length (block_of (stored code.blocks old) b) ≡ size = block_length code.blocks old b parts.0 (omega (arith, byte_words f s.live.items (length code.registers) total_bytes)) ∙ sym parts.1 in
+    let old = bytes_from f s.live (length code.registers) total_bytes in
+    let long : length (block_of (stored code.blocks old) b) ≡ size = block_length code.blocks old b parts.0 (omega (arith, byte_words f s.live (length code.registers) total_bytes)) ∙ sym parts.1 in
     let left : n - length ids ≡ n = omega (arith, ap length none) in
     let nodes : map f ids ++ zeros (n - length ids) ≡ zeros n = (λ i. map f (none i) ++ zeros (left i)) in
     let m = held v d code s in
@@ -135,18 +135,18 @@ store_fits d rs sizes r b offset count ids nodes f enough made is there =
 -- ---- the nodes of some bytes of a block
 
 module _ (d : List Node) (code : Listing) (s : Slot) (b offset start count : ℕ) (ids : List Id) (live : List Live) (h : SlotIn d code s) (there : is_within code.blocks b offset count ≡ true)
-    (start_is : start ≡ length code.registers + total (take b code.blocks)) (live_is : live ≡ s.live.items) (is : ids ≡ ids_from live s.zeros.byte (start + offset) count) where
-  own_ids : ids ≡ ids_from s.live.items s.zeros.byte (start + offset) count
+    (start_is : start ≡ length code.registers + total (take b code.blocks)) (live_is : live ≡ s.live) (is : ids ≡ ids_from live s.zeros.byte (start + offset) count) where
+  own_ids : ids ≡ ids_from s.live s.zeros.byte (start + offset) count
   own_ids = is ∙ ap (λ ls. ids_from ls s.zeros.byte (start + offset) count) live_is
 
-  byte_or : (c : ℕ) (x : Option Id) → find s.live.items c ≡ x → length code.registers ≤ c → c < length code.registers + total code.blocks → IsWord d (id_or s.zeros.byte x) 8
+  byte_or : (c : ℕ) (x : Option Id) → find s.live c ≡ x → length code.registers ≤ c → c < length code.registers + total code.blocks → IsWord d (id_or s.zeros.byte x) 8
   byte_or c None e low high = record { there = h.zeros.byte.there; width_is = h.zeros.byte.width_is }
-  byte_or c (Some i) e low high = subst (λ t. IsWord d i (type_width t)) (byte_type code c low high) (found_word d (cells code) c i s.live.items h.live.words e)
+  byte_or c (Some i) e low high = subst (λ t. IsWord d i (type_width t)) (byte_type code c low high) (found_word d (cells code) c i s.live h.live.words e)
 
-  bytes_all : (c n : ℕ) → length code.registers ≤ c → c + n ≤ length code.registers + total code.blocks → AreBytes d (ids_from s.live.items s.zeros.byte c n)
+  bytes_all : (c n : ℕ) → length code.registers ≤ c → c + n ≤ length code.registers + total code.blocks → AreBytes d (ids_from s.live s.zeros.byte c n)
   bytes_all c zero low high = All-nil (λ i. IsWord d i 8)
   bytes_all c (suc n) low high =
-      All-cons (λ i. IsWord d i 8) (id_or s.zeros.byte (find s.live.items c)) (ids_from s.live.items s.zeros.byte (suc c) n) (byte_or c (find s.live.items c) refl low (omega (arith, high))) (bytes_all (suc c) n (omega (arith, low)) (omega (arith, high)))
+      All-cons (λ i. IsWord d i 8) (id_or s.zeros.byte (find s.live c)) (ids_from s.live s.zeros.byte (suc c) n) (byte_or c (find s.live c) refl low (omega (arith, high))) (bytes_all (suc c) n (omega (arith, low)) (omega (arith, high)))
 
   pub some_made : AreBytesOf d ids (λ v. bytes_of (held v d code s).blocks b offset count)
   some_made = record {
@@ -155,12 +155,12 @@ module _ (d : List Node) (code : Listing) (s : Slot) (b offset start count : ℕ
         subst (AreBytes d) (sym own_ids) (bytes_all (start + offset) count (omega (arith, start_is)) (omega (arith, fits, cells_length code)));
     values_are = λ v.
         let f = value v d in
-        ap (map f) own_ids ∙ ids_words f s.live.items s.zeros.byte (start + offset) count (h.zeros.byte.value_is v)
-        ∙ sym (some_words f s.live.items (length code.registers) b offset count (start + offset) code.blocks there (ap (λ k. k + offset) start_is));
+        ap (map f) own_ids ∙ ids_words f s.live s.zeros.byte (start + offset) count (h.zeros.byte.value_is v)
+        ∙ sym (some_words f s.live (length code.registers) b offset count (start + offset) code.blocks there (ap (λ k. k + offset) start_is));
   }
 
   pub some_size : length ids ≡ count
-  some_size = ap length own_ids ∙ ids_length s.live.items s.zeros.byte (start + offset) count
+  some_size = ap length own_ids ∙ ids_length s.live s.zeros.byte (start + offset) count
 
 -- a number is that of its own bytes
 

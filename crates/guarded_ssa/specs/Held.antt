@@ -65,8 +65,8 @@ pub record IsPlan (p : Plan) : Type 0 where
 module _ (v : ℕ → ℕ) (d : List Node) (code : Listing) where
   abbrev pub held : Slot → Memory
   held s = record {
-    registers = words_from (value v d) s.live.items 0 code.registers;
-    blocks = stored code.blocks (bytes_from (value v d) s.live.items (length code.registers) (total code.blocks));
+    registers = words_from (value v d) s.live 0 code.registers;
+    blocks = stored code.blocks (bytes_from (value v d) s.live (length code.registers) (total code.blocks));
   }
 
   -- the memory with which the slot is reached, if it is
@@ -83,7 +83,7 @@ module _ (v : ℕ → ℕ) (d : List Node) (code : Listing) where
 pub record SlotIn (d : List Node) (code : Listing) (s : Slot) : Type 0 where
   pub guard : IsWord d s.guard 1
   pub zeros : ZerosIn d s.zeros
-  pub live : AreLive d (cells code) s.live.items
+  pub live : AreLive d (cells code) s.live
 
 abbrev pub PendingIn : List Node → Listing → Option Slot → Type 0
 PendingIn d code None = Unit {0}

@@ -4,6 +4,7 @@
 
 mod answers;
 mod bytes;
+mod cells;
 mod forming;
 mod forms;
 mod liveness;

@@ -5,6 +5,7 @@ ghost use Rattle.value_nodes.specs.Values.{IsWord};
 ghost use Rattle.goto_prog.specs.Fitting.{is_there};
 ghost use Rattle.guarded_ssa.specs.Registers.{Rises, IsLive, AreLive, ZerosIn, Written, Merged, Replaced, find, place_of, least, head_id, head_count, zero_of, ids_from, lives_from};
 
+use crate::cells::Cells;
 use c_types::IntegerType;
 use std::alloc::{AllocError, Global};
 use value_nodes::{chosen, constant};
@@ -64,7 +65,7 @@ impl Zeros {
 }
 
 // How many cells stand in front of this one, by halves.
-fn place_of(live: &[Live], cell: usize) -> usize
+fn place_of(live: &Cells, cell: usize) -> usize
     requires { (n : ℕ) × Rises 0 live.now n }
     ensures is { result ≡ place_of live.now cell }
     ensures within { result ≤ length live.now }
@@ -73,7 +74,7 @@ fn place_of(live: &[Live], cell: usize) -> usize
     let mut high = live.len();
     while low < high {
         let middle = low + (high - low) / 2;
-        if live[middle].cell < cell {
+        if live.get(middle).cell < cell {
             low = middle + 1;
         } else {
             high = middle;
@@ -83,40 +84,42 @@ fn place_of(live: &[Live], cell: usize) -> usize
 }
 
 // The node of a cell, if it is set.
-pub fn find(live: &[Live], cell: usize) -> Option<Id>
+pub fn find(live: &Cells, cell: usize) -> Option<Id>
     requires { (n : ℕ) × Rises 0 live.now n }
     ensures { result ≡ find live.now cell }
 {
     let place = place_of(live, cell);
-    if place < live.len() && live[place].cell == cell {
-        return Some(live[place].id);
+    if place < live.len() {
+        let set = live.get(place);
+        if set.cell == cell {
+            return Some(set.id);
+        }
     }
     None
 }
 
 // The cells with one of them set.
 pub fn written(
-    mut live: Vec<Live>,
+    live: Cells,
     types: &[IntegerType],
     dag: &Dag,
     cell: usize,
     id: Id,
-) -> Result<Vec<Live>, AllocError>
-    requires live { AreLive dag.now types.now live.items }
+) -> Result<Cells, AllocError>
+    requires live { AreLive dag.now types.now live }
     requires there { is_there types.now cell ≡ true }
     requires id { IsLive dag.now types.now (record { cell = cell; id = id }) }
-    ensures { IfOk result (λ r. Written dag.now types.now live.items cell id r.items) }
+    ensures { IfOk result (λ r. Written dag.now types.now live cell id r) }
 {
     let _ = dag.nodes();
     let _ = types.len();
     let place = place_of(&live, cell);
     let set = Live { cell, id };
-    if place < live.len() && live[place].cell == cell {
-        live[place] = set;
-    } else {
-        live.insert(place, set)?;
+    if place < live.len() && live.get(place).cell == cell {
+        return Ok(live.with_set(place, set));
     }
-    Ok(live)
+    let cells = live.with_inserted(place, set)?;
+    Ok(cells)
 }
 
 // The cells whose register or block an instruction from the place on reads.
@@ -125,25 +128,26 @@ pub fn needed(
     until: &[usize],
     owner: &[usize],
     place: usize,
-    live: &[Live],
-) -> Result<Vec<Live>, AllocError>
+    live: &Cells,
+) -> Result<Cells, AllocError>
     requires live { Rises 0 live.now (length owner.now) }
     requires owner { (c : ℕ) → c < length owner.now → slice_index owner.now c < length until.now }
-    ensures { IfOk result (λ r. r.items ≡ filter (λ l. nat_lt place (slice_index until.now (slice_index owner.now l.cell))) live.now) }
+    ensures { IfOk result (λ r. r ≡ filter (λ l. nat_lt place (slice_index until.now (slice_index owner.now l.cell))) live.now) }
 {
     let mut kept = Vec::new(alloc);
-    for set in live {
+    for i in 0..live.len() {
+        let set = live.get(i);
         if place < until[owner[set.cell]] {
-            kept.push(*set)?;
+            kept.push(set)?;
         }
     }
-    Ok(kept)
+    Ok(Cells::of(alloc, kept))
 }
 
 // The nodes of so many cells from one on, of which those that aren't set have the other node.
 pub fn ids_from(
     alloc: Global,
-    live: &[Live],
+    live: &Cells,
     types: &[IntegerType],
     other: Id,
     at: usize,
@@ -178,81 +182,50 @@ fn followed(mut live: Vec<Live>, at: usize, ids: &[Id]) -> Result<Vec<Live>, All
     Ok(live)
 }
 
-// Puts cells in the place of as many from a place on.
-fn put(live: &mut [Live], at: usize, new: &[Live])
-    requires { at + length new.now ≤ length live.old }
-    ensures { live.new ≡ take at live.old ++ (new.now ++ drop (at + length new.now) live.old) }
-{
-    live[at..at + new.len()].copy_from_slice(new);
-}
-
-// The cells with those from one place on to before another replaced. Those in front stay where they are.
-#[tactic(auto, using(crate::proofs::Spans::all_behind))]
-fn spliced(
-    alloc: Global,
-    mut live: Vec<Live>,
-    first: usize,
-    last: usize,
-    new: &[Live],
-) -> Result<Vec<Live>, AllocError>
-    requires { last ≤ length live.items }
-    ensures { IfOk result (λ r. r.items ≡ (take first live.items ++ new.now) ++ drop last live.items) }
-{
-    let behind = live[last..].to_vec(alloc)?;
-    live.truncate(first);
-    live.extend_from_slice(new)?;
-    live.extend_from_slice(&behind)?;
-    Ok(live)
-}
-
 // The cells with so many from one on replaced: the first of them are set to these nodes, and no others.
 pub fn replaced(
     alloc: Global,
-    mut live: Vec<Live>,
+    live: Cells,
     types: &[IntegerType],
     dag: &Dag,
     at: usize,
     count: usize,
     ids: &[Id],
-) -> Result<Vec<Live>, AllocError>
-    requires live { AreLive dag.now types.now live.items }
+) -> Result<Cells, AllocError>
+    requires live { AreLive dag.now types.now live }
     requires there { at + count ≤ length types.now }
     requires few { length ids.now ≤ count }
     requires ids { All (IsLive dag.now types.now) (lives_from at ids.now) }
-    ensures { IfOk result (λ r. Replaced dag.now types.now live.items at count ids.now r.items) }
+    ensures { IfOk result (λ r. Replaced dag.now types.now live at count ids.now r) }
 {
     let _ = dag.nodes();
     let _ = types.len();
     let first = place_of(&live, at);
     let last = place_of(&live, at + count);
     let new = followed(Vec::with_capacity(alloc, ids.len())?, at, ids)?;
-    if first + new.len() == last {
-        put(&mut live, first, &new);
-        return Ok(live);
-    }
-    let cells = spliced(alloc, live, first, last, &new)?;
+    let cells = live.with_replaced(alloc, first, last, &new)?;
     Ok(cells)
 }
 
 // The first of the cells that stand at these places and behind them.
-fn least(first: &[Live], i: usize, second: &[Live], j: usize) -> usize
+fn least(first: &Cells, i: usize, second: &Cells, j: usize) -> usize
     requires { (i < length first.now) ⊎ (j < length second.now) }
     ensures { result ≡ least (drop i first.now) (drop j second.now) }
 {
-    if j < second.len() && (i >= first.len() || second[j].cell < first[i].cell) {
-        second[j].cell
+    if j < second.len() && (i >= first.len() || second.get(j).cell < first.get(i).cell) {
+        second.get(j).cell
     } else {
-        first[i].cell
+        first.get(i).cell
     }
 }
 
 // The node of a cell where it stands at this place, else the other node, and the place that follows.
-fn taken(live: &[Live], i: usize, cell: usize, other: Id) -> (Id, usize)
+fn taken(live: &Cells, i: usize, cell: usize, other: Id) -> (Id, usize)
     ensures id { result.0 ≡ head_id (drop i live.now) cell other }
     ensures next { result.1 ≡ i + head_count (drop i live.now) cell }
 {
-    if i < live.len() && live[i].cell == cell {
-        (live[i].id, i + 1)
+    if i < live.len() && live.get(i).cell == cell {
+        (live.get(i).id, i + 1)
     } else {
         (other, i)
     }
@@ -266,15 +239,15 @@ pub fn merged(
     zeros: Zeros,
     types: &[IntegerType],
     test: Id,
-    first: &[Live],
-    second: &[Live],
-) -> Result<Vec<Live>, AllocError>
+    first: &Cells,
+    second: &Cells,
+) -> Result<Cells, AllocError>
     requires zeros { ZerosIn dag.old zeros }
     requires test { IsWord dag.old test 1 }
     requires first { AreLive dag.old types.now first.now }
     requires second { AreLive dag.old types.now second.now }
     ensures extends { Extends dag.old dag.new }
-    ensures merged { IfOk result (λ r. Merged dag.old dag.new types.now test first.now second.now r.items) }
+    ensures merged { IfOk result (λ r. Merged dag.old dag.new types.now test first.now second.now r) }
 {
     let mut live = Vec::with_capacity(alloc, first.len())?;
     let mut i = 0;
@@ -289,5 +262,5 @@ pub fn merged(
         i = next_i;
         j = next_j;
     }
-    Ok(live)
+    Ok(Cells::of(alloc, live))
 }

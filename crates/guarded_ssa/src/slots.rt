@@ -12,9 +12,10 @@ ghost use Rattle.guarded_ssa.specs.Ways.{either as either_way, kept, updated};
 ghost use Rattle.guarded_ssa.specs.Reads.{Alike};
 ghost use Rattle.guarded_ssa.specs.Held.{SlotIn, PendingIn, IsPlan, gone, way};
 
+use crate::cells::Cells;
 use crate::liveness::Plan;
 use crate::registers;
-use crate::registers::{Live, Zeros};
+use crate::registers::Zeros;
 use c_types::IntegerType;
 use goto_prog::{Code, Operation};
 use std::alloc::{AllocError, Global};
@@ -28,7 +29,7 @@ use word_dag::{Dag, Id, Node};
 pub struct Slot {
     pub guard: Id,
     pub zeros: Zeros,
-    pub live: Vec<Live>,
+    pub live: Cells,
     pub kept: usize,
 }
 
@@ -41,7 +42,7 @@ impl Slot {
     {
         let guard = dag.make(Node::Constant(1, 1))?;
         let zeros = Zeros::new(dag)?;
-        let live = Vec::new(alloc);
+        let live = Cells::new(alloc);
         Ok(Slot {
             guard,
             zeros,
@@ -133,12 +134,12 @@ impl Slot {
     fn copied(&self, alloc: Global) -> Result<Slot, AllocError>
         ensures guard { IfOk result (λ s. s.guard ≡ self.now.guard) }
         ensures zeros { IfOk result (λ s. s.zeros ≡ self.now.zeros) }
-        ensures live { IfOk result (λ s. s.live.items ≡ self.now.live.items) }
+        ensures live { IfOk result (λ s. s.live ≡ self.now.live) }
     {
         Ok(Slot {
             guard: self.guard,
             zeros: self.zeros,
-            live: self.live.to_vec(alloc)?,
+            live: self.live.copied(alloc)?,
             kept: self.kept,
         })
     }

@@ -3,5 +3,5 @@ use Rattle.std.specs.Prelude.{slice_index}
 use Rattle.std.specs.List.{filter}
 use Rattle.guarded_ssa.proofs.registers.needed.Given as goal
 
-abbrev pub invariant-loop-set : goal.invariant-loop-set
-invariant-loop-set l = l.kept.items ≡ filter (λ m. nat_lt l.place (slice_index l.until (slice_index l.owner m.cell))) (take l.set-index l.live)
+abbrev pub invariant-loop-i : goal.invariant-loop-i
+invariant-loop-i l = l.kept.items ≡ filter (λ m. nat_lt l.place (slice_index l.until (slice_index l.owner m.cell))) (take l.i l.live)

@@ -5,9 +5,9 @@ use Rattle.guarded_ssa.proofs.slots.Slot.start.Goals as goal
 pub returns-clause-within : goal.returns-clause-within
 returns-clause-within c =
     let s : Slot = record { guard = c.in_ok-guard.guard; zeros = c.in_ok-zeros.zeros; live = c.new-live.result; kept = 0 } in
-    started_in c.args.dag.now c.make.new.self c.new.new.dag c.args.code.now s c.new.ensures.extends c.in_ok-guard.ensures.made c.in_ok-zeros.ensures.zeros c.new-live.ensures.items
+    started_in c.args.dag.now c.make.new.self c.new.new.dag c.args.code.now s c.new.ensures.extends c.in_ok-guard.ensures.made c.in_ok-zeros.ensures.zeros c.new-live.ensures
 
 pub returns-clause-gone : goal.returns-clause-gone
 returns-clause-gone c =
     let s : Slot = record { guard = c.in_ok-guard.guard; zeros = c.in_ok-zeros.zeros; live = c.new-live.result; kept = 0 } in
-    started_gone c.args.dag.now c.make.new.self c.new.new.dag c.args.code.now s c.new.ensures.extends c.in_ok-guard.ensures.made c.in_ok-zeros.ensures.zeros c.new-live.ensures.items
+    started_gone c.args.dag.now c.make.new.self c.new.new.dag c.args.code.now s c.new.ensures.extends c.in_ok-guard.ensures.made c.in_ok-zeros.ensures.zeros c.new-live.ensures
