@@ -2,21 +2,11 @@
 #![tactic(auto)]
 
 #[cfg(test)]
-mod equation_tests;
-#[cfg(test)]
 mod machines;
-#[cfg(test)]
-mod parse_expression_tests;
-#[cfg(test)]
-mod parse_tests;
 #[cfg(test)]
 mod program_tests;
 #[cfg(test)]
 mod run_tests;
-#[cfg(test)]
-mod solver_tests;
-#[cfg(test)]
-mod spelled;
 #[cfg(test)]
 mod tests;
 #[cfg(test)]

@@ -81,6 +81,8 @@ enum{int8_t=3};int main(void){return int8_t;}@
 int uint8_t(void);int main(void){return 0;}@
 typedef int size_t;$typedef long size_t;int main(void){}@2 2
 typedef pthread_mutex_t pthread_mutex_t;int main(void){return sizeof(pthread_mutex_t);}@
+int main(void){pthread_mutex_t x={3};x.__cell=4;return x.__cell;}@
+int main(void){pthread_mutex_t x;return x.m;}@1 11
 typedef int assert;int main(void){}@1 2
 int main(void){typedef int assert;assert x;}@
 typedef int main;$int main(void){}@2 2
@@ -102,6 +104,8 @@ enum{A=2147483647,B=1};int main(void){int x=A;}@
 enum{A=-2147483648};int main(void){int x=A;}@
 enum{A=(signed char)-1,B=sizeof(int),C='a',D=(unsigned char)300};int main(void){int w=A,x=B,y=C,z=D;}@
 enum{A=1?2:1/0,B=0&&1/0};int main(void){int x=A,y=B;}@
+enum{A=1?2:(3,4),B=1||(2,3)};int main(void){int x=A,y=B;}@
+enum{A=$(3,4)};int main(void){}@2 13
 enum{A=2147483647,$B};int main(void){}@2 13
 enum{A=$2147483648};int main(void){}@1 13
 enum{A=-2147483649};int main(void){}@1 13

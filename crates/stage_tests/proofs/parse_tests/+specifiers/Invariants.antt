@@ -1,5 +1,5 @@
 use Rattle.std.proofs.Common.{◌+◌, ◌*◌}
-use Rattle.cbmc_cmd.proofs.parse_tests.+specifiers.Given as goal
+use Rattle.stage_tests.proofs.parse_tests.+specifiers.Given as goal
 
 abbrev pub decreases-show_members : goal.decreases-show_members
 decreases-show_members l = 8 * l.levels

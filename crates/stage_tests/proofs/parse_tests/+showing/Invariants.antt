@@ -1,5 +1,5 @@
 use Rattle.std.proofs.Common.{◌+◌, ◌*◌}
-use Rattle.cbmc_cmd.proofs.parse_tests.+showing.Given as goal
+use Rattle.stage_tests.proofs.parse_tests.+showing.Given as goal
 
 abbrev pub decreases-show : goal.decreases-show
 decreases-show l = 2 * l.levels
