@@ -88,7 +88,7 @@ fn externals(
 }
 
 /// The tree of a file (C11 6.9): external declarations, one at least, which its tokens spell whole, with at most 400 levels.
-/// Each is a declaration, or a definition of `main`. Where there is none, the line is that of the first token of the first
+/// Each is a declaration, or a function's definition. Where there is none, the line is that of the first token of the first
 /// external declaration that has no tree, or the file's last line where no token is left. Memory may run out at any moment.
 pub fn parse(alloc: Global, tokens: &Tokens) -> Result<File, ParseError>
     ensures found { IfOk result (λ f. IsFile tokens.now.bytes.items tokens.now.tokens.items (view_file f)) }
