@@ -16,30 +16,31 @@ use Rattle.c_types.specs.Layouts as layouts
 use Rattle.core_tree.specs.Trees.{Procedure, Static, TypedFile}
 use Rattle.core_tree.specs.Trees as cores
 use Rattle.core_tree.specs.Typed.{Sizes, Signature, are_small, have_small, is_typed_statement, is_static, sizes_of_objects, signature, passed_size, have_parameters, is_typed_body, is_typed_function, are_typed}
-use Rattle.c_elab_expr.specs.declared.meaning.Meaning.{Meaning}
-use Rattle.c_elab_expr.specs.declared.meaning.Meaning.TheVariants.{Function}
-use Rattle.c_elab_expr.specs.declared.fault.TypingError.{TypingError}
-use Rattle.c_elab_expr.specs.Scopes.{Environment, binding, Named, Linked, FunctionType, Callable, FunctionTable, Lasting, Scoped, is_there, are_there, first_scope, with_defined, sizes, sizes_of, lasting_size, passed_as, given_by, linked_to}
-use Rattle.c_elab_expr.specs.Nodes.{◌>>=◌}
+use Rattle.c_scope.specs.declared.meaning.Meaning.{Meaning}
+use Rattle.c_scope.specs.declared.meaning.Meaning.TheVariants.{Function}
+use Rattle.c_scope.specs.declared.fault.TypingError.{TypingError}
+use Rattle.c_scope.specs.Scopes.{Environment, binding, Named, Linked, FunctionType, Callable, FunctionTable, Lasting, Scoped, is_there, are_there, first_scope, with_defined, sizes, sizes_of, lasting_size, passed_as, given_by, linked_to}
+use Rattle.c_scope.specs.Faults.{◌>>=◌, Fault, Gives, on_line}
 use Rattle.c_elab_expr.specs.Operands.{given_size}
-use Rattle.c_elab_expr.specs.Typing.{Fault, Gives, on_line}
 use Rattle.std.specs.Prelude.{OnOk}
-use Rattle.c_elab_expr.proofs.Variables.{both, and, are_there_wider, complete_sized}
+use Rattle.c_scope.proofs.Variables.{both, and, are_there_wider, complete_sized}
 use Rattle.c_elab_expr.proofs.Types.{one_integer_type}
 use Rattle.c_elab_expr.proofs.WellTyped.{Holds, bind, given, refused, on_same_line}
-use Rattle.c_elab_decl.specs.Regions.{built_in_function, earlier}
-use Rattle.c_elab_decl.specs.Derivations.{Parameter, Derived, called, Shape, object, function as function_shaped, shape_of, is_array, has_void, parameter_types, function_of, derived, Derivation, lengths, callable, function_made, derivation_by, derivation, full_line}
-use Rattle.c_elab_decl.specs.Declarators.{same_ctype, same_flag, same_types, same_function}
-use Rattle.c_elab_decl.specs.Functions.{is_function_again, function_again, is_own_function, is_own_built_in, is_built_in_type, function_node, first_callable, callable_again, changed_callable, declared_callable, have_names, definition_node}
-use Rattle.c_elab_decl.specs.Functions as functions
-use Rattle.c_elab_decl.specs.Specifiers.{Passed, are_several, inner_region, parted, named_parts, typed_parts, typed_full, typed_parameters, typed_specifiers}
-use Rattle.c_elab_decl.specs.Listed.{typed_others}
+use Rattle.c_elab_type.specs.Regions.{built_in_function, earlier}
+use Rattle.c_elab_type.specs.Derivations.{Parameter, Derived, called, Shape, object, function as function_shaped, shape_of, is_array, has_void, parameter_types, function_of, derived, Derivation, lengths, callable, function_made, derivation_by, derivation, full_line, have_names}
+use Rattle.c_elab_type.specs.Declarators.{same_ctype, same_flag, same_types, same_function}
+use Rattle.c_elab_type.specs.Specifiers.{Passed, are_several, inner_region, parted, named_parts, typed_parts, typed_full, typed_parameters, typed_specifiers}
+use Rattle.c_elab_object.specs.Functions.{is_function_again, function_again, is_own_function, is_own_built_in, is_built_in_type, function_node, first_callable, callable_again, changed_callable, declared_callable, definition_node}
+use Rattle.c_elab_object.specs.Functions as functions
+use Rattle.c_elab_object.specs.Listed.{typed_others, in_file, typed_outside}
 use Rattle.c_elab_decl.specs.Jumps.{labels_in}
 use Rattle.c_elab_decl.specs.Statements.{Around, typed_items}
-use Rattle.c_elab_decl.specs.Files.{in_file, typed_outside, own_parameters, made_by, own_suffixes, definition_type, within_body, own_number, typed_body_of, Definition, outside, typed_definition, typed_externals, with_definitions, procedure_of, with_body, with_bodies, static_of, elaborated}
-use Rattle.c_elab_decl.proofs.Signatures.{Signed, signed_trans, Later, is_given, given_by_kept, complete_kept, all_passed_kept, own_sizes, all_signed, type_open}
-use Rattle.c_elab_decl.proofs.Growing.{take_front, Under, under_refl, under_trans, Wider, There, Follows, follows_refl, Settles, settles_trans, declared_callable_settles}
-use Rattle.c_elab_decl.proofs.Settling.{weaken, Takes, DerivationFine, PassedDone, SuffixesDone, are_fine, full_settles, parts_settle, named_settles, parameters_done, derivation_fine, specifiers_settle, others_settle}
+use Rattle.c_elab_decl.specs.Files.{own_parameters, made_by, own_suffixes, definition_type, within_body, own_number, typed_body_of, Definition, outside, typed_definition, typed_externals, with_definitions, procedure_of, with_body, with_bodies, static_of, elaborated}
+use Rattle.c_elab_type.proofs.Signatures.{Signed, signed_trans, Later, is_given, given_by_kept, complete_kept, all_passed_kept, own_sizes, all_signed, type_open}
+use Rattle.c_elab_type.proofs.Growing.{take_front, Under, under_refl, under_trans, Wider, There, Follows, follows_refl, Settles, settles_trans}
+use Rattle.c_elab_type.proofs.Settling.{weaken, Takes, DerivationFine, PassedDone, SuffixesDone, are_fine, full_settles, parts_settle, named_settles, parameters_done, derivation_fine, specifiers_settle}
+use Rattle.c_elab_object.proofs.Redeclaring.{declared_callable_settles}
+use Rattle.c_elab_object.proofs.SettlingDeclared.{others_settle}
 use Rattle.c_elab_decl.proofs.WellTyped.{ItemsDone, items_done}
 
 -- ---- types that are one

@@ -4,15 +4,15 @@ use Rattle.c_tree.specs.Tree.{Tree}
 use Rattle.c_tree.specs.declared.statement.Stmt.{Stmt}
 use Rattle.c_tree.specs.Statements.{Statement, while_loop, do_loop, for_loop, case_of, default_of, labelled, view_statement}
 use Rattle.core_tree.specs.Trees as cores
-use Rattle.c_elab_expr.specs.declared.fault.TypingError.{TypingError}
-use Rattle.c_elab_expr.specs.Scopes.{Cases, Flow, Scoped}
-use Rattle.c_elab_expr.specs.Nodes.{◌>>=◌}
+use Rattle.c_scope.specs.declared.fault.TypingError.{TypingError}
+use Rattle.c_scope.specs.Scopes.{Cases, Flow, Scoped}
+use Rattle.c_scope.specs.Faults.{◌>>=◌, Fault, Fails, on_line}
 use Rattle.c_elab_expr.specs.Operands.{Operand, number, dropped}
-use Rattle.c_elab_expr.specs.Typing.{Fault, Fails, on_line, operand}
+use Rattle.c_elab_expr.specs.Typing.{operand}
 use Rattle.c_types.specs.declared.integers.IntegerType.{IntegerType}
 use Rattle.c_elab_decl.specs.Statements.{Around, in_loop, with_loop, with_label, with_cases, part_ignored, part_tested, test_node, case_node, default_node, label_node, TypedStatement, typed_rest, typed_statement}
+use Rattle.c_elab_type.proofs.Steps.{fails_bind, fails_along}
 use Rattle.c_elab_decl.proofs.Flowless.{operand_flow}
-use Rattle.c_elab_decl.proofs.Steps.{fails_bind, fails_along}
 
 -- ---- a part behind another
 

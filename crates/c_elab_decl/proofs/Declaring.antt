@@ -1,17 +1,12 @@
 -- The declarator of a definition: whether it has a function's suffix alone.
-use Rattle.std.proofs.Common.{◌≡◌, ℕ, suc, Bool, true, false, List, [], ◌∷◌, length, get_or, Option, Some, None, refl, ap, sym, ◌∙◌, eqb-true, arith}
+use Rattle.std.proofs.Common.{◌≡◌, ℕ, Bool, true, false, List, [], ◌∷◌, length, get_or, Option, Some, None, refl, ap, sym, ◌∙◌, arith}
 use Rattle.std.specs.Prelude.{◌==◌, ◌&&◌, is_some, Vec, vec_len}
 use Rattle.std.specs.Global.{Global}
 use Rattle.c_tree.specs.declared.declaration.DeclaratorSuffix.{DeclaratorSuffix, Bounded, Open, Empty, Void, Parameters'}
 use Rattle.c_tree.specs.Declarations.{Parameters, Full, full_inside, FullSuffixes, full_end, view_full_suffix, full_suffixes_of}
 use Rattle.c_elab_decl.specs.Files.{one_function, no_suffixes, is_name_alone, own_parameters}
-use Rattle.c_elab_decl.specs.Steps.{IsOwn}
-
-pub more_than_none : (n : ℕ) → (suc n == 0) ≡ false
-more_than_none n = by (suc n == 0) refl where
-  by : (b : Bool) → (suc n == 0) ≡ b → b ≡ false
-  by true e = let no : suc n ≡ 0 = eqb-true (suc n) 0 e in let none : ⊥ = omega (arith, no) in absurd none
-  by false e = refl
+use Rattle.c_elab_decl.specs.DefinitionSteps.{IsOwn}
+use Rattle.c_elab_type.proofs.Lists.{more_than_none}
 
 has_one : (x : DeclaratorSuffix) (rest : FullSuffixes) → no_suffixes (view_full_suffix x rest) ≡ false
 has_one (Bounded line e) rest = refl

@@ -5,24 +5,24 @@ use Rattle.c_tree.specs.Declarations.{Parts, Declarators, Full, name_of}
 use Rattle.c_tree.specs.Statements.{Statement, Externals, declared}
 use Rattle.c_types.specs.Types.{CType}
 use Rattle.core_tree.specs.Trees as cores
-use Rattle.c_elab_expr.specs.declared.meaning.Meaning.TheVariants.{Function}
-use Rattle.c_elab_expr.specs.Scopes.{Environment, Binding, binding, Named, FunctionType, FunctionTable, Scoped, are_there, are_known, no_flow, first_scope, sizes, linked_to}
-use Rattle.c_elab_expr.specs.Nodes.{◌>>=◌}
-use Rattle.c_elab_expr.specs.declared.fault.TypingError.{TypingError}
-use Rattle.c_elab_expr.specs.Typing.{Fault, Gives, on_line}
-use Rattle.c_elab_expr.proofs.Variables.{are_there_wider}
+use Rattle.c_scope.specs.declared.meaning.Meaning.TheVariants.{Function}
+use Rattle.c_scope.specs.Scopes.{Environment, Binding, binding, Named, FunctionType, FunctionTable, Scoped, are_there, are_known, no_flow, first_scope, sizes, linked_to}
+use Rattle.c_scope.specs.Faults.{◌>>=◌, Fault, Gives, on_line}
+use Rattle.c_scope.specs.declared.fault.TypingError.{TypingError}
+use Rattle.c_scope.proofs.Variables.{are_there_wider}
 use Rattle.c_elab_expr.proofs.WellTyped.{on_same_line}
-use Rattle.c_elab_decl.specs.Derivations.{Derived, full_line, derivation}
-use Rattle.c_elab_decl.specs.Functions.{declared_callable}
+use Rattle.c_elab_type.specs.Derivations.{Derived, full_line, derivation}
+use Rattle.c_elab_type.specs.Specifiers.{Passed, parted, named_parts, typed_parts}
+use Rattle.c_elab_object.specs.Functions.{declared_callable}
+use Rattle.c_elab_object.specs.Listed.{in_file, typed_outside}
 use Rattle.c_elab_decl.specs.Jumps.{labels_in}
-use Rattle.c_elab_decl.specs.Specifiers.{Passed, parted, named_parts, typed_parts}
-use Rattle.c_elab_decl.specs.Files.{in_file, made_by, own_parameters, own_suffixes, definition_type, names_within, within_body, own_number, typed_body_of, Definition, outside, typed_definition, typed_outside, typed_externals, with_definitions, with_bodies, procedure_of, static_of, elaborated}
+use Rattle.c_elab_decl.specs.Files.{made_by, own_parameters, own_suffixes, definition_type, names_within, within_body, own_number, typed_body_of, Definition, outside, typed_definition, typed_externals, with_definitions, with_bodies, procedure_of, static_of, elaborated}
 use Rattle.c_elab_decl.specs.declared.defining.Definition.{Definition as CodeDefinition}
-use Rattle.c_elab_decl.specs.Steps.{DefinitionStep, definitions_first, view_definitions}
-use Rattle.c_elab_decl.proofs.Fronts.{outside_more, outside_fails}
-use Rattle.c_elab_decl.proofs.Steps.{fails_on}
-use Rattle.c_elab_decl.proofs.Growing.{Inner, kept}
-use Rattle.c_elab_decl.proofs.Settling.{named_settles, parts_settle}
+use Rattle.c_elab_decl.specs.DefinitionSteps.{DefinitionStep, definitions_first, view_definitions}
+use Rattle.c_elab_type.proofs.Steps.{fails_on}
+use Rattle.c_elab_type.proofs.Growing.{Inner, kept}
+use Rattle.c_elab_type.proofs.Settling.{named_settles, parts_settle}
+use Rattle.c_elab_decl.proofs.StatementFronts.{outside_more, outside_fails}
 use Rattle.c_elab_decl.proofs.Bodies.{OwnDone, own_done, TypeDone, type_done, BodyDone, body_done, declared_done}
 
 -- a rule on the same line, behind another

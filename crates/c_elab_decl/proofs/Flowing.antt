@@ -2,12 +2,11 @@
 use Rattle.std.proofs.Common.{◌≡◌, ℕ, Bool, true, false, Option, Some, None, Ok, Err, ap, sym, ◌∙◌}
 use Rattle.c_types.specs.declared.integers.IntegerType.{IntegerType}
 use Rattle.c_values.specs.Numbers.{TypedNumber}
-use Rattle.c_elab_expr.specs.Scopes.{Cases, Scoped}
-use Rattle.c_elab_expr.specs.Nodes.{◌>>=◌, required}
+use Rattle.c_scope.specs.Scopes.{Cases, Scoped}
+use Rattle.c_scope.specs.Faults.{◌>>=◌, required, fault, on_line}
 use Rattle.c_elab_expr.specs.Operands.{Operand, constant_in}
-use Rattle.c_elab_expr.specs.Typing.{fault, on_line}
 use Rattle.c_elab_decl.specs.Statements.{case_of_switch, case_node, default_node}
-use Rattle.c_elab_decl.specs.Steps.{CaseOf, CaseStep, DefaultOf, DefaultStep}
+use Rattle.c_elab_decl.specs.StatementSteps.{CaseOf, CaseStep, DefaultOf, DefaultStep}
 
 case_is : (switch : Option Cases) (x : Operand) (n : TypedNumber) → constant_in x ≡ Some n → case_node switch x ≡ case_of_switch switch n
 case_is switch x n e = ap (λ (o : Option TypedNumber). required 13 o >>= λ m. case_of_switch switch m) e

@@ -1,10 +1,10 @@
 -- How far a function is typed is of no matter to an expression.
 use Rattle.std.proofs.Common.{◌≡◌, Bool, true, false, Result, Ok, Err, refl, ap, ◌∙◌}
 use Rattle.c_tree.specs.Tree.{Tree, Trees, Declared, Suffixes, unnamed, named, inside, no_suffix, bounded, unbounded, constant, character, strings, name, parens, unary, cast, sizeof_expr, sizeof_type, step, member, binary, choice, assign, comma, call, none, more}
-use Rattle.c_elab_expr.specs.Scopes.{Flow, Scoped}
-use Rattle.c_elab_expr.specs.Nodes.{◌>>=◌}
+use Rattle.c_scope.specs.Scopes.{Flow, Scoped}
+use Rattle.c_scope.specs.Faults.{◌>>=◌, Fault, on_line}
 use Rattle.c_elab_expr.specs.Operands.{Operand, cast_operand}
-use Rattle.c_elab_expr.specs.Typing.{Fault, on_line, bare_line, used_on, type_name, is_wanted, typed, typed_arguments, lengths, suffix_lengths, operand_by}
+use Rattle.c_elab_expr.specs.Typing.{bare_line, used_on, type_name, is_wanted, typed, typed_arguments, lengths, suffix_lengths, operand_by}
 
 bind_same : {A B : Type 0} (r q : Result A Fault) (g h : A → Result B Fault) → r ≡ q → ((x : A) → g x ≡ h x) → (r >>= g) ≡ (q >>= h)
 bind_same {A} {B} r q g h e same = ap (λ (x : Result A Fault). x >>= g) e ∙ by q where

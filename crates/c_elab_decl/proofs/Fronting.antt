@@ -14,17 +14,19 @@ use Rattle.core_tree.specs.declared.statement.CoreItem as codes
 use Rattle.core_tree.specs.declared.statement.CoreStatement.{CoreStatement}
 use Rattle.core_tree.specs.Trees.{with_item, view_statement}
 use Rattle.core_tree.specs.Trees as cores
-use Rattle.c_elab_expr.specs.declared.fault.TypingError.{TypingError}
-use Rattle.c_elab_expr.specs.Scopes.{Cases, Environment, Scoped}
-use Rattle.c_elab_expr.specs.Nodes.{◌>>=◌}
+use Rattle.c_scope.specs.declared.fault.TypingError.{TypingError}
+use Rattle.c_scope.specs.Scopes.{Cases, Environment, Scoped}
+use Rattle.c_scope.specs.Faults.{◌>>=◌, Fault, Fails, Gives, on_line}
 use Rattle.c_elab_expr.specs.Operands.{Operand}
-use Rattle.c_elab_expr.specs.Typing.{Fault, Fails, Gives, on_line, operand}
-use Rattle.c_elab_decl.specs.Declarators.{Typed}
+use Rattle.c_elab_expr.specs.Typing.{operand}
+use Rattle.c_elab_type.specs.Declarators.{Typed}
+use Rattle.c_elab_type.specs.Steps.{prepend}
 use Rattle.c_elab_decl.specs.Statements.{Around, in_switch, with_label, with_cases, with_switch, switch_type, switch_value, switch_ended, case_node, default_node, label_node, TypedStatement, TypedFront, own_block, typed_statement, typed_front, typed_body}
-use Rattle.c_elab_decl.specs.Steps.{prepend, Fronts, alone, CaseStep, DefaultStep}
-use Rattle.c_elab_decl.proofs.Steps.{fails_bind, fails_along}
-use Rattle.c_elab_decl.proofs.Fronts.{prepend_push, switch_behind, switch_by_body}
-use Rattle.c_elab_decl.proofs.Growing.{Inner, kept}
+use Rattle.c_elab_decl.specs.StatementSteps.{Fronts, alone, CaseStep, DefaultStep}
+use Rattle.c_elab_type.proofs.Steps.{fails_bind, fails_along}
+use Rattle.c_elab_type.proofs.Fronts.{prepend_push}
+use Rattle.c_elab_type.proofs.Growing.{Inner, kept}
+use Rattle.c_elab_decl.proofs.StatementFronts.{switch_behind, switch_by_body}
 use Rattle.c_elab_decl.proofs.Chains.{second_fails}
 
 -- ---- a statement alone

@@ -21,18 +21,19 @@ use Rattle.core_tree.specs.Typed.{type_of, Sizes, is_typed, is_structure, are_pa
 use Rattle.core_tree.specs.Typed as typings
 use Rattle.c_elab_expr.specs.declared.operands.Home.{Home}
 use Rattle.c_elab_expr.specs.declared.operands.Home.TheVariants as homes
-use Rattle.c_elab_expr.specs.Scopes.{Scoped}
-use Rattle.c_elab_expr.specs.Nodes.{required, integer, as_type}
+use Rattle.c_scope.specs.Scopes.{Scoped}
+use Rattle.c_scope.specs.Faults.{required, on_line}
+use Rattle.c_elab_expr.specs.Nodes.{integer, as_type}
 use Rattle.c_elab_expr.specs.Operands.{Operand, value, object, structure, held_value, is_home, number, same_record, record_value, is_typed_operand}
 use Rattle.c_elab_expr.specs.Texts.{text_bytes, bytes_of}
-use Rattle.c_elab_expr.specs.Typing.{on_line, operand, operand_by}
-use Rattle.c_elab_expr.proofs.Variables.{both, and}
+use Rattle.c_elab_expr.specs.Typing.{operand, operand_by}
+use Rattle.c_scope.proofs.Variables.{both, and}
 use Rattle.c_elab_expr.proofs.Types.{type_as, typed_as}
 use Rattle.c_elab_expr.proofs.WellTyped.{Holds, bind, given, refused, on_same_line, integer_is, well_used}
-use Rattle.c_elab_decl.specs.Initializers.{Made, nothing, single, text, listed, only, slot, slot_type, Value, number_value, structure_value, is_character, scalar_value, record_node, array_node, value_node, part_with, joined, item_node, parts_from, list_made, braced, literal_of, constant_node, single_as, typed_initial, typed_initials, initializer_of}
-use Rattle.c_elab_decl.proofs.Signatures.{closed_scope, own_sizes}
+use Rattle.c_elab_type.specs.Initializers.{Made, nothing, single, text, listed, only, slot, slot_type, Value, number_value, structure_value, is_character, scalar_value, record_node, array_node, value_node, part_with, joined, item_node, parts_from, list_made, braced, literal_of, constant_node, single_as, typed_initial, typed_initials, initializer_of}
+use Rattle.c_elab_type.proofs.Signatures.{closed_scope, own_sizes}
+use Rattle.c_elab_type.proofs.Growing.{There}
 use Rattle.c_elab_decl.proofs.Closed.{operand_keeps}
-use Rattle.c_elab_decl.proofs.Growing.{There}
 use Rattle.c_elab_decl.proofs.Objects.{IsObject, Lies, slot_lies}
 
 -- ---- operands

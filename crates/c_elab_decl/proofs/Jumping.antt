@@ -13,7 +13,7 @@ use Rattle.c_tree.specs.declared.statement.Item.{Item, Declares, Does}
 use Rattle.c_tree.specs.declared.statement.Stmt.{Stmt}
 use Rattle.c_tree.specs.declared.declaration.Declaration.{Declaration}
 use Rattle.c_tree.specs.Statements.{Statement, labelled, Items, done, view_statement, view_item, items_of as trees}
-use Rattle.c_elab_expr.proofs.Entries.{same_name, others_name}
+use Rattle.c_scope.proofs.Entries.{same_name, others_name}
 use Rattle.c_elab_decl.specs.declared.jumps.Ahead.{Ahead}
 use Rattle.c_elab_decl.specs.Jumps.{labels_of, jumps_in, jumps_of, label_number, first_label, labels_before, has_case_before, labels_ahead, has_case_ahead, among, is_passed}
 use Rattle.c_elab_decl.specs.Lookahead.{Places, place_by, placed, reached, with_jumps, Notes, items_behind, Looks, is_passed_at, Passes, first_jumps, jumped_behind}

@@ -9,9 +9,9 @@ use Rattle.c_types.specs.Types.{CType, void, integer, aggregate, array, Complete
 use Rattle.c_types.specs.Layouts.{is_complete, is_sized, are_complete, are_sized, size_of, kind_at, completed_at, members_of, record_layout, IsBuilt}
 use Rattle.c_types.proofs.Kept.{none_members, some_members}
 use Rattle.c_types.proofs.Records.{stands}
-use Rattle.c_elab_expr.specs.Members.{member_in}
-use Rattle.c_elab_expr.proofs.Parted.{part_within}
-use Rattle.c_elab_decl.specs.Initializers.{has_item, slot}
+use Rattle.c_scope.specs.Members.{member_in}
+use Rattle.c_scope.proofs.Parted.{part_within}
+use Rattle.c_elab_type.specs.Initializers.{has_item, slot}
 
 -- a type that an object may have
 pub record IsObject (done : List Completed) (t : CType) : Type 0 where

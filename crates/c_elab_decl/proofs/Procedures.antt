@@ -5,10 +5,10 @@ use Rattle.std.proofs.lemmas.List.{append_assoc, append-nil, map-append, map-set
 use Rattle.c_types.specs.Types.{Completed}
 use Rattle.core_tree.specs.declared.functions.Function.{Function}
 use Rattle.core_tree.specs.Trees.{Procedure, view_function, view_functions, view_statement}
-use Rattle.c_elab_expr.specs.Scopes.{Callable}
+use Rattle.c_scope.specs.Scopes.{Callable}
 use Rattle.c_elab_decl.specs.declared.defining.Definition.{Definition as CodeDefinition}
 use Rattle.c_elab_decl.specs.Files.{procedure_of, with_body, with_bodies}
-use Rattle.c_elab_decl.specs.Steps.{view_definition, view_definitions}
+use Rattle.c_elab_decl.specs.DefinitionSteps.{view_definition, view_definitions}
 
 get_drop : {A : Type 0} (xs : List A) (n : ℕ) (x : A) → slice_get xs n ≡ Some x → drop n xs ≡ x ∷ drop (suc n) xs
 get_drop [] n x h = let none : ⊥ = cc in absurd none

@@ -12,32 +12,33 @@ use Rattle.c_types.specs.Types.{CType, Completed}
 use Rattle.c_types.specs.Types as ctypes
 use Rattle.core_tree.specs.Trees.{Expression, Procedure, Static, Structure}
 use Rattle.core_tree.specs.Trees as cores
-use Rattle.c_elab_expr.specs.Scopes.{Callable, Cases, FunctionType, Named, Scoped, first_scope}
-use Rattle.c_elab_expr.specs.Nodes.{required, ◌>>=◌}
+use Rattle.c_scope.specs.Scopes.{Callable, Cases, FunctionType, Named, Scoped, first_scope}
+use Rattle.c_scope.specs.Faults.{required, ◌>>=◌, Fault, fault, on_line}
 use Rattle.c_elab_expr.specs.Operands.{Operand, dropped, number, record_value}
-use Rattle.c_elab_expr.specs.Typing.{Fault, fault, on_line, operand, operand_by}
-use Rattle.c_elab_expr.proofs.Variables.{and, both}
+use Rattle.c_elab_expr.specs.Typing.{operand, operand_by}
+use Rattle.c_scope.proofs.Variables.{and, both}
 use Rattle.c_elab_expr.proofs.WellTyped.{Holds, bind, given, on_same_line, refused}
-use Rattle.c_elab_decl.specs.declared.regions.Region.{Region}
-use Rattle.c_elab_decl.specs.declared.regions.Role.{Role}
-use Rattle.c_elab_decl.specs.declared.regions.Role.TheVariants as roles
-use Rattle.c_elab_decl.specs.Derivations.{Derivation, Derived, callable, derivation, full_line, lengths}
-use Rattle.c_elab_decl.specs.Initializers.{Value, initializer_of, number_value, structure_value}
-use Rattle.c_elab_decl.specs.Declarators.{Typed, declared_item, in_front, is_open, of_type, typed_variable, variable_type, with_variable, within_initializer}
-use Rattle.c_elab_decl.specs.Functions.{typed_function}
-use Rattle.c_elab_decl.specs.Specifiers.{Passed, Specification, named_parts, parted, typed_full, typed_parts, typed_specifiers}
-use Rattle.c_elab_decl.specs.Listed.{typed_by, typed_declaration, typed_others, typed_variables, variable_by}
+use Rattle.c_elab_type.specs.declared.regions.Region.{Region}
+use Rattle.c_elab_type.specs.declared.regions.Role.{Role}
+use Rattle.c_elab_type.specs.declared.regions.Role.TheVariants as roles
+use Rattle.c_elab_type.specs.Derivations.{Derivation, Derived, callable, derivation, full_line, lengths}
+use Rattle.c_elab_type.specs.Initializers.{Value, initializer_of, number_value, structure_value}
+use Rattle.c_elab_type.specs.Declarators.{Typed, declared_item, in_front, is_open, of_type, typed_variable, variable_type, with_variable, within_initializer}
+use Rattle.c_elab_type.specs.Specifiers.{Passed, Specification, named_parts, parted, typed_full, typed_parts, typed_specifiers}
+use Rattle.c_elab_object.specs.Functions.{typed_function}
+use Rattle.c_elab_object.specs.Listed.{typed_by, typed_declaration, typed_others, typed_variables, variable_by, in_file, typed_outside}
 use Rattle.c_elab_decl.specs.Jumps.{is_passed, jumps_in, label_number, labels_in}
 use Rattle.c_elab_decl.specs.Statements.{Around, is_number, TypedFront, TypedStatement, as_block, as_items, case_node, default_node, in_block, in_loop, in_switch, jump_node, label_node, own_block, part_ignored, part_tested, return_node, return_nothing_node, switch_ended, switch_of, switch_type, switch_value, test_node, typed_front, typed_items, typed_rest, typed_statement, with_cases, with_label, with_loop, with_switch}
-use Rattle.c_elab_decl.proofs.Signatures.{switched}
-use Rattle.c_elab_decl.proofs.Growing.{Settles, SettlesIf, There, settles_both, variable_follows}
+use Rattle.c_elab_decl.specs.Files.{Definition, definition_type, own_parameters, own_suffixes, procedure_of, typed_body_of, typed_definition, typed_externals, with_bodies, with_body, with_definitions, within_body}
+use Rattle.c_elab_type.proofs.Signatures.{switched}
+use Rattle.c_elab_type.proofs.Growing.{Settles, SettlesIf, There, settles_both, variable_follows}
+use Rattle.c_elab_type.proofs.Settling.{DerivationFine, SuffixesDone, full_settles, specifiers_settle, trivially}
+use Rattle.c_elab_object.proofs.SettlingDeclared.{function_settled, others_settle, suffixes_fine}
 use Rattle.c_elab_decl.proofs.Objects.{IsObject}
-use Rattle.c_elab_decl.proofs.Initialized.{fine}
-use Rattle.c_elab_decl.proofs.Settling.{DerivationFine, SuffixesDone, full_settles, function_settled, others_settle, specifiers_settle, suffixes_fine, trivially}
 use Rattle.core_tree.specs.Standing.{Standing, are_standing, stand, stands, stands_body, stands_file}
 use Rattle.core_tree.specs.Standing as places
+use Rattle.c_elab_decl.proofs.Initialized.{fine}
 use Rattle.c_elab_decl.proofs.WellTyped.{CaseDone, DefaultDone, FrontDone, StatementDone, case_done, default_done, front_done, statement_done, type_object}
-use Rattle.c_elab_decl.specs.Files.{Definition, definition_type, in_file, own_parameters, own_suffixes, procedure_of, typed_body_of, typed_definition, typed_externals, typed_outside, with_bodies, with_body, with_definitions, within_body}
 
 -- what stands around a statement in this scope
 abbrev pub around : Around → Scoped → Standing

@@ -8,9 +8,9 @@ use Rattle.c_types.specs.Types.{Completed}
 use Rattle.core_tree.specs.declared.functions.StaticObject.{StaticObject}
 use Rattle.core_tree.specs.Trees.{Static, view_static, view_statics}
 use Rattle.core_tree.specs.Typed.{is_static}
-use Rattle.c_elab_expr.specs.declared.scope.Lasting.{Lasting}
-use Rattle.c_elab_expr.specs.Scopes.{Lasting as Known, view_lasting}
-use Rattle.c_elab_expr.proofs.Variables.{both, and}
+use Rattle.c_scope.specs.declared.scope.Lasting.{Lasting}
+use Rattle.c_scope.specs.Scopes.{Lasting as Known, view_lasting}
+use Rattle.c_scope.proofs.Variables.{both, and}
 use Rattle.c_elab_decl.specs.Files.{static_of}
 
 abbrev pub static_as : List Completed → Lasting → Static

@@ -22,34 +22,36 @@ use Rattle.core_tree.specs.Trees as cores
 use Rattle.core_tree.specs.Typed.{type_of, Sizes, is_integer, is_promoted, fills, is_typed, is_structure, same_given, given_as, is_typed_part, is_test, are_cases, is_typed_statement, are_typed_items}
 use Rattle.core_tree.specs.Typed as typings
 use Rattle.c_values.specs.Numbers.{TypedNumber}
-use Rattle.c_elab_expr.specs.declared.meaning.Meaning.{Meaning}
-use Rattle.c_elab_expr.specs.declared.meaning.Meaning.TheVariants.{Incomplete}
+use Rattle.c_scope.specs.declared.meaning.Meaning.{Meaning}
+use Rattle.c_scope.specs.declared.meaning.Meaning.TheVariants.{Incomplete}
 use Rattle.c_elab_expr.specs.declared.operands.Home.TheVariants as homes
-use Rattle.c_elab_expr.specs.Scopes.{Named, Flow, Cases, Scoped, sizes, given_by}
-use Rattle.c_elab_expr.specs.Nodes.{◌>>=◌, required, as_type}
+use Rattle.c_scope.specs.Scopes.{Named, Flow, Cases, Scoped, sizes, given_by}
+use Rattle.c_scope.specs.Faults.{◌>>=◌, required, Fault, fault, on_line}
+use Rattle.c_elab_expr.specs.Nodes.{as_type}
 use Rattle.c_elab_expr.specs.Operands.{Operand, value, object, structure, number, record_value, dropped, constant_in}
-use Rattle.c_elab_expr.specs.Types.{array_of}
-use Rattle.c_elab_expr.specs.Typing.{Fault, fault, on_line, operand, operand_by}
-use Rattle.c_elab_expr.proofs.Variables.{both, and}
+use Rattle.c_scope.specs.Types.{array_of}
+use Rattle.c_elab_expr.specs.Typing.{operand, operand_by}
+use Rattle.c_scope.proofs.Variables.{both, and}
 use Rattle.c_elab_expr.proofs.Types.{same_integer_refl, same_type_refl, promoted_is, type_as, typed_as}
 use Rattle.c_elab_expr.proofs.WellTyped.{Holds, bind, given, refused, on_same_line}
-use Rattle.c_elab_decl.specs.declared.regions.Region.{Region}
-use Rattle.c_elab_decl.specs.declared.regions.Role.{Role}
-use Rattle.c_elab_decl.specs.declared.regions.Role.TheVariants as roles
-use Rattle.c_elab_decl.specs.Regions.{earlier}
-use Rattle.c_elab_decl.specs.Derivations.{Derived, Derivation, lengths, callable, derivation, full_line}
-use Rattle.c_elab_decl.specs.Initializers.{Value, number_value, structure_value, initializer_of}
-use Rattle.c_elab_decl.specs.Declarators.{Typed, in_front, declared_item, is_open, given_lengths, sized_type, variable_node, variable_type, of_type, within_initializer, with_variable, typed_variable}
-use Rattle.c_elab_decl.specs.Functions.{typed_function}
-use Rattle.c_elab_decl.specs.Specifiers.{Specification, typed_full, typed_specifiers}
-use Rattle.c_elab_decl.specs.Listed.{variable_by, typed_variables, typed_others, typed_by, typed_declaration}
+use Rattle.c_elab_type.specs.declared.regions.Region.{Region}
+use Rattle.c_elab_type.specs.declared.regions.Role.{Role}
+use Rattle.c_elab_type.specs.declared.regions.Role.TheVariants as roles
+use Rattle.c_elab_type.specs.Regions.{earlier}
+use Rattle.c_elab_type.specs.Derivations.{Derived, Derivation, lengths, callable, derivation, full_line}
+use Rattle.c_elab_type.specs.Initializers.{Value, number_value, structure_value, initializer_of}
+use Rattle.c_elab_type.specs.Declarators.{Typed, in_front, declared_item, is_open, given_lengths, sized_type, variable_node, variable_type, of_type, within_initializer, with_variable, typed_variable}
+use Rattle.c_elab_type.specs.Specifiers.{Specification, typed_full, typed_specifiers}
+use Rattle.c_elab_object.specs.Functions.{typed_function}
+use Rattle.c_elab_object.specs.Listed.{variable_by, typed_variables, typed_others, typed_by, typed_declaration}
 use Rattle.c_elab_decl.specs.Jumps.{label_number, jumps_in, is_passed}
 use Rattle.c_elab_decl.specs.Statements.{Around, in_loop, in_switch, in_block, with_loop, with_label, with_switch, switch_ended, part_ignored, part_tested, test_node, return_node, return_nothing_node, promoted_type, switch_type, switch_value, has_value, case_in, case_of_switch, case_node, default_node, with_cases, label_node, TypedStatement, TypedFront, as_block, own_block, as_items, switch_of, typed_rest, jump_node, typed_statement, typed_front, typed_items}
-use Rattle.c_elab_decl.proofs.Signatures.{own_sizes, switched, is_given}
-use Rattle.c_elab_decl.proofs.Growing.{grows_refl, Wider, wider_refl, wider_trans, inner_refl, typed_grows, structure_grows, There, Follows, follows_refl, follows_trans, SettlesIf, Settles, settles_both, there_behind, binding_settles, new_variable, variable_follows}
+use Rattle.c_elab_type.proofs.Signatures.{own_sizes, switched, is_given}
+use Rattle.c_elab_type.proofs.Growing.{grows_refl, Wider, wider_refl, wider_trans, inner_refl, typed_grows, structure_grows, There, Follows, follows_refl, follows_trans, SettlesIf, Settles, settles_both, there_behind, binding_settles, new_variable, variable_follows}
+use Rattle.c_elab_type.proofs.Settling.{trivially, DerivationFine, SuffixesDone, full_settles, specifiers_settle}
+use Rattle.c_elab_object.proofs.SettlingDeclared.{suffixes_fine, function_settled, others_settle}
 use Rattle.c_elab_decl.proofs.Objects.{IsObject}
 use Rattle.c_elab_decl.proofs.Initialized.{FineOperand, fine, FineNumber, number_fine, FineStructure, record_fine, FineOption, option_fine}
-use Rattle.c_elab_decl.proofs.Settling.{trivially, DerivationFine, SuffixesDone, full_settles, suffixes_fine, function_settled, specifiers_settle, others_settle}
 
 -- ---- what is done behind statements and items
 

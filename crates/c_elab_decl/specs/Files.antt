@@ -1,32 +1,20 @@
 -- The functions of a file, or the first broken rule (C11 6.9).
 use Rattle.std.specs.Prelude.{ℕ, ◌+◌, ◌-◌, ◌++◌, ◌&&◌, Bool, true, false, List, [], ◌∷◌, length, take, map, slice_get, slice_set, Option, Some, None, Result, Ok, Err, if◌then◌else◌}
-use Rattle.c_tree.specs.Declarations.{Parts, Full, full_unnamed, full_named, full_inside, FullSuffixes, full_end, full_bounded, full_open, full_empty, full_void, full_parameters, Parameters, no_parameter, Declarators, name_of}
+use Rattle.c_tree.specs.Declarations.{Parts, Full, full_unnamed, full_named, full_inside, FullSuffixes, full_end, full_bounded, full_open, full_empty, full_void, full_parameters, Parameters, no_parameter, name_of}
 use Rattle.c_tree.specs.Statements.{Statement, block, Externals, no_more, declared, defines}
 use Rattle.c_types.specs.Types.{Completed}
 use Rattle.core_tree.specs.Trees.{Procedure, Static, TypedFile}
 use Rattle.core_tree.specs.Trees as cores
-use Rattle.c_elab_expr.specs.declared.meaning.Meaning.TheVariants.{Function}
-use Rattle.c_elab_expr.specs.Scopes.{Environment, binding, Named, FunctionType, Lasting, Callable, Scoped, first_scope, no_flow, with_defined, sizes, lasting_size, passed_as, given_by, linked_to}
-use Rattle.c_elab_expr.specs.Nodes.{◌>>=◌}
-use Rattle.c_elab_expr.specs.Typing.{Fault, on_line}
-use Rattle.c_elab_decl.specs.declared.regions.Region.{Region}
-use Rattle.c_elab_decl.specs.Regions.{earlier}
-use Rattle.c_elab_decl.specs.Derivations.{Derived, called, Derivation, lengths, callable, derivation, full_line}
-use Rattle.c_elab_decl.specs.Functions.{function_node, definition_node, declared_callable}
-use Rattle.c_elab_decl.specs.Specifiers.{parted, named_parts, inner_region, are_several, Passed, typed_parts, typed_full, typed_parameters, typed_specifiers}
-use Rattle.c_elab_decl.specs.Listed.{typed_others}
+use Rattle.c_scope.specs.declared.meaning.Meaning.TheVariants.{Function}
+use Rattle.c_scope.specs.Scopes.{Environment, binding, Named, FunctionType, Lasting, Callable, Scoped, first_scope, no_flow, with_defined, sizes, lasting_size, passed_as, given_by, linked_to}
+use Rattle.c_scope.specs.Faults.{◌>>=◌, Fault, on_line}
+use Rattle.c_elab_type.specs.Regions.{earlier}
+use Rattle.c_elab_type.specs.Derivations.{Derived, called, Derivation, lengths, callable, derivation, full_line}
+use Rattle.c_elab_type.specs.Specifiers.{parted, named_parts, inner_region, are_several, Passed, typed_parts, typed_full, typed_parameters}
+use Rattle.c_elab_object.specs.Functions.{function_node, definition_node, declared_callable}
+use Rattle.c_elab_object.specs.Listed.{in_file, typed_outside}
 use Rattle.c_elab_decl.specs.Jumps.{labels_in}
 use Rattle.c_elab_decl.specs.Statements.{TypedStatement, typed_items}
-
--- outside of functions
-abbrev pub in_file : Region
-in_file = record { outer = 0; is_file = true }
-
--- a declaration outside of functions
-abbrev pub typed_outside : Scoped → Parts → Declarators → Result Scoped Fault
-typed_outside s parts ds = do
-  x ← typed_specifiers in_file s parts ds
-  typed_others in_file x x.role ds
 
 -- ---- definitions of functions (C11 6.9.1)
 

@@ -14,14 +14,15 @@ use Rattle.core_tree.specs.Operations.{converted}
 use Rattle.core_tree.specs.Typed.{type_of}
 use Rattle.core_tree.specs.Trees as cores
 use Rattle.c_values.specs.Numbers.{TypedNumber}
-use Rattle.c_elab_expr.specs.Scopes.{Cases, Scoped}
-use Rattle.c_elab_expr.specs.Nodes.{◌>>=◌, required, as_type}
+use Rattle.c_scope.specs.Scopes.{Cases, Scoped}
+use Rattle.c_scope.specs.Faults.{◌>>=◌, required, Fault, fault, on_line}
+use Rattle.c_elab_expr.specs.Nodes.{as_type}
 use Rattle.c_elab_expr.specs.Operands.{Operand, value, object, structure, number, dropped, record_value, constant_in}
-use Rattle.c_elab_expr.specs.Typing.{Fault, fault, on_line, operand_by, operand}
-use Rattle.c_elab_decl.specs.declared.regions.Region.{Region}
+use Rattle.c_elab_expr.specs.Typing.{operand_by, operand}
+use Rattle.c_elab_type.specs.declared.regions.Region.{Region}
+use Rattle.c_elab_type.specs.Declarators.{Typed, in_front}
+use Rattle.c_elab_object.specs.Listed.{typed_declaration}
 use Rattle.c_elab_decl.specs.declared.stating.Around.{Around as CodeAround}
-use Rattle.c_elab_decl.specs.Declarators.{Typed, in_front}
-use Rattle.c_elab_decl.specs.Listed.{typed_declaration}
 use Rattle.c_elab_decl.specs.Jumps.{label_number, jumps_in, is_passed}
 
 -- what stands around a statement: the labels of its function, and whether `break` and `continue` have their statements

@@ -8,26 +8,25 @@ ghost use Rattle.c_types.specs.Types.{views, view as type_view};
 ghost use Rattle.c_types.specs.Layouts.{size_of};
 ghost use Rattle.core_tree.specs.Trees.{view_core, view_function, view_functions, view_static, view_statics, view_statement as typed_view};
 ghost use Rattle.core_tree.specs.Typed.{is_static};
-ghost use Rattle.c_elab_expr.specs.Scopes.{Scoped, view_named, view_function_type, view_callable, view_lasting, lasting_size, passed_as, given_by};
-ghost use Rattle.c_elab_expr.specs.Typing.{Gives, on_line};
-ghost use Rattle.c_elab_decl.specs.Regions.{earlier};
-ghost use Rattle.c_elab_decl.specs.Derivations.{called, full_line, view_parameters, view_derived, view_deriveds};
+ghost use Rattle.c_scope.specs.Scopes.{Scoped, view_named, view_function_type, view_callable, view_lasting, lasting_size, passed_as, given_by};
+ghost use Rattle.c_scope.specs.Faults.{Gives, on_line};
+ghost use Rattle.c_elab_type.specs.Regions.{earlier};
+ghost use Rattle.c_elab_type.specs.Derivations.{called, full_line, view_parameters, view_derived, view_deriveds};
+ghost use Rattle.c_elab_type.specs.Specifiers.{are_several, inner_region, typed_parameters};
+ghost use Rattle.c_elab_object.specs.Listed.{in_file};
 ghost use Rattle.c_elab_decl.specs.Jumps.{labels_in};
-ghost use Rattle.c_elab_decl.specs.Specifiers.{are_several, inner_region, typed_parameters};
-ghost use Rattle.c_elab_decl.specs.Files.{in_file, is_name_alone, one_function, own_parameters, own_suffixes, definition_type, typed_externals, typed_body_of, with_definitions, procedure_of, with_bodies, first_said, static_of, elaborated};
-ghost use Rattle.c_elab_decl.specs.Steps.{DefinitionStep, IsOwn, called_parameters, parameters_in, view_own, view_definitions};
+ghost use Rattle.c_elab_decl.specs.Files.{is_name_alone, one_function, own_parameters, own_suffixes, definition_type, typed_externals, typed_body_of, with_definitions, procedure_of, with_bodies, first_said, static_of, elaborated};
+ghost use Rattle.c_elab_decl.specs.DefinitionSteps.{DefinitionStep, IsOwn, called_parameters, parameters_in, view_own, view_definitions};
 
-use crate::callables::{declared_callable, definition_on, function_on};
-use crate::derivations::{Derivation, Derived, Parameter, derive, full_line};
 use crate::flows::{begin, end};
 use crate::jumps::{Labels, add_labels};
-use crate::listed::declare_outside;
-use crate::naming::name_of;
-use crate::regions::{Region, earlier};
-use crate::slots::object_bytes;
-use crate::specifying::{named_parts, typed_full, typed_parameters};
 use crate::stating::{Around, typed_items};
-use c_elab_expr::{
+use c_elab_object::{declare_outside, declared_callable, definition_on, function_on};
+use c_elab_type::{
+    Derivation, Derived, Parameter, Region, derive, earlier, full_line, name_of, named_parts,
+    object_bytes, typed_full, typed_parameters,
+};
+use c_scope::{
     Callable, FunctionType, Lasting, Meaning, QualifiedType, Scope, TypingError, is_incomplete,
 };
 use c_tree::{

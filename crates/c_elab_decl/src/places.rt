@@ -3,11 +3,11 @@
 ghost use Rattle.std.specs.Prelude.{◌≡◌};
 ghost use Rattle.c_types.specs.Types.{view as type_view};
 ghost use Rattle.core_tree.specs.Trees.{view, view_structure};
-ghost use Rattle.c_elab_expr.specs.Nodes.{required};
+ghost use Rattle.c_scope.specs.Faults.{required, Gives, on_line};
 ghost use Rattle.c_elab_expr.specs.Operands.{view_operand, number, record_value};
-ghost use Rattle.c_elab_expr.specs.Typing.{Gives, on_line};
 
-use c_elab_expr::{Broken, CoreOperand, TypingError, number, record_value};
+use c_elab_expr::{CoreOperand, number, record_value};
+use c_scope::{Broken, TypingError};
 use c_types::{Layouts, Ty};
 use core_tree::{CoreExpr, CoreStructure};
 

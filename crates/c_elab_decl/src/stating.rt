@@ -7,20 +7,22 @@ ghost use Rattle.c_tree.specs.Statements.{Items, done, view_item, for_declared, 
 ghost use Rattle.c_tree.specs.Statements.{view_statement as tree};
 ghost use Rattle.c_tree.specs.Statements.{items_of as trees};
 ghost use Rattle.core_tree.specs.Trees.{view, view_statement, items_of};
-ghost use Rattle.c_elab_expr.specs.Typing.{Gives, fault, on_line};
+ghost use Rattle.c_scope.specs.Faults.{Gives, fault, on_line};
 ghost use Rattle.c_elab_expr.specs.Operands.{view_operand};
+ghost use Rattle.c_elab_type.specs.Steps.{Step};
 ghost use Rattle.c_elab_decl.specs.Statements.{view_around, in_loop, in_switch, part_ignored, part_tested, test_node, return_node, return_nothing_node, switch_value, label_node, jump_node, typed_statement, typed_rest, typed_body, typed_front, typed_items};
 ghost use Rattle.c_elab_decl.specs.Lookahead.{Passes, with_jumps, first_jumps, jumped_behind};
-ghost use Rattle.c_elab_decl.specs.Steps.{Step, Fronts, alone};
+ghost use Rattle.c_elab_decl.specs.StatementSteps.{Fronts, alone};
 
 use crate::flows::{
     add_case, add_default, close_switch, next_label, next_loop, open_switch, switch_type,
 };
 use crate::jumps::{Ahead, Labels, ahead_of};
-use crate::listed::declare;
 use crate::places::{number_on, record_on};
-use crate::regions::Region;
-use c_elab_expr::{CoreOperand, Scope, TypingError, as_type, dropped, ignored, operand};
+use c_elab_expr::{CoreOperand, as_type, dropped, ignored, operand};
+use c_elab_object::declare;
+use c_elab_type::Region;
+use c_scope::{Scope, TypingError};
 use c_tree::{Declaration, Expr, Item, Name, Stmt};
 use c_types::Ty;
 use core_tree::{CoreExpr, CoreItem, CoreStatement};

@@ -5,13 +5,13 @@ use Rattle.c_tree.specs.declared.expr.Expr.{Expr}
 use Rattle.c_tree.specs.Tree.{Tree, Trees, call}
 use Rattle.c_tree.specs.Tree.{view as tree, views_of as trees}
 use Rattle.c_elab_expr.specs.Operands.{Operand}
-use Rattle.c_elab_expr.specs.declared.meaning.Meaning.{Meaning}
-use Rattle.c_elab_expr.specs.declared.fault.TypingError.{TypingError}
-use Rattle.c_elab_expr.specs.declared.fault.TypingError.TheVariants as errors
-use Rattle.c_elab_expr.specs.Scopes.{Scoped}
-use Rattle.c_elab_expr.specs.Nodes.{◌>>=◌}
+use Rattle.c_scope.specs.declared.meaning.Meaning.{Meaning}
+use Rattle.c_scope.specs.declared.fault.TypingError.{TypingError}
+use Rattle.c_scope.specs.declared.fault.TypingError.TheVariants as errors
+use Rattle.c_scope.specs.Scopes.{Scoped}
+use Rattle.c_scope.specs.Faults.{◌>>=◌, Fault, fault, on_line, Fails}
 use Rattle.c_tree.specs.Tree.{first_line}
-use Rattle.c_elab_expr.specs.Typing.{Fault, fault, on_line, callee, is_used, called, typed, typed_arguments, operand, Fails}
+use Rattle.c_elab_expr.specs.Typing.{callee, is_used, called, typed, typed_arguments, operand}
 
 -- a fault of a part is one of the whole
 pub fails_on : {Y Z : Type 0} (e : TypingError) (r : Result Y Fault) (s : Result Z Fault) → ((f : Fault) → r ≡ Err f → s ≡ Err f) → Fails e r → Fails e s

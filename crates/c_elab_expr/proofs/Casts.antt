@@ -4,11 +4,11 @@ use Rattle.c_tree.specs.Tree.{TypePart, Tree, Declared, cast, sizeof_type}
 use Rattle.c_tree.specs.declared.expr.TypeName.{TypeName}
 use Rattle.c_tree.specs.Tree.{view_type_part, view_declarator}
 use Rattle.c_types.specs.Types.{CType}
-use Rattle.c_elab_expr.specs.Scopes.{Scoped}
-use Rattle.c_elab_expr.specs.Nodes.{◌>>=◌}
+use Rattle.c_scope.specs.Scopes.{Scoped}
+use Rattle.c_scope.specs.Faults.{◌>>=◌, Fault, on_line}
 use Rattle.c_elab_expr.specs.Operands.{Operand, cast_operand}
-use Rattle.c_elab_expr.specs.Types.{type_size}
-use Rattle.c_elab_expr.specs.Typing.{Fault, on_line, type_name, sized, is_wanted, typed, operand_by, lengths}
+use Rattle.c_scope.specs.Types.{type_size}
+use Rattle.c_elab_expr.specs.Typing.{type_name, sized, is_wanted, typed, operand_by, lengths}
 
 -- the type of a type name in memory
 abbrev pub named_type : Scoped → TypeName → Result CType Fault

@@ -1,15 +1,8 @@
-pub mod Entries
-pub mod Links
-pub mod Words
 pub mod Elements
 pub mod Parts
-pub mod Tables
 pub mod Casts
 pub mod Sizes
-pub mod Bindings
-pub mod Variables
 pub mod Arguments
 pub mod Passing
 pub mod Types
-pub mod Parted
 pub mod WellTyped

@@ -1,43 +1,17 @@
--- The arrays of a declarator, the innermost first; the parts of a type name, from left to right; and the lengths of suffixes.
-use Rattle.std.proofs.Common.{◌≡◌, ◌<◌, ◌≤◌, ◌+◌, ◌-◌, ◌++◌, ℕ, zero, suc, List, [], ◌∷◌, length, get_or, drop, map, Option, Some, None, Result, Ok, Err, refl, sym, ap, ◌∙◌, arith}
+-- The parts of a type name, from left to right, and the lengths of suffixes.
+use Rattle.std.proofs.Common.{◌≡◌, ◌<◌, ◌+◌, ◌++◌, ℕ, List, [], ◌∷◌, length, get_or, drop, map, Option, Some, None, Result, Ok, Err, refl, sym, ap, ◌∙◌}
 use Rattle.std.proofs.lemmas.List.{drop_more, append_assoc}
-use Rattle.c_types.specs.Types.{CType, Completed}
 use Rattle.c_tree.specs.declared.specifier.TypeSpecifier.{TypeSpecifier}
 use Rattle.c_tree.specs.declared.expr.ArraySuffix.{ArraySuffix}
 use Rattle.c_tree.specs.declared.expr.ArraySuffix as array_suffixes
 use Rattle.c_tree.specs.Tree.{Suffixes, no_suffix, view_type_part, view_suffix, suffixes_of, first_line}
 use Rattle.c_tree.specs.Tree.{view as tree}
-use Rattle.c_elab_expr.specs.declared.fault.Broken.{Broken}
-use Rattle.c_elab_expr.specs.declared.fault.Broken.TheVariants as broken
-use Rattle.c_elab_expr.specs.declared.fault.TypingError.{TypingError}
-use Rattle.c_elab_expr.specs.Scopes.{Scoped}
-use Rattle.c_elab_expr.specs.Nodes.{◌>>=◌}
-use Rattle.c_elab_expr.specs.Types.{Said, with_part, with_parts, one_array, array_of}
-use Rattle.c_elab_expr.specs.Typing.{Fault, Breaks, Adds, bound, operand, suffix_lengths, behind}
+use Rattle.c_scope.specs.declared.fault.TypingError.{TypingError}
+use Rattle.c_scope.specs.Scopes.{Scoped}
+use Rattle.c_scope.specs.Faults.{◌>>=◌, Fault}
+use Rattle.c_scope.specs.Types.{Said, with_part, with_parts}
+use Rattle.c_elab_expr.specs.Typing.{Adds, bound, operand, suffix_lengths, behind}
 use Rattle.c_elab_expr.proofs.Arguments.{fails_on}
-
--- ---- arrays
-
--- a rule that an inner array breaks is broken
-array_fails : (done : List Completed) (t : CType) (i : ℕ) (ns : List (Option ℕ)) (rule : ℕ) → array_of done t (drop i ns) ≡ Err rule → array_of done t ns ≡ Err rule
-array_fails done t zero ns rule e = e
-array_fails done t (suc i) [] rule e = e
-array_fails done t (suc i) (n ∷ ns) rule e = ap (λ (r : Result CType ℕ). r >>= λ y. one_array done y n) (array_fails done t i ns rule e)
-
-breaks_on : {Y Z : Type 0} (e : Broken) (r : Result Y ℕ) (s : Result Z ℕ) → ((rule : ℕ) → r ≡ Err rule → s ≡ Err rule) → Breaks e r → Breaks e s
-breaks_on broken.Memory r s h g = tt
-breaks_on (broken.Rule rule) r s h g = h rule g
-
-pub array_breaks : (e : Broken) (done : List Completed) (t : CType) (ns : List (Option ℕ)) (left : ℕ) (d : Option ℕ) (element : CType) → 0 < left → left ≤ length ns
-    → array_of done t (drop left ns) ≡ Ok element → Breaks e (one_array done element (get_or ns (left - 1) d)) → Breaks e (array_of done t ns)
-array_breaks e done t ns left d element some within so_far bad =
-    let i = left - 1 in
-    let next : i + 1 ≡ left = omega (arith, some) in
-    let n = get_or ns i d in
-    let inner : array_of done t (drop (i + 1) ns) ≡ Ok element = ap (λ (k : ℕ). array_of done t (drop k ns)) next ∙ so_far in
-    let here : array_of done t (drop i ns) ≡ one_array done element n =
-    ap (array_of done t) (drop_more ns i d (omega (arith, some, within))) ∙ ap (λ (r : Result CType ℕ). r >>= λ y. one_array done y n) inner in
-    breaks_on e (one_array done element n) (array_of done t ns) (λ rule told. array_fails done t i ns rule (here ∙ told)) bad
 
 -- ---- parts of a type name
 

@@ -7,7 +7,7 @@ use Rattle.core_tree.specs.declared.expression.CoreArgument.{CoreArgument}
 use Rattle.core_tree.specs.declared.expression.CoreExpr.{CoreExpr}
 use Rattle.core_tree.specs.Trees.{Expression, Arguments, view, with_argument, arguments_of}
 use Rattle.c_elab_expr.specs.declared.operands.CoreOperand.{CoreOperand}
-use Rattle.c_elab_expr.specs.Nodes.{◌>>=◌}
+use Rattle.c_scope.specs.Faults.{◌>>=◌}
 use Rattle.c_elab_expr.specs.Operands.{Operand, value, view_operand, turned, comma_operand, number, argument_in, arguments_in, extra_arguments, behind_extra}
 
 -- the last in memory comes first

@@ -11,7 +11,7 @@ use Rattle.core_tree.specs.declared.operators.ArithmeticOperator.{ArithmeticOper
 use Rattle.core_tree.specs.Trees.{Expression, convert}
 use Rattle.core_tree.specs.Typed.{Sizes, type_of, is_integer, is_promoted, is_shift, are_operands, is_typed}
 use Rattle.c_elab_expr.specs.Nodes.{as_type, left_type, right_type}
-use Rattle.c_elab_expr.proofs.Variables.{and}
+use Rattle.c_scope.proofs.Variables.{and}
 
 -- ---- types are one where their numbers are
 

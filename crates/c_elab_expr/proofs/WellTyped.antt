@@ -33,20 +33,21 @@ use Rattle.core_tree.specs.Trees.{Expression, Structure, Arguments}
 use Rattle.core_tree.specs.Trees as cores
 use Rattle.core_tree.specs.Typed.{Sizes, Signature, type_of, place_type, is_integer, is_promoted, are_operands, is_within, is_typed, is_structure, are_arguments, same_given, given_as, gives_this}
 use Rattle.core_tree.specs.Typed as typed_trees
-use Rattle.c_elab_expr.specs.declared.meaning.Meaning.{Meaning}
-use Rattle.c_elab_expr.specs.declared.meaning.Meaning.TheVariants.{Variable, Object, Incomplete, Assert, Assume, Draw, Function, Typedef, Enumerator, Record, Enumeration}
+use Rattle.c_scope.specs.declared.meaning.Meaning.{Meaning}
+use Rattle.c_scope.specs.declared.meaning.Meaning.TheVariants.{Variable, Object, Incomplete, Assert, Assume, Draw, Function, Typedef, Enumerator, Record, Enumeration}
 use Rattle.c_elab_expr.specs.declared.operands.Home.{Home}
 use Rattle.c_elab_expr.specs.declared.operands.Home.TheVariants as homes
-use Rattle.c_elab_expr.specs.Members.{found, members_in, part_at}
-use Rattle.c_elab_expr.specs.Scopes.{Named, Lasting, Callable, Scoped, meaning_of, sizes_of, object_at, is_incomplete, lasting_size, passed_as, given_by, signature_of, all_sizes}
-use Rattle.c_elab_expr.specs.Nodes.{Node, ◌>>=◌, required, integer_of, integer, as_type, place_of, target_of, constant_type, constant_node, character_node, size_node, discarded, cast_node, sign_node, not_node, step_node, unary_node, postfix_node, left_type, right_type, arithmetic_node, compare_node, logical_node, binary_node, chosen, choice_node, assign_node, operator_of, update_node, assignment_node}
+use Rattle.c_scope.specs.Members.{found, members_in, part_at}
+use Rattle.c_scope.specs.Scopes.{Named, Lasting, Callable, Scoped, meaning_of, sizes_of, object_at, is_incomplete, lasting_size, passed_as, given_by, signature_of, all_sizes}
+use Rattle.c_scope.specs.Faults.{◌>>=◌, required, Fault, on_line}
+use Rattle.c_elab_expr.specs.Nodes.{Node, integer_of, integer, as_type, place_of, target_of, constant_type, constant_node, character_node, size_node, discarded, cast_node, sign_node, not_node, step_node, unary_node, postfix_node, left_type, right_type, arithmetic_node, compare_node, logical_node, binary_node, chosen, choice_node, assign_node, operator_of, update_node, assignment_node}
 use Rattle.c_elab_expr.specs.Operands.{Operand, value, object, structure, number_place, held_value, put_value, is_home, computed, valued, number, same_record, record_value, dropped, is_array, used, place_operand, variable_node, lasting_node, function_node, name_node, part_operand, member_node, operand_bytes, cast_record, cast_operand, unary_operand, postfix_operand, binary_operand, choice_record, choice_value, choice_operand, assign_record, assign_value, assign_operand, comma_operand, one_integer, no_arguments, argument_in, arguments_in, extra_arguments, given_size, given_operand, behind_extra, function_call, drawn_or_called, callable_call, assertion_call, assumption_call, call_node, is_typed_operand}
-use Rattle.c_elab_expr.specs.Types.{type_size}
+use Rattle.c_scope.specs.Types.{type_size}
 use Rattle.c_elab_expr.specs.Strings.{strings_of, strings_length}
-use Rattle.c_elab_expr.specs.Typing.{Fault, on_line, bare_line, sized, used_on, callee, is_used, called, is_wanted, type_name, operand_size, typed, typed_arguments, operand_by, lengths}
-use Rattle.c_elab_expr.proofs.Variables.{both, and}
+use Rattle.c_elab_expr.specs.Typing.{bare_line, sized, used_on, callee, is_used, called, is_wanted, type_name, operand_size, typed, typed_arguments, operand_by, lengths}
+use Rattle.c_scope.proofs.Variables.{both, and}
 use Rattle.c_elab_expr.proofs.Types.{same_integer_refl, same_type_refl, promoted_is, common_promoted, operands_fit, type_as, typed_as}
-use Rattle.c_elab_expr.proofs.Parted.{part_within}
+use Rattle.c_scope.proofs.Parted.{part_within}
 
 -- what is given, if it is given, has a property
 abbrev pub Holds : {A E : Type 0} → (A → Type 0) → Result A E → Type 0

@@ -1,10 +1,6 @@
-pub mod Members
-pub mod Scopes
 pub mod Nodes
-pub mod Types
 pub mod Constants
 pub mod Strings
 pub mod Texts
 pub mod Operands
 pub mod Typing
-pub mod Places

@@ -29,20 +29,11 @@ use Rattle.core_tree.specs.declared.operators.StepOperator.TheVariants as steps
 use Rattle.core_tree.specs.declared.expression.Place.{Place}
 use Rattle.core_tree.specs.Trees.{Expression, constant, read, convert, sign, is_zero, arithmetic, compare, logical, choice, assign, update, step, comma, assertion, assumption, draw, part, discard, discard_structure, call, function_name}
 use Rattle.core_tree.specs.Typed.{type_of, place_type, is_shift}
+use Rattle.c_scope.specs.Faults.{◌>>=◌, required}
 
 -- a typed node, or the rule that is broken
 abbrev pub Node : Type 0
 Node = Result Expression ℕ
-
-infixl 10 ◌>>=◌
-abbrev pub ◌>>=◌ : {A B E : Type 0} → Result A E → (A → Result B E) → Result B E
-(Ok x) >>= f = f x
-(Err e) >>= f = Err e
-
--- what a rule asks for
-abbrev pub required : {A : Type 0} → ℕ → Option A → Result A ℕ
-required rule (Some x) = Ok x
-required rule None = Err rule
 
 -- ---- types
 

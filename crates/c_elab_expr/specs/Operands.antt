@@ -16,17 +16,18 @@ use Rattle.core_tree.specs.Trees as cores
 use Rattle.core_tree.specs.Typed.{type_of, is_typed, is_structure, is_within, is_in_object}
 use Rattle.core_tree.specs.Typed as typed_trees
 use Rattle.c_values.specs.Numbers.{TypedNumber}
-use Rattle.c_elab_expr.specs.declared.meaning.Meaning.{Meaning}
-use Rattle.c_elab_expr.specs.declared.meaning.Meaning.TheVariants.{Variable, Object, Incomplete, Assert, Assume, Draw, Function, Typedef, Enumerator, Record, Enumeration}
+use Rattle.c_scope.specs.declared.meaning.Meaning.{Meaning}
+use Rattle.c_scope.specs.declared.meaning.Meaning.TheVariants.{Variable, Object, Incomplete, Assert, Assume, Draw, Function, Typedef, Enumerator, Record, Enumeration}
 use Rattle.c_elab_expr.specs.declared.operands.Home.{Home}
 use Rattle.c_elab_expr.specs.declared.operands.Home.TheVariants as homes
 use Rattle.c_elab_expr.specs.declared.operands.CoreOperand.{CoreOperand}
 use Rattle.c_elab_expr.specs.declared.operands.CoreOperand.TheVariants as codes
-use Rattle.c_elab_expr.specs.Members.{found, members_in, part_at}
-use Rattle.c_elab_expr.specs.Scopes.{Named, Lasting, FunctionType, Callable, Scoped, object_at, is_incomplete, all_sizes}
-use Rattle.c_elab_expr.specs.Types.{type_size}
+use Rattle.c_scope.specs.Members.{found, members_in, part_at}
+use Rattle.c_scope.specs.Scopes.{Named, Lasting, FunctionType, Callable, Scoped, object_at, is_incomplete, all_sizes}
+use Rattle.c_scope.specs.Types.{type_size}
 use Rattle.c_elab_expr.specs.Constants.{constant_of}
-use Rattle.c_elab_expr.specs.Nodes.{Node, ◌>>=◌, required, integer, as_type, character_node, unary_node, postfix_node, binary_node, choice_node, assignment_node, cast_node, value_size}
+use Rattle.c_scope.specs.Faults.{◌>>=◌, required}
+use Rattle.c_elab_expr.specs.Nodes.{Node, integer, as_type, character_node, unary_node, postfix_node, binary_node, choice_node, assignment_node, cast_node, value_size}
 
 -- A value of integer type or void, and whether it is a place that is const; a place of struct, union or array type: its line, the
 -- variable or the object that it lies in, the offset in it in bytes, the type, and whether it is const; or a value of such a type

@@ -3,32 +3,17 @@
 use Rattle.std.specs.Prelude.{◌≡◌, ℕ, ◌+◌, ◌++◌, ◌&&◌, Bool, true, false, not, codes, List, [], ◌∷◌, Option, Some, None, Result, Ok, Err}
 use Rattle.std.specs.Str.{bytes_eq}
 use Rattle.c_tree.specs.Tree.{TypePart, Tree, Trees, Declared, Suffixes, unnamed, named, inside, no_suffix, bounded, unbounded, constant, character, strings, name, parens, unary, cast, sizeof_expr, sizeof_type, step, member, binary, choice, assign, comma, call, none, more, first_line}
-use Rattle.c_elab_expr.specs.declared.meaning.Meaning.{Meaning}
-use Rattle.c_elab_expr.specs.declared.fault.TypingError.{TypingError}
-use Rattle.c_elab_expr.specs.declared.fault.TypingError.TheVariants as errors
-use Rattle.c_elab_expr.specs.declared.fault.Broken.{Broken}
-use Rattle.c_elab_expr.specs.declared.fault.Broken.TheVariants as broken
+use Rattle.c_scope.specs.declared.meaning.Meaning.{Meaning}
+use Rattle.c_scope.specs.declared.fault.TypingError.{TypingError}
 use Rattle.c_types.specs.Types.{CType, Completed}
 use Rattle.c_types.specs.Types as ctypes
-use Rattle.c_elab_expr.specs.Scopes.{Scoped, meaning_of}
-use Rattle.c_elab_expr.specs.Types.{nothing_said, with_parts, specified_type, parts_line, declared_line, array_of, type_size}
+use Rattle.c_scope.specs.Scopes.{Scoped, meaning_of}
+use Rattle.c_scope.specs.Types.{nothing_said, with_parts, specified_type, parts_line, declared_line, array_of, type_size}
 use Rattle.c_elab_expr.specs.Constants.{length_said}
 use Rattle.c_elab_expr.specs.Strings.{strings_of, strings_length}
-use Rattle.c_elab_expr.specs.Nodes.{◌>>=◌, required, constant_node, character_node, size_node}
+use Rattle.c_scope.specs.Faults.{◌>>=◌, required, Fault, fault, on_line, Fails}
+use Rattle.c_elab_expr.specs.Nodes.{constant_node, character_node, size_node}
 use Rattle.c_elab_expr.specs.Operands.{Operand, value, OperandNode, computed, used, name_node, member_node, operand_bytes, constant_in, cast_operand, unary_operand, postfix_operand, binary_operand, choice_operand, assign_operand, comma_operand, call_node}
-
--- a broken rule, and the line of the first token of the node that breaks it
-pub record Fault : Type 0 where
-  pub line : ℕ
-  pub rule : ℕ
-
-abbrev pub fault : ℕ → ℕ → Fault
-fault l r = record { line = l; rule = r }
-
--- a rule is broken on a line
-abbrev pub on_line : {A : Type 0} → ℕ → Result A ℕ → Result A Fault
-on_line line (Ok x) = Ok x
-on_line line (Err rule) = Err (fault line rule)
 
 -- the line of an expression's first token without the parentheses around it
 abbrev pub bare_line : Tree → ℕ
@@ -175,25 +160,6 @@ operand_by s w e = used_on (bare_line e) (typed s w e)
 
 abbrev pub operand : Scoped → Tree → Result Operand Fault
 operand s e = operand_by s true e
-
--- ---- what the code's answers say
-
--- a fault told, unless memory ran out
-abbrev pub Fails : {Y : Type 0} → TypingError → Result Y Fault → Type 0
-Fails errors.Memory typing = Unit {0}
-Fails (errors.Typing line rule) typing = typing ≡ Err (fault line rule)
-
-abbrev pub Gives : {X Y : Type 0} → (X → Y) → Result X TypingError → Result Y Fault → Type 0
-Gives view (Ok x) typing = typing ≡ Ok (view x)
-Gives view (Err e) typing = Fails e typing
-
-abbrev pub Breaks : {Y : Type 0} → Broken → Result Y ℕ → Type 0
-Breaks broken.Memory node = Unit {0}
-Breaks (broken.Rule rule) node = node ≡ Err rule
-
-abbrev pub GivesNode : {X Y : Type 0} → (X → Y) → Result X Broken → Result Y ℕ → Type 0
-GivesNode view (Ok x) node = node ≡ Ok (view x)
-GivesNode view (Err e) node = Breaks e node
 
 -- lengths behind others
 abbrev pub behind : List (Option ℕ) → Result (List (Option ℕ)) Fault → Result (List (Option ℕ)) Fault

@@ -4,11 +4,11 @@ ghost use Rattle.std.specs.Prelude.{◌≡◌, ◌≤◌, ◌%◌, ◌^◌, IfOk
 ghost use Rattle.c_types.specs.Types.{view as type_view};
 ghost use Rattle.core_tree.specs.Trees.{view};
 ghost use Rattle.core_tree.specs.Typed.{type_of, place_type, is_shift};
-ghost use Rattle.c_elab_expr.specs.Nodes.{integer, as_type, place_of, target_of, required, constant_type, constant_node, character_node, size_node, value_size, discarded, cast_node, sign_node, not_node, step_node, unary_node, postfix_node, left_type, right_type, arithmetic_node, compare_node, logical_node, binary_node, chosen, choice_node, assign_node, operator_of, update_node, assignment_node};
-ghost use Rattle.c_elab_expr.specs.Typing.{GivesNode};
+ghost use Rattle.c_scope.specs.Faults.{required, GivesNode};
+ghost use Rattle.c_elab_expr.specs.Nodes.{integer, as_type, place_of, target_of, constant_type, constant_node, character_node, size_node, value_size, discarded, cast_node, sign_node, not_node, step_node, unary_node, postfix_node, left_type, right_type, arithmetic_node, compare_node, logical_node, binary_node, chosen, choice_node, assign_node, operator_of, update_node, assignment_node};
 
-use crate::fault::Broken;
 use c_lexer::{Constant, ConstantType};
+use c_scope::Broken;
 use c_tree::{BinaryOp, StepOp, UnaryOp};
 use c_types::{IntegerType, Ty, ValueType, common, promote};
 use core_tree::{

@@ -4,21 +4,16 @@ ghost use Rattle.std.specs.Prelude.{◌≡◌, ℕ, slice_get, option_map, IfOk,
 ghost use Rattle.c_types.specs.Types.{view as type_view};
 ghost use Rattle.c_types.specs.Layouts.{size_of};
 ghost use Rattle.core_tree.specs.Trees.{Expression, follow, view, view_structure};
-ghost use Rattle.c_elab_expr.specs.Scopes.{view_named, object_at};
-ghost use Rattle.c_elab_expr.specs.Nodes.{required};
+ghost use Rattle.c_scope.specs.Scopes.{view_named, object_at};
+ghost use Rattle.c_scope.specs.Faults.{required, GivesNode};
 ghost use Rattle.c_elab_expr.specs.Operands.{structure, view_operand, computed, valued, number, same_record, record_value, dropped, is_array, used, number_place, held_value, put_value, place_operand, variable_node, lasting_node, function_node, name_node, part_operand, member_node, operand_bytes, constant_in, cast_record, cast_operand, unary_operand, postfix_operand, binary_operand, choice_record, choice_value, choice_operand, assign_value, assign_record, assign_nothing, assign_operand, comma_operand};
-ghost use Rattle.c_elab_expr.specs.Typing.{GivesNode};
 
 use crate::constants::constant_of;
-use crate::declarators::type_size;
-use crate::fault::Broken;
-use crate::meaning::Meaning;
-use crate::members::part_at;
 use crate::nodes::{
     assignment_node, binary_node, cast_node, character_node, choice_node, integer, postfix_node,
     unary_node, value_size,
 };
-use crate::scope::{Scope, is_incomplete};
+use c_scope::{Broken, Meaning, Scope, is_incomplete, part_at, type_size};
 use c_tree::{BinaryOp, StepOp, UnaryOp};
 use c_types::{IntegerType, Layouts, Ty, is_sized, size_of};
 use c_values::Number;

@@ -6,21 +6,20 @@ ghost use Rattle.c_tree.specs.Tree.{view as tree, views_of as trees};
 ghost use Rattle.c_types.specs.Types.{view as type_view};
 ghost use Rattle.c_elab_expr.specs.Strings.{strings_of};
 ghost use Rattle.c_elab_expr.specs.Operands.{Operand, view_operand, is_typed_operand};
-ghost use Rattle.c_elab_expr.specs.Typing.{Gives, GivesNode, Adds, on_line, bare_line, Fault, sized, used_on, no_function, callee, is_main, is_used, bound, type_name, operand_size, is_wanted, typed, typed_arguments, operand_by, operand, lengths, suffix_lengths};
+ghost use Rattle.c_scope.specs.Faults.{Gives, GivesNode, on_line, Fault};
+ghost use Rattle.c_elab_expr.specs.Typing.{Adds, bare_line, sized, used_on, no_function, callee, is_main, is_used, bound, type_name, operand_size, is_wanted, typed, typed_arguments, operand_by, operand, lengths, suffix_lengths};
 
 use crate::calls::called;
 use crate::constants::length_said;
-use crate::declarators::{array_type, declared_line, type_size};
-use crate::fault::{Broken, TypingError};
-use crate::meaning::Meaning;
 use crate::nodes::{character_node, constant_node, size_node};
 use crate::operands::{
     CoreOperand, assign_operand, binary_operand, cast_operand, choice_operand, comma_operand,
     constant_in, member_node, name_node, operand_bytes, postfix_operand, unary_operand, used,
 };
-use crate::scope::Scope;
-use crate::specifying::parts_type;
 use crate::strings::{strings_length, strings_of};
+use c_scope::{
+    Broken, Meaning, Scope, TypingError, array_type, declared_line, parts_type, type_size,
+};
 use c_tree::{ArraySuffix, Declarator, DeclaratorCore, Expr, TypeName};
 use c_types::Ty;
 use core_tree::CoreExpr;

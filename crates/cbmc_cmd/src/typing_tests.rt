@@ -1,7 +1,7 @@
 // C text that is typed, or breaks a rule of typing on a line.
 
 use c_elab_decl::elaborate;
-use c_elab_expr::TypingError;
+use c_scope::TypingError;
 use c_lexer::lex;
 use c_parse_decl::parse;
 use std::alloc::{AllocError, Global};

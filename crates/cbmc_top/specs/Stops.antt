@@ -4,7 +4,7 @@ use Rattle.core_tree.specs.Trees.{TypedFile}
 use Rattle.core_tree.specs.Ranges.{Limits}
 use Rattle.core_tree.specs.declared.refusal.Limit.{Limit}
 use Rattle.c_tree.specs.Statements.{Externals}
-use Rattle.c_elab_expr.specs.Typing.{Fault}
+use Rattle.c_scope.specs.Faults.{Fault}
 use Rattle.c_elab_decl.specs.Files.{elaborated}
 use Rattle.c_profile.specs.Rules.{Breach, first_breach}
 use Rattle.goto_unwind.specs.Counts.{passed}

@@ -14,11 +14,11 @@ ghost use Rattle.cbmc_top.specs.Stops.{StopsWith, HasNoTyping, IsOutside};
 
 use crate::stop::Stop;
 use c_elab_decl::elaborate;
-use c_elab_expr::TypingError;
 use c_lexer::{LexError, Mark, Token, Tokens, lex};
 use c_parse_decl::{ParseError, parse};
 use c_parse_expr::is_mark;
 use c_profile::{Admitted, admit};
+use c_scope::TypingError;
 use c_tree::File;
 use core_tree::{Core, Limit, Refusal};
 use std::alloc::Global;

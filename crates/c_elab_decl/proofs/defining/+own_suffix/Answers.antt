@@ -5,7 +5,7 @@ use Rattle.c_tree.specs.declared.declaration.FullDeclarator.{FullDeclarator}
 use Rattle.c_tree.specs.Declarations.{Parameters, view_full, full_suffixes_of}
 use Rattle.c_tree.proofs.DeclarationViews.{view_unnamed, view_named, view_inside}
 use Rattle.c_elab_decl.specs.Files.{own_parameters, one_function, is_name_alone}
-use Rattle.c_elab_decl.specs.Steps.{IsOwn}
+use Rattle.c_elab_decl.specs.DefinitionSteps.{IsOwn}
 use Rattle.c_elab_decl.proofs.Declaring.{none_stored, inside_none, inside_own, inside_other}
 use Rattle.c_elab_decl.proofs.defining.+own_suffix.Goals as goal
 

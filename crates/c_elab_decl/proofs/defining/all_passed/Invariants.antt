@@ -1,6 +1,6 @@
 use Rattle.std.proofs.Common.{◌≡◌, map, take}
 use Rattle.c_types.specs.Types.{views}
-use Rattle.c_elab_expr.specs.Scopes.{passed_as}
+use Rattle.c_scope.specs.Scopes.{passed_as}
 use Rattle.c_elab_decl.proofs.defining.all_passed.Given as goal
 
 abbrev pub invariant-loop-type_ : goal.invariant-loop-type_

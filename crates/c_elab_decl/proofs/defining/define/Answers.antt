@@ -4,19 +4,20 @@ use Rattle.c_tree.specs.declared.declaration.Specifier.{Specifier}
 use Rattle.c_tree.specs.Declarations.{view_full, parts_of}
 use Rattle.c_tree.specs.Statements.{defines, view_statement as tree}
 use Rattle.core_tree.specs.Trees.{view_statement}
-use Rattle.c_elab_expr.specs.Scopes.{Named, FunctionType, Scoped, view_named, view_function_type}
-use Rattle.c_elab_expr.specs.Typing.{Fault, Fails, on_line}
-use Rattle.c_elab_decl.specs.declared.regions.Region.{Region}
+use Rattle.c_scope.specs.Scopes.{Named, FunctionType, Scoped, view_named, view_function_type}
+use Rattle.c_scope.specs.Faults.{Fault, Fails, on_line}
+use Rattle.c_elab_type.specs.declared.regions.Region.{Region}
+use Rattle.c_elab_type.specs.declared.derivations.Derived.{Derived as CodeDerived}
+use Rattle.c_elab_type.specs.Regions.{earlier}
+use Rattle.c_elab_type.specs.Derivations.{full_line, view_deriveds}
+use Rattle.c_elab_type.specs.Specifiers.{Passed, parted, named_parts, typed_parts}
+use Rattle.c_elab_object.specs.Listed.{in_file}
 use Rattle.c_elab_decl.specs.declared.defining.Definition.{Definition as CodeDefinition}
-use Rattle.c_elab_decl.specs.declared.derivations.Derived.{Derived as CodeDerived}
-use Rattle.c_elab_decl.specs.Regions.{earlier}
-use Rattle.c_elab_decl.specs.Derivations.{full_line, view_deriveds}
-use Rattle.c_elab_decl.specs.Specifiers.{Passed, parted, named_parts, typed_parts}
-use Rattle.c_elab_decl.specs.Files.{in_file, own_parameters, own_suffixes, definition_type, typed_body_of, typed_externals}
-use Rattle.c_elab_decl.specs.Steps.{parameters_in}
+use Rattle.c_elab_decl.specs.Files.{own_parameters, own_suffixes, definition_type, typed_body_of, typed_externals}
+use Rattle.c_elab_decl.specs.DefinitionSteps.{parameters_in}
+use Rattle.c_elab_type.proofs.Steps.{fails_on, fails_along}
 use Rattle.c_elab_decl.proofs.Definitions.{bare_before, parts_fail, own_fail, type_fail, scope_is, body_within, body_fails, names_there, defined_so, outer_within}
-use Rattle.c_elab_decl.proofs.Fronts.{definition_fails, definition_typed, fault_definition}
-use Rattle.c_elab_decl.proofs.Steps.{fails_on, fails_along}
+use Rattle.c_elab_decl.proofs.StatementFronts.{definition_fails, definition_typed, fault_definition}
 use Rattle.c_elab_decl.proofs.defining.define.Goals as goal
 
 pub returns-in_err-base-clause-step : goal.returns-in_err-base-clause-step

@@ -3,14 +3,14 @@ use Rattle.std.proofs.lemmas.Result.{err_from_is_err_and}
 use Rattle.c_tree.specs.declared.statement.External.{External}
 use Rattle.c_tree.specs.Statements.{externals_of}
 use Rattle.core_tree.specs.Trees.{Procedure, view_functions, view_statics}
-use Rattle.c_elab_expr.specs.declared.fault.TypingError.TheVariants as errors
-use Rattle.c_elab_expr.specs.Scopes.{Scoped, first_scope}
+use Rattle.c_scope.specs.declared.fault.TypingError.TheVariants as errors
+use Rattle.c_scope.specs.Scopes.{Scoped, first_scope}
 use Rattle.c_elab_decl.specs.Files.{typed_externals, static_of, with_bodies, with_definitions, elaborated}
-use Rattle.c_elab_decl.specs.Steps.{TypedDefinitions, view_definitions}
+use Rattle.c_elab_decl.specs.DefinitionSteps.{TypedDefinitions, view_definitions}
+use Rattle.c_elab_type.proofs.Steps.{fails_on, gives_err}
 use Rattle.c_elab_decl.proofs.Bodies.{noted_empty, file_typed, file_small}
 use Rattle.c_elab_decl.proofs.Standing.{file_stands}
 use Rattle.c_elab_decl.proofs.Definitions.{file_fails}
-use Rattle.c_elab_decl.proofs.Steps.{fails_on, gives_err}
 use Rattle.c_elab_decl.proofs.defining.elaborate.Goals as goal
 
 pub typed_externals-requires : goal.typed_externals-requires

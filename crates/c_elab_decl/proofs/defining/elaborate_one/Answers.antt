@@ -3,7 +3,7 @@ use Rattle.c_tree.specs.declared.statement.External.{External}
 use Rattle.c_tree.specs.Declarations.{parts_of, declarators_of}
 use Rattle.c_tree.specs.Statements.{view_external}
 use Rattle.c_elab_decl.specs.Files.{typed_externals}
-use Rattle.c_elab_decl.specs.Steps.{DefinitionStep, TypedDefinitions}
+use Rattle.c_elab_decl.specs.DefinitionSteps.{DefinitionStep, TypedDefinitions}
 use Rattle.c_elab_decl.proofs.Bodies.{nothing_outside}
 use Rattle.c_elab_decl.proofs.Definitions.{outside_step}
 use Rattle.c_elab_decl.proofs.defining.elaborate_one.Goals as goal

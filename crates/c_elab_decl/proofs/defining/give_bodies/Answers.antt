@@ -1,7 +1,7 @@
 use Rattle.std.proofs.Common.{◌<◌, ◌≤◌, List, length, reverse, sym, ap, ◌∙◌, arith}
 use Rattle.core_tree.specs.Trees.{Procedure, view_functions}
 use Rattle.c_elab_decl.specs.Files.{with_bodies}
-use Rattle.c_elab_decl.specs.Steps.{view_definitions}
+use Rattle.c_elab_decl.specs.DefinitionSteps.{view_definitions}
 use Rattle.c_elab_decl.proofs.Procedures.{one_given, body_past, body_given}
 use Rattle.c_elab_decl.proofs.defining.give_bodies.Goals as goal
 

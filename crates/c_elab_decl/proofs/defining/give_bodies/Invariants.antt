@@ -1,7 +1,7 @@
 use Rattle.std.proofs.Common.{◌≡◌, length, reverse}
 use Rattle.core_tree.specs.Trees.{view_functions}
 use Rattle.c_elab_decl.specs.Files.{with_bodies}
-use Rattle.c_elab_decl.specs.Steps.{view_definitions}
+use Rattle.c_elab_decl.specs.DefinitionSteps.{view_definitions}
 use Rattle.c_elab_decl.proofs.defining.give_bodies.Given as goal
 
 abbrev pub invariant-definitions : goal.invariant-definitions

@@ -1,6 +1,6 @@
 use Rattle.std.proofs.Common.{sym, ◌∙◌}
 use Rattle.c_types.specs.Types.{view as type_view}
-use Rattle.c_elab_decl.proofs.Deriving.{incomplete_size}
+use Rattle.c_elab_type.proofs.Deriving.{incomplete_size}
 use Rattle.c_elab_decl.proofs.defining.known_bytes.Goals as goal
 
 pub returns-else-is_complete : goal.returns-else-is_complete

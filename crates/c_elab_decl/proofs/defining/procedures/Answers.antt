@@ -1,7 +1,7 @@
 use Rattle.std.proofs.Common.{◌+◌, map, refl, sym, ap, ◌∙◌}
 use Rattle.std.specs.Prelude.{slice_get}
 use Rattle.c_types.specs.Types.{Records}
-use Rattle.c_elab_expr.specs.Scopes.{FunctionTable, view_callable}
+use Rattle.c_scope.specs.Scopes.{FunctionTable, view_callable}
 use Rattle.core_tree.specs.Trees.{view_functions}
 use Rattle.c_elab_decl.specs.Files.{procedure_of}
 use Rattle.c_elab_decl.proofs.Procedures.{one_called, all_called, fewer_left}

@@ -2,7 +2,7 @@ use Rattle.std.proofs.Common.{◌≡◌, ◌^◌, ℕ, true, List, length, ap, s
 use Rattle.std.specs.Prelude.{nat_lt}
 use Rattle.std.specs.List.{list_all}
 use borrow.Author.Tests.{le-leb, lt-ltb}
-use Rattle.c_elab_expr.proofs.Variables.{and}
+use Rattle.c_scope.proofs.Variables.{and}
 use Rattle.c_elab_decl.proofs.defining.static_object.Goals as goal
 
 pub returns-clause-fits : goal.returns-clause-fits

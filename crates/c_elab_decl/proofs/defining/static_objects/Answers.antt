@@ -1,6 +1,6 @@
 use Rattle.std.proofs.Common.{map, ap, sym, ◌∙◌}
 use Rattle.core_tree.specs.Trees.{view_statics}
-use Rattle.c_elab_expr.specs.Scopes.{Scoped}
+use Rattle.c_scope.specs.Scopes.{Scoped}
 use Rattle.c_elab_decl.specs.Files.{static_of}
 use Rattle.c_elab_decl.proofs.Statics.{none_left}
 use Rattle.c_elab_decl.proofs.defining.static_objects.Goals as goal

@@ -9,13 +9,13 @@ use Rattle.c_tree.proofs.StatementViews.{view_block as view_tree_block}
 use Rattle.core_tree.specs.Trees.{view_statement, items_of}
 use Rattle.core_tree.specs.Trees as cores
 use Rattle.core_tree.proofs.Views.{view_block}
-use Rattle.c_elab_expr.specs.Nodes.{◌>>=◌}
-use Rattle.c_elab_expr.specs.Scopes.{Scoped}
-use Rattle.c_elab_decl.specs.Declarators.{Typed}
+use Rattle.c_scope.specs.Faults.{◌>>=◌}
+use Rattle.c_scope.specs.Scopes.{Scoped}
+use Rattle.c_elab_type.specs.Declarators.{Typed}
 use Rattle.c_elab_decl.specs.Jumps.{labels_in}
 use Rattle.c_elab_decl.specs.Statements.{typed_items}
 use Rattle.c_elab_decl.specs.Files.{typed_body_of}
-use Rattle.c_elab_decl.proofs.Steps.{fails_on, gives_err}
+use Rattle.c_elab_type.proofs.Steps.{fails_on, gives_err}
 use Rattle.c_elab_decl.proofs.defining.typed_body.Goals as goal
 
 pub returns-in_ok-items-in-Block-clause-gives : goal.returns-in_ok-items-in-Block-clause-gives

@@ -3,12 +3,12 @@ use Rattle.std.proofs.lemmas.Result.{err_from_is_err_and}
 use Rattle.std.proofs.lemmas.List.{append-nil, drop_all}
 use Rattle.c_tree.specs.declared.statement.External.{External}
 use Rattle.c_tree.specs.Statements.{externals_of}
-use Rattle.c_elab_expr.specs.Scopes.{Scoped}
-use Rattle.c_elab_expr.specs.Typing.{Fails}
+use Rattle.c_scope.specs.Scopes.{Scoped}
+use Rattle.c_scope.specs.Faults.{Fails}
 use Rattle.c_elab_decl.specs.Files.{Definition, typed_externals}
-use Rattle.c_elab_decl.specs.Steps.{TypedDefinitions, definitions_first, view_definitions}
-use Rattle.c_elab_decl.proofs.Fronts.{externals_at}
-use Rattle.c_elab_decl.proofs.Steps.{fails_on, gives_err}
+use Rattle.c_elab_decl.specs.DefinitionSteps.{TypedDefinitions, definitions_first, view_definitions}
+use Rattle.c_elab_type.proofs.Steps.{fails_on, gives_err}
+use Rattle.c_elab_decl.proofs.StatementFronts.{externals_at}
 use Rattle.c_elab_decl.proofs.defining.typed_externals.Goals as goal
 
 pub returns-in_err-elaborate_one : goal.returns-in_err-elaborate_one

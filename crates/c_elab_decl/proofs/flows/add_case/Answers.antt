@@ -1,9 +1,9 @@
 use Rattle.std.proofs.Common.{ℕ, Result, option_map, sym, subst}
 use Rattle.c_types.specs.declared.integers.IntegerType.{IntegerType}
-use Rattle.c_elab_expr.specs.Scopes.{view_cases}
+use Rattle.c_scope.specs.Scopes.{view_cases}
 use Rattle.c_elab_expr.specs.Operands.{view_operand}
 use Rattle.c_elab_decl.specs.Statements.{case_of_switch}
-use Rattle.c_elab_decl.specs.Steps.{CaseOf}
+use Rattle.c_elab_decl.specs.StatementSteps.{CaseOf}
 use Rattle.c_elab_decl.proofs.Flowing.{case_stands, case_fails}
 use Rattle.c_elab_decl.proofs.flows.add_case.Goals as goal
 

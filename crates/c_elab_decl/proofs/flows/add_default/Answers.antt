@@ -1,5 +1,5 @@
 use Rattle.std.proofs.Common.{option_map}
-use Rattle.c_elab_expr.specs.Scopes.{view_cases}
+use Rattle.c_scope.specs.Scopes.{view_cases}
 use Rattle.c_elab_decl.proofs.Flowing.{default_stands, default_fails}
 use Rattle.c_elab_decl.proofs.flows.add_default.Goals as goal
 

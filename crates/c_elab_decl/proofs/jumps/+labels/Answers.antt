@@ -3,7 +3,7 @@ use Rattle.c_tree.specs.declared.statement.Item.{Item}
 use Rattle.c_tree.specs.Statements.{Statement, view_statement, items_of}
 use Rattle.c_tree.proofs.StatementViews.{view_block}
 use Rattle.c_elab_decl.specs.Jumps.{labels_in, labels_of}
-use Rattle.c_elab_decl.proofs.Steps.{on_ok_more}
+use Rattle.c_elab_type.proofs.Steps.{on_ok_more}
 use Rattle.c_elab_decl.proofs.jumps.+labels.Goals as goal
 
 pub add_labels-returns-in-Block : goal.add_labels-returns-in-Block

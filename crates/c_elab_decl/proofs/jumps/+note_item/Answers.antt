@@ -3,8 +3,8 @@ use Rattle.c_tree.specs.declared.statement.Stmt.{Stmt}
 use Rattle.c_tree.specs.Statements.{Statement, labelled, view_statement}
 use Rattle.c_elab_decl.specs.declared.jumps.Ahead.{Ahead}
 use Rattle.c_elab_decl.specs.Lookahead.{Notes}
+use Rattle.c_elab_type.proofs.Steps.{on_ok_more}
 use Rattle.c_elab_decl.proofs.Jumping.{notes_label}
-use Rattle.c_elab_decl.proofs.Steps.{on_ok_more}
 use Rattle.c_elab_decl.proofs.jumps.+note_item.Goals as goal
 
 pub returns-in_ok-insert-in-Label : goal.returns-in_ok-insert-in-Label

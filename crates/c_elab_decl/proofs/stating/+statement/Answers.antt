@@ -16,19 +16,22 @@ use Rattle.core_tree.specs.Trees.{view, view_statement, items_of}
 use Rattle.core_tree.specs.Trees as cores
 use Rattle.core_tree.proofs.Views.{view_block}
 use Rattle.c_elab_expr.specs.Operands.{view_operand}
-use Rattle.c_elab_expr.specs.Scopes.{Cases, Environment, Scoped}
-use Rattle.c_elab_expr.specs.Typing.{Fails, Gives, operand}
-use Rattle.c_elab_decl.specs.Declarators.{Typed}
+use Rattle.c_scope.specs.Scopes.{Cases, Environment, Scoped}
+use Rattle.c_scope.specs.Faults.{Fails, Gives}
+use Rattle.c_elab_expr.specs.Typing.{operand}
+use Rattle.c_elab_type.specs.Declarators.{Typed}
+use Rattle.c_elab_type.specs.Steps.{items_first, Step}
+use Rattle.c_elab_object.specs.Listed.{typed_declaration}
 use Rattle.c_elab_decl.specs.Jumps.{jumps_in}
 use Rattle.c_elab_decl.specs.Lookahead.{jumped_behind}
-use Rattle.c_elab_decl.specs.Listed.{typed_declaration}
 use Rattle.c_elab_decl.specs.Statements.{Around, TypedStatement, TypedFront, view_around, in_block, in_loop, in_switch, with_switch, switch_type, switch_ended, as_block, typed_statement, typed_rest, typed_body, typed_front, typed_items}
-use Rattle.c_elab_decl.specs.Steps.{items_first, Step, Fronts, alone}
-use Rattle.c_elab_decl.proofs.Fronts.{none_first, prepend_all, behind_fails, items_at, fronted, front_more, block_by, items_names, names_left, fault_step, fault_front, for_behind, declaration_names, for_typed, for_fails, switch_behind, switch_by_body}
+use Rattle.c_elab_decl.specs.StatementSteps.{Fronts, alone}
+use Rattle.c_elab_type.proofs.Fronts.{none_first, prepend_all, behind_fails, fault_step}
+use Rattle.c_elab_type.proofs.Steps.{fails_bind, fails_along}
+use Rattle.c_elab_decl.proofs.StatementFronts.{items_at, fronted, front_more, block_by, items_names, names_left, fault_front, for_behind, declaration_names, for_typed, for_fails, switch_behind, switch_by_body}
 use Rattle.c_elab_decl.proofs.Fronting.{alone_front, label_front_fails, label_front, place_within, case_value_fails, case_body_fails, case_front_fails, case_front, default_body_fails, default_front, front_not, front_else, own_by, switch_body_fails, switch_value_fails, switch_typed, front_as}
 use Rattle.c_elab_decl.proofs.Chains.{statement_as, fails_at, while_test_fails, while_body_fails, while_end_fails, while_typed, do_body_fails, do_test_fails, do_end_fails, do_typed, for_first_fails, for_behind_first, case_end_fails, case_typed, default_end_fails, default_typed, label_body_fails, label_end_fails, label_typed, rest_body_fails, rest_end_fails, rest_typed}
 use Rattle.c_elab_decl.proofs.Jumping.{looks_next, passes_at}
-use Rattle.c_elab_decl.proofs.Steps.{fails_bind, fails_along}
 use Rattle.c_elab_decl.proofs.Switches.{view_switch}
 use Rattle.c_elab_decl.proofs.stating.+statement.Goals as goal
 

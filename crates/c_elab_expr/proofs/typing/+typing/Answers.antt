@@ -14,11 +14,11 @@ use Rattle.c_types.specs.Types.{Records}
 use Rattle.c_types.specs.Types.{view as type_view}
 use Rattle.c_elab_expr.specs.declared.operands.CoreOperand.{CoreOperand}
 use Rattle.c_elab_expr.specs.Operands.{Operand, view_operand, cast_operand}
-use Rattle.c_elab_expr.specs.Scopes.{Scoped}
-use Rattle.c_elab_expr.specs.Typing.{Fault, Gives, GivesNode, Adds, on_line, is_used, called, callee, typed, typed_arguments, operand_by, operand, lengths, suffix_lengths, behind}
+use Rattle.c_scope.specs.Scopes.{Scoped}
+use Rattle.c_scope.specs.Faults.{Fault, Gives, GivesNode, on_line, ◌>>=◌}
+use Rattle.c_elab_expr.specs.Typing.{Adds, is_used, called, callee, typed, typed_arguments, operand_by, operand, lengths, suffix_lengths, behind}
 use Rattle.c_elab_expr.proofs.Arguments.{fails_on, front, argument_fails, argument_typed, call_fails, call_typed}
-use Rattle.c_elab_expr.specs.Nodes.{◌>>=◌}
-use Rattle.c_elab_expr.specs.Types.{type_size}
+use Rattle.c_scope.specs.Types.{type_size}
 use Rattle.c_elab_expr.proofs.Parts.{suffix_more, suffix_fails, inside_adds}
 use Rattle.c_elab_expr.proofs.Casts.{named_type, cast_name_fails, cast_fails, cast_typed, size_name_fails, size_fails, size_typed}
 use Rattle.c_elab_expr.proofs.typing.+typing.Goals as goal

@@ -1,7 +1,0 @@
-use Rattle.std.proofs.Common.{◌≡◌, drop}
-use Rattle.c_elab_decl.specs.Derivations.{view_parameters}
-use Rattle.c_elab_decl.specs.Functions.{have_names}
-use Rattle.c_elab_decl.proofs.callables.have_names.Given as goal
-
-abbrev pub invariant-loop-parameter : goal.invariant-loop-parameter
-invariant-loop-parameter l = have_names (view_parameters (drop l.parameter-index l.parameters)) ≡ have_names (view_parameters l.parameters)

@@ -1,8 +1,0 @@
--- Objects of which one more declarator says nothing new.
-use Rattle.std.specs.Prelude.{Bool, true, not, ◌&&◌, ◌||◌, Option, Some, None}
-use Rattle.c_elab_expr.specs.Scopes.{Lasting}
-
--- its length is known, and it is defined already or not by this declarator; or there is no object
-abbrev pub is_settled : Option Lasting → Bool → Bool
-is_settled None defines = true
-is_settled (Some o) defines = not o.unknown_length && (o.defined || not defines)

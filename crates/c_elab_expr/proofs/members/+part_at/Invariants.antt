@@ -1,5 +1,0 @@
-use Rattle.std.proofs.Common.{length}
-use Rattle.c_elab_expr.proofs.members.+part_at.Given as goal
-
-abbrev pub decreases-part_at : goal.decreases-part_at
-decreases-part_at l = length l.path.now

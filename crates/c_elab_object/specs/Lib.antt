@@ -1,0 +1,4 @@
+pub mod LastingObjects
+pub mod Settled
+pub mod Functions
+pub mod Listed

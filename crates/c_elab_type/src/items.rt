@@ -1,0 +1,274 @@
+//! What items in braces and expressions make of the objects that they initialize.
+
+ghost use Rattle.std.specs.Prelude.{◌≡◌, ℕ, List, map, reverse, Result, Err, OnOk, IfOk};
+ghost use Rattle.c_types.specs.Types.{view as type_view};
+ghost use Rattle.core_tree.specs.Trees.{Parts, with_part};
+ghost use Rattle.c_scope.specs.Types.{lower};
+ghost use Rattle.c_scope.specs.Faults.{Gives, GivesNode, on_line};
+ghost use Rattle.c_elab_type.specs.Initializers.{Value as SpecValue, view_made, view_value, view_found, only, is_character, scalar_value, record_node, array_node, value_node, joined, part_with, slot, item_node, parts_from, list_made, braced};
+
+use crate::slots::{object_bytes, slot};
+use c_elab_expr::{CoreOperand, as_type, number, record_value};
+use c_scope::{Broken, TypingError};
+use c_types::{IntegerType, Layouts, Ty};
+use core_tree::{CoreExpr, CorePart, CoreStructure};
+use std::alloc::{AllocError, Global};
+
+/// What an initializer is, before the node around it is judged.
+#[derive(Drop)]
+pub enum Made {
+    /// Braces around another number of items than one, where the object isn't of struct, union or array type.
+    Nothing,
+    /// An expression.
+    Single { operand: CoreOperand },
+    /// A string, by its bytes without the zero behind them.
+    Text { line: u32, bytes: Vec<u8> },
+    /// Braces around the items of a struct, a union or an array.
+    Listed { value: CoreStructure },
+}
+
+/// A value of an integer type, or of struct, union or array type.
+#[derive(Drop)]
+pub enum Value {
+    Number { value: CoreExpr },
+    Structure { value: CoreStructure },
+}
+
+/// The parts of a list from an item on, the last first, and the lowest rule that an item breaks.
+#[derive(Drop)]
+struct Found {
+    parts: Vec<CorePart>,
+    broken: Option<u32>,
+}
+
+/// What braces are for a scalar: the one item in them.
+fn only(mut items: Vec<Made>) -> Made
+    ensures { view_made result ≡ only (map view_made items.items) }
+{
+    if items.len() == 1 {
+        match items.pop() {
+            Some(item) => item,
+            None => Made::Nothing,
+        }
+    } else {
+        Made::Nothing
+    }
+}
+
+// The value of a scalar.
+fn scalar_value(alloc: Global, type_: IntegerType, made: Made) -> Result<Value, Broken>
+    ensures { GivesNode view_value result (scalar_value type_ (view_made made)) }
+{
+    match made {
+        Made::Nothing => Err(Broken::Rule { rule: 12 }),
+        Made::Single { operand } => {
+            let value = number(operand, 8)?;
+            Ok(Value::Number {
+                value: as_type(alloc, type_, value)?,
+            })
+        }
+        Made::Text { line: _, bytes: _ } => Err(Broken::Rule { rule: 8 }),
+        Made::Listed { value: _ } => Err(Broken::Rule { rule: 12 }),
+    }
+}
+
+// The value of a struct or union.
+fn record_node(type_: &Ty, made: Made, layouts: &Layouts) -> Result<Value, Broken>
+    ensures { GivesNode view_value result (record_node layouts.now.done (type_view type_.now) (view_made made)) }
+{
+    match made {
+        Made::Nothing => Err(Broken::Rule { rule: 12 }),
+        Made::Single { operand } => Ok(Value::Structure {
+            value: record_value(type_, operand, layouts, 12)?,
+        }),
+        Made::Text { line: _, bytes: _ } => Err(Broken::Rule { rule: 12 }),
+        Made::Listed { value } => Ok(Value::Structure { value }),
+    }
+}
+
+fn is_character(type_: &Ty) -> bool
+    ensures { result ≡ is_character (type_view type_.now) }
+{
+    matches!(
+        type_,
+        Ty::Integer(IntegerType::Char)
+            | Ty::Integer(IntegerType::SignedChar)
+            | Ty::Integer(IntegerType::UnsignedChar)
+    )
+}
+
+// The value of an array.
+fn array_node(element: &Ty, length: u32, made: Made) -> Result<Value, Broken>
+    ensures { GivesNode view_value result (array_node (type_view element.now) length (view_made made)) }
+{
+    match made {
+        Made::Nothing => Err(Broken::Rule { rule: 12 }),
+        Made::Single { operand: _ } => Err(Broken::Rule { rule: 12 }),
+        Made::Text { line, bytes } => {
+            if is_character(element) && bytes.len() <= length as usize {
+                Ok(Value::Structure {
+                    value: CoreStructure::String {
+                        line,
+                        size: length,
+                        bytes,
+                    },
+                })
+            } else {
+                Err(Broken::Rule { rule: 12 })
+            }
+        }
+        Made::Listed { value } => Ok(Value::Structure { value }),
+    }
+}
+
+// The value of an object of this type, or the lowest rule.
+fn value_node(alloc: Global, type_: &Ty, made: Made, layouts: &Layouts) -> Result<Value, Broken>
+    ensures { GivesNode view_value result (value_node layouts.now.done (type_view type_.now) (view_made made)) }
+{
+    match type_ {
+        Ty::Void => Err(Broken::Rule { rule: 12 }),
+        Ty::Integer(type_) => scalar_value(alloc, *type_, made),
+        Ty::Record(_) => record_node(type_, made, layouts),
+        Ty::Array { element, length } => array_node(element, *length, made),
+    }
+}
+
+/// The value of an object of this type, or the lowest rule, on the line.
+pub fn value_on(
+    alloc: Global,
+    line: u32,
+    type_: &Ty,
+    made: Made,
+    layouts: &Layouts,
+) -> Result<Value, TypingError>
+    ensures { Gives view_value result (on_line line (value_node layouts.now.done (type_view type_.now) (view_made made))) }
+{
+    match value_node(alloc, type_, made, layouts) {
+        Ok(value) => Ok(value),
+        Err(Broken::Rule { rule }) => Err(TypingError::Typing { line, rule }),
+        Err(Broken::Memory) => Err(TypingError::Memory),
+    }
+}
+
+fn lower(a: u32, b: u32) -> u32
+    ensures { result ≡ lower a b }
+{
+    if a < b { a } else { b }
+}
+
+fn part(offset: u32, value: Value) -> CorePart
+    ensures { (rest : Parts) → with_part result rest ≡ part_with offset (view_value value) rest }
+{
+    match value {
+        Value::Number { value } => CorePart::Number { offset, value },
+        Value::Structure { value } => CorePart::Structure { offset, value },
+    }
+}
+
+// An item in front of those behind it.
+fn join(found: &mut Found, offset: u32, node: Result<Value, Broken>) -> Result<(), AllocError>
+    ensures { (r : Result SpecValue ℕ) → GivesNode view_value node r → OnOk result (view_found found.new.parts.items found.new.broken ≡ joined offset r (view_found found.old.parts.items found.old.broken)) }
+{
+    match node {
+        Ok(value) => {
+            found.parts.push(part(offset, value))?;
+            Ok(())
+        }
+        Err(Broken::Rule { rule }) => {
+            found.broken = match found.broken {
+                None => Some(rule),
+                Some(other) => Some(lower(rule, other)),
+            };
+            Ok(())
+        }
+        Err(Broken::Memory) => Err(AllocError),
+    }
+}
+
+// The item with a number, in an object of this type, in front of those behind it.
+fn add_item(
+    alloc: Global,
+    type_: &Ty,
+    number: usize,
+    made: Made,
+    layouts: &Layouts,
+    found: &mut Found,
+) -> Result<(), AllocError>
+    ensures { OnOk result (view_found found.new.parts.items found.new.broken
+        ≡ item_node layouts.now.done (slot layouts.now (type_view type_.now) number) (view_made made) (view_found found.old.parts.items found.old.broken)) }
+{
+    match slot(type_, number, layouts)? {
+        Some((object, offset)) => {
+            let node = value_node(alloc, object, made, layouts);
+            join(found, offset, node)
+        }
+        None => join(found, 0, Err(Broken::Rule { rule: 12 })),
+    }
+}
+
+// The parts of the items of an object of this type.
+fn parts_from(
+    alloc: Global,
+    type_: &Ty,
+    items: Vec<Made>,
+    layouts: &Layouts,
+) -> Result<Found, AllocError>
+    ensures { IfOk result (λ f. view_found f.parts.items f.broken ≡ parts_from layouts.now (type_view type_.now) 0 (map view_made items.items)) }
+{
+    let mut left = items;
+    let mut found = Found {
+        parts: Vec::new(alloc),
+        broken: None,
+    };
+    'items: while let Some(made) = left.pop() {
+        add_item(alloc, type_, left.len(), made, layouts, &mut found)?;
+    }
+    Ok(found)
+}
+
+// Braces on this line around these items of an object of this type.
+fn list_made(
+    alloc: Global,
+    line: u32,
+    type_: &Ty,
+    items: Vec<Made>,
+    layouts: &Layouts,
+) -> Result<Made, TypingError>
+    ensures { Gives view_made result (list_made line layouts.now (type_view type_.now) (map view_made items.items)) }
+{
+    let mut found = parts_from(alloc, type_, items, layouts)?;
+    match found.broken {
+        Some(rule) => Err(TypingError::Typing { line, rule }),
+        None => {
+            found.parts.reverse();
+            Ok(Made::Listed {
+                value: CoreStructure::List {
+                    line,
+                    size: object_bytes(type_, layouts)?,
+                    parts: found.parts,
+                },
+            })
+        }
+    }
+}
+
+/// What braces on this line around these items are for an object of this type.
+pub fn braced(
+    alloc: Global,
+    line: u32,
+    type_: &Ty,
+    items: Vec<Made>,
+    layouts: &Layouts,
+) -> Result<Made, TypingError>
+    ensures { Gives view_made result (braced line layouts.now (type_view type_.now) (map view_made items.items)) }
+{
+    match type_ {
+        Ty::Void => Ok(only(items)),
+        Ty::Integer(_) => Ok(only(items)),
+        Ty::Record(_) => list_made(alloc, line, type_, items, layouts),
+        Ty::Array {
+            element: _,
+            length: _,
+        } => list_made(alloc, line, type_, items, layouts),
+    }
+}

@@ -1,0 +1,25 @@
+//! What the names and tags in scope mean, and the types that they say (C11 6.2.1 to 6.2.3, 6.7.2, 6.7.6.2).
+#![tactic(auto)]
+
+mod built_ins;
+mod declarators;
+mod fault;
+mod flow;
+mod functions;
+mod meaning;
+mod members;
+mod places;
+mod scope;
+mod specifying;
+mod type_words;
+
+pub use built_ins::built_in;
+pub use declarators::{array_of, array_type, declared_line, object_size, one_array, type_size};
+pub use fault::{Broken, TypingError};
+pub use flow::{Cases, Flow};
+pub use functions::{Callable, FunctionType, Functions};
+pub use meaning::Meaning;
+pub use members::{Field, member_at, part_at};
+pub use scope::{Lasting, QualifiedType, Scope, is_incomplete};
+pub use specifying::{Specified, parts_type, tag_type, typedef_of};
+pub use type_words::words_type;
