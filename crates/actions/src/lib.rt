@@ -9,8 +9,6 @@ mod laws;
 mod machine;
 mod object;
 mod store;
-#[cfg(test)]
-mod tests;
 mod thread_state;
 
 pub use action::{Action, Answer, DrawBits, Next};

@@ -13,6 +13,3 @@ mod variables;
 pub use blasting::{Blasted, blast};
 pub use lifting::lift;
 pub use lists::LitLists;
-
-#[cfg(test)]
-mod tests;

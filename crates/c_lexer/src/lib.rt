@@ -9,8 +9,6 @@ mod lexing;
 mod literal;
 mod piece;
 mod place;
-#[cfg(test)]
-mod tests;
 mod token;
 mod tokens;
 

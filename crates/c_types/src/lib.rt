@@ -7,8 +7,6 @@ mod integers;
 mod layouts;
 mod listing;
 mod sizes;
-#[cfg(test)]
-mod tests;
 mod types;
 
 pub use extents::prove_padded;

@@ -2,15 +2,9 @@
 #![tactic(auto)]
 
 #[cfg(test)]
-mod machines;
-#[cfg(test)]
-mod program_tests;
-#[cfg(test)]
-mod run_tests;
-#[cfg(test)]
 mod tests;
 #[cfg(test)]
-mod typing_tests;
+mod verdict_tests;
 
 use cbmc_top::top;
 use outside::{FileSource, StdSink};

@@ -9,8 +9,6 @@ mod runner;
 mod script;
 mod shared;
 mod system;
-#[cfg(test)]
-mod tests;
 mod turn;
 
 pub use inputs::{Inputs, Schedule, Trace, Words};

@@ -3,7 +3,5 @@
 
 mod formula;
 mod memory;
-#[cfg(test)]
-mod tests;
 
 pub use formula::{Formula, Sets, sequential};

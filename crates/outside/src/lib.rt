@@ -20,6 +20,3 @@ pub use mem_sink::MemSink;
 pub use mem_source::MemSource;
 pub use sure::{SureSink, SureSource};
 pub use system::{FileSource, StdSink};
-
-#[cfg(test)]
-mod tests;

@@ -8,6 +8,3 @@ mod moments;
 mod propagation;
 
 pub use checker::Checker;
-
-#[cfg(test)]
-mod tests;

@@ -5,8 +5,6 @@ mod bytes;
 mod checks;
 mod numbers;
 mod operations;
-#[cfg(test)]
-mod tests;
 mod truth;
 
 pub use bytes::{bytes_of_word, loaded, stored, word_of_bytes};

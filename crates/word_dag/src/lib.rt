@@ -10,6 +10,3 @@ mod valuations;
 pub use graph::Dag;
 pub use nodes::{BinaryOperator, Comparison, FitsTest, Id, Node, ShiftKind};
 pub use valuations::Valuation;
-
-#[cfg(test)]
-mod tests;

@@ -419,6 +419,3 @@ fn is_in_range(number: i64, width: u32) -> bool
     let sign = number >> (width - 1);
     sign == 0 || sign == -1
 }
-
-#[cfg(test)]
-mod tests;

@@ -1,10 +1,12 @@
+// Formulas of events made by hand.
+
 ghost use Rattle.std.specs.Prelude.{IsTrue};
 ghost use Rattle.value_nodes.specs.Values.{AreBytes};
 ghost use Rattle.guarded_ssa.specs.Forms.{IsBit, AreWords, EventIn, FormIn};
 
-use crate::formula::{Sets, sequential};
 use actions::{Bytes, Cells, Object, Store};
 use guarded_ssa::{Event, EventKind, Nodes, ThreadForm};
+use mem_seq::{Sets, sequential};
 use std::alloc::{AllocError, Global};
 use std::test::*;
 use word_dag::{Comparison, Dag, Id, Node, Valuation};

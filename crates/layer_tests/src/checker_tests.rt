@@ -1,6 +1,8 @@
+// Logs that refute a form and logs that do not.
+
 ghost use Rattle.std.specs.Prelude.{◌≡◌, ◌<◌};
 
-use super::*;
+use refutation_check::Checker;
 use sat_form::{Clause, Cnf, Hints, Lit, Log, is_within};
 use std::alloc::Global;
 use std::test::Fail;

@@ -1,4 +1,6 @@
-use super::*;
+// Goals that are solved as clauses, and the laws of the operators.
+
+use bit_blast::{blast, lift};
 use cdcl_core::{Answer, solve};
 use std::alloc::{AllocError, Global};
 use std::test::Fail;

@@ -1,8 +1,9 @@
-ghost use Rattle.std.specs.Prelude.{◌≡◌};
+// Machine words against their whole-number meaning.
 
-use super::*;
-use crate::{Check, Class};
+ghost use Rattle.std.specs.Prelude.{◌≡◌, ◌≤◌};
+
 use Operator::*;
+use words::{Check, Class, Word};
 
 #[derive(Clone, Copy, Debug)]
 enum Operator {
@@ -242,6 +243,15 @@ static ROWS: [(Operator, u32, u64, u64, u64); 170] = [
     (Zext, 64, 0x8000_0000_0000_0000, 64, 0x8000_0000_0000_0000),
     (Sext, 64, 0x8000_0000_0000_0000, 64, 0x8000_0000_0000_0000),
 ];
+
+// The word of the lowest of these bits.
+fn lowest(bits: u64, width: u32) -> Word
+    requires positive { 1 ≤ width }
+    requires at_most_64 { width ≤ 64 }
+    ensures { result.width ≡ width }
+{
+    Word::new(bits, 64).cut(width)
+}
 
 // What the call of a row answers; none where a condition of the call fails.
 fn answer(operator: Operator, width: u32, left: u64, right: u64) -> Option<u64> {

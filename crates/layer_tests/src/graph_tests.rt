@@ -1,11 +1,13 @@
+// Graphs of words and their values.
+
 ghost use Rattle.std.specs.Prelude.{◌≡◌, ℕ, ◌<◌, IfOk};
 ghost use Rattle.words.specs.Operators.{word_sum};
 ghost use Rattle.word_dag.specs.Meaning.{width, value};
 ghost use Rattle.word_dag.specs.Growth.{Within, Extends};
 
-use super::*;
 use std::alloc::{AllocError, Global};
 use std::test::Fail;
+use word_dag::{BinaryOperator, Comparison, Dag, FitsTest, Id, Node, ShiftKind, Valuation};
 use words::Word;
 
 const A: Id = Id { index: 0 };

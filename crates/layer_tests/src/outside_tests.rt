@@ -1,4 +1,6 @@
-use crate::{
+// Sources and sinks, and the files of the system.
+
+use outside::{
     Failed, FileSource, HeldFile, MemSink, MemSource, ReadError, Sink, Source, StdSink, SureSink,
     SureSource,
 };

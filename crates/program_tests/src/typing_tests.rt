@@ -1,9 +1,9 @@
 // C text that is typed, or breaks a rule of typing on a line.
 
 use c_elab_decl::elaborate;
-use c_scope::TypingError;
 use c_lexer::lex;
 use c_parse_decl::parse;
+use c_scope::TypingError;
 use std::alloc::{AllocError, Global};
 use std::test::*;
 

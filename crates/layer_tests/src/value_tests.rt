@@ -1,7 +1,9 @@
-use crate::{arithmetic, compared, converted, loaded, stored};
+// Nodes of operators.
+
 use c_types::IntegerType;
 use core_tree::{ArithmeticOperator, Comparison};
 use std::test::*;
+use value_nodes::{arithmetic, compared, converted, loaded, stored};
 use word_dag::{Dag, Id, Node, Valuation};
 
 // The value of a node of a graph without variables.

@@ -1,5 +1,7 @@
-use crate::{Inputs, Outcome, Schedule, Script, Step, System, Trace, Turn, Words};
+// Turns of scripts.
+
 use actions::{Bytes, Cell, Cells, DrawBits, Object, Store};
+use interleave::{Inputs, Outcome, Schedule, Script, Step, System, Trace, Turn, Words};
 use std::alloc::{AllocError, Global};
 use std::test::Fail;
 use words::{Check, Class};

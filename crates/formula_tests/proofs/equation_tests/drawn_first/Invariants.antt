@@ -4,7 +4,7 @@ use Rattle.c_types.specs.declared.integers.IntegerType.TheVariants as types
 use Rattle.goto_prog.specs.declared.code.Instruction.{Instruction}
 use Rattle.goto_prog.specs.Fitting.{code_fits}
 use Rattle.goto_prog.specs.UnrolledCode.{is_flat}
-use Rattle.stage_tests.proofs.equation_tests.drawn_first.Given as goal
+use Rattle.formula_tests.proofs.equation_tests.drawn_first.Given as goal
 
 abbrev pub invariant-loop-word : goal.invariant-loop-word
 invariant-loop-word l =

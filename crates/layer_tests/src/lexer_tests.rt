@@ -1,4 +1,8 @@
-use super::*;
+// Texts and their tokens.
+
+use c_lexer::{
+    Constant, ConstantType, Keyword, Kind, LexError, Mark, Tokens, lex, string_bytes, text_of,
+};
 use std::alloc::{AllocError, Global};
 use std::test::*;
 

@@ -1,4 +1,6 @@
-use crate::{AccessError, Bytes, Cell, Cells, Object, Store};
+// The answers of a store.
+
+use actions::{AccessError, Bytes, Cell, Cells, Object, Store};
 use std::alloc::{AllocError, Global};
 use std::test::Fail;
 use words::Class;

@@ -1,4 +1,9 @@
-use super::*;
+// Widths, layouts and cells of types.
+
+use c_types::{
+    Incomplete, IntegerType, LayoutError, Layouts, MOST_BYTES, RecordKind, Ty, align_of, cells,
+    common, is_sized, promote, same, size_of,
+};
 use std::alloc::{AllocError, Global};
 use std::test::*;
 
