@@ -67,6 +67,8 @@ fn read_more<S: Source>(
     ensures held { (other : List ℕ) → S.holds files.new other ≡ S.holds files.old other }
     ensures others { (other : List ℕ) → other ≢ name.now → S.faults files.new other ≡ S.faults files.old other }
     ensures cause { HasCause (S.faults files.old name.now) (S.faults files.new name.now) (IsErrOf result ReadError.Failed) }
+    ensures given { OnOk result (S.faults files.new name.now ≡ S.faults files.old name.now) }
+    ensures memory { IsErrOf result ReadError.Memory → S.faults files.new name.now ≡ S.faults files.old name.now }
     ensures bytes { IfOk result (λ more. HasReadMore (S.holds files.old name.now) bytes.old.items bytes.new.items more) }
 {
     let room = smaller(CHUNK, READ_AT_MOST - bytes.len());
@@ -86,6 +88,8 @@ fn read_file<S: Source>(alloc: Global, files: &mut S, name: &str) -> Result<Vec<
     ensures held { (other : List ℕ) → S.holds files.new other ≡ S.holds files.old other }
     ensures others { (other : List ℕ) → other ≢ name.now → S.faults files.new other ≡ S.faults files.old other }
     ensures cause { HasCause (S.faults files.old name.now) (S.faults files.new name.now) (IsErrOf result ReadError.Failed) }
+    ensures given { OnOk result (S.faults files.new name.now ≡ S.faults files.old name.now) }
+    ensures memory { IsErrOf result ReadError.Memory → S.faults files.new name.now ≡ S.faults files.old name.now }
     ensures bytes { IfOk result (λ bytes. WasRead (S.holds files.old name.now) bytes.items) }
 {
     let mut bytes: Vec<u8> = Vec::new(alloc);
@@ -136,6 +140,7 @@ fn reply_to<S: Source>(alloc: Global, name: &str, files: &mut S) -> Result<Reply
     ensures others { (other : List ℕ) → other ≢ name.now → S.faults files.new other ≡ S.faults files.old other }
     ensures later { S.faults files.old name.now ≤ S.faults files.new name.now }
     ensures answered { IfOk result (λ r. Answered (Some name.now) (S.holds files.old) (λ n. Rose (S.faults files.old n) (S.faults files.new n)) (reply_of r)) }
+    ensures read_first { IfOk result (λ r. S.faults files.new name.now ≢ S.faults files.old name.now → status_of (reply_of r) ≡ 8) }
 {
     match read_file(alloc, files, name) {
         Ok(bytes) => {
@@ -222,6 +227,7 @@ fn write_all<K: Sink>(out: &mut K, text: &[u8]) -> Result<(), Failed>
     ensures whole { OnOk result (K.taken out.new ≡ appended (K.taken out.old) text.now) }
     ensures part { OnErr result (TookPart (K.taken out.old) (K.taken out.new) text.now) }
     ensures fault { OnErr result (Rose (K.faults out.old) (K.faults out.new)) }
+    ensures uncounted { OnOk result (K.faults out.new ≡ K.faults out.old) }
 {
     let mut rest = text;
     'writing: while !rest.is_empty() {
@@ -245,6 +251,7 @@ fn answer_words<S: Source>(
     ensures later { (other : List ℕ) → S.faults files.old other ≤ S.faults files.new other }
     ensures others { (other : List ℕ) → command_of (map string_bytes words.now) ≢ Some other → S.faults files.new other ≡ S.faults files.old other }
     ensures answered { IfOk result (λ r. Reported (command_of (map string_bytes words.now)) (S.holds files.old) (λ n. Rose (S.faults files.old n) (S.faults files.new n)) r.status (string_bytes r.text) r.spent) }
+    ensures read_first { IfOk result (λ r. (name : List ℕ) → command_of (map string_bytes words.now) ≡ Some name → S.faults files.new name ≢ S.faults files.old name → r.status ≡ 8) }
 {
     match command(words) {
         None => report_reply(alloc, "", Reply::Usage),
@@ -313,14 +320,18 @@ pub fn top<S: Source, K: Sink>(alloc: Global, words: &[String], files: &mut S, o
     ensures refused_only { (name bytes : List ℕ) (cause : Cause) → command_of (map string_bytes words.now) ≡ Some name → S.holds files.old name ≡ Some bytes
         → Decides standard_limits standard_budget bytes (refused cause) → (Rose (S.faults files.old name) (S.faults files.new name) → ⊥) → IsOneOf (6 ∷ 9 ∷ 12 ∷ []) result.status }
 
-    // A read fault comes only for a FILE, and only where its count rose.
+    // A read fault comes only for a FILE, and only where its count rose; where it changed, no other answer comes, beside a write
+    // fault and want of memory.
     ensures read_fault { result.status ≡ 8 → (name : List ℕ) × (command_of (map string_bytes words.now) ≡ Some name) × Rose (S.faults files.old name) (S.faults files.new name) }
+    ensures read_first { (name : List ℕ) → command_of (map string_bytes words.now) ≡ Some name → S.faults files.new name ≢ S.faults files.old name → IsOneOf (8 ∷ 9 ∷ 12 ∷ []) result.status }
 
     // Each answer is one that is allowed for the words and the bytes, and its whole text was taken.
     ensures whole { result.status ≢ 9 → result.status ≢ 12 → (a : Answer) × Answered (command_of (map string_bytes words.now)) (S.holds files.old) (λ n. Rose (S.faults files.old n) (S.faults files.new n)) a
         × (result.status ≡ status_of a) × (result.spent ≡ spent_of a) × (K.taken out.new ≡ appended (K.taken out.old) (text_of (name_of (command_of (map string_bytes words.now))) a)) }
     ensures write_fault { result.status ≡ 9 → Rose (K.faults out.old) (K.faults out.new) × ((a : Answer) × Answered (command_of (map string_bytes words.now)) (S.holds files.old) (λ n. Rose (S.faults files.old n) (S.faults files.new n)) a
         × TookPart (K.taken out.old) (K.taken out.new) (text_of (name_of (command_of (map string_bytes words.now))) a)) }
+    // A counted write fault is told by 9 alone, so nothing is answered as if the text had been taken.
+    ensures write_first { K.faults out.new ≢ K.faults out.old → result.status ≡ 9 }
     ensures memory { result.status ≡ 12 → K.taken out.new ≡ K.taken out.old }
 
     // What the source and the sink keep.

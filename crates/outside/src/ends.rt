@@ -1,6 +1,6 @@
 // The two ends that the checker reads from and writes to.
 
-ghost use Rattle.std.specs.Prelude.{◌≡◌, ◌≢◌, ◌≤◌, ℕ, List, Option, IfOk, IsErrOf, length};
+ghost use Rattle.std.specs.Prelude.{◌≡◌, ◌≢◌, ◌≤◌, ℕ, List, Option, IfOk, IsErrOf, OnOk, length};
 ghost use Rattle.outside.specs.Count.{HasCause};
 ghost use Rattle.outside.specs.Source.{IsPiece};
 ghost use Rattle.outside.specs.Sink.{appended, taken_from, TakesNothing};
@@ -43,10 +43,11 @@ pub trait Source {
         ensures held { (other : List ℕ) → holds self.new other ≡ holds self.old other }
         ensures bytes { IfOk result (λ n. IsPiece (holds self.old name.now) at n into.new) }
 
-        // It leaves the counts of all other names; `Failed` has its cause in the count of this one.
+        // It leaves the counts of all other names; `Failed` has its cause in the count of this one, and no other answer changes it.
         ensures others { (other : List ℕ) → other ≢ name.now → faults self.new other ≡ faults self.old other }
         ensures cause { HasCause (faults self.old name.now) (faults self.new name.now) (IsErrOf result ReadError.Failed) }
-        ensures memory { IsErrOf result ReadError.Memory → faults self.new name.now ≡ faults self.old name.now };
+        ensures memory { IsErrOf result ReadError.Memory → faults self.new name.now ≡ faults self.old name.now }
+        ensures given { OnOk result (faults self.new name.now ≡ faults self.old name.now) };
 }
 
 /// A place that bytes are written to, one after another.
@@ -63,5 +64,6 @@ pub trait Sink {
     fn write(&mut self, piece: &[u8]) -> Result<usize, Failed>
         ensures bound { IfOk result (λ n. n ≤ length piece.now) }
         ensures bytes { taken self.new ≡ appended (taken self.old) (taken_from piece.now result) }
-        ensures cause { HasCause (faults self.old) (faults self.new) (TakesNothing piece.now result) };
+        ensures cause { HasCause (faults self.old) (faults self.new) (TakesNothing piece.now result) }
+        ensures uncounted { (¬ TakesNothing piece.now result) → faults self.new ≡ faults self.old };
 }

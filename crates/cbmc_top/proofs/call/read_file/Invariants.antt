@@ -7,6 +7,7 @@ invariant-reading g l = record {
   buffer : length l.buffer.items ≡ 16384;
   held : (other : List ℕ) → g.S.Source.holds l.files other ≡ g.S.Source.holds l.initial.files other;
   others : (other : List ℕ) → other ≢ l.name → g.S.Source.faults l.files other ≡ g.S.Source.faults l.initial.files other;
+  same : g.S.Source.faults l.files l.name ≡ g.S.Source.faults l.initial.files l.name;
   later : g.S.Source.faults l.initial.files l.name ≤ g.S.Source.faults l.files l.name;
   first : AreFirst (g.S.Source.holds l.initial.files l.name) l.bytes.items;
 }
