@@ -17,7 +17,8 @@ use Rattle.cbmc_top.specs.declared.used.Used.{Used}
 
 -- The form is that of the program: there are nodes of a word graph and a formula over them, which is one of the program's runs
 -- within the bounds, whose events are a form of the program's thread, so that each valuation tells a run and each run is told;
--- and the form is exactly the clauses of the nodes under the formula's goal, and the goal's own clause.
+-- and the form has a step of clauses for each of the nodes under the formula's goal, the goal's own clause, and no other. Which
+-- nodes and which clauses these are is no promise: they mean the program's runs and the nodes, in whatever way.
 pub record IsFormOf (limits : Limits) (core : TypedFile) (form : Form) : Type 0 where
   pub nodes : List Node
   pub formula : Formula

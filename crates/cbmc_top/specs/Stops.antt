@@ -18,6 +18,12 @@ StopsWith (stops.Refused r) allowed = allowed (refused r)
 StopsWith (stops.Limited l) allowed = allowed (limited l)
 StopsWith stops.Memory allowed = Unit {0}
 
+-- the stop is a refusal or a limit, and not want of memory
+abbrev pub IsKnown : Stop → Type 0
+IsKnown (stops.Refused r) = Unit {0}
+IsKnown (stops.Limited l) = Unit {0}
+IsKnown stops.Memory = ⊥
+
 -- a rule of typing is broken
 abbrev pub HasNoTyping : Externals → Answer → Type 0
 HasNoTyping tree answer = (f : Fault) × (elaborated tree ≡ Err f) × (answer ≡ refused (typing_cause f))

@@ -1,6 +1,6 @@
 //! From the bytes of a file to its program.
 
-ghost use Rattle.std.specs.Prelude.{◌≡◌, ℕ, ◌≤◌, ◌<◌, length, Ok, Some, None, IfOk, IfErr};
+ghost use Rattle.std.specs.Prelude.{◌≡◌, ℕ, ◌≤◌, ◌<◌, length, Ok, Some, None, IsSome, IfOk, IfErr};
 ghost use Rattle.c_lexer.specs.Cutting.{IsCutInto, bytes_of, last_line_of};
 ghost use Rattle.c_tree.specs.Statements.{view_file};
 ghost use Rattle.c_tree.specs.Files.{IsFile};
@@ -10,7 +10,7 @@ ghost use Rattle.c_elab_decl.specs.Files.{elaborated};
 ghost use Rattle.c_profile.specs.Rules.{first_breach};
 ghost use Rattle.cbmc_top.specs.Programs.{directive_line, IsAccepted};
 ghost use Rattle.cbmc_top.specs.Answers.{Decides, HasNoTree, AtLexing, screened, extra_line, lexing_answer, typing_cause};
-ghost use Rattle.cbmc_top.specs.Stops.{StopsWith, HasNoTyping, IsOutside};
+ghost use Rattle.cbmc_top.specs.Stops.{StopsWith, IsKnown, HasNoTyping, IsOutside};
 
 use crate::stop::Stop;
 use c_elab_decl::elaborate;
@@ -58,6 +58,7 @@ fn directive_on(line: u32) -> Stop
 fn screen(tokens: &[Token]) -> Result<(), Stop>
     ensures fine { IfOk result (λ _. screened tokens.now ≡ None) }
     ensures stop { IfErr result (λ s. StopsWith s (λ a. screened tokens.now ≡ Some a)) }
+    ensures known { IfErr result IsKnown }
 {
     match (directive_line(tokens), extra_line(tokens)) {
         (None, None) => Ok(()),
@@ -73,9 +74,10 @@ fn screen(tokens: &[Token]) -> Result<(), Stop>
     }
 }
 
-/// The refusal of a text that has no tokens.
+/// The refusal of a text that has no tokens. A fault that is known is never told as want of memory.
 fn lexing_stop(error: LexError) -> Stop
-    ensures { StopsWith result (λ a. lexing_answer error ≡ Some a) }
+    ensures stop { StopsWith result (λ a. lexing_answer error ≡ Some a) }
+    ensures known { IsSome (lexing_answer error) → IsKnown result }
 {
     match error {
         LexError::BadByte { line } => Stop::Refused(Refusal::new(1, line, None)),

@@ -141,6 +141,7 @@ fn reply_to<S: Source>(alloc: Global, name: &str, files: &mut S) -> Result<Reply
     ensures later { S.faults files.old name.now ≤ S.faults files.new name.now }
     ensures answered { IfOk result (λ r. Answered (Some name.now) (S.holds files.old) (λ n. Rose (S.faults files.old n) (S.faults files.new n)) (reply_of r)) }
     ensures read_first { IfOk result (λ r. S.faults files.new name.now ≢ S.faults files.old name.now → status_of (reply_of r) ≡ 8) }
+    ensures memory { OnErr result (S.faults files.new name.now ≡ S.faults files.old name.now) }
 {
     match read_file(alloc, files, name) {
         Ok(bytes) => {

@@ -1,9 +1,10 @@
 //! What is found of the bytes of a file.
 
-ghost use Rattle.std.specs.Prelude.{◌≤◌, IfOk, IfErr};
+ghost use Rattle.std.specs.Prelude.{◌≡◌, ◌≤◌, IfOk, IfErr, OnErr};
 ghost use Rattle.cbmc_top.specs.Answers.{Decides};
 ghost use Rattle.cbmc_top.specs.Stops.{StopsWith};
 ghost use Rattle.cbmc_top.specs.Verdicts.{answer_of, IsStop, IsTraced};
+ghost use Rattle.cbmc_top.specs.declared.stop.Stop.TheVariants as stops;
 
 use crate::accepting::accept;
 use crate::failing::{Failing, described};
@@ -47,9 +48,10 @@ fn checked(alloc: Global, file: &[u8], bounds: &Bounds, budget: u32) -> Result<F
     }
 }
 
-/// What a stop says of a file.
+/// What a stop says of a file: a refusal and a limit are always told.
 fn stopped(stop: Stop) -> Result<Finding, AllocError>
-    ensures { IfOk result (λ f. IsStop stop f) }
+    ensures is { IfOk result (λ f. IsStop stop f) }
+    ensures told { OnErr result (stop ≡ stops.Memory) }
 {
     match stop {
         Stop::Refused(refused) => Ok(Finding::Refused(refused)),
