@@ -140,7 +140,6 @@ fn given_value(
 
 // A call of the function with a number, which gives a structure of this type.
 fn given_structure(
-    alloc: Global,
     line: u32,
     function: u32,
     used: bool,
@@ -152,7 +151,7 @@ fn given_structure(
 {
     let size = bytes_of(type_, layouts)?;
     Ok(CoreOperand::Structure {
-        type_: type_.copied(alloc)?,
+        type_: type_.copied()?,
         value: CoreStructure::Call {
             line,
             function,
@@ -165,7 +164,6 @@ fn given_structure(
 
 // A call of the function with a number, which gives this type.
 fn given_operand(
-    alloc: Global,
     line: u32,
     function: u32,
     wanted: bool,
@@ -184,11 +182,11 @@ fn given_operand(
             ValueType::Integer(*integer),
             arguments,
         )),
-        Ty::Record(_) => given_structure(alloc, line, function, wanted, type_, arguments, layouts),
+        Ty::Record(_) => given_structure(line, function, wanted, type_, arguments, layouts),
         Ty::Array {
             element: _,
             length: _,
-        } => given_structure(alloc, line, function, wanted, type_, arguments, layouts),
+        } => given_structure(line, function, wanted, type_, arguments, layouts),
     }
 }
 
@@ -228,15 +226,7 @@ fn function_call(
     operands.reverse();
     let arguments = arguments_in(alloc, &type_.parameters, &mut operands, layouts)?;
     let extra = extra_arguments(alloc, type_.ellipsis, operands)?;
-    let call = given_operand(
-        alloc,
-        line,
-        function,
-        wanted,
-        &type_.gives,
-        arguments,
-        layouts,
-    )?;
+    let call = given_operand(line, function, wanted, &type_.gives, arguments, layouts)?;
     Ok(behind_extra(alloc, line, extra, call, layouts)?)
 }
 

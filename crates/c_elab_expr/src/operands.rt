@@ -316,34 +316,29 @@ pub fn used(operand: CoreOperand) -> Result<CoreOperand, Broken>
 fn place_operand(line: u32, home: Home, offset: u32, type_: Ty, constant: bool) -> CoreOperand
     ensures { view_operand result ≡ place_operand line home offset (type_view type_) constant }
 {
-    match type_ {
-        Ty::Integer(type_) => CoreOperand::Value {
+    match &type_ {
+        Ty::Integer(integer) => CoreOperand::Value {
             value: CoreExpr::Read {
-                place: number_place(home, line, type_, offset),
+                place: number_place(home, line, *integer, offset),
             },
             constant,
         },
-        other => CoreOperand::Object {
+        _ => CoreOperand::Object {
             line,
             home,
             offset,
-            type_: other,
+            type_,
             constant,
         },
     }
 }
 
-fn variable_node(
-    alloc: Global,
-    line: u32,
-    variable: u32,
-    scope: &Scope,
-) -> Result<CoreOperand, Broken>
+fn variable_node(line: u32, variable: u32, scope: &Scope) -> Result<CoreOperand, Broken>
     ensures { GivesNode view_operand result (variable_node line variable (slice_get scope.now.variables variable)) }
 {
     match scope.variable(variable) {
         Some(named) => {
-            let type_ = named.type_.copied(alloc)?;
+            let type_ = named.type_.copied()?;
             let home = Home::Variable { variable };
             Ok(place_operand(line, home, 0, type_, named.constant))
         }
@@ -352,7 +347,7 @@ fn variable_node(
 }
 
 // An object that lives as long as the program. One whose type is incomplete here is no operand.
-fn lasting_node(alloc: Global, line: u32, object: u32, scope: &Scope) -> Result<CoreOperand, Broken>
+fn lasting_node(line: u32, object: u32, scope: &Scope) -> Result<CoreOperand, Broken>
     ensures { GivesNode view_operand result (lasting_node scope.now.records.done line object (object_at scope.now object)) }
 {
     match scope.object(object) {
@@ -360,7 +355,7 @@ fn lasting_node(alloc: Global, line: u32, object: u32, scope: &Scope) -> Result<
             if is_incomplete(lasting, scope.layouts()) {
                 return Err(Broken::Rule { rule: 3 });
             }
-            let type_ = lasting.named.type_.copied(alloc)?;
+            let type_ = lasting.named.type_.copied()?;
             let home = Home::Object { object };
             Ok(place_operand(line, home, 0, type_, lasting.named.constant))
         }
@@ -382,18 +377,13 @@ fn function_node(line: u32, function: u32, scope: &Scope) -> Result<CoreOperand,
 }
 
 /// A name by what it means.
-pub fn name_node(
-    alloc: Global,
-    line: u32,
-    meaning: Option<Meaning>,
-    scope: &Scope,
-) -> Result<CoreOperand, Broken>
+pub fn name_node(line: u32, meaning: Option<Meaning>, scope: &Scope) -> Result<CoreOperand, Broken>
     ensures { GivesNode view_operand result (name_node scope.now line meaning) }
 {
     match meaning {
         None => Err(Broken::Rule { rule: 1 }),
-        Some(Meaning::Variable { variable }) => variable_node(alloc, line, variable, scope),
-        Some(Meaning::Object { object }) => lasting_node(alloc, line, object, scope),
+        Some(Meaning::Variable { variable }) => variable_node(line, variable, scope),
+        Some(Meaning::Object { object }) => lasting_node(line, object, scope),
         Some(Meaning::Incomplete) => Err(Broken::Rule { rule: 3 }),
         Some(Meaning::Assert) => Err(Broken::Rule { rule: 7 }),
         Some(Meaning::Assume) => Err(Broken::Rule { rule: 7 }),
@@ -420,20 +410,20 @@ fn part_operand(
 ) -> Result<CoreOperand, AllocError>
     ensures { IfOk result (λ x. view_operand x ≡ part_operand layouts.now.done line offset (type_view type_) (view_structure value)) }
 {
-    match type_ {
-        Ty::Integer(type_) => Ok(CoreOperand::Value {
+    match &type_ {
+        Ty::Integer(integer) => Ok(CoreOperand::Value {
             value: CoreExpr::Member {
                 line,
-                type_,
+                type_: *integer,
                 offset,
                 value: Box::new(alloc, value)?,
             },
             constant: false,
         }),
-        other => {
-            let size = bytes_of(&other, layouts)?;
+        _ => {
+            let size = bytes_of(&type_, layouts)?;
             Ok(CoreOperand::Structure {
-                type_: other,
+                type_,
                 value: CoreStructure::Member {
                     line,
                     offset,
@@ -786,7 +776,7 @@ pub fn assign_operand(
             constant,
         } => match operator {
             None => {
-                let type_ = type_.copied(alloc)?;
+                let type_ = type_.copied()?;
                 assign_record(alloc, line, *home, *offset, type_, *constant, value, scope)
             }
             Some(_) => Err(Broken::Rule { rule: 7 }),

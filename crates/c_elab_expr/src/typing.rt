@@ -397,7 +397,7 @@ fn typed_expr(
             rule: 7,
         }),
         Expr::Name { line, name } => placed_at(
-            name_node(alloc, *line, scope.meaning(&name.bytes), scope),
+            name_node(*line, scope.meaning(&name.bytes), scope),
             *line,
         ),
         Expr::Parens { line: _, inner } => typed_expr(alloc, inner, wanted, scope),

@@ -25,7 +25,7 @@ fn is_one_scalar(types: &[Ty]) -> bool
     ensures { result ≡ is_one_scalar (views types.now) }
 {
     match types {
-        [Ty::Integer(_)] => true,
+        [only] => matches!(only, Ty::Integer(_)),
         _ => false,
     }
 }
@@ -379,7 +379,7 @@ pub fn definition_on(
 ) -> Result<FunctionType, TypingError>
     ensures { Gives view_function_type result (on_line line (definition_node layouts.now.done (view_parameters parameters.now) (view_function_type type_))) }
 {
-    match type_.gives {
+    match &type_.gives {
         Ty::Void => {}
         _ => match type_size(&type_.gives, layouts) {
             Ok(_) => {}

@@ -42,7 +42,7 @@ fn lasting_type(
 ) -> Result<Said, TypingError>
     ensures { Gives (λ t. (type_view t.type_, t.unknown_length)) result (on_line line (lasting_type scope.now.records.done (type_view base.now) is_extern (option_map view_initializer initializer.now) lengths.items)) }
 {
-    let element = base.copied(alloc)?;
+    let element = base.copied()?;
     if is_extern && initializer.is_none() {
         if is_open(&lengths) {
             let type_ = array_type(alloc, element, &lengths[1..], scope.layouts(), line)?;
@@ -169,9 +169,9 @@ fn declared_again(
     ensures { IfOk result (λ o. view_lasting o ≡ declared_again (view_lasting object.now) (type_view type_.now, unknown_length) defines) }
 {
     let type_ = if object.unknown_length {
-        type_.copied(alloc)?
+        type_.copied()?
     } else {
-        object.named.type_.copied(alloc)?
+        object.named.type_.copied()?
     };
     let bytes = match &object.bytes {
         Some(bytes) => Some(bytes.to_vec(alloc)?),
@@ -344,7 +344,7 @@ fn initialize_object(
     let changed = match scope.object(number) {
         Some(object) => Lasting {
             named: QualifiedType {
-                type_: object.named.type_.copied(alloc)?,
+                type_: object.named.type_.copied()?,
                 constant: object.named.constant,
             },
             unknown_length: object.unknown_length,
@@ -359,13 +359,13 @@ fn initialize_object(
 }
 
 // The type of an object's elements within an initializer that says how many there are, else its own.
-fn type_within(alloc: Global, said: &Said, counted: bool) -> Result<Said, AllocError>
+fn type_within(said: &Said, counted: bool) -> Result<Said, AllocError>
     ensures { IfOk result (λ t. (type_view t.type_, t.unknown_length) ≡ counted_by counted (type_view said.now.type_, said.now.unknown_length) (element_of (type_view said.now.type_))) }
 {
     if counted {
         let type_ = match &said.type_ {
-            Ty::Array { element, length: _ } => element.copied(alloc)?,
-            other => other.copied(alloc)?,
+            Ty::Array { element, length: _ } => element.copied()?,
+            other => other.copied()?,
         };
         return Ok(Said {
             type_,
@@ -373,7 +373,7 @@ fn type_within(alloc: Global, said: &Said, counted: bool) -> Result<Said, AllocE
         });
     }
     Ok(Said {
-        type_: said.type_.copied(alloc)?,
+        type_: said.type_.copied()?,
         unknown_length: said.unknown_length,
     })
 }
@@ -512,7 +512,7 @@ pub fn typed_object(
     let linked = linked_object(region, is_extern, name, scope);
     let defines = defines(is_extern, initializer);
     let has_linkage = has_linkage(region, is_extern);
-    let within = type_within(alloc, &said, counted)?;
+    let within = type_within(&said, counted)?;
     let named = QualifiedType {
         type_: within.type_,
         constant: base.constant,

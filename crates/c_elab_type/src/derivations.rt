@@ -167,7 +167,7 @@ fn parameter_types(alloc: Global, parameters: &[Parameter]) -> Result<Vec<Ty>, A
 {
     let mut types = Vec::new(alloc);
     for parameter in parameters {
-        types.push(parameter.type_.type_.copied(alloc)?)?;
+        types.push(parameter.type_.type_.copied()?)?;
     }
     Ok(types)
 }
@@ -177,7 +177,7 @@ fn copied_types(alloc: Global, types: &[Ty]) -> Result<Vec<Ty>, AllocError>
 {
     let mut copies = Vec::new(alloc);
     for type_ in types {
-        copies.push(type_.copied(alloc)?)?;
+        copies.push(type_.copied()?)?;
     }
     Ok(copies)
 }
@@ -187,7 +187,7 @@ pub fn copied_function(alloc: Global, type_: &FunctionType) -> Result<FunctionTy
     ensures { IfOk result (λ t. view_function_type t ≡ view_function_type type_.now) }
 {
     Ok(FunctionType {
-        gives: type_.gives.copied(alloc)?,
+        gives: type_.gives.copied()?,
         constant: type_.constant,
         parameters: copied_types(alloc, &type_.parameters)?,
         ellipsis: type_.ellipsis,
@@ -216,7 +216,7 @@ fn shape_of(alloc: Global, type_: &Ty, scope: &Scope) -> Result<Shape, AllocErro
             type_: copied_function(alloc, function)?,
         }),
         None => Ok(Shape::Object {
-            type_: type_.copied(alloc)?,
+            type_: type_.copied()?,
         }),
     }
 }

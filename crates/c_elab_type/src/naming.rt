@@ -15,6 +15,7 @@ use c_scope::{FunctionType, Functions, Meaning, QualifiedType, Scope, TypingErro
 use c_tree::{FullDeclarator, InitDeclarator};
 use c_types::{Ty, same};
 use std::alloc::{AllocError, Global};
+use std::rc::Rc;
 
 // More types than this have no memory.
 const TYPES: usize = 0x7fff_ffff;
@@ -125,7 +126,7 @@ pub fn typed_typedef(
     let declarator = &declared.declarator;
     let line = full_line(declarator);
     let name = name_of(declarator);
-    let element = base.type_.copied(alloc)?;
+    let element = base.type_.copied()?;
     let made = array_type(alloc, element, lengths, scope.layouts(), line);
     let named = typedef_node(
         made,
@@ -260,7 +261,7 @@ pub fn typed_function_typedef(
     let number = scope.add_function_type(type_)?;
     let named = QualifiedType {
         type_: Ty::Array {
-            element: Box::new(alloc, Ty::Void)?,
+            element: Rc::new(alloc, Ty::Void)?,
             length: number,
         },
         constant: false,

@@ -99,7 +99,7 @@ fn member_type(
     }
     match derive(alloc, base, suffixes, scope)? {
         Derivation::Lengths { lengths } => {
-            let element = base.type_.copied(alloc)?;
+            let element = base.type_.copied()?;
             let type_ = array_type(alloc, element, &lengths, scope.layouts(), line)?;
             complete_type(type_, scope.layouts(), line)
         }
@@ -200,8 +200,8 @@ fn typed_type_part(
         TypeSpecifier::Qualifier {
             line: _,
             qualifier: _,
-        } => said.add_part(alloc, part, scope),
-        TypeSpecifier::Word { line: _, word: _ } => said.add_part(alloc, part, scope),
+        } => said.add_part(part, scope),
+        TypeSpecifier::Word { line: _, word: _ } => said.add_part(part, scope),
         TypeSpecifier::Tagged {
             line: _,
             kind,
@@ -210,7 +210,7 @@ fn typed_type_part(
             let named = tag_named(alloc, *kind, &name.bytes, scope)?;
             said.add_type(named)
         }
-        TypeSpecifier::Named { line: _, name: _ } => said.add_part(alloc, part, scope),
+        TypeSpecifier::Named { line: _, name: _ } => said.add_part(part, scope),
     }
 }
 
@@ -410,9 +410,9 @@ fn typed_line(
         names,
         scope,
     )?;
-    let named = said.type_on(alloc, parts_line(&member.specifiers))?;
+    let named = said.type_on(parts_line(&member.specifiers))?;
     if alone && has_untagged(&member.specifiers) {
-        add_field(fields, None, named.type_.copied(alloc)?, named.constant)?;
+        add_field(fields, None, named.type_.copied()?, named.constant)?;
     }
     typed_fields(
         alloc,
@@ -640,7 +640,7 @@ pub fn named_parts(
     typed_parts(
         alloc, specifiers, false, region, &mut said, &mut names, scope,
     )?;
-    said.type_on(alloc, parts_line(specifiers))
+    said.type_on(parts_line(specifiers))
 }
 
 // A parameter of an array type, which is none so far.
@@ -675,7 +675,7 @@ fn parameter_made(
 ) -> Result<Ty, TypingError>
     ensures { Gives view result (on_line line (parameter_made layouts.now.done several (view base.now) (view_derivation derived))) }
 {
-    let type_ = base.copied(alloc)?;
+    let type_ = base.copied()?;
     match derived {
         Derivation::Lengths { lengths } => {
             if !lengths.is_empty() {
@@ -852,7 +852,7 @@ pub fn typed_specifiers(
     typed_parts(
         alloc, specifiers, false, region, &mut said, &mut names, scope,
     )?;
-    let named = said.type_on(alloc, parts_line(specifiers))?;
+    let named = said.type_on(parts_line(specifiers))?;
     let role = role_of(region.is_file, &said.storage);
     Ok(Base { named, role })
 }

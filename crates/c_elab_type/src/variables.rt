@@ -116,7 +116,7 @@ fn variable_type(
     if earlier(name_of(&declared.declarator), region, scope).is_some() {
         return Err(TypingError::Typing { line, rule: 2 });
     }
-    let element = base.copied(alloc)?;
+    let element = base.copied()?;
     let counted = is_open(&lengths);
     give_lengths(alloc, &declared.initializer, &mut lengths)?;
     let type_ = array_type(alloc, element, &lengths, scope.layouts(), line)?;
@@ -165,7 +165,7 @@ fn declare(
         return Err(TypingError::Memory);
     }
     let named = QualifiedType {
-        type_: object.type_.copied(alloc)?,
+        type_: object.type_.copied()?,
         constant: base.constant,
     };
     Ok(scope.declare_variable(alloc, name, named, object.size)?)
@@ -273,7 +273,7 @@ pub fn declare_parameter(
         return Err(TypingError::Memory);
     }
     let named = QualifiedType {
-        type_: type_.copied(alloc)?,
+        type_: type_.copied()?,
         constant,
     };
     match sized_type(type_, scope.layouts(), 0) {

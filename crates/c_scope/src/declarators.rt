@@ -1,8 +1,9 @@
 //! What declarators make of types.
 
-ghost use Rattle.std.specs.Prelude.{◌≡◌, Ok, MatchResult};
+ghost use Rattle.std.specs.Prelude.{◌≡◌, true, Ok, MatchResult, IfOk};
 ghost use Rattle.c_tree.specs.Tree.{unnamed, suffixes_of, view_declarator};
 ghost use Rattle.c_types.specs.Types.{view};
+ghost use Rattle.c_types.specs.Layouts.{is_complete, is_sized, size_of};
 ghost use Rattle.c_scope.specs.Types.{declared_line, one_array, array_of, type_size};
 ghost use Rattle.c_scope.specs.Faults.{Gives, GivesNode, Fails, on_line};
 
@@ -10,9 +11,7 @@ use crate::fault::{Broken, TypingError};
 use c_tree::{ArraySuffix, Declarator, DeclaratorCore};
 use c_types::{LayoutError, Layouts, MOST_BYTES, Ty, is_complete, is_sized, size_of};
 use std::alloc::Global;
-
-// More arrays within one another than this have no memory.
-const ARRAYS: usize = 1000;
+use std::rc::Rc;
 
 /// The line of a declarator's first token, 0 where it is empty.
 pub fn declared_line(declarator: &Declarator) -> u32
@@ -62,17 +61,37 @@ pub fn one_array(
     }
 }
 
-// Whether more arrays than allowed are within one another.
-fn is_deep(type_: &Ty, allowed: usize) -> bool {
-    match type_ {
-        Ty::Array { element, length: _ } => {
-            if allowed == 0 {
-                true
-            } else {
-                is_deep(element, allowed - 1)
+// An array of that many elements of a type that is complete and has that size, and the array's own size, or the rule that is
+// broken. What lies within the element is not looked at.
+fn array_over(
+    alloc: Global,
+    element: Ty,
+    size: u32,
+    length: Option<u64>,
+    layouts: &Layouts,
+) -> Result<(Ty, u32), Broken>
+    requires complete { is_complete layouts.now.done (view element) ≡ true }
+    requires sized { is_sized layouts.now.done (view element) ≡ true }
+    requires size { size ≡ size_of layouts.now.done (view element) }
+    ensures array { GivesNode (λ p. view p.0) result (one_array layouts.now.done (view element) length) }
+    ensures complete { IfOk result (λ p. is_complete layouts.now.done (view p.0) ≡ true) }
+    ensures sized { IfOk result (λ p. is_sized layouts.now.done (view p.0) ≡ true) }
+    ensures size { IfOk result (λ p. p.1 ≡ size_of layouts.now.done (view p.0)) }
+{
+    match length {
+        None => Err(Broken::Rule { rule: 4 }),
+        Some(length) => {
+            if length == 0 || length > MOST_BYTES as u64 {
+                return Err(Broken::Rule { rule: 4 });
             }
+            let bytes = length * size as u64;
+            if bytes > MOST_BYTES as u64 {
+                return Err(Broken::Rule { rule: 4 });
+            }
+            let element = Rc::new(alloc, element)?;
+            let length = length as u32;
+            Ok((Ty::Array { element, length }, bytes as u32))
         }
-        _ => false,
     }
 }
 
@@ -85,14 +104,15 @@ pub fn array_of(
 ) -> Result<Ty, Broken>
     ensures { GivesNode view result (array_of layouts.now.done (view element) lengths.now) }
 {
-    if lengths.len() > ARRAYS || is_deep(&element, ARRAYS - lengths.len()) {
-        return Err(Broken::Memory);
+    if lengths.is_empty() {
+        return Ok(element);
     }
+    let mut size = complete_size(&element, layouts)?;
     let mut type_ = element;
     let mut left = lengths.len();
     while left > 0 {
         left -= 1;
-        type_ = one_array(alloc, type_, lengths[left], layouts)?;
+        (type_, size) = array_over(alloc, type_, size, lengths[left], layouts)?;
     }
     Ok(type_)
 }
@@ -114,9 +134,12 @@ pub fn array_type(
     }
 }
 
-/// The bytes of a complete type.
-pub fn type_size(type_: &Ty, layouts: &Layouts) -> Result<u64, Broken>
-    ensures { GivesNode (λ n. n) result (type_size layouts.now.done (view type_.now)) }
+// The bytes of a complete type.
+fn complete_size(type_: &Ty, layouts: &Layouts) -> Result<u32, Broken>
+    ensures size { GivesNode (λ n. n) result (type_size layouts.now.done (view type_.now)) }
+    ensures complete { IfOk result (λ _. is_complete layouts.now.done (view type_.now) ≡ true) }
+    ensures sized { IfOk result (λ _. is_sized layouts.now.done (view type_.now) ≡ true) }
+    ensures is { IfOk result (λ n. n ≡ size_of layouts.now.done (view type_.now)) }
 {
     if !is_complete(type_, layouts) {
         return Err(Broken::Rule { rule: 3 });
@@ -125,9 +148,16 @@ pub fn type_size(type_: &Ty, layouts: &Layouts) -> Result<u64, Broken>
         return Err(Broken::Rule { rule: 4 });
     }
     match size_of(type_, layouts) {
-        Ok(size) => Ok(size as u64),
+        Ok(size) => Ok(size),
         Err(_) => unreachable!(),
     }
+}
+
+/// The bytes of a complete type.
+pub fn type_size(type_: &Ty, layouts: &Layouts) -> Result<u64, Broken>
+    ensures { GivesNode (λ n. n) result (type_size layouts.now.done (view type_.now)) }
+{
+    Ok(complete_size(type_, layouts)? as u64)
 }
 
 /// The bytes of an object of this type, or rule 3 or 4 on the line of its declarator.

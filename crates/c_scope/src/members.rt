@@ -189,14 +189,19 @@ fn all_ways(
 pub fn is_constant_within(type_: &Ty, tables: &[MemberTable]) -> bool
     ensures { result ≡ (members_in (view_tables tables.now) (view type_.now)).constant }
 {
-    match type_ {
-        Ty::Record(place) => match tables.get(*place as usize) {
-            Some(table) => table.constant,
-            None => false,
-        },
-        Ty::Array { element, length: _ } => is_constant_within(element, tables),
-        Ty::Void => false,
-        Ty::Integer(_) => false,
+    let mut inner = type_;
+    loop {
+        match inner {
+            Ty::Record(place) => {
+                return match tables.get(*place as usize) {
+                    Some(table) => table.constant,
+                    None => false,
+                };
+            }
+            Ty::Array { element, length: _ } => inner = element,
+            Ty::Void => return false,
+            Ty::Integer(_) => return false,
+        }
     }
 }
 
@@ -237,7 +242,7 @@ pub fn field_types(alloc: Global, fields: &[Field]) -> Result<Vec<Ty>, AllocErro
 {
     let mut types = Vec::new(alloc);
     for field in fields {
-        types.push(field.type_.copied(alloc)?)?;
+        types.push(field.type_.copied()?)?;
     }
     Ok(types)
 }
@@ -288,7 +293,7 @@ pub fn part_at(
     ensures { GivesNode (λ p. (p.0, view p.1)) result (required 11 (part_at layouts.now.done offset (view type_.now) path.now)) }
 {
     if path.is_empty() {
-        return Ok((offset, type_.copied(alloc)?));
+        return Ok((offset, type_.copied()?));
     }
     match member_at(type_, path[0], layouts) {
         Some((member, from)) => match offset.checked_add(from) {

@@ -118,12 +118,7 @@ impl Specified {
     }
 
     /// A part of a type name. A tag has to have a declaration in scope.
-    pub fn add_part(
-        &mut self,
-        alloc: Global,
-        part: &TypeSpecifier,
-        scope: &Scope,
-    ) -> Result<(), AllocError>
+    pub fn add_part(&mut self, part: &TypeSpecifier, scope: &Scope) -> Result<(), AllocError>
         ensures { OnOk result (view_said self.new ≡ with_part scope.now (view_said self.old) (view_type_part part.now)) }
     {
         match part {
@@ -138,27 +133,27 @@ impl Specified {
                 name,
             } => self.add_type(tagged_type(*kind, &name.bytes, scope)),
             TypeSpecifier::Named { line: _, name } => {
-                self.add_type(typedef_of(alloc, scope.meaning(&name.bytes), scope))
+                self.add_type(typedef_of(scope.meaning(&name.bytes), scope))
             }
         }
     }
 
     // The type by words and names, where they say one, and there is one storage word at most.
-    fn shape(&self, alloc: Global) -> Result<Option<Ty>, AllocError>
+    fn shape(&self) -> Result<Option<Ty>, AllocError>
         ensures { IfOk result (λ o. option_map view o ≡ shape_said (view_said self.now)) }
     {
         if self.storage.len() <= 1 {
-            type_said(alloc, &self.named, &self.words)
+            type_said(&self.named, &self.words)
         } else {
             Ok(None)
         }
     }
 
     // The type, or the lowest rule that is broken.
-    fn node(&self, alloc: Global) -> Result<QualifiedType, Broken>
+    fn node(&self) -> Result<QualifiedType, Broken>
         ensures { GivesNode view_named result (specified_type (view_said self.now)) }
     {
-        match self.shape(alloc)? {
+        match self.shape()? {
             None => Err(Broken::Rule {
                 rule: lowest(self.broken, 5),
             }),
@@ -173,10 +168,10 @@ impl Specified {
     }
 
     /// The type that specifiers say, with whether it is const, or the lowest rule that they break, on their line.
-    pub fn type_on(&self, alloc: Global, line: u32) -> Result<QualifiedType, TypingError>
+    pub fn type_on(&self, line: u32) -> Result<QualifiedType, TypingError>
         ensures { Gives view_named result (on_line line (specified_type (view_said self.now))) }
     {
-        match self.node(alloc) {
+        match self.node() {
             Ok(type_) => Ok(type_),
             Err(Broken::Rule { rule }) => Err(TypingError::Typing { line, rule }),
             Err(Broken::Memory) => Err(TypingError::Memory),
@@ -194,7 +189,7 @@ fn value_type(type_: ValueType) -> Ty
 }
 
 // One named type and no words, or the words of a type alone.
-fn type_said(alloc: Global, named: &[Ty], words: &[TypeWord]) -> Result<Option<Ty>, AllocError>
+fn type_said(named: &[Ty], words: &[TypeWord]) -> Result<Option<Ty>, AllocError>
     ensures { IfOk result (λ o. option_map view o ≡ type_said (views named.now) words.now) }
 {
     if named.is_empty() {
@@ -203,19 +198,19 @@ fn type_said(alloc: Global, named: &[Ty], words: &[TypeWord]) -> Result<Option<T
             None => Ok(None),
         }
     } else if named.len() == 1 && words.is_empty() {
-        Ok(Some(named[0].copied(alloc)?))
+        Ok(Some(named[0].copied()?))
     } else {
         Ok(None)
     }
 }
 
 // What a typedef names, by its number.
-fn named(alloc: Global, number: u32, scope: &Scope) -> Result<QualifiedType, Broken>
+fn named(number: u32, scope: &Scope) -> Result<QualifiedType, Broken>
     ensures { GivesNode view_named result (required 1 (slice_get scope.now.types number)) }
 {
     match scope.named(number) {
         Some(named) => Ok(QualifiedType {
-            type_: named.type_.copied(alloc)?,
+            type_: named.type_.copied()?,
             constant: named.constant,
         }),
         None => Err(Broken::Rule { rule: 1 }),
@@ -223,15 +218,11 @@ fn named(alloc: Global, number: u32, scope: &Scope) -> Result<QualifiedType, Bro
 }
 
 /// What a typedef's name names, by what the name means.
-pub fn typedef_of(
-    alloc: Global,
-    meaning: Option<Meaning>,
-    scope: &Scope,
-) -> Result<QualifiedType, Broken>
+pub fn typedef_of(meaning: Option<Meaning>, scope: &Scope) -> Result<QualifiedType, Broken>
     ensures { GivesNode view_named result (typedef_of scope.now meaning) }
 {
     match meaning {
-        Some(Meaning::Typedef { number }) => named(alloc, number, scope),
+        Some(Meaning::Typedef { number }) => named(number, scope),
         _ => Err(Broken::Rule { rule: 1 }),
     }
 }
@@ -331,7 +322,7 @@ fn parts_said(
 {
     let mut said = Specified::new(alloc);
     for part in parts {
-        said.add_part(alloc, part, scope)?;
+        said.add_part(part, scope)?;
     }
     Ok(said)
 }
@@ -345,5 +336,5 @@ pub fn parts_type(
     ensures { Gives view_named result (on_line (parts_line (map view_type_part parts.now)) (specified_type (with_parts scope.now nothing_said (map view_type_part parts.now)))) }
 {
     let said = parts_said(alloc, parts, scope)?;
-    said.type_on(alloc, parts_line(parts))
+    said.type_on(parts_line(parts))
 }

@@ -1,6 +1,6 @@
 //! Sizes and alignments of types.
 
-ghost use Rattle.std.specs.Prelude.{◌≡◌, ◌≤◌, true, false, ⊤, MatchOption, MatchResult, IfOk, IfErr};
+ghost use Rattle.std.specs.Prelude.{ℕ, ◌≡◌, ◌↔◌, ◌≤◌, ◌<◌, ◌+◌, ◌*◌, true, false, ⊤, MatchOption, MatchResult, IfOk, IfErr};
 ghost use Rattle.c_types.specs.Types.{view, array};
 ghost use Rattle.c_types.specs.Layouts.{is_complete, is_sized, size_of, alignment_of, most_bytes, RefusesArray};
 
@@ -8,6 +8,7 @@ use crate::fault::{Incomplete, LayoutError};
 use crate::layouts::Layouts;
 use crate::types::Ty;
 use std::alloc::Global;
+use std::rc::Rc;
 
 /// No type has more bytes.
 pub const MOST_BYTES: u32 = 2_147_483_647;
@@ -16,12 +17,58 @@ pub const MOST_BYTES: u32 = 2_147_483_647;
 pub fn is_complete(type_: &Ty, layouts: &Layouts) -> bool
     ensures { result ≡ is_complete layouts.now.done (view type_.now) }
 {
-    match type_ {
-        Ty::Void => false,
-        Ty::Integer(_) => true,
-        Ty::Record(place) => layouts.is_completed(*place),
-        Ty::Array { element, length: _ } => is_complete(element, layouts),
+    let mut inner = type_;
+    loop {
+        match inner {
+            Ty::Void => return false,
+            Ty::Integer(_) => return true,
+            Ty::Record(place) => return layouts.is_completed(*place),
+            Ty::Array { element, length: _ } => inner = element,
+        }
     }
+}
+
+// A number of arrays of so many elements, or one above the most bytes where there are more elements than that.
+fn elements(count: u64, length: u32) -> u64
+    requires { count ≤ most_bytes + 1 }
+    ensures small { result ≤ most_bytes + 1 }
+    ensures keeps { (size : ℕ) → (result * size ≤ most_bytes) ↔ (count * (length * size) ≤ most_bytes) }
+    ensures same { (size : ℕ) → count * (length * size) ≤ most_bytes → result * size ≡ count * (length * size) }
+{
+    let all = count * length as u64;
+    if all > MOST_BYTES as u64 {
+        MOST_BYTES as u64 + 1
+    } else {
+        all
+    }
+}
+
+// The most elements within one array, where so many arrays of so many elements are within one, perhaps none.
+fn most_elements(count: u64, length: u32) -> u64
+    requires { count ≤ most_bytes + 1 }
+    ensures small { result ≤ most_bytes + 1 }
+    ensures keeps { (size : ℕ) → (result * size ≤ most_bytes) ↔ ((length * size ≤ most_bytes) × (count * (length * size) ≤ most_bytes)) }
+{
+    if count == 0 {
+        elements(1, length)
+    } else {
+        elements(count, length)
+    }
+}
+
+// The bytes of all elements of one size. None where the most within one array have too many.
+fn bytes_of(all: u64, most: u64, size: u32) -> Option<u32>
+    requires counts { (all ≤ most_bytes + 1) × (most ≤ most_bytes + 1) }
+    requires small { size ≤ most_bytes }
+    requires within { most * size ≤ most_bytes → all * size ≤ most_bytes }
+    ensures fits { MatchOption result (most_bytes < most * size) (λ _. most * size ≤ most_bytes) }
+    ensures size { MatchOption result ⊤ (λ s. s ≡ all * size) }
+    ensures within { MatchOption result ⊤ (λ s. s ≤ most_bytes) }
+{
+    if most * size as u64 > MOST_BYTES as u64 {
+        return None;
+    }
+    Some((all * size as u64) as u32)
 }
 
 // The bytes of a type, 0 where it is incomplete. None where an array within has too many.
@@ -30,17 +77,19 @@ pub fn total_size(type_: &Ty, layouts: &Layouts) -> Option<u32>
     ensures size { MatchOption result ⊤ (λ s. s ≡ size_of layouts.now.done (view type_.now)) }
     ensures small { MatchOption result ⊤ (λ s. s ≤ most_bytes) }
 {
-    match type_ {
-        Ty::Void => Some(0),
-        Ty::Integer(integer) => Some(integer.size()),
-        Ty::Record(place) => Some(layouts.record_size(*place)),
-        Ty::Array { element, length } => {
-            let size = total_size(element, layouts)?;
-            let total = *length as u64 * size as u64;
-            if total <= MOST_BYTES as u64 {
-                Some(total as u32)
-            } else {
-                None
+    layouts.prove_built();
+    let mut inner = type_;
+    let mut all: u64 = 1;
+    let mut most: u64 = 1;
+    loop {
+        match inner {
+            Ty::Void => return bytes_of(all, most, 0),
+            Ty::Integer(integer) => return bytes_of(all, most, integer.size()),
+            Ty::Record(place) => return bytes_of(all, most, layouts.record_size(*place)),
+            Ty::Array { element, length } => {
+                all = elements(all, *length);
+                most = most_elements(most, *length);
+                inner = element;
             }
         }
     }
@@ -51,11 +100,14 @@ pub fn alignment(type_: &Ty, layouts: &Layouts) -> u32
     ensures is { result ≡ alignment_of layouts.now.done (view type_.now) }
     ensures positive { 1 ≤ result }
 {
-    match type_ {
-        Ty::Void => 1,
-        Ty::Integer(integer) => integer.size(),
-        Ty::Record(place) => layouts.record_alignment(*place),
-        Ty::Array { element, length: _ } => alignment(element, layouts),
+    let mut inner = type_;
+    loop {
+        match inner {
+            Ty::Void => return 1,
+            Ty::Integer(integer) => return integer.size(),
+            Ty::Record(place) => return layouts.record_alignment(*place),
+            Ty::Array { element, length: _ } => inner = element,
+        }
     }
 }
 
@@ -122,7 +174,7 @@ impl Ty {
         if length as u64 * size as u64 > MOST_BYTES as u64 {
             return Err(LayoutError::TooLarge);
         }
-        let element = Box::new(alloc, element)?;
+        let element = Rc::new(alloc, element)?;
         Ok(Ty::Array { element, length })
     }
 }

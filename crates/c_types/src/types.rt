@@ -2,7 +2,8 @@ ghost use Rattle.std.specs.Prelude.{◌≡◌, ◌↔◌, true, IfOk};
 ghost use Rattle.c_types.specs.Types.{view};
 
 use crate::integers::IntegerType;
-use std::alloc::{AllocError, Global};
+use std::alloc::AllocError;
+use std::rc::Rc;
 
 /// The type of an expression's value: void or an integer type (C11 6.2.5).
 #[derive(Clone, Copy, Debug, PartialEq, Eq)]
@@ -11,15 +12,15 @@ pub enum ValueType {
     Integer(IntegerType),
 }
 
-/// A type (C11 6.2.5).
-#[derive(Debug, Drop)]
+/// A type (C11 6.2.5). Copies of an array type share its element.
+#[derive(Debug)]
 pub enum Ty {
     Void,
     Integer(IntegerType),
     /// A struct or union, by its place in the layouts.
     Record(u32),
     /// 1 to 2,147,483,647 elements.
-    Array { element: Box<Ty>, length: u32 },
+    Array { element: Rc<Ty>, length: u32 },
 }
 
 /// Whether members lie one behind the other, or overlap (C11 6.2.5p20).
@@ -36,22 +37,34 @@ pub struct Cell {
     pub size: u32,
 }
 
+// A loop, since arrays lie within one another as deep as a text is long.
+impl Drop for Ty {
+    fn drop(mut self) {
+        loop {
+            match self {
+                Ty::Void | Ty::Integer(_) | Ty::Record(_) => return,
+                Ty::Array { element, length: _ } => match Rc::into_inner(element) {
+                    Some(inner) => self = inner,
+                    None => return,
+                },
+            }
+        }
+    }
+}
+
 impl Ty {
     /// The same type again.
-    pub fn copied(&self, alloc: Global) -> Result<Ty, AllocError>
+    pub fn copied(&self) -> Result<Ty, AllocError>
         ensures { IfOk result (λ t. view t ≡ view self.now) }
     {
         match self {
             Ty::Void => Ok(Ty::Void),
             Ty::Integer(type_) => Ok(Ty::Integer(*type_)),
             Ty::Record(place) => Ok(Ty::Record(*place)),
-            Ty::Array { element, length } => {
-                let element = element.copied(alloc)?;
-                Ok(Ty::Array {
-                    element: Box::new(alloc, element)?,
-                    length: *length,
-                })
-            }
+            Ty::Array { element, length } => Ok(Ty::Array {
+                element: element.clone()?,
+                length: *length,
+            }),
         }
     }
 }
@@ -60,17 +73,27 @@ impl Ty {
 pub fn same(a: &Ty, b: &Ty) -> bool
     ensures { (result ≡ true) ↔ (view a.now ≡ view b.now) }
 {
-    match (a, b) {
-        (Ty::Void, Ty::Void) => true,
-        (Ty::Integer(t), Ty::Integer(u)) => *t == *u,
-        (Ty::Record(m), Ty::Record(n)) => *m == *n,
-        (
-            Ty::Array { element, length },
-            Ty::Array {
-                element: other,
-                length: count,
-            },
-        ) => *length == *count && same(element, other),
-        _ => false,
+    let mut left = a;
+    let mut right = b;
+    loop {
+        match (left, right) {
+            (Ty::Void, Ty::Void) => return true,
+            (Ty::Integer(t), Ty::Integer(u)) => return *t == *u,
+            (Ty::Record(m), Ty::Record(n)) => return *m == *n,
+            (
+                Ty::Array { element, length },
+                Ty::Array {
+                    element: other,
+                    length: count,
+                },
+            ) => {
+                if *length != *count {
+                    return false;
+                }
+                left = element;
+                right = other;
+            }
+            _ => return false,
+        }
     }
 }

@@ -212,7 +212,7 @@ fn refusals_change_nothing(rt: HostRuntime) -> Result<(), Fail> {
     assert!(rt; all.len() == 4 && !all.is_completed(3));
     let most = Ty::array(alloc, CHAR, MOST_BYTES, &all)?;
     assert!(rt; sized(&most, &all) == Some(MOST_BYTES));
-    let again = most.copied(alloc)?;
+    let again = most.copied()?;
     assert!(rt; same(&most, &again) && !same(&most, &CHAR));
     let refused = union_of(alloc, &mut all, vec![in alloc; SHORT, most]?);
     assert!(rt; refused == Err(LayoutError::TooLarge));
