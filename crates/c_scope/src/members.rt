@@ -2,11 +2,12 @@
 
 ghost use Rattle.std.specs.Prelude.{◌≡◌, ◌||◌, false, [], ◌∷◌, map, option_map, IfOk, OnOk};
 ghost use Rattle.c_types.specs.Types.{view, views, aggregate};
+ghost use Rattle.c_types.specs.Layouts.{are_complete};
 ghost use Rattle.c_scope.specs.Members.{Member, Members, view_field, view_fields, field_types, no_members, members_in, through, ways_of, named_of, among, with_member, with_members, named_from, has_constant, members_by, found, member_in, part_at, view_way, view_ways, view_members, view_tables};
 ghost use Rattle.c_scope.specs.Faults.{required, GivesNode};
 
 use crate::fault::Broken;
-use c_types::{Layouts, Ty};
+use c_types::{Layouts, Ty, is_complete};
 use indexmap::IndexMap;
 use std::alloc::{AllocError, Global};
 
@@ -220,6 +221,18 @@ fn has_constant(fields: &[Field], tables: &[MemberTable]) -> bool
         }
     }
     false
+}
+
+// Whether the type of each member is complete.
+pub fn have_complete_types(fields: &[Field], layouts: &Layouts) -> bool
+    ensures { result ≡ are_complete layouts.now.done (field_types (view_fields fields.now)) }
+{
+    for field in fields {
+        if !is_complete(&field.type_, layouts) {
+            return false;
+        }
+    }
+    true
 }
 
 /// The names that `.` finds in a struct or union with these members.

@@ -14,7 +14,8 @@ use crate::flow::Flow;
 use crate::functions::{Callable, FunctionType, Functions};
 use crate::meaning::Meaning;
 use crate::members::{
-    Field, MemberTable, Way, field_types, is_constant_within, members_by, way_in,
+    Field, MemberTable, Way, field_types, have_complete_types, is_constant_within, members_by,
+    way_in,
 };
 use crate::places::Places;
 use c_types::{IntegerType, LayoutError, Layouts, RecordKind, Ty, is_complete};
@@ -551,6 +552,9 @@ impl Scope {
         ensures refused { IfErr result (Refuses self.old.records.done (kind_at self.old.records place) (field_types (view_fields fields.now))) }
         ensures unchanged { OnErr result (self.new ≡ self.old) }
     {
+        if !have_complete_types(fields, &self.layouts) {
+            return Err(LayoutError::Incomplete);
+        }
         let table = members_by(alloc, fields, &self.tables)?;
         let types = field_types(alloc, fields)?;
         self.layouts.complete(alloc, place, types)?;

@@ -180,16 +180,16 @@ abbrev pub members_of : List Completed → ℕ → List CType
 members_of [] n = []
 members_of (c ∷ older) n = if c.place == n then c.members else members_of older n
 
--- why no struct or union of these members is completed
+-- why no struct or union of these members is completed; an incomplete member is told before memory is wanting
 abbrev pub Refuses : List Completed → RecordKind → List CType → LayoutError → Type 0
 Refuses done kind ms Incomplete = are_complete done ms ≡ false
 Refuses done kind ms NoElements = ⊥
 Refuses done kind ms TooLarge = (are_complete done ms ≡ true) × (fits done kind ms ≡ false)
-Refuses done kind ms Memory = Unit {0}
+Refuses done kind ms Memory = are_complete done ms ≡ true
 
--- why there is no array of so many of these elements
+-- why there is no array of so many of these elements; each of the others is told before memory is wanting
 abbrev pub RefusesArray : List Completed → CType → ℕ → LayoutError → Type 0
 RefusesArray done element length Incomplete = is_complete done element ≡ false
 RefusesArray done element length NoElements = length ≡ 0
 RefusesArray done element length TooLarge = is_sized done (array element length) ≡ false
-RefusesArray done element length Memory = Unit {0}
+RefusesArray done element length Memory = (is_complete done element ≡ true) × (1 ≤ length) × (is_sized done (array element length) ≡ true)
