@@ -93,10 +93,11 @@ abbrev pub after_free : Objects → ℕ → Objects
 after_free objects p =
     if p == 0 then objects else (if can_free p (state_at objects (object_of p)) then with_dead objects (object_of p) else objects)
 
--- why a read gave no bytes: it breaks just this class, or there was no memory
+-- why a read gave no bytes: it breaks just this class, or it breaks none and there was no memory
 abbrev pub HasCause : AccessError → Result (List ℕ) Class → Type 0
 HasCause (Broken class) gives = gives ≡ Err class
-HasCause Memory gives = Unit {0}
+HasCause Memory (Ok bytes) = Unit {0}
+HasCause Memory (Err class) = ⊥
 
 -- an answer that is only for what breaks nothing
 abbrev pub result_of : Option Class → Result Unit Class

@@ -109,7 +109,7 @@ impl Store {
     }
 
     /// The n bytes that the pointer points to; or the first class that the access breaks, of null,
-    /// invalid-pointer, lifetime, bounds and mixed-size.
+    /// invalid-pointer, lifetime, bounds and mixed-size. Memory is told only where it breaks none.
     pub fn read(&self, p: u64, n: u32) -> Result<Bytes, AccessError>
         ensures ok { IfOk result (λ bytes. read self.now p n ≡ Ok bytes) }
         ensures cause { IfErr result (λ e. HasCause e (read self.now p n)) }

@@ -1,9 +1,9 @@
-ghost use Rattle.std.specs.Prelude.{◌≡◌, true, IfOk, OnOk};
+ghost use Rattle.std.specs.Prelude.{◌≡◌, true, IfOk, OnOk, OnErr};
 ghost use Rattle.core_tree.specs.Trees.{view_core};
 ghost use Rattle.c_interp.specs.Source.{source_run, are_storable};
 ghost use Rattle.c_interp.specs.SourceThread.{SmallSteps, EnoughFuel};
 ghost use Rattle.c_interp.specs.Unlimited.{SafeAtAll};
-ghost use Rattle.interleave.specs.View.{world_of};
+ghost use Rattle.interleave.specs.View.{world_of, is_dead};
 ghost use Rattle.interleave.specs.Turn.{turn};
 ghost use Rattle.interleave.specs.Run as definition;
 ghost use Rattle.c_interp.specs.View.{thread_of};
@@ -18,7 +18,7 @@ use std::alloc::{AllocError, Global};
 use words::Check;
 
 // A turn of thread t, and the check that it breaks. There is thread 0 alone, and no action asks for a
-// number.
+// number. Fails only where the system's turn did.
 fn take_turn(
     system: &mut System<Thread>,
     t: u32,
@@ -27,6 +27,7 @@ fn take_turn(
     requires { OneQuiet (world_of thread_of system.old).members }
     ensures turn { IfOk result (λ c. IsTurn (turn (world_of thread_of system.old) t inputs.now) (world_of thread_of system.new) c) }
     ensures quiet { OnOk result (OneQuiet (world_of thread_of system.new).members) }
+    ensures dead { OnErr result (is_dead system.new ≡ true) }
 {
     match system.turn(t, inputs)? {
         Turn::Broken(check) => Ok(Some(check)),
@@ -35,14 +36,15 @@ fn take_turn(
     }
 }
 
-// How the turns of this schedule end.
+// How the turns of this schedule end. Fails only where one of the system's did.
 fn take_turns(
     system: &mut System<Thread>,
     inputs: &Inputs,
     schedule: &[u32],
 ) -> Result<Outcome, AllocError>
     requires { OneQuiet (world_of thread_of system.old).members }
-    ensures { IfOk result (λ o. o ≡ (definition.run (world_of thread_of system.old) inputs.now schedule.now).0) }
+    ensures outcome { IfOk result (λ o. o ≡ (definition.run (world_of thread_of system.old) inputs.now schedule.now).0) }
+    ensures dead { OnErr result (is_dead system.new ≡ true) }
 {
     for t in schedule {
         match take_turn(system, *t, inputs)? {
