@@ -1,8 +1,8 @@
 //! What an operator makes of typed operands, or the lowest rule that they break.
 
-ghost use Rattle.std.specs.Prelude.{◌≡◌, ℕ, slice_get, option_map, IfOk, Result};
+ghost use Rattle.std.specs.Prelude.{◌≡◌, ℕ, true, false, slice_get, option_map, IfOk, IsErr, Result};
 ghost use Rattle.c_types.specs.Types.{view as type_view};
-ghost use Rattle.c_types.specs.Layouts.{size_of};
+ghost use Rattle.c_types.specs.Layouts.{is_complete, is_sized, size_of};
 ghost use Rattle.core_tree.specs.Trees.{Expression, follow, view, view_structure};
 ghost use Rattle.c_scope.specs.Scopes.{view_named, object_at};
 ghost use Rattle.c_scope.specs.Faults.{required, GivesNode};
@@ -102,9 +102,10 @@ pub fn same_record(a: &Ty, b: &Ty) -> bool
     }
 }
 
-/// The bytes of an object's type. It is complete and not too large, so that no other answer comes.
+/// The bytes of an object's type. It is complete and not too large, so that no other answer comes. It takes no memory.
 pub fn bytes_of(type_: &Ty, layouts: &Layouts) -> Result<u32, AllocError>
-    ensures { IfOk result (λ n. n ≡ size_of layouts.now.done (type_view type_.now)) }
+    ensures size { IfOk result (λ n. n ≡ size_of layouts.now.done (type_view type_.now)) }
+    ensures cause { IsErr result → is_complete layouts.now.done (type_view type_.now) ≡ true → is_sized layouts.now.done (type_view type_.now) ≡ false }
 {
     if !is_sized(type_, layouts) {
         return Err(AllocError);

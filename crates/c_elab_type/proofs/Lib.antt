@@ -5,6 +5,7 @@ pub mod Deriving
 pub mod Suffixes
 pub mod Comparing
 pub mod Signatures
+pub mod Parameters
 pub mod Growing
 pub mod Values
 pub mod Settling

@@ -1,6 +1,6 @@
 -- What declarators of typedefs and variables declare (C11 6.7.6, 6.7.8, 6.7.9), apart from members: each in the scope behind its
 -- own suffixes, by what these say.
-use Rattle.std.specs.Prelude.{ℕ, ◌==◌, ◌&&◌, ◌||◌, ◌++◌, Bool, true, false, not, List, [], ◌∷◌, length, slice_get, Option, Some, None, Result, Ok, Err, if◌then◌else◌}
+use Rattle.std.specs.Prelude.{ℕ, ◌+◌, ◌==◌, ◌&&◌, ◌||◌, ◌++◌, Bool, true, false, not, List, [], ◌∷◌, length, slice_get, Option, Some, None, Result, Ok, Err, if◌then◌else◌}
 use Rattle.c_tree.specs.Declarations.{Initial, Full, name_of}
 use Rattle.c_types.specs.Integers.{same_integer}
 use Rattle.c_types.specs.Types.{CType, void, integer, aggregate, array, Completed}
@@ -9,13 +9,24 @@ use Rattle.core_tree.specs.Trees as cores
 use Rattle.core_tree.specs.Typed.{names_variable, structure_names}
 use Rattle.c_scope.specs.declared.meaning.Meaning.{Meaning}
 use Rattle.c_scope.specs.declared.meaning.Meaning.TheVariants.{Variable, Incomplete, Typedef}
-use Rattle.c_scope.specs.Scopes.{binding, Named, FunctionType, Scoped, function_number, function_numbered}
+use Rattle.c_scope.specs.Scopes.{binding, Named, FunctionType, Callable, Scoped, function_number, function_numbered}
 use Rattle.c_scope.specs.Faults.{◌>>=◌, Fault, on_line}
 use Rattle.c_scope.specs.Types.{array_of, type_size}
 use Rattle.c_elab_type.specs.declared.regions.Region.{Region}
 use Rattle.c_elab_type.specs.Regions.{earlier}
 use Rattle.c_elab_type.specs.Derivations.{full_line, type_numbered}
 use Rattle.c_elab_type.specs.Initializers.{Value, number_value, structure_value, initializer_of, no_initializer, elements_said}
+
+-- ---- parameters
+
+-- how many parameters these functions have, and these function types
+abbrev pub function_parameters : List Callable → ℕ
+function_parameters [] = 0
+function_parameters (f ∷ fs) = length f.type.parameters + function_parameters fs
+
+abbrev pub type_parameters : List FunctionType → ℕ
+type_parameters [] = 0
+type_parameters (t ∷ ts) = length t.parameters + type_parameters ts
 
 -- ---- typedefs (C11 6.7.8)
 

@@ -1,12 +1,12 @@
 //! Typedefs.
 
-ghost use Rattle.std.specs.Prelude.{◌≡◌, ◌≤◌, length, option_map, slice_get, IfOk, OnOk, Result, ℕ};
+ghost use Rattle.std.specs.Prelude.{◌≡◌, ◌<◌, ◌≤◌, ◌+◌, length, option_map, slice_get, IfOk, IsTrue, OnOk, Result, ℕ};
 ghost use Rattle.c_tree.specs.Declarations.{view_full, view_initializer, name_of};
 ghost use Rattle.c_types.specs.Types.{CType, view, views};
 ghost use Rattle.c_scope.specs.Scopes.{view_named, view_function_type};
 ghost use Rattle.c_elab_type.specs.Derivations.{view_made};
 ghost use Rattle.c_scope.specs.Faults.{Gives, on_line};
-ghost use Rattle.c_elab_type.specs.Declarators.{same_ctype, same_flag, is_named, is_typedef_of, typedef_node, typed_typedef, same_types, same_function, is_typedef_of_function, function_typedef_node, typed_function_typedef};
+ghost use Rattle.c_elab_type.specs.Declarators.{same_ctype, same_flag, is_named, is_typedef_of, typedef_node, typed_typedef, same_types, same_function, is_typedef_of_function, function_typedef_node, typed_function_typedef, function_parameters, type_parameters};
 
 use crate::derivations::{full_line, function_named};
 use crate::initializing::no_initializer;
@@ -169,14 +169,24 @@ pub fn same_function(a: &FunctionType, b: &FunctionType) -> bool
         && same_types(&a.parameters, &b.parameters)
 }
 
-// How many parameters the functions and the function types have so far.
-fn parameters_so_far(functions: &Functions) -> usize {
+// How many parameters the functions have. Those past what is counted are left out.
+fn function_parameters(functions: &Functions) -> usize
+    ensures { result ≤ function_parameters functions.now.all }
+{
     let mut count: usize = 0;
     for number in 0..functions.len().min(TYPES) as u32 {
         if let Some(callable) = functions.function(number) {
             count = count.saturating_add(callable.type_.parameters.len());
         }
     }
+    count
+}
+
+// How many parameters the function types that typedefs name have. Those past what is counted are left out.
+fn type_parameters(functions: &Functions) -> usize
+    ensures { result ≤ type_parameters functions.now.types }
+{
+    let mut count: usize = 0;
     for number in 0..functions.type_count().min(TYPES) as u32 {
         if let Some(type_) = functions.type_at(number) {
             count = count.saturating_add(type_.parameters.len());
@@ -185,12 +195,18 @@ fn parameters_so_far(functions: &Functions) -> usize {
     count
 }
 
-/// Whether there is no memory for the parameters of one more function of this type.
-pub fn is_too_long(functions: &Functions, type_: &FunctionType) -> bool {
+/// Whether there is no memory for the parameters of one more function of this type: with them all functions and
+/// all function types that typedefs name have more than 4,194,304.
+pub fn is_too_long(functions: &Functions, type_: &FunctionType) -> bool
+    ensures { IsTrue result → 4194304 < function_parameters functions.now.all + type_parameters functions.now.types + length (view_function_type type_.now).parameters }
+{
     let own = type_.parameters.len();
     let others = functions.len().saturating_add(functions.type_count());
-    others.saturating_mul(own) > PARAMETERS
-        && parameters_so_far(functions).saturating_add(own) > PARAMETERS
+    if others.saturating_mul(own) <= PARAMETERS {
+        return false;
+    }
+    let before = function_parameters(functions).saturating_add(type_parameters(functions));
+    before.saturating_add(own) > PARAMETERS
 }
 
 // Whether it is a typedef of this function type.

@@ -1,8 +1,8 @@
 //! The objects that items in braces initialize.
 
-ghost use Rattle.std.specs.Prelude.{◌≡◌, option_map, IfOk};
+ghost use Rattle.std.specs.Prelude.{◌≡◌, true, false, option_map, IfOk, IsErr};
 ghost use Rattle.c_types.specs.Types.{view, aggregate, array};
-ghost use Rattle.c_types.specs.Layouts.{kind_at, size_of};
+ghost use Rattle.c_types.specs.Layouts.{kind_at, is_complete, is_sized, size_of};
 ghost use Rattle.c_scope.specs.Members.{member_in};
 ghost use Rattle.c_elab_type.specs.Initializers.{has_item, slot};
 
@@ -24,11 +24,11 @@ pub fn kind_at(place: u32, layouts: &Layouts) -> RecordKind
     }
 }
 
-/// The bytes of an object's type.
+/// The bytes of an object's type. It is complete and not too large, so that no other answer comes. It takes no memory.
 pub fn object_bytes(type_: &Ty, layouts: &Layouts) -> Result<u32, AllocError>
-    ensures { IfOk result (λ n. n ≡ size_of layouts.now.done (view type_.now)) }
+    ensures size { IfOk result (λ n. n ≡ size_of layouts.now.done (view type_.now)) }
+    ensures cause { IsErr result → is_complete layouts.now.done (view type_.now) ≡ true → is_sized layouts.now.done (view type_.now) ≡ false }
 {
-    // An object's type is complete and not too large, so that this never comes.
     if !is_complete(type_, layouts) || !is_sized(type_, layouts) {
         return Err(AllocError);
     }

@@ -6,7 +6,7 @@ ghost use Rattle.c_types.specs.Types.{CType, view as type_view};
 ghost use Rattle.core_tree.specs.Trees.{Items, with_item};
 ghost use Rattle.c_scope.specs.Scopes.{Scoped, view_named};
 ghost use Rattle.c_scope.specs.Types.{type_size};
-ghost use Rattle.c_scope.specs.Faults.{Gives, on_line};
+ghost use Rattle.c_scope.specs.Faults.{Gives, IsTyping, on_line};
 ghost use Rattle.c_tree.specs.Declarations.{name_of};
 ghost use Rattle.c_elab_type.specs.Derivations.{full_line};
 ghost use Rattle.c_scope.specs.declared.fault.TypingError.{TypingError as SpecError};
@@ -21,7 +21,7 @@ use crate::naming::name_of;
 use crate::regions::{Region, earlier};
 use c_scope::{Broken, Meaning, QualifiedType, Scope, TypingError, array_type, type_size};
 use c_tree::{InitDeclarator, Initializer};
-use c_types::{Layouts, MOST_BYTES, Ty, is_complete};
+use c_types::{Layouts, Ty, is_complete};
 use core_tree::{CoreItem, names_variable, structure_names_variable};
 use std::alloc::{AllocError, Global};
 
@@ -72,21 +72,16 @@ pub fn complete_type(type_: Ty, layouts: &Layouts, line: u32) -> Result<Ty, Typi
     }
 }
 
-/// The bytes of a type that a variable may have, or the lowest rule on the line.
+/// The bytes of a type that a variable may have, or the lowest rule on the line. It takes no memory.
 pub fn sized_type(type_: &Ty, layouts: &Layouts, line: u32) -> Result<u32, TypingError>
     ensures gives { Gives (λ n. type_view type_.now) result (on_line line (sized_type layouts.now.done (type_view type_.now))) }
     ensures sized { IfOk result (λ n. type_size layouts.now.done (type_view type_.now) ≡ Ok n) }
+    ensures rule { IfErr result IsTyping }
 {
     match type_size(type_, layouts) {
-        Ok(size) => {
-            // No type has more bytes, so that this never comes.
-            if size > MOST_BYTES as u64 {
-                return Err(TypingError::Memory);
-            }
-            Ok(size as u32)
-        }
+        Ok(size) => Ok(size as u32),
         Err(Broken::Rule { rule }) => Err(TypingError::Typing { line, rule }),
-        Err(Broken::Memory) => Err(TypingError::Memory),
+        Err(Broken::Memory) => unreachable!(),
     }
 }
 

@@ -43,6 +43,21 @@ abbrev pub Breaks : {Y : Type 0} → Broken → Result Y ℕ → Type 0
 Breaks broken.Memory node = Unit {0}
 Breaks (broken.Rule rule) node = node ≡ Err rule
 
+-- memory runs out only where no rule is broken
+abbrev pub Unbroken : {Y : Type 0} → Broken → Result Y ℕ → Type 0
+Unbroken broken.Memory (Ok y) = Unit {0}
+Unbroken broken.Memory (Err rule) = ⊥
+Unbroken (broken.Rule rule) node = Unit {0}
+
+-- a rule is told, and never want of memory
+abbrev pub IsRule : Broken → Type 0
+IsRule broken.Memory = ⊥
+IsRule (broken.Rule rule) = Unit {0}
+
+abbrev pub IsTyping : TypingError → Type 0
+IsTyping errors.Memory = ⊥
+IsTyping (errors.Typing line rule) = Unit {0}
+
 abbrev pub GivesNode : {X Y : Type 0} → (X → Y) → Result X Broken → Result Y ℕ → Type 0
 GivesNode view (Ok x) node = node ≡ Ok (view x)
 GivesNode view (Err e) node = Breaks e node

@@ -1,11 +1,11 @@
 //! What declarators make of types.
 
-ghost use Rattle.std.specs.Prelude.{◌≡◌, true, Ok, MatchResult, IfOk};
+ghost use Rattle.std.specs.Prelude.{◌≡◌, ◌≤◌, true, Ok, MatchResult, IfOk, IfErr};
 ghost use Rattle.c_tree.specs.Tree.{unnamed, suffixes_of, view_declarator};
 ghost use Rattle.c_types.specs.Types.{view};
-ghost use Rattle.c_types.specs.Layouts.{is_complete, is_sized, size_of};
+ghost use Rattle.c_types.specs.Layouts.{is_complete, is_sized, size_of, most_bytes};
 ghost use Rattle.c_scope.specs.Types.{declared_line, one_array, array_of, type_size};
-ghost use Rattle.c_scope.specs.Faults.{Gives, GivesNode, Fails, on_line};
+ghost use Rattle.c_scope.specs.Faults.{Gives, GivesNode, Fails, Unbroken, IsRule, IsTyping, on_line};
 
 use crate::fault::{Broken, TypingError};
 use c_tree::{ArraySuffix, Declarator, DeclaratorCore};
@@ -41,7 +41,8 @@ pub fn one_array(
     length: Option<u64>,
     layouts: &Layouts,
 ) -> Result<Ty, Broken>
-    ensures { GivesNode view result (one_array layouts.now.done (view element) length) }
+    ensures array { GivesNode view result (one_array layouts.now.done (view element) length) }
+    ensures memory { IfErr result (λ e. Unbroken e (one_array layouts.now.done (view element) length)) }
 {
     if !is_complete(&element, layouts) {
         return Err(Broken::Rule { rule: 3 });
@@ -74,6 +75,7 @@ fn array_over(
     requires sized { is_sized layouts.now.done (view element) ≡ true }
     requires size { size ≡ size_of layouts.now.done (view element) }
     ensures array { GivesNode (λ p. view p.0) result (one_array layouts.now.done (view element) length) }
+    ensures memory { IfErr result (λ e. Unbroken e (one_array layouts.now.done (view element) length)) }
     ensures complete { IfOk result (λ p. is_complete layouts.now.done (view p.0) ≡ true) }
     ensures sized { IfOk result (λ p. is_sized layouts.now.done (view p.0) ≡ true) }
     ensures size { IfOk result (λ p. p.1 ≡ size_of layouts.now.done (view p.0)) }
@@ -134,12 +136,14 @@ pub fn array_type(
     }
 }
 
-// The bytes of a complete type.
+// The bytes of a complete type, or rule 3 or 4. It takes no memory.
 fn complete_size(type_: &Ty, layouts: &Layouts) -> Result<u32, Broken>
     ensures size { GivesNode (λ n. n) result (type_size layouts.now.done (view type_.now)) }
     ensures complete { IfOk result (λ _. is_complete layouts.now.done (view type_.now) ≡ true) }
     ensures sized { IfOk result (λ _. is_sized layouts.now.done (view type_.now) ≡ true) }
     ensures is { IfOk result (λ n. n ≡ size_of layouts.now.done (view type_.now)) }
+    ensures small { IfOk result (λ n. n ≤ most_bytes) }
+    ensures rule { IfErr result IsRule }
 {
     if !is_complete(type_, layouts) {
         return Err(Broken::Rule { rule: 3 });
@@ -153,16 +157,19 @@ fn complete_size(type_: &Ty, layouts: &Layouts) -> Result<u32, Broken>
     }
 }
 
-/// The bytes of a complete type.
+/// The bytes of a complete type, or rule 3 or 4. It takes no memory.
 pub fn type_size(type_: &Ty, layouts: &Layouts) -> Result<u64, Broken>
-    ensures { GivesNode (λ n. n) result (type_size layouts.now.done (view type_.now)) }
+    ensures size { GivesNode (λ n. n) result (type_size layouts.now.done (view type_.now)) }
+    ensures small { IfOk result (λ n. n ≤ most_bytes) }
+    ensures rule { IfErr result IsRule }
 {
     Ok(complete_size(type_, layouts)? as u64)
 }
 
-/// The bytes of an object of this type, or rule 3 or 4 on the line of its declarator.
+/// The bytes of an object of this type, or rule 3 or 4 on the line of its declarator. It takes no memory.
 pub fn object_size(type_: &Ty, layouts: &Layouts, line: u32) -> Result<u32, TypingError>
-    ensures { MatchResult result (λ n. type_size layouts.now.done (view type_.now) ≡ Ok n) (λ e. Fails e (on_line line (type_size layouts.now.done (view type_.now)))) }
+    ensures rule { IfErr result IsTyping }
+    ensures size { MatchResult result (λ n. type_size layouts.now.done (view type_.now) ≡ Ok n) (λ e. Fails e (on_line line (type_size layouts.now.done (view type_.now)))) }
 {
     if !is_complete(type_, layouts) {
         return Err(TypingError::Typing { line, rule: 3 });

@@ -8,4 +8,4 @@ use Rattle.c_elab_expr.proofs.calls.given_structure.Goals as goal
 pub returns : goal.returns
 returns c =
     ap (λ (a : Structure). structure (type_view c.in_ok-copied.field-0) a) (view_give c.args.line c.args.function c.args.used c.in_ok-size.size c.args.arguments)
-    ∙ ap₂ (λ (u : CType) (n : _). structure u (give c.args.line c.args.function c.args.used n (arguments_of c.args.arguments.items))) c.in_ok-copied.ensures c.in_ok-size.ensures
+    ∙ ap₂ (λ (u : CType) (n : _). structure u (give c.args.line c.args.function c.args.used n (arguments_of c.args.arguments.items))) c.in_ok-copied.ensures c.in_ok-size.ensures.size

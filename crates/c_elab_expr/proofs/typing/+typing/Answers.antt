@@ -244,7 +244,7 @@ typed_expr-returns-in_err-size-in-SizeofType t c =
     let same = ap (named_type s) c.deref-in-SizeofType.ensures in
     let u = type_view c.in_ok-type_-in-SizeofType.type_ in
     let size = type_size s.records.done u in
-    let node : GivesNode (λ (n : ℕ). n) c.type_size.result size = subst (λ (r : Records). GivesNode (λ (n : ℕ). n) c.type_size.result (type_size r.done u)) c.layouts-in-SizeofType.ensures c.type_size.ensures in
+    let node : GivesNode (λ (n : ℕ). n) c.type_size.result size = subst (λ (r : Records). GivesNode (λ (n : ℕ). n) c.type_size.result (type_size r.done u)) c.layouts-in-SizeofType.ensures c.type_size.ensures.size in
     rw (p.1, p.2) (fails_on c.in_err-size-in-SizeofType.field-0.0 (on_line c.in-SizeofType.line size) (typed s c.args.wanted (tree c.args.expr.now))
     (λ f bad. ap (typed s c.args.wanted) shape ∙ size_fails s c.args.wanted c.in-SizeofType.line (map view_type_part name.specifiers.items) (view_declarator name.declarator) u f (sym same ∙ c.in_ok-type_-in-SizeofType.ensures) bad)
     (c.in_err-size-in-SizeofType.ensures size node))
@@ -257,7 +257,7 @@ typed_expr-returns-in_ok-size-in-SizeofType t c =
     let same = ap (named_type s) c.deref-in-SizeofType.ensures in
     let u = type_view c.in_ok-type_-in-SizeofType.type_ in
     let size = type_size s.records.done u in
-    let node : GivesNode (λ (n : ℕ). n) c.type_size.result size = subst (λ (r : Records). GivesNode (λ (n : ℕ). n) c.type_size.result (type_size r.done u)) c.layouts-in-SizeofType.ensures c.type_size.ensures in
+    let node : GivesNode (λ (n : ℕ). n) c.type_size.result size = subst (λ (r : Records). GivesNode (λ (n : ℕ). n) c.type_size.result (type_size r.done u)) c.layouts-in-SizeofType.ensures c.type_size.ensures.size in
     ap (typed s c.args.wanted) shape
     ∙ size_typed s c.args.wanted c.in-SizeofType.line (map view_type_part name.specifiers.items) (view_declarator name.declarator) u c.in_ok-size-in-SizeofType.size
     (sym same ∙ c.in_ok-type_-in-SizeofType.ensures) (c.in_ok-size-in-SizeofType.ensures size node)

@@ -18,5 +18,5 @@ returns-in_ok-object_bytes-in-None c =
     sym c.in_ok-found.ensures ∙ ap (λ (b : Option ℕ). view_found found.parts.items b) c.in-None.is in
     ap (λ (r : Result Parts ℕ). on_line line r >>= λ ps. Ok (listed (list line (size_of rs.done t) ps))) parts
     ∙ ap (λ (ps : Parts). Ok (listed (list line (size_of rs.done t) ps))) (ap parts_of (sym c.reverse.ensures.items))
-    ∙ ap (λ (n : ℕ). Ok (listed (list line n (parts_of c.reverse.new.self.items)))) (sym c.in_ok-object_bytes-in-None.ensures)
+    ∙ ap (λ (n : ℕ). Ok (listed (list line n (parts_of c.reverse.new.self.items)))) (sym c.in_ok-object_bytes-in-None.ensures.size)
     ∙ ap (λ (a : Structure). Ok (listed a)) (sym (view_list line size c.reverse.new.self))
