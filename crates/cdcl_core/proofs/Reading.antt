@@ -77,6 +77,15 @@ known_value-given t x n values marked is all given v b within known =
     let inside : v < length t.marks.items = subst (λ k. v < k) (sym (ap (λ (y : Course). y.variables) is)) within in
     given v b (omega (arith, inside, all)) (sym (known_value-at t x v marked is within) ∙ known)
 
+-- and of variables without one
+pub known_value-missing :
+    (t : Inside) (x : Course) (n : ℕ) (values : List Bool) → IsMarked t → course_of t ≡ x → length t.marks.items ≤ n →
+    ((v : ℕ) → v < n → option_map (λ (m : Mark). m.value) (get_or t.marks.items v None) ≡ None → get_or values v false ≡ false) →
+    (v : ℕ) → v < x.variables → known_value x.steps v ≡ None → get_or values v false ≡ false
+known_value-missing t x n values marked is all rest v within unknown =
+    let inside : v < length t.marks.items = subst (λ k. v < k) (sym (ap (λ (y : Course). y.variables) is)) within in
+    rest v (omega (arith, inside, all)) (sym (known_value-at t x v marked is within) ∙ unknown)
+
 same_truth : (value negated : Bool) → not (beq value negated) ≡ (if negated then not value else value)
 same_truth true true = refl
 same_truth true false = refl

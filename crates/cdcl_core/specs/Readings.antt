@@ -10,6 +10,6 @@ use Rattle.cdcl_core.specs.Watched.{IsNotFalse, AreFalseBeside}
 -- what the clause says beside the literal
 abbrev pub IsReading : List Step → List Literal → Literal → Reading → Type 0
 IsReading steps clause l True = known_truth steps l ≡ Some true
-IsReading steps clause l (Open m) = Contains clause m × (m ≢ l) × IsNotFalse steps m
+IsReading steps clause l (Open m) = Contains clause m × (m ≢ l) × IsNotFalse steps m × (known_truth steps l ≢ Some true)
 IsReading steps clause l Single = (known_truth steps l ≡ None) × AreFalseBeside steps clause l
 IsReading steps clause l False = (known_truth steps l ≡ Some false) × AreFalseBeside steps clause l

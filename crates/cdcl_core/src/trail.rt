@@ -1,4 +1,4 @@
-ghost use Rattle.std.specs.Prelude.{◌≡◌, ◌^◌, ◌<◌, ◌≤◌, [], ◌∷◌, ℕ, Bool, true, suc, ◌↔◌, None, Some, length, IsTrue, IsSome, IfSome, IfNone, IfOk, OnOk, OnErr};
+ghost use Rattle.std.specs.Prelude.{◌≡◌, ◌^◌, ◌<◌, ◌≤◌, [], ◌∷◌, ℕ, Bool, true, false, suc, ◌↔◌, None, Some, length, IsTrue, IsSome, IfSome, IfNone, IfOk, OnOk, OnErr};
 ghost use Rattle.sat_form.specs.Satisfaction.{assignment_of};
 ghost use Rattle.cdcl_core.specs.Steps.{Course, known_value, known_place, known_truth, false_literal_of, oldest};
 
@@ -120,7 +120,8 @@ impl Trail {
 
     /// Whether a literal is true.
     pub fn is_true(&self, literal: Lit) -> bool
-        ensures { IsTrue result → known_truth self.now.steps literal ≡ Some true }
+        ensures is { IsTrue result → known_truth self.now.steps literal ≡ Some true }
+        ensures all { literal.variable < self.now.variables → known_truth self.now.steps literal ≡ Some true → IsTrue result }
     {
         let variable = literal.variable() as usize;
         if variable >= self.marks.len() {
@@ -216,6 +217,7 @@ impl Trail {
     pub fn assignment(&self, alloc: Global) -> Result<Assignment, AllocError>
         ensures length { IfOk result (λ a. length a ≡ self.now.variables) }
         ensures given { IfOk result (λ a. (v : ℕ) (b : Bool) → v < self.now.variables → known_value self.now.steps v ≡ Some b → assignment_of a v ≡ b) }
+        ensures open_ { IfOk result (λ a. (v : ℕ) → v < self.now.variables → known_value self.now.steps v ≡ None → assignment_of a v ≡ false) }
     {
         let mut values = Vec::with_capacity(alloc, self.marks.len())?;
         for mark in &self.marks {

@@ -1,11 +1,16 @@
 -- How a form grows when gates are added at its end.
-use Rattle.std.specs.Prelude.{◌≡◌, ℕ, ◌≤◌, Bool, List, [], ◌∷◌, ◌++◌, take, drop, length}
+use Rattle.std.specs.Prelude.{◌≡◌, ℕ, ◌≤◌, Bool, List, [], ◌∷◌, ◌++◌, take, drop, length, Option, Some, None}
 use Rattle.sat_form.specs.Satisfaction.{Literal, Form, Satisfies, AreWithin, AgreeBelow}
 
 -- the clause by which the gates know a literal: the first one where it is a single literal, else none
 abbrev pub known_clauses : List (List Literal) → List (List Literal)
 known_clauses ((l ∷ []) ∷ clauses) = (l ∷ []) ∷ []
 known_clauses clauses = []
+
+-- that literal
+abbrev pub known_literal : List (List Literal) → Option Literal
+known_literal ((l ∷ []) ∷ clauses) = Some l
+known_literal clauses = None
 
 -- that clause alone, over the form's variables
 abbrev pub known_part : Form → Form

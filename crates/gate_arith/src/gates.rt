@@ -1,9 +1,9 @@
 #![tactic(auto, using(crate::proofs::Growing::growth))]
 
-ghost use Rattle.std.specs.Prelude.{◌≡◌, ℕ, ◌<◌, ◌++◌, true, Bool, ◌&&◌, ◌||◌, IfOk, OnOk, IfSome, if◌then◌else◌};
+ghost use Rattle.std.specs.Prelude.{◌≡◌, ℕ, ◌<◌, ◌++◌, true, Bool, ◌&&◌, ◌||◌, IfOk, OnOk, IfSome, IsSome, if◌then◌else◌};
 ghost use Rattle.sat_form.specs.Satisfaction.{literal_value, AreWithin};
 ghost use Rattle.gate_arith.specs.Clauses.{choice_clauses, most_clauses};
-ghost use Rattle.gate_arith.specs.Growth.{GrowsFreely, Takes, known_part};
+ghost use Rattle.gate_arith.specs.Growth.{GrowsFreely, Takes, known_part, known_literal};
 ghost use Rattle.gate_arith.specs.Truth.{IsTruth, IsFixed, differs, most};
 
 use sat_form::{Cnf, Lit};
@@ -14,6 +14,7 @@ pub fn known(cnf: &Cnf) -> Option<Lit>
     ensures is { IfSome result (λ l. IsTruth cnf.now l (λ _. true)) }
     ensures first { IfSome result (λ l. IsTruth (known_part cnf.now) l (λ _. true)) }
     ensures within { AreWithin cnf.now.variables cnf.now.clauses }
+    ensures alone { result ≡ known_literal cnf.now.clauses }
 {
     match cnf.clauses() {
         [first, ..] => match first.literals() {
@@ -145,10 +146,11 @@ pub fn flipped(literal: Lit, by: bool) -> Lit
     if by { literal.inverse() } else { literal }
 }
 
-/// A literal that has this truth.
+/// A literal that has this truth. Where the form's first clause holds one literal alone, nothing is added.
 pub fn constant(alloc: Global, cnf: &mut Cnf, truth: bool) -> Result<Lit, AllocError>
     ensures grows { GrowsFreely cnf.old cnf.new }
     ensures is { IfOk result (λ l. IsTruth cnf.new l (λ _. truth)) }
+    ensures kept { IsSome (known_literal cnf.old.clauses) → cnf.new ≡ cnf.old }
 {
     let one = match known(cnf) {
         Some(one) => one,

@@ -31,7 +31,7 @@ pub fn stages(width: usize) -> usize
     requires positive { 1 ≤ width }
     requires at_most_64 { width ≤ 64 }
     ensures enough { width ≤ 2 ^ result }
-    ensures least { 2 ^ (result - 1) ≤ width }
+    ensures least { 1 ≤ result → 2 ^ (result - 1) < width }
     ensures few { result ≤ 6 }
     ensures within { result ≤ width }
 {

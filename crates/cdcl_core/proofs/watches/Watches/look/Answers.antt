@@ -20,7 +20,7 @@ returns-then-is_true-clause-look c =
     let good : IsGood c.args.clauses.now c.args.self.now.pairs.items c.at-watch.result = c.requires.held.listed.good c.args.literal c.args.at c.at-watch.result c.at-watch.ensures in (
       refl,
       AreVisited-kept c.args.place c.args.at c.args.clauses.now c.args.trail.now.steps c.args.self.now.pairs.items _ c.at-watch.result good.clause c.at-watch.ensures good.found
-          (record { literal = c.at-watch.result.blocker; stands = good.blocks; is = c.is_true.ensures c.if-is_true.true }) c.requires.visited,
+          (record { literal = c.at-watch.result.blocker; stands = good.blocks; is = c.is_true.ensures.is c.if-is_true.true }) c.requires.visited,
     )
 
 pub other-other-requires : goal.other-other-requires
