@@ -1,11 +1,11 @@
 //! Definitions and the file.
 
-ghost use Rattle.std.specs.Prelude.{◌≡◌, ◌≤◌, ◌+◌, ◌∷◌, Bool, true, [], length, map, option_map, is_some, nat_lt, Some, None, if◌then◌else◌, OnOk, IfOk, MatchOption};
+ghost use Rattle.std.specs.Prelude.{◌≡◌, ◌<◌, ◌≤◌, ◌+◌, ◌∷◌, Bool, true, [], length, map, option_map, is_some, nat_lt, Some, None, if◌then◌else◌, OnOk, IfOk, IsErr, MatchOption};
 ghost use Rattle.std.specs.List.{list_all};
 ghost use Rattle.c_tree.specs.Statements.{Externals, view_statement, view_external, externals_of, view_file};
 ghost use Rattle.c_tree.specs.Declarations.{Parameters, full_end, parts_of, name_of, view_full, view_full_suffix, full_suffixes_of};
 ghost use Rattle.c_types.specs.Types.{views, view as type_view};
-ghost use Rattle.c_types.specs.Layouts.{size_of};
+ghost use Rattle.c_types.specs.Layouts.{size_of, most_bytes};
 ghost use Rattle.core_tree.specs.Trees.{view_core, view_function, view_functions, view_static, view_statics, view_statement as typed_view};
 ghost use Rattle.core_tree.specs.Typed.{is_static};
 ghost use Rattle.c_scope.specs.Scopes.{Scoped, view_named, view_function_type, view_callable, view_lasting, lasting_size, passed_as, given_by};
@@ -420,6 +420,7 @@ fn static_object(
 ) -> Result<StaticObject, AllocError>
     ensures is { IfOk result (λ o. view_static o ≡ record { size = size; readonly = readonly; bytes = bytes.items; undefined = undefined }) }
     ensures fits { IfOk result (λ o. is_static (view_static o) ≡ true) }
+    ensures cause { IsErr result → size ≤ most_bytes → size < length bytes.items }
 {
     prove_bytes(&bytes);
     // No type has more bytes, and no initializer says more than its object has, so that this never comes.

@@ -1,6 +1,6 @@
 //! How far a function is typed: its loops, its labels and the cases of its switches.
 
-ghost use Rattle.std.specs.Prelude.{◌≡◌, None, option_map, IfOk, OnOk};
+ghost use Rattle.std.specs.Prelude.{◌≡◌, ◌≤◌, ◌^◌, None, option_map, IfOk, OnOk, OnErr};
 ghost use Rattle.c_types.specs.Types.{view as type_view};
 ghost use Rattle.c_scope.specs.Scopes.{view_cases, view_flow, no_flow};
 ghost use Rattle.c_scope.specs.Faults.{on_line};
@@ -49,10 +49,11 @@ pub fn end(scope: &mut Scope)
     let _inner = scope.set_flow(no_flow());
 }
 
-/// One loop more, and its number.
+/// One loop more, and its number. It takes no memory, and there is none for more than 2^31 loops.
 pub fn next_loop(scope: &mut Scope) -> Result<u32, AllocError>
     ensures number { IfOk result (λ n. n ≡ scope.old.flow.loops) }
     ensures more { OnOk result (scope.new ≡ with_loop scope.old) }
+    ensures full { OnErr result (2 ^ 31 ≤ scope.old.flow.loops) }
 {
     let number = scope.flow().loops;
     if number > MOST {
@@ -64,10 +65,11 @@ pub fn next_loop(scope: &mut Scope) -> Result<u32, AllocError>
     Ok(number)
 }
 
-/// One label more, and its number.
+/// One label more, and its number. It takes no memory, and there is none for more than 2^31 labels.
 pub fn next_label(scope: &mut Scope) -> Result<u32, AllocError>
     ensures number { IfOk result (λ n. n ≡ scope.old.flow.labels) }
     ensures more { OnOk result (scope.new ≡ with_label scope.old) }
+    ensures full { OnErr result (2 ^ 31 ≤ scope.old.flow.labels) }
 {
     let number = scope.flow().labels;
     if number > MOST {
