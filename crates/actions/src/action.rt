@@ -6,7 +6,7 @@ use std::marker::Model;
 use words::{Class, Word};
 
 /// How many bits a Draw gives, from 1 to 64.
-#[derive(Clone, Copy, Debug, PartialEq, Eq)]
+#[derive(Clone, Copy, PartialEq, Eq)]
 pub struct DrawBits {
     bits: u32,
 }

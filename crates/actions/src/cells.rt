@@ -5,7 +5,7 @@ use std::alloc::AllocError;
 use std::marker::Model;
 
 /// One cell of an object: an offset and a size, in bytes.
-#[derive(Clone, Copy, Debug, PartialEq, Eq)]
+#[derive(Clone, Copy, PartialEq, Eq)]
 pub struct Cell {
     pub offset: u32,
     pub size: u32,

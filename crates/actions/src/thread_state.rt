@@ -1,5 +1,5 @@
 /// The state of a thread that was created: it runs, or has ended with the value of its End.
-#[derive(Clone, Copy, Debug, PartialEq, Eq)]
+#[derive(Clone, Copy, PartialEq, Eq)]
 pub enum ThreadState {
     Running,
     Ended(u64),

@@ -26,18 +26,21 @@ use Rattle.std.specs.Prelude.{OnOk}
 use Rattle.c_scope.proofs.Variables.{both, and, are_there_wider, complete_sized}
 use Rattle.c_elab_expr.proofs.Types.{one_integer_type}
 use Rattle.c_elab_expr.proofs.WellTyped.{Holds, bind, given, refused, on_same_line}
-use Rattle.c_elab_type.specs.Regions.{built_in_function, earlier}
-use Rattle.c_elab_type.specs.Derivations.{Parameter, Derived, called, Shape, object, function as function_shaped, shape_of, is_array, has_void, parameter_types, function_of, derived, Derivation, lengths, callable, function_made, derivation_by, derivation, full_line, have_names}
-use Rattle.c_elab_type.specs.Declarators.{same_ctype, same_flag, same_types, same_function}
-use Rattle.c_elab_type.specs.Specifiers.{Passed, are_several, inner_region, parted, named_parts, typed_parts, typed_full, typed_parameters, typed_specifiers}
+use Rattle.c_elab_base.specs.Regions.{built_in_function, earlier}
+use Rattle.c_elab_base.specs.Derivations.{Parameter, Derived, called, Shape, object, function as function_shaped, shape_of, is_array, has_void, parameter_types, function_of, derived, Derivation, lengths, callable, function_made, derivation_by, derivation, full_line, have_names}
+use Rattle.c_elab_base.specs.Declarators.{same_ctype, same_flag, same_types, same_function}
+use Rattle.c_elab_base.specs.Specifiers.{Passed, are_several, inner_region, parted, named_parts}
+use Rattle.c_elab_type.specs.Specifiers.{typed_parts, typed_full, typed_parameters, typed_specifiers}
 use Rattle.c_elab_object.specs.Functions.{is_function_again, function_again, is_own_function, is_own_built_in, is_built_in_type, function_node, first_callable, callable_again, changed_callable, declared_callable, definition_node}
 use Rattle.c_elab_object.specs.Functions as functions
 use Rattle.c_elab_object.specs.Listed.{typed_others, in_file, typed_outside}
-use Rattle.c_elab_decl.specs.Jumps.{labels_in}
-use Rattle.c_elab_decl.specs.Statements.{Around, typed_items}
-use Rattle.c_elab_decl.specs.Files.{own_parameters, made_by, own_suffixes, definition_type, within_body, own_number, typed_body_of, Definition, outside, typed_definition, typed_externals, with_definitions, procedure_of, with_body, with_bodies, static_of, elaborated}
-use Rattle.c_elab_type.proofs.Signatures.{Signed, signed_trans, Later, is_given, given_by_kept, complete_kept, all_passed_kept, own_sizes, all_signed, type_open}
-use Rattle.c_elab_type.proofs.Growing.{take_front, Under, under_refl, under_trans, Wider, There, Follows, follows_refl, Settles, settles_trans}
+use Rattle.c_elab_flow.specs.Jumps.{labels_in}
+use Rattle.c_elab_flow.specs.Nodes.{Around}
+use Rattle.c_elab_decl.specs.Statements.{typed_items}
+use Rattle.c_elab_flow.specs.Files.{own_parameters, Definition, procedure_of, with_body, with_bodies, static_of}
+use Rattle.c_elab_decl.specs.Files.{made_by, own_suffixes, definition_type, within_body, own_number, typed_body_of, outside, typed_definition, typed_externals, with_definitions, elaborated}
+use Rattle.c_elab_base.proofs.Signatures.{Signed, signed_trans, Later, is_given, given_by_kept, complete_kept, all_passed_kept, own_sizes, all_signed, type_open}
+use Rattle.c_elab_base.proofs.Growing.{take_front, Under, under_refl, under_trans, Wider, There, Follows, follows_refl, Settles, settles_trans}
 use Rattle.c_elab_type.proofs.Settling.{weaken, Takes, DerivationFine, PassedDone, SuffixesDone, are_fine, full_settles, parts_settle, named_settles, parameters_done, derivation_fine, specifiers_settle}
 use Rattle.c_elab_object.proofs.Redeclaring.{declared_callable_settles}
 use Rattle.c_elab_object.proofs.SettlingDeclared.{others_settle}

@@ -1,8 +1,9 @@
 -- Statements by the typings of their parts, as code makes them.
-use Rattle.std.proofs.Common.{◌≡◌, ℕ, true, false, List, Option, Some, None, Result, Ok, refl, ap, sym, ◌∙◌}
+use Rattle.std.proofs.Common.{◌≡◌, ℕ, true, false, List, Option, Some, None, Result, Ok, Err, refl, ap, sym, ◌∙◌}
+use Rattle.std.specs.Prelude.{OnOk}
 use Rattle.c_tree.specs.Tree.{Tree}
 use Rattle.c_tree.specs.declared.statement.Stmt.{Stmt}
-use Rattle.c_tree.specs.Statements.{Statement, while_loop, do_loop, for_loop, case_of, default_of, labelled, view_statement}
+use Rattle.c_tree.specs.Statements.{Statement, if_then, if_else, while_loop, do_loop, for_loop, case_of, default_of, labelled, view_statement}
 use Rattle.core_tree.specs.Trees as cores
 use Rattle.c_scope.specs.declared.fault.TypingError.{TypingError}
 use Rattle.c_scope.specs.Scopes.{Cases, Flow, Scoped}
@@ -10,9 +11,10 @@ use Rattle.c_scope.specs.Faults.{◌>>=◌, Fault, Fails, on_line}
 use Rattle.c_elab_expr.specs.Operands.{Operand, number, dropped}
 use Rattle.c_elab_expr.specs.Typing.{operand}
 use Rattle.c_types.specs.declared.integers.IntegerType.{IntegerType}
-use Rattle.c_elab_decl.specs.Statements.{Around, in_loop, with_loop, with_label, with_cases, part_ignored, part_tested, test_node, case_node, default_node, label_node, TypedStatement, typed_rest, typed_statement}
-use Rattle.c_elab_type.proofs.Steps.{fails_bind, fails_along}
-use Rattle.c_elab_decl.proofs.Flowless.{operand_flow}
+use Rattle.c_elab_flow.specs.Nodes.{Around, in_loop, with_loop, with_label, with_cases, part_ignored, part_tested, test_node, case_node, default_node, label_node}
+use Rattle.c_elab_decl.specs.Statements.{TypedStatement, typed_rest, typed_statement}
+use Rattle.c_elab_base.proofs.Steps.{fails_bind, fails_along}
+use Rattle.c_elab_flow.proofs.Flowless.{operand_flow}
 
 -- ---- a part behind another
 
@@ -27,6 +29,31 @@ second_typed r y f z is same = ap (λ (x : Result _ Fault). x >>= f) is ∙ same
 part_flow : (s : Scoped) (f : Flow) (o : Option Tree) → part_ignored (record s { flow = f }) o ≡ part_ignored s o
 part_flow s f None = refl
 part_flow s f (Some e) = ap (λ (r : Result Operand Fault). r >>= λ x. Ok (Some (dropped s.records.done x))) (operand_flow s f false e)
+
+-- a fact that holds in any case
+pub whatever : {A E : Type 0} (r : Result A E) (P : Type 0) → P → OnOk r P
+whatever (Ok x) P p = p
+whatever (Err e) P p = tt
+
+-- ---- if
+
+abbrev if_end : ℕ → Operand → cores.Statement × Scoped → TypedStatement
+if_end line x y = on_line line (number 17 x) >>= λ e. Ok (cores.if_then line e y.0, y.1)
+
+abbrev if_else_end : ℕ → Operand → cores.Statement × Scoped → cores.Statement × Scoped → TypedStatement
+if_else_end line x y z = on_line line (number 17 x) >>= λ e. Ok (cores.if_else line e y.0 z.0, z.1)
+
+pub if_behind : (a : Around) (s : Scoped) (line : ℕ) (test : Tree) (one : Statement) (x : Operand) (y : cores.Statement × Scoped) → operand s test ≡ Ok x → typed_statement a s one ≡ Ok y
+    → if_end line x y ≡ typed_statement a s (if_then line test one)
+if_behind a s line test one x y tested typed =
+    sym (ap (λ (r : Result Operand Fault). r >>= λ z. typed_statement a s one >>= if_end line z) tested ∙ ap (λ (r : TypedStatement). r >>= if_end line x) typed)
+
+pub if_else_behind : (a : Around) (s : Scoped) (line : ℕ) (test : Tree) (one other : Statement) (x : Operand) (y z : cores.Statement × Scoped) → operand s test ≡ Ok x → typed_statement a s one ≡ Ok y
+    → typed_statement a y.1 other ≡ Ok z → if_else_end line x y z ≡ typed_statement a s (if_else line test one other)
+if_else_behind a s line test one other x y z tested typed otherwise =
+    sym (ap (λ (r : Result Operand Fault). r >>= λ v. typed_statement a s one >>= λ w. typed_statement a w.1 other >>= if_else_end line v w) tested
+    ∙ ap (λ (r : TypedStatement). r >>= λ w. typed_statement a w.1 other >>= if_else_end line x w) typed
+    ∙ ap (λ (r : TypedStatement). r >>= if_else_end line x y) otherwise)
 
 -- ---- while
 
@@ -51,20 +78,12 @@ module _ (a : Around) (s t : Scoped) (line : ℕ) (test : Tree) (body : Statemen
       fails_along e _ (typed_statement a s (while_loop line test body)) (sym (while_by a s t line test body scope))
       (second_fails e (operand t test) x (while_body a line s.flow.loops t body) tested (fails_bind e (typed_statement (in_loop a) t body) (while_end line s.flow.loops x) bad))
 
-  pub while_end_fails : (e : TypingError) (x : Operand) (y : cores.Statement × Scoped) → operand t test ≡ Ok x → typed_statement (in_loop a) t body ≡ Ok y → Fails e (on_line line (number 17 x))
-      → Fails e (typed_statement a s (while_loop line test body))
-  while_end_fails e x y tested typed bad =
-      fails_along e _ (typed_statement a s (while_loop line test body)) (sym (while_by a s t line test body scope))
-      (second_fails e (operand t test) x (while_body a line s.flow.loops t body) tested
-      (second_fails e (typed_statement (in_loop a) t body) y (while_end line s.flow.loops x) typed (fails_bind e (on_line line (number 17 x)) _ bad)))
-
-  pub while_typed : (n : ℕ) (x : Operand) (y : cores.Statement × Scoped) (c : cores.Expression) → n ≡ s.flow.loops → operand t test ≡ Ok x → typed_statement (in_loop a) t body ≡ Ok y
-      → on_line line (number 17 x) ≡ Ok c → typed_statement a s (while_loop line test body) ≡ Ok (cores.for_loop line n None (Some c) None y.0, y.1)
-  while_typed n x y c loop tested typed fits =
-      while_by a s t line test body scope ∙ ap (λ (r : Result Operand Fault). r >>= while_body a line s.flow.loops t body) tested
-      ∙ ap (λ (r : TypedStatement). r >>= while_end line s.flow.loops x) typed
-      ∙ ap (λ (r : Result cores.Expression Fault). r >>= λ e. Ok (cores.for_loop line s.flow.loops None (Some e) None y.0, y.1)) fits
-      ∙ ap (λ (k : ℕ). Ok (cores.for_loop line k None (Some c) None y.0, y.1)) (sym loop)
+  pub while_behind : (n : ℕ) (x : Operand) (y : cores.Statement × Scoped) → n ≡ s.flow.loops → operand t test ≡ Ok x → typed_statement (in_loop a) t body ≡ Ok y
+      → while_end line n x y ≡ typed_statement a s (while_loop line test body)
+  while_behind n x y loop tested typed =
+      ap (λ (k : ℕ). while_end line k x y) loop
+      ∙ sym (while_by a s t line test body scope ∙ ap (λ (r : Result Operand Fault). r >>= while_body a line s.flow.loops t body) tested
+      ∙ ap (λ (r : TypedStatement). r >>= while_end line s.flow.loops x) typed)
 
 -- ---- do
 
@@ -87,20 +106,12 @@ module _ (a : Around) (s t : Scoped) (line : ℕ) (body : Statement) (test : Tre
       fails_along e _ (typed_statement a s (do_loop line body test)) (sym (do_by a s t line body test scope))
       (second_fails e (typed_statement (in_loop a) t body) y (do_test line s.flow.loops test) typed (fails_bind e (operand y.1 test) (do_end line s.flow.loops y) bad))
 
-  pub do_end_fails : (e : TypingError) (y : cores.Statement × Scoped) (x : Operand) → typed_statement (in_loop a) t body ≡ Ok y → operand y.1 test ≡ Ok x → Fails e (on_line line (number 17 x))
-      → Fails e (typed_statement a s (do_loop line body test))
-  do_end_fails e y x typed tested bad =
-      fails_along e _ (typed_statement a s (do_loop line body test)) (sym (do_by a s t line body test scope))
-      (second_fails e (typed_statement (in_loop a) t body) y (do_test line s.flow.loops test) typed
-      (second_fails e (operand y.1 test) x (do_end line s.flow.loops y) tested (fails_bind e (on_line line (number 17 x)) _ bad)))
-
-  pub do_typed : (n : ℕ) (y : cores.Statement × Scoped) (x : Operand) (c : cores.Expression) → n ≡ s.flow.loops → typed_statement (in_loop a) t body ≡ Ok y → operand y.1 test ≡ Ok x
-      → on_line line (number 17 x) ≡ Ok c → typed_statement a s (do_loop line body test) ≡ Ok (cores.do_loop line n y.0 c, y.1)
-  do_typed n y x c loop typed tested fits =
-      do_by a s t line body test scope ∙ ap (λ (r : TypedStatement). r >>= do_test line s.flow.loops test) typed
-      ∙ ap (λ (r : Result Operand Fault). r >>= do_end line s.flow.loops y) tested
-      ∙ ap (λ (r : Result cores.Expression Fault). r >>= λ e. Ok (cores.do_loop line s.flow.loops y.0 e, y.1)) fits
-      ∙ ap (λ (k : ℕ). Ok (cores.do_loop line k y.0 c, y.1)) (sym loop)
+  pub do_behind : (n : ℕ) (y : cores.Statement × Scoped) (x : Operand) → n ≡ s.flow.loops → typed_statement (in_loop a) t body ≡ Ok y → operand y.1 test ≡ Ok x
+      → do_end line n y x ≡ typed_statement a s (do_loop line body test)
+  do_behind n y x loop typed tested =
+      ap (λ (k : ℕ). do_end line k y x) loop
+      ∙ sym (do_by a s t line body test scope ∙ ap (λ (r : TypedStatement). r >>= do_test line s.flow.loops test) typed
+      ∙ ap (λ (r : Result Operand Fault). r >>= do_end line s.flow.loops y) tested)
 
 -- ---- for
 
@@ -131,32 +142,17 @@ module _ (a : Around) (s t : Scoped) (line : ℕ) (first test last : Option Tree
 abbrev case_end : ℕ → Operand → cores.Statement × Scoped → TypedStatement
 case_end line x y = on_line line (case_node y.1.flow.switch x) >>= λ c. Ok (cores.stray line y.0, with_cases y.1 c.1)
 
-module _ (a : Around) (s : Scoped) (line : ℕ) (value : Tree) (body : Statement) (x : Operand) (y : cores.Statement × Scoped) (given : operand s value ≡ Ok x) (typed : typed_statement a s body ≡ Ok y) where
-  pub case_end_fails : (e : TypingError) → Fails e (on_line line (case_node y.1.flow.switch x)) → Fails e (typed_statement a s (case_of line value body))
-  case_end_fails e bad =
-      second_fails e (operand s value) x (λ z. typed_statement a s body >>= case_end line z) given
-      (second_fails e (typed_statement a s body) y (case_end line x) typed (fails_bind e (on_line line (case_node y.1.flow.switch x)) _ bad))
-
-  pub case_typed : (c : (IntegerType × ℕ) × Cases) (u : Scoped) → on_line line (case_node y.1.flow.switch x) ≡ Ok c → u ≡ with_cases y.1 c.1
-      → typed_statement a s (case_of line value body) ≡ Ok (cores.stray line y.0, u)
-  case_typed c u node scope =
-      ap (λ (r : Result Operand Fault). r >>= λ z. typed_statement a s body >>= case_end line z) given
-      ∙ ap (λ (r : TypedStatement). r >>= case_end line x) typed
-      ∙ ap (λ (r : Result ((IntegerType × ℕ) × Cases) Fault). r >>= λ d. Ok (cores.stray line y.0, with_cases y.1 d.1)) node
-      ∙ ap (λ (v : Scoped). Ok (cores.stray line y.0, v)) (sym scope)
+pub case_behind : (a : Around) (s : Scoped) (line : ℕ) (value : Tree) (body : Statement) (x : Operand) (y : cores.Statement × Scoped) → operand s value ≡ Ok x → typed_statement a s body ≡ Ok y
+    → case_end line x y ≡ typed_statement a s (case_of line value body)
+case_behind a s line value body x y given typed =
+    sym (ap (λ (r : Result Operand Fault). r >>= λ z. typed_statement a s body >>= case_end line z) given
+    ∙ ap (λ (r : TypedStatement). r >>= case_end line x) typed)
 
 abbrev default_end : ℕ → cores.Statement × Scoped → TypedStatement
 default_end line y = on_line line (default_node y.1.flow.switch) >>= λ c. Ok (cores.stray line y.0, with_cases y.1 c)
 
-module _ (a : Around) (s : Scoped) (line : ℕ) (body : Statement) (y : cores.Statement × Scoped) (typed : typed_statement a s body ≡ Ok y) where
-  pub default_end_fails : (e : TypingError) → Fails e (on_line line (default_node y.1.flow.switch)) → Fails e (typed_statement a s (default_of line body))
-  default_end_fails e bad = second_fails e (typed_statement a s body) y (default_end line) typed (fails_bind e (on_line line (default_node y.1.flow.switch)) _ bad)
-
-  pub default_typed : (c : Cases) (u : Scoped) → on_line line (default_node y.1.flow.switch) ≡ Ok c → u ≡ with_cases y.1 c → typed_statement a s (default_of line body) ≡ Ok (cores.stray line y.0, u)
-  default_typed c u node scope =
-      ap (λ (r : TypedStatement). r >>= default_end line) typed
-      ∙ ap (λ (r : Result Cases Fault). r >>= λ d. Ok (cores.stray line y.0, with_cases y.1 d)) node
-      ∙ ap (λ (v : Scoped). Ok (cores.stray line y.0, v)) (sym scope)
+pub default_behind : (a : Around) (s : Scoped) (line : ℕ) (body : Statement) (y : cores.Statement × Scoped) → typed_statement a s body ≡ Ok y → default_end line y ≡ typed_statement a s (default_of line body)
+default_behind a s line body y typed = sym (ap (λ (r : TypedStatement). r >>= default_end line) typed)
 
 -- ---- labels
 
@@ -203,20 +199,12 @@ module _ (line n : ℕ) (first : Option cores.Expression) (s : Scoped) (test las
       second_fails e (part_tested s test) x (λ z. part_ignored s last >>= λ d. body >>= rest_end line n first z d) tested
       (second_fails e (part_ignored s last) c (λ d. body >>= rest_end line n first x d) ended (fails_bind e body (rest_end line n first x c) bad))
 
-  pub rest_end_fails : (e : TypingError) (x : Option Operand) (c : Option cores.Expression) (y : cores.Statement × Scoped) → part_tested s test ≡ Ok x → part_ignored s last ≡ Ok c → body ≡ Ok y
-      → Fails e (on_line line (test_node x)) → Fails e (typed_rest line n first s test last body)
-  rest_end_fails e x c y tested ended typed bad =
-      second_fails e (part_tested s test) x (λ z. part_ignored s last >>= λ d. body >>= rest_end line n first z d) tested
-      (second_fails e (part_ignored s last) c (λ d. body >>= rest_end line n first x d) ended
-      (second_fails e body y (rest_end line n first x c) typed (fails_bind e (on_line line (test_node x)) _ bad)))
-
-  pub rest_typed : (x : Option Operand) (c d : Option cores.Expression) (y : cores.Statement × Scoped) → part_tested s test ≡ Ok x → part_ignored s last ≡ Ok c → body ≡ Ok y → on_line line (test_node x) ≡ Ok d
-      → typed_rest line n first s test last body ≡ Ok (cores.for_loop line n first d c y.0, y.1)
-  rest_typed x c d y tested ended typed fits =
-      ap (λ (r : Result (Option Operand) Fault). r >>= λ z. part_ignored s last >>= λ k. body >>= rest_end line n first z k) tested
+  pub rest_behind : (x : Option Operand) (c : Option cores.Expression) (y : cores.Statement × Scoped) → part_tested s test ≡ Ok x → part_ignored s last ≡ Ok c → body ≡ Ok y
+      → rest_end line n first x c y ≡ typed_rest line n first s test last body
+  rest_behind x c y tested ended typed =
+      sym (ap (λ (r : Result (Option Operand) Fault). r >>= λ z. part_ignored s last >>= λ k. body >>= rest_end line n first z k) tested
       ∙ ap (λ (r : Result (Option cores.Expression) Fault). r >>= λ k. body >>= rest_end line n first x k) ended
-      ∙ ap (λ (r : TypedStatement). r >>= rest_end line n first x c) typed
-      ∙ ap (λ (r : Result (Option cores.Expression) Fault). r >>= λ e. Ok (cores.for_loop line n first e c y.0, y.1)) fits
+      ∙ ap (λ (r : TypedStatement). r >>= rest_end line n first x c) typed)
 
 -- ---- a statement as code has it
 

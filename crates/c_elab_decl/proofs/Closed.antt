@@ -13,7 +13,7 @@ use Rattle.c_scope.specs.Types.{Said, nothing_said, with_part, with_parts, speci
 use Rattle.c_elab_expr.specs.Strings.{strings_of}
 use Rattle.c_elab_expr.specs.Operands.{Operand, value, object, structure, OperandNode, used, function_node, name_node, member_node, assign_operand, arguments_in, extra_arguments, given_size, given_operand, behind_extra, function_call, drawn_or_called, callable_call, call_node}
 use Rattle.c_elab_expr.specs.Typing.{bare_line, used_on, callee, is_used, called, is_wanted, type_name, operand_size, bound, typed, typed_arguments, lengths, suffix_lengths, operand_by}
-use Rattle.c_elab_type.proofs.Signatures.{is_given, closed_gives, closed_type, closed, closed_scope}
+use Rattle.c_elab_base.proofs.Signatures.{is_given, closed_gives, closed_type, closed, closed_scope}
 
 -- what the one gives, the other gives too
 abbrev pub Keeps : {A E : Type 0} → Result A E → Result A E → Type 0

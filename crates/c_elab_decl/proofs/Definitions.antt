@@ -11,16 +11,19 @@ use Rattle.c_scope.specs.Faults.{◌>>=◌, Fault, Gives, on_line}
 use Rattle.c_scope.specs.declared.fault.TypingError.{TypingError}
 use Rattle.c_scope.proofs.Variables.{are_there_wider}
 use Rattle.c_elab_expr.proofs.WellTyped.{on_same_line}
-use Rattle.c_elab_type.specs.Derivations.{Derived, full_line, derivation}
-use Rattle.c_elab_type.specs.Specifiers.{Passed, parted, named_parts, typed_parts}
+use Rattle.c_elab_base.specs.Derivations.{Derived, full_line, derivation}
+use Rattle.c_elab_base.specs.Specifiers.{Passed, parted, named_parts}
+use Rattle.c_elab_type.specs.Specifiers.{typed_parts}
 use Rattle.c_elab_object.specs.Functions.{declared_callable}
 use Rattle.c_elab_object.specs.Listed.{in_file, typed_outside}
-use Rattle.c_elab_decl.specs.Jumps.{labels_in}
-use Rattle.c_elab_decl.specs.Files.{made_by, own_parameters, own_suffixes, definition_type, names_within, within_body, own_number, typed_body_of, Definition, outside, typed_definition, typed_externals, with_definitions, with_bodies, procedure_of, static_of, elaborated}
-use Rattle.c_elab_decl.specs.declared.defining.Definition.{Definition as CodeDefinition}
-use Rattle.c_elab_decl.specs.DefinitionSteps.{DefinitionStep, definitions_first, view_definitions}
-use Rattle.c_elab_type.proofs.Steps.{fails_on}
-use Rattle.c_elab_type.proofs.Growing.{Inner, kept}
+use Rattle.c_elab_flow.specs.Jumps.{labels_in}
+use Rattle.c_elab_flow.specs.Files.{own_parameters, Definition, with_bodies, procedure_of, static_of}
+use Rattle.c_elab_decl.specs.Files.{made_by, own_suffixes, definition_type, names_within, within_body, own_number, typed_body_of, outside, typed_definition, typed_externals, with_definitions, elaborated}
+use Rattle.c_elab_flow.specs.declared.files.Definition.{Definition as CodeDefinition}
+use Rattle.c_elab_flow.specs.Held.{view_definitions}
+use Rattle.c_elab_decl.specs.DefinitionSteps.{DefinitionStep, definitions_first}
+use Rattle.c_elab_base.proofs.Steps.{fails_on}
+use Rattle.c_elab_base.proofs.Growing.{Inner, kept}
 use Rattle.c_elab_type.proofs.Settling.{named_settles, parts_settle}
 use Rattle.c_elab_decl.proofs.StatementFronts.{outside_more, outside_fails}
 use Rattle.c_elab_decl.proofs.Bodies.{OwnDone, own_done, TypeDone, type_done, BodyDone, body_done, declared_done}

@@ -21,20 +21,22 @@ use Rattle.c_elab_expr.specs.Operands.{Operand}
 use Rattle.c_elab_expr.specs.Typing.{operand}
 use Rattle.c_elab_type.specs.Declarators.{Typed}
 use Rattle.c_elab_type.specs.Steps.{prepend}
-use Rattle.c_elab_decl.specs.Statements.{Around, in_switch, with_label, with_cases, with_switch, switch_type, switch_value, switch_ended, case_node, default_node, label_node, TypedStatement, TypedFront, own_block, typed_statement, typed_front, typed_body}
-use Rattle.c_elab_decl.specs.StatementSteps.{Fronts, alone, CaseStep, DefaultStep}
-use Rattle.c_elab_type.proofs.Steps.{fails_bind, fails_along}
+use Rattle.c_elab_flow.specs.Nodes.{Around, in_switch, with_label, with_cases, with_switch, switch_type, switch_value, case_node, default_node, label_node}
+use Rattle.c_elab_decl.specs.Statements.{switch_ended, TypedStatement, TypedFront, own_block, typed_statement, typed_front, typed_body}
+use Rattle.c_elab_flow.specs.Steps.{CaseStep, DefaultStep}
+use Rattle.c_elab_decl.specs.StatementSteps.{Fronts, alone}
+use Rattle.c_elab_base.proofs.Steps.{fails_bind, fails_along}
 use Rattle.c_elab_type.proofs.Fronts.{prepend_push}
-use Rattle.c_elab_type.proofs.Growing.{Inner, kept}
+use Rattle.c_elab_base.proofs.Growing.{Inner, kept}
 use Rattle.c_elab_decl.proofs.StatementFronts.{switch_behind, switch_by_body}
 use Rattle.c_elab_decl.proofs.Chains.{second_fails}
 
 -- ---- a statement alone
 
-pub alone_front : (s u : Scoped) (before now : List CoreItem) (c : CoreStatement) (statement : TypedStatement) → statement ≡ Ok (view_statement c, u) → now ≡ before ++ codes.Statement c ∷ []
+pub alone_front : (s u : Scoped) (before now : List CoreItem) (c : Box CoreStatement Global) (statement : TypedStatement) → statement ≡ Ok (view_statement c.value, u) → now ≡ before ++ codes.Statement c ∷ []
     → Fronts (Ok tt) u before now (alone statement)
 alone_front s u before now c statement typed items = (
-  cores.does (view_statement c),
+  cores.does (view_statement c.value),
   ap alone typed,
   λ rest. prepend_push before (codes.Statement c) rest ∙ ap (λ (xs : List CoreItem). prepend xs rest) (sym items),
 )
@@ -96,7 +98,7 @@ behind_is : (i : CoreItem) (rest : cores.Items) → behind_item (with_item i res
 behind_is (codes.Declare line v) rest = refl
 behind_is (codes.Initialize line v drawn e) rest = refl
 behind_is (codes.InitializeStructure line v drawn a) rest = refl
-behind_is (codes.Statement s) rest = refl
+behind_is (codes.Statement' p s) rest = refl
 behind_is (codes.Label n) rest = refl
 behind_is (codes.Case line t bits) rest = refl
 behind_is (codes.Default line) rest = refl
@@ -105,7 +107,7 @@ front_is : (i : CoreItem) (rest new : cores.Items) → in_front_of new (with_ite
 front_is (codes.Declare line v) rest new = refl
 front_is (codes.Initialize line v drawn e) rest new = refl
 front_is (codes.InitializeStructure line v drawn a) rest new = refl
-front_is (codes.Statement s) rest new = refl
+front_is (codes.Statement' p s) rest new = refl
 front_is (codes.Label n) rest new = refl
 front_is (codes.Case line t bits) rest new = refl
 front_is (codes.Default line) rest new = refl
@@ -124,7 +126,7 @@ counted_item : (i : CoreItem) (rest : cores.Items) → count (with_item i rest) 
 counted_item (codes.Declare line v) rest = refl
 counted_item (codes.Initialize line v drawn e) rest = refl
 counted_item (codes.InitializeStructure line v drawn a) rest = refl
-counted_item (codes.Statement s) rest = refl
+counted_item (codes.Statement' p s) rest = refl
 counted_item (codes.Label n) rest = refl
 counted_item (codes.Case line t bits) rest = refl
 counted_item (codes.Default line) rest = refl
@@ -216,7 +218,7 @@ is_front (stmts.Case' line e p s) = true
 is_front (stmts.Default' line p s) = true
 is_front _ = false
 
-pub front_not : (x : Stmt) → ((line : ℕ) (n : Name) (b : Box Stmt Global) → x ≡ stmts.Label line n b → ⊥) → ((line : ℕ) (e : Expr) (b : Box Stmt Global) → x ≡ stmts.Case line e b → ⊥)
+pub front_not : (x : Stmt) → ((line : ℕ) (n : Name) (b : Box Stmt Global) → x ≡ stmts.Label line n b → ⊥) → ((line : ℕ) (e : Box Expr Global) (b : Box Stmt Global) → x ≡ stmts.Case line e b → ⊥)
     → ((line : ℕ) (b : Box Stmt Global) → x ≡ stmts.Default line b → ⊥) → is_front x ≡ false
 front_not (stmts.Label' line n p y) label case_ default = absurd (label line n (record { ptr = p.ptr; alloc = p.alloc; value = y }) refl)
 front_not (stmts.Case' line e p y) label case_ default = absurd (case_ line e (record { ptr = p.ptr; alloc = p.alloc; value = y }) refl)
@@ -245,20 +247,12 @@ module _ (a : Around) (s : Scoped) (line : ℕ) (e : Tree) (body : Statement) (x
       fails_along err _ (typed_statement a s (switch_on line e body)) (sym (switch_by_body a s line e body))
       (second_fails err (operand s e) x (switch_behind a s line body) given (fails_bind err (typed_body (in_switch a) (with_switch s (switch_type x)) body) (switch_end s line x) bad))
 
-  pub switch_value_fails : (err : TypingError) (y : cores.Items × Scoped) → typed_body (in_switch a) (with_switch s (switch_type x)) body ≡ Ok y → Fails err (on_line line (switch_value x))
-      → Fails err (typed_statement a s (switch_on line e body))
-  switch_value_fails err y typed bad =
-      fails_along err _ (typed_statement a s (switch_on line e body)) (sym (switch_by_body a s line e body))
-      (second_fails err (operand s e) x (switch_behind a s line body) given
-      (second_fails err (typed_body (in_switch a) (with_switch s (switch_type x)) body) y (switch_end s line x) typed (fails_bind err (on_line line (switch_value x)) _ bad)))
-
-  pub switch_typed : (y : cores.Items × Scoped) (v : cores.Expression) (u : Scoped) → typed_body (in_switch a) (with_switch s (switch_type x)) body ≡ Ok y → on_line line (switch_value x) ≡ Ok v
-      → u ≡ switch_ended s y.1 → typed_statement a s (switch_on line e body) ≡ Ok (cores.switch line v y.0, u)
-  switch_typed y v u typed fits scope =
-      switch_by_body a s line e body ∙ ap (λ (r : Result Operand Fault). r >>= switch_behind a s line body) given
-      ∙ ap (λ (r : Typed). r >>= switch_end s line x) typed
-      ∙ ap (λ (r : Result cores.Expression Fault). r >>= λ w. Ok (cores.switch line w y.0, switch_ended s y.1)) fits
-      ∙ ap (λ (w : Scoped). Ok (cores.switch line v y.0, w)) (sym scope)
+  pub switch_ends : (y : cores.Items × Scoped) (u : Scoped) → typed_body (in_switch a) (with_switch s (switch_type x)) body ≡ Ok y → u ≡ switch_ended s y.1
+      → (on_line line (switch_value x) >>= λ v. Ok (cores.switch line v y.0, u)) ≡ typed_statement a s (switch_on line e body)
+  switch_ends y u typed scope =
+      ap (λ (w : Scoped). on_line line (switch_value x) >>= λ v. Ok (cores.switch line v y.0, w)) scope
+      ∙ sym (switch_by_body a s line e body ∙ ap (λ (r : Result Operand Fault). r >>= switch_behind a s line body) given
+      ∙ ap (λ (r : Typed). r >>= switch_end s line x) typed)
 
 -- ---- a statement of a list as code has it
 

@@ -30,9 +30,10 @@ use Rattle.c_elab_expr.specs.Typing.{operand, operand_by}
 use Rattle.c_scope.proofs.Variables.{both, and}
 use Rattle.c_elab_expr.proofs.Types.{type_as, typed_as}
 use Rattle.c_elab_expr.proofs.WellTyped.{Holds, bind, given, refused, on_same_line, integer_is, well_used}
-use Rattle.c_elab_type.specs.Initializers.{Made, nothing, single, text, listed, only, slot, slot_type, Value, number_value, structure_value, is_character, scalar_value, record_node, array_node, value_node, part_with, joined, item_node, parts_from, list_made, braced, literal_of, constant_node, single_as, typed_initial, typed_initials, initializer_of}
-use Rattle.c_elab_type.proofs.Signatures.{closed_scope, own_sizes}
-use Rattle.c_elab_type.proofs.Growing.{There}
+use Rattle.c_elab_base.specs.Slots.{slot, slot_type}
+use Rattle.c_elab_type.specs.Initializers.{Made, nothing, single, text, listed, only, Value, number_value, structure_value, is_character, scalar_value, record_node, array_node, value_node, part_with, joined, item_node, parts_from, list_made, braced, literal_of, constant_node, single_as, typed_initial, typed_initials, initializer_of}
+use Rattle.c_elab_base.proofs.Signatures.{closed_scope, own_sizes}
+use Rattle.c_elab_base.proofs.Growing.{There}
 use Rattle.c_elab_decl.proofs.Closed.{operand_keeps}
 use Rattle.c_elab_decl.proofs.Objects.{IsObject, Lies, slot_lies}
 

@@ -1,6 +1,3 @@
-pub mod Declaring
-pub mod Flowing
-pub mod Jumping
 pub mod Closed
 pub mod Objects
 pub mod Initialized
@@ -8,10 +5,6 @@ pub mod WellTyped
 pub mod Bodies
 pub mod Standing
 pub mod Definitions
-pub mod Statics
-pub mod Procedures
-pub mod Switches
 pub mod StatementFronts
 pub mod Chains
 pub mod Fronting
-pub mod Flowless

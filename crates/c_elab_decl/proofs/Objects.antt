@@ -11,7 +11,7 @@ use Rattle.c_types.proofs.Kept.{none_members, some_members}
 use Rattle.c_types.proofs.Records.{stands}
 use Rattle.c_scope.specs.Members.{member_in}
 use Rattle.c_scope.proofs.Parted.{part_within}
-use Rattle.c_elab_type.specs.Initializers.{has_item, slot}
+use Rattle.c_elab_base.specs.Slots.{has_item, slot}
 
 -- a type that an object may have
 pub record IsObject (done : List Completed) (t : CType) : Type 0 where

@@ -18,20 +18,24 @@ use Rattle.c_elab_expr.specs.Operands.{Operand, dropped, number, record_value}
 use Rattle.c_elab_expr.specs.Typing.{operand, operand_by}
 use Rattle.c_scope.proofs.Variables.{and, both}
 use Rattle.c_elab_expr.proofs.WellTyped.{Holds, bind, given, on_same_line, refused}
-use Rattle.c_elab_type.specs.declared.regions.Region.{Region}
-use Rattle.c_elab_type.specs.declared.regions.Role.{Role}
-use Rattle.c_elab_type.specs.declared.regions.Role.TheVariants as roles
-use Rattle.c_elab_type.specs.Derivations.{Derivation, Derived, callable, derivation, full_line, lengths}
+use Rattle.c_elab_base.specs.declared.regions.Region.{Region}
+use Rattle.c_elab_base.specs.declared.regions.Role.{Role}
+use Rattle.c_elab_base.specs.declared.regions.Role.TheVariants as roles
+use Rattle.c_elab_base.specs.Derivations.{Derivation, Derived, callable, derivation, full_line, lengths}
 use Rattle.c_elab_type.specs.Initializers.{Value, initializer_of, number_value, structure_value}
-use Rattle.c_elab_type.specs.Declarators.{Typed, declared_item, in_front, is_open, of_type, typed_variable, variable_type, with_variable, within_initializer}
-use Rattle.c_elab_type.specs.Specifiers.{Passed, Specification, named_parts, parted, typed_full, typed_parts, typed_specifiers}
+use Rattle.c_elab_base.specs.Declarators.{is_open, of_type, with_variable, within_initializer}
+use Rattle.c_elab_type.specs.Declarators.{Typed, declared_item, in_front, typed_variable, variable_type}
+use Rattle.c_elab_base.specs.Specifiers.{Passed, named_parts, parted}
+use Rattle.c_elab_type.specs.Specifiers.{Specification, typed_full, typed_parts, typed_specifiers}
 use Rattle.c_elab_object.specs.Functions.{typed_function}
 use Rattle.c_elab_object.specs.Listed.{typed_by, typed_declaration, typed_others, typed_variables, variable_by, in_file, typed_outside}
-use Rattle.c_elab_decl.specs.Jumps.{is_passed, jumps_in, label_number, labels_in}
-use Rattle.c_elab_decl.specs.Statements.{Around, is_number, TypedFront, TypedStatement, as_block, as_items, case_node, default_node, in_block, in_loop, in_switch, jump_node, label_node, own_block, part_ignored, part_tested, return_node, return_nothing_node, switch_ended, switch_of, switch_type, switch_value, test_node, typed_front, typed_items, typed_rest, typed_statement, with_cases, with_label, with_loop, with_switch}
-use Rattle.c_elab_decl.specs.Files.{Definition, definition_type, own_parameters, own_suffixes, procedure_of, typed_body_of, typed_definition, typed_externals, with_bodies, with_body, with_definitions, within_body}
-use Rattle.c_elab_type.proofs.Signatures.{switched}
-use Rattle.c_elab_type.proofs.Growing.{Settles, SettlesIf, There, settles_both, variable_follows}
+use Rattle.c_elab_flow.specs.Jumps.{is_passed, jumps_in, label_number, labels_in}
+use Rattle.c_elab_flow.specs.Nodes.{Around, is_number, case_node, default_node, in_loop, in_switch, jump_node, label_node, part_ignored, part_tested, return_node, return_nothing_node, switch_type, switch_value, test_node, with_cases, with_label, with_loop, with_switch}
+use Rattle.c_elab_decl.specs.Statements.{TypedFront, TypedStatement, as_block, as_items, in_block, own_block, switch_ended, switch_of, typed_front, typed_items, typed_rest, typed_statement}
+use Rattle.c_elab_flow.specs.Files.{Definition, own_parameters, procedure_of, with_bodies, with_body}
+use Rattle.c_elab_decl.specs.Files.{definition_type, own_suffixes, typed_body_of, typed_definition, typed_externals, with_definitions, within_body}
+use Rattle.c_elab_base.proofs.Signatures.{switched}
+use Rattle.c_elab_base.proofs.Growing.{Settles, SettlesIf, There, settles_both, variable_follows}
 use Rattle.c_elab_type.proofs.Settling.{DerivationFine, SuffixesDone, full_settles, specifiers_settle, trivially}
 use Rattle.c_elab_object.proofs.SettlingDeclared.{function_settled, others_settle, suffixes_fine}
 use Rattle.c_elab_decl.proofs.Objects.{IsObject}

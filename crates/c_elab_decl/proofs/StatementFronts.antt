@@ -1,6 +1,6 @@
 -- One statement, item or definition more: what is made goes before what is behind.
 use Rattle.std.proofs.Common.{◌≡◌, ◌<◌, ◌+◌, ◌-◌, ℕ, Bool, false, List, [], ◌∷◌, ◌++◌, length, get_or, drop, Option, None, Result, Ok, Err, refl, ap, ap₂, sym, subst, ◌∙◌}
-use Rattle.std.specs.Prelude.{Vec}
+use Rattle.std.specs.Prelude.{Vec, Box}
 use Rattle.std.specs.Global.{Global}
 use Rattle.std.proofs.lemmas.List.{append_assoc, drop_more, map-append}
 use Rattle.c_tree.specs.declared.statement.Item.{Item}
@@ -10,26 +10,28 @@ use Rattle.c_tree.specs.Tree.{Tree}
 use Rattle.c_tree.specs.Statements.{Statement, block, switch_on, view_item, Externals, declared, defines, view_external, externals_of, Items, items_of as trees}
 use Rattle.core_tree.specs.declared.statement.CoreItem.{CoreItem}
 use Rattle.core_tree.specs.declared.statement.CoreItem as codes
-use Rattle.core_tree.specs.declared.statement.CoreStatement.{CoreStatement, Block}
+use Rattle.core_tree.specs.declared.statement.CoreStatement.{CoreStatement}
 use Rattle.core_tree.specs.Trees.{items_of, view_statement}
 use Rattle.core_tree.specs.Trees as cores
-use Rattle.core_tree.proofs.Views.{view_block}
 use Rattle.c_scope.specs.declared.fault.TypingError.{TypingError}
 use Rattle.c_scope.specs.Scopes.{Environment, Scoped}
 use Rattle.c_scope.specs.Faults.{◌>>=◌, Fault, Fails}
 use Rattle.c_elab_expr.specs.Typing.{operand}
-use Rattle.c_elab_type.specs.declared.regions.Region.{Region}
+use Rattle.c_elab_base.specs.declared.regions.Region.{Region}
 use Rattle.c_elab_type.specs.Declarators.{Typed, in_front}
 use Rattle.c_elab_type.specs.Steps.{prepend, items_first}
 use Rattle.c_elab_expr.specs.Operands.{Operand}
 use Rattle.c_elab_object.specs.Listed.{typed_declaration, typed_outside}
-use Rattle.c_elab_decl.specs.declared.defining.Definition.{Definition as CodeDefinition}
-use Rattle.c_elab_decl.specs.Statements.{Around, in_loop, in_switch, with_loop, with_switch, switch_type, switch_of, TypedStatement, TypedFront, as_block, as_items, typed_rest, typed_body, typed_statement, typed_items}
-use Rattle.c_elab_decl.specs.Files.{Definition, typed_definition, typed_externals}
-use Rattle.c_elab_decl.specs.DefinitionSteps.{TypedDefinitions, definitions_first, view_definition, view_definitions, DefinitionStep}
+use Rattle.c_elab_flow.specs.declared.files.Definition.{Definition as CodeDefinition}
+use Rattle.c_elab_flow.specs.Nodes.{Around, in_loop, in_switch, with_loop, with_switch, switch_type}
+use Rattle.c_elab_decl.specs.Statements.{switch_of, TypedStatement, TypedFront, as_block, as_items, typed_rest, typed_body, typed_statement, typed_items}
+use Rattle.c_elab_flow.specs.Files.{Definition}
+use Rattle.c_elab_decl.specs.Files.{typed_definition, typed_externals}
+use Rattle.c_elab_flow.specs.Held.{view_definition, view_definitions}
+use Rattle.c_elab_decl.specs.DefinitionSteps.{TypedDefinitions, definitions_first, DefinitionStep}
 use Rattle.c_elab_decl.specs.StatementSteps.{Fronts}
-use Rattle.c_elab_type.proofs.Steps.{fails_bind, fails_along}
-use Rattle.c_elab_type.proofs.Growing.{Inner, kept}
+use Rattle.c_elab_base.proofs.Steps.{fails_bind, fails_along}
+use Rattle.c_elab_base.proofs.Growing.{Inner, kept}
 use Rattle.c_elab_type.proofs.Fronts.{none_first, prepend_all, prepend_push, behind_fails}
 use Rattle.c_elab_decl.proofs.WellTyped.{declaration_done, for_done, items_done}
 
@@ -54,11 +56,10 @@ items_at a switched outer jumped s is i x h e =
 
 -- items that are a block's, whose names are left
 pub block_by : (s u : Scoped) (r : Typed) (v : Vec CoreItem Global) → r ≡ Ok (items_of v.items, u) → Inner s.bindings u.bindings
-    → as_block s r ≡ Ok (view_statement (Block v), record u { bindings = drop (length u.bindings - length s.bindings) u.bindings })
+    → as_block s r ≡ Ok (cores.block (items_of v.items), record u { bindings = drop (length u.bindings - length s.bindings) u.bindings })
 block_by s u r v e names =
     ap (as_block s) e
-    ∙ ap (λ (x : cores.Statement). Ok (x, record u { bindings = s.bindings })) (sym (view_block v))
-    ∙ ap (λ (env : Environment). Ok (view_statement (Block v), record u { bindings = env })) (sym (kept s.bindings u.bindings names))
+    ∙ ap (λ (env : Environment). Ok (cores.block (items_of v.items), record u { bindings = env })) (sym (kept s.bindings u.bindings names))
 
 pub items_names : (a : Around) (switched : Bool) (outer : ℕ) (jumped : List (List ℕ)) (s u : Scoped) (x : Items) (is : cores.Items) → typed_items a switched outer jumped s x ≡ Ok (is, u) → Inner s.bindings u.bindings
 items_names a switched outer jumped s u x is e = (items_done a switched outer jumped s x (is, u) e).follows.names
@@ -77,9 +78,9 @@ pub declaration_names : (a : Around) (r : Region) (s u : Scoped) (parts : Parts)
 declaration_names a r s u parts ds line test last body is e =
     (declaration_done r s false parts ds (for_behind a line test last body) (λ t. for_done a line test last body t) (is, u) e).follows.names
 
-pub for_typed : (a : Around) (r : Region) (s t w u : Scoped) (parts : Parts) (ds : Declarators) (line n : ℕ) (test last : Option Tree) (body : Statement) (made : List CoreItem) (c : CoreStatement) (now : List CoreItem)
+pub for_typed : (a : Around) (r : Region) (s t w u : Scoped) (parts : Parts) (ds : Declarators) (line n : ℕ) (test last : Option Tree) (body : Statement) (made : List CoreItem) (c : Box CoreStatement Global) (now : List CoreItem)
     → items_first [] (typed_declaration r s false parts ds (for_behind a line test last body)) ≡ items_first made (for_behind a line test last body t)
-    → n ≡ t.flow.loops → w ≡ with_loop t → typed_rest line n None w test last (typed_statement (in_loop a) w body) ≡ Ok (view_statement c, u) → now ≡ made ++ codes.Statement c ∷ []
+    → n ≡ t.flow.loops → w ≡ with_loop t → typed_rest line n None w test last (typed_statement (in_loop a) w body) ≡ Ok (view_statement c.value, u) → now ≡ made ++ codes.Statement c ∷ []
     → typed_declaration r s false parts ds (for_behind a line test last body) ≡ Ok (items_of now, u)
 for_typed a r s t w u parts ds line n test last body made c now step number scope rest items =
     sym (none_first (typed_declaration r s false parts ds (for_behind a line test last body))) ∙ step

@@ -34,20 +34,22 @@ use Rattle.c_elab_expr.specs.Typing.{operand, operand_by}
 use Rattle.c_scope.proofs.Variables.{both, and}
 use Rattle.c_elab_expr.proofs.Types.{same_integer_refl, same_type_refl, promoted_is, type_as, typed_as}
 use Rattle.c_elab_expr.proofs.WellTyped.{Holds, bind, given, refused, on_same_line}
-use Rattle.c_elab_type.specs.declared.regions.Region.{Region}
-use Rattle.c_elab_type.specs.declared.regions.Role.{Role}
-use Rattle.c_elab_type.specs.declared.regions.Role.TheVariants as roles
-use Rattle.c_elab_type.specs.Regions.{earlier}
-use Rattle.c_elab_type.specs.Derivations.{Derived, Derivation, lengths, callable, derivation, full_line}
+use Rattle.c_elab_base.specs.declared.regions.Region.{Region}
+use Rattle.c_elab_base.specs.declared.regions.Role.{Role}
+use Rattle.c_elab_base.specs.declared.regions.Role.TheVariants as roles
+use Rattle.c_elab_base.specs.Regions.{earlier}
+use Rattle.c_elab_base.specs.Derivations.{Derived, Derivation, lengths, callable, derivation, full_line}
 use Rattle.c_elab_type.specs.Initializers.{Value, number_value, structure_value, initializer_of}
-use Rattle.c_elab_type.specs.Declarators.{Typed, in_front, declared_item, is_open, given_lengths, sized_type, variable_node, variable_type, of_type, within_initializer, with_variable, typed_variable}
+use Rattle.c_elab_base.specs.Declarators.{is_open, sized_type, variable_node, of_type, within_initializer, with_variable}
+use Rattle.c_elab_type.specs.Declarators.{Typed, in_front, declared_item, given_lengths, variable_type, typed_variable}
 use Rattle.c_elab_type.specs.Specifiers.{Specification, typed_full, typed_specifiers}
 use Rattle.c_elab_object.specs.Functions.{typed_function}
 use Rattle.c_elab_object.specs.Listed.{variable_by, typed_variables, typed_others, typed_by, typed_declaration}
-use Rattle.c_elab_decl.specs.Jumps.{label_number, jumps_in, is_passed}
-use Rattle.c_elab_decl.specs.Statements.{Around, in_loop, in_switch, in_block, with_loop, with_label, with_switch, switch_ended, part_ignored, part_tested, test_node, return_node, return_nothing_node, promoted_type, switch_type, switch_value, has_value, case_in, case_of_switch, case_node, default_node, with_cases, label_node, TypedStatement, TypedFront, as_block, own_block, as_items, switch_of, typed_rest, jump_node, typed_statement, typed_front, typed_items}
-use Rattle.c_elab_type.proofs.Signatures.{own_sizes, switched, is_given}
-use Rattle.c_elab_type.proofs.Growing.{grows_refl, Wider, wider_refl, wider_trans, inner_refl, typed_grows, structure_grows, There, Follows, follows_refl, follows_trans, SettlesIf, Settles, settles_both, there_behind, binding_settles, new_variable, variable_follows}
+use Rattle.c_elab_flow.specs.Jumps.{label_number, jumps_in, is_passed}
+use Rattle.c_elab_flow.specs.Nodes.{Around, in_loop, in_switch, with_loop, with_label, with_switch, part_ignored, part_tested, test_node, return_node, return_nothing_node, promoted_type, switch_type, switch_value, has_value, case_in, case_of_switch, case_node, default_node, with_cases, label_node, jump_node}
+use Rattle.c_elab_decl.specs.Statements.{in_block, switch_ended, TypedStatement, TypedFront, as_block, own_block, as_items, switch_of, typed_rest, typed_statement, typed_front, typed_items}
+use Rattle.c_elab_base.proofs.Signatures.{own_sizes, switched, is_given}
+use Rattle.c_elab_base.proofs.Growing.{grows_refl, Wider, wider_refl, wider_trans, inner_refl, typed_grows, structure_grows, There, Follows, follows_refl, follows_trans, SettlesIf, Settles, settles_both, there_behind, binding_settles, new_variable, variable_follows}
 use Rattle.c_elab_type.proofs.Settling.{trivially, DerivationFine, SuffixesDone, full_settles, specifiers_settle}
 use Rattle.c_elab_object.proofs.SettlingDeclared.{suffixes_fine, function_settled, others_settle}
 use Rattle.c_elab_decl.proofs.Objects.{IsObject}

@@ -1,50 +1,21 @@
 -- The functions of a file, or the first broken rule (C11 6.9).
-use Rattle.std.specs.Prelude.{ℕ, ◌+◌, ◌-◌, ◌++◌, ◌&&◌, Bool, true, false, List, [], ◌∷◌, length, take, map, slice_get, slice_set, Option, Some, None, Result, Ok, Err, if◌then◌else◌}
-use Rattle.c_tree.specs.Declarations.{Parts, Full, full_unnamed, full_named, full_inside, FullSuffixes, full_end, full_bounded, full_open, full_empty, full_void, full_parameters, Parameters, no_parameter, name_of}
+use Rattle.std.specs.Prelude.{ℕ, ◌+◌, ◌-◌, ◌++◌, Bool, true, false, List, [], ◌∷◌, length, take, map, Option, Some, None, Result, Ok, Err}
+use Rattle.c_tree.specs.Declarations.{Parts, Full, Parameters, name_of}
 use Rattle.c_tree.specs.Statements.{Statement, block, Externals, no_more, declared, defines}
-use Rattle.c_types.specs.Types.{Completed}
-use Rattle.core_tree.specs.Trees.{Procedure, Static, TypedFile}
+use Rattle.core_tree.specs.Trees.{TypedFile}
 use Rattle.core_tree.specs.Trees as cores
 use Rattle.c_scope.specs.declared.meaning.Meaning.TheVariants.{Function}
-use Rattle.c_scope.specs.Scopes.{Environment, binding, Named, FunctionType, Lasting, Callable, Scoped, first_scope, no_flow, with_defined, sizes, lasting_size, passed_as, given_by, linked_to}
+use Rattle.c_scope.specs.Scopes.{Environment, binding, Named, FunctionType, Scoped, first_scope, no_flow, with_defined, sizes, linked_to}
 use Rattle.c_scope.specs.Faults.{◌>>=◌, Fault, on_line}
-use Rattle.c_elab_type.specs.Regions.{earlier}
-use Rattle.c_elab_type.specs.Derivations.{Derived, called, Derivation, lengths, callable, derivation, full_line}
-use Rattle.c_elab_type.specs.Specifiers.{parted, named_parts, inner_region, are_several, Passed, typed_parts, typed_full, typed_parameters}
+use Rattle.c_elab_base.specs.Regions.{earlier}
+use Rattle.c_elab_base.specs.Derivations.{Derived, called, Derivation, lengths, callable, derivation, full_line}
+use Rattle.c_elab_base.specs.Specifiers.{parted, named_parts, inner_region, are_several, Passed}
+use Rattle.c_elab_type.specs.Specifiers.{typed_parts, typed_full, typed_parameters}
 use Rattle.c_elab_object.specs.Functions.{function_node, definition_node, declared_callable}
 use Rattle.c_elab_object.specs.Listed.{in_file, typed_outside}
-use Rattle.c_elab_decl.specs.Jumps.{labels_in}
+use Rattle.c_elab_flow.specs.Jumps.{labels_in}
 use Rattle.c_elab_decl.specs.Statements.{TypedStatement, typed_items}
-
--- ---- definitions of functions (C11 6.9.1)
-
--- the parameters of a declarator, where its one suffix is a function's
-abbrev pub one_function : FullSuffixes → Option (Parameters × Bool)
-one_function full_end = None
-one_function (full_bounded line e rest) = None
-one_function (full_open line rest) = None
-one_function (full_empty line full_end) = Some (no_parameter, false)
-one_function (full_void line full_end) = Some (no_parameter, false)
-one_function (full_parameters line ps variadic full_end) = Some (ps, variadic)
-one_function _ = None
-
-abbrev pub no_suffixes : FullSuffixes → Bool
-no_suffixes full_end = true
-no_suffixes (full_bounded line e rest) = false
-no_suffixes (full_open line rest) = false
-no_suffixes (full_empty line rest) = false
-no_suffixes (full_void line rest) = false
-no_suffixes (full_parameters line ps variadic rest) = false
-
-abbrev pub is_name_alone : Full → Bool
-is_name_alone (full_unnamed suffixes) = false
-is_name_alone (full_named line n suffixes) = no_suffixes suffixes
-is_name_alone (full_inside line d suffixes) = is_name_alone d && no_suffixes suffixes
-
-abbrev pub own_parameters : Full → Option (Parameters × Bool)
-own_parameters (full_unnamed suffixes) = None
-own_parameters (full_named line n suffixes) = one_function suffixes
-own_parameters (full_inside line d suffixes) = if no_suffixes suffixes then own_parameters d else (if is_name_alone d then one_function suffixes else None)
+use Rattle.c_elab_flow.specs.Files.{Definition, with_bodies, procedure_of, static_of, own_parameters}
 
 -- the function type, or the rule that its declarator breaks
 abbrev pub made_by : Derivation → Result FunctionType ℕ
@@ -92,13 +63,6 @@ typed_body_of outer s (block line is) = do
   Ok (cores.block x.0, x.1)
 typed_body_of outer s _ = Ok (cores.block cores.done, s)
 
--- a defined function: its number, the sizes of its variables, how many labels it has, and its body
-pub record Definition : Type 0 where
-  pub number : ℕ
-  pub variables : List ℕ
-  pub labels : ℕ
-  pub body : cores.Statement
-
 -- names and variables of a function end with it, but for its own
 abbrev pub outside : Scoped → Scoped → List ℕ → Scoped
 outside outer s name = record s { bindings = binding name (Function (own_number (linked_to s.functions.named name))) ∷ outer.bindings; variables = []; flow = no_flow }
@@ -129,41 +93,6 @@ abbrev pub with_definitions : Scoped → Externals → Scoped
 with_definitions s no_more = s
 with_definitions s (declared parts ds rest) = with_definitions s rest
 with_definitions s (defines parts d body rest) = with_definitions (record s { functions = with_defined s.functions (name_of d) }) rest
-
--- a function as it is called
-abbrev pub procedure_of : List Completed → Callable → Procedure
-procedure_of done f = record {
-  name = f.name;
-  line = f.line;
-  gives = given_by done f.type.gives.type;
-  parameters = map (passed_as done) f.type.parameters;
-  ellipsis = f.ellipsis;
-  variables = [];
-  labels = 0;
-  body = None;
-}
-
--- and with its body
-abbrev pub with_body : List Procedure → Definition → Option Procedure → List Procedure
-with_body fs x None = fs
-with_body fs x (Some f) = slice_set fs x.number (record f { variables = x.variables; labels = x.labels; body = Some x.body })
-
-abbrev pub with_bodies : List Procedure → List Definition → List Procedure
-with_bodies fs [] = fs
-with_bodies fs (x ∷ xs) = with_bodies (with_body fs x (slice_get fs x.number)) xs
-
-abbrev pub first_said : Option (List ℕ) → List ℕ
-first_said None = []
-first_said (Some said) = said
-
--- an object as it is at the start
-abbrev pub static_of : List Completed → Lasting → Static
-static_of done o = record {
-  size = lasting_size done o;
-  readonly = o.named.constant;
-  bytes = first_said o.bytes;
-  undefined = if o.defined then None else Some o.line;
-}
 
 -- the functions and the objects of a file
 abbrev pub elaborated : Externals → Result TypedFile Fault

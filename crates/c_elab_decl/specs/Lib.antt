@@ -1,5 +1,3 @@
-pub mod Jumps
-pub mod Lookahead
 pub mod Statements
 pub mod Files
 pub mod StatementSteps

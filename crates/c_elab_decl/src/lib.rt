@@ -2,9 +2,6 @@
 #![tactic(auto)]
 
 mod defining;
-mod flows;
-mod jumps;
-mod places;
 mod stating;
 
 pub use defining::elaborate;

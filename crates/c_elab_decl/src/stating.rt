@@ -1,185 +1,32 @@
 //! Statements.
 
-ghost use Rattle.std.specs.Prelude.{◌≡◌, ◌≤◌, ℕ, [], false, List, length, option_map, OnOk, Ok, Err, if◌then◌else◌};
-ghost use Rattle.c_tree.specs.Tree.{view as tree_of, view_name};
+ghost use Rattle.std.specs.Prelude.{◌≡◌, ◌≤◌, ℕ, [], List, length, option_map, OnOk};
+ghost use Rattle.c_tree.specs.Tree.{view as tree_of, boxed as boxed_tree};
 ghost use Rattle.c_tree.specs.Declarations.{parts_of, declarators_of};
 ghost use Rattle.c_tree.specs.Statements.{Items, done, view_item, for_declared, switch_on};
 ghost use Rattle.c_tree.specs.Statements.{view_statement as tree};
 ghost use Rattle.c_tree.specs.Statements.{items_of as trees};
-ghost use Rattle.core_tree.specs.Trees.{view, view_statement, items_of};
-ghost use Rattle.c_scope.specs.Faults.{Gives, fault, on_line};
-ghost use Rattle.c_elab_expr.specs.Operands.{view_operand};
+ghost use Rattle.core_tree.specs.Trees.{boxed, view_statement, items_of};
+ghost use Rattle.c_scope.specs.Faults.{Gives};
 ghost use Rattle.c_elab_type.specs.Steps.{Step};
-ghost use Rattle.c_elab_decl.specs.Statements.{view_around, in_loop, in_switch, part_ignored, part_tested, test_node, return_node, return_nothing_node, switch_value, label_node, jump_node, typed_statement, typed_rest, typed_body, typed_front, typed_items};
-ghost use Rattle.c_elab_decl.specs.Lookahead.{Passes, with_jumps, first_jumps, jumped_behind};
+ghost use Rattle.c_elab_flow.specs.Nodes.{view_around, in_loop};
+ghost use Rattle.c_elab_flow.specs.Lookahead.{Passes, with_jumps, first_jumps, jumped_behind};
+ghost use Rattle.c_elab_decl.specs.Statements.{typed_statement, typed_rest, typed_body, typed_front, typed_items};
 ghost use Rattle.c_elab_decl.specs.StatementSteps.{Fronts, alone};
 
-use crate::flows::{
-    add_case, add_default, close_switch, next_label, next_loop, open_switch, switch_type,
+use c_elab_base::Region;
+use c_elab_expr::operand;
+use c_elab_flow::{
+    Ahead, Around, add_case, add_default, ahead_of, block_of, break_on, case_on, close_switch,
+    continue_on, default_on, do_on, evaluated, for_on, goto_on, if_else_on, if_on, in_loop,
+    in_switch, label_on, next_label, next_loop, open_switch, part_ignored, part_tested,
+    return_nothing, returned, switch_of, switch_type, while_on,
 };
-use crate::jumps::{Ahead, Labels, ahead_of};
-use crate::places::{number_on, record_on};
-use c_elab_expr::{CoreOperand, as_type, dropped, ignored, operand};
 use c_elab_object::declare;
-use c_elab_type::Region;
 use c_scope::{Scope, TypingError};
-use c_tree::{Declaration, Expr, Item, Name, Stmt};
-use c_types::Ty;
+use c_tree::{Declaration, Expr, Item, Stmt};
 use core_tree::{CoreExpr, CoreItem, CoreStatement};
 use std::alloc::Global;
-
-/// What stands around a statement: the labels of its function, and whether `break` and `continue` have their statements.
-#[derive(Clone, Copy)]
-pub struct Around<'a> {
-    pub labels: &'a Labels,
-    pub breaks: bool,
-    pub continues: bool,
-}
-
-fn in_loop<'a>(around: Around<'a>) -> Around<'a>
-    ensures { view_around result ≡ in_loop (view_around around.entry) }
-{
-    Around {
-        labels: around.labels,
-        breaks: true,
-        continues: true,
-    }
-}
-
-fn in_switch<'a>(around: Around<'a>) -> Around<'a>
-    ensures { view_around result ≡ in_switch (view_around around.entry) }
-{
-    Around {
-        labels: around.labels,
-        breaks: true,
-        continues: around.continues,
-    }
-}
-
-// Nothing, or an expression whose value isn't used.
-fn part_ignored(
-    alloc: Global,
-    part: &Option<Expr>,
-    scope: &Scope,
-) -> Result<Option<CoreExpr>, TypingError>
-    ensures { Gives (option_map view) result (part_ignored scope.now (option_map tree_of part.now)) }
-{
-    match part {
-        None => Ok(None),
-        Some(expr) => {
-            let operand = ignored(alloc, expr, scope)?;
-            Ok(Some(dropped(alloc, operand, scope.layouts())?))
-        }
-    }
-}
-
-// Nothing, or the operand of a test.
-fn part_tested(
-    alloc: Global,
-    part: &Option<Expr>,
-    scope: &Scope,
-) -> Result<Option<CoreOperand>, TypingError>
-    ensures { Gives (option_map view_operand) result (part_tested scope.now (option_map tree_of part.now)) }
-{
-    match part {
-        None => Ok(None),
-        Some(expr) => Ok(Some(operand(alloc, expr, scope)?)),
-    }
-}
-
-// A test is scalar.
-fn test_on(test: Option<CoreOperand>, line: u32) -> Result<Option<CoreExpr>, TypingError>
-    ensures { Gives (option_map view) result (on_line line (test_node (option_map view_operand test))) }
-{
-    match test {
-        None => Ok(None),
-        Some(operand) => Ok(Some(number_on(operand, line, 17)?)),
-    }
-}
-
-// What `return` hands over.
-fn return_value(
-    alloc: Global,
-    line: u32,
-    value: CoreOperand,
-    scope: &Scope,
-) -> Result<CoreStatement, TypingError>
-    ensures { Gives view_statement result (on_line line (return_node scope.now.records.done line scope.now.flow.gives (view_operand value))) }
-{
-    let gives = &scope.flow().gives;
-    match gives {
-        Ty::Void => Err(TypingError::Typing { line, rule: 16 }),
-        Ty::Integer(type_) => {
-            let value = number_on(value, line, 8)?;
-            Ok(CoreStatement::Return {
-                line,
-                value: as_type(alloc, *type_, value)?,
-            })
-        }
-        Ty::Record(_) => Ok(CoreStatement::ReturnStructure {
-            line,
-            value: record_on(gives, value, scope.layouts(), line, 8)?,
-        }),
-        Ty::Array {
-            element: _,
-            length: _,
-        } => Err(TypingError::Typing { line, rule: 8 }),
-    }
-}
-
-fn return_nothing(line: u32, scope: &Scope) -> Result<CoreStatement, TypingError>
-    ensures { Gives view_statement result (on_line line (return_nothing_node line scope.now.flow.gives)) }
-{
-    match scope.flow().gives {
-        Ty::Void => Ok(CoreStatement::ReturnNothing { line }),
-        _ => Err(TypingError::Typing { line, rule: 16 }),
-    }
-}
-
-// The value of a switch is an integer, and is promoted.
-fn switch_value(alloc: Global, value: CoreOperand, line: u32) -> Result<CoreExpr, TypingError>
-    ensures { Gives view result (on_line line (switch_value (view_operand value))) }
-{
-    let type_ = switch_type(&value);
-    let value = number_on(value, line, 17)?;
-    Ok(as_type(alloc, type_, value)?)
-}
-
-// A label with this number has a name that no label before it has.
-fn label_on(name: &Name, number: u32, line: u32, around: Around) -> Result<(), TypingError>
-    ensures { Gives (λ u. tt) result (on_line line (label_node (view_around around.entry).labels (view_name name.now) number)) }
-{
-    match around.labels.number(&name.bytes) {
-        Some(first) => {
-            if first == number {
-                Ok(())
-            } else {
-                Err(TypingError::Typing { line, rule: 15 })
-            }
-        }
-        None => Err(TypingError::Typing { line, rule: 15 }),
-    }
-}
-
-fn goto_on(name: &Name, line: u32, around: Around) -> Result<CoreStatement, TypingError>
-    ensures { Gives view_statement result (on_line line (jump_node line (view_around around.entry).labels (view_name name.now))) }
-{
-    match around.labels.number(&name.bytes) {
-        Some(label) => Ok(CoreStatement::Goto { line, label }),
-        None => Err(TypingError::Typing { line, rule: 15 }),
-    }
-}
-
-// `break` or `continue`, which has its statement.
-fn jump_on(fits: bool, jump: CoreStatement, line: u32) -> Result<CoreStatement, TypingError>
-    ensures { Gives view_statement result (if fits then Ok (view_statement jump) else Err (fault line 14)) }
-{
-    if fits {
-        Ok(jump)
-    } else {
-        Err(TypingError::Typing { line, rule: 14 })
-    }
-}
 
 /// A statement. The scope keeps its names and gets the statement's variables.
 #[cycle(statement)]
@@ -188,8 +35,8 @@ pub fn typed_statement(
     statement: &Stmt,
     around: Around,
     scope: &mut Scope,
-) -> Result<CoreStatement, TypingError>
-    ensures gives { Gives (λ c. (view_statement c, scope.new)) result (typed_statement (view_around around.entry) scope.old (tree statement.now)) }
+) -> Result<Box<CoreStatement>, TypingError>
+    ensures gives { Gives (λ c. (view_statement c.value, scope.new)) result (typed_statement (view_around around.entry) scope.old (tree statement.now)) }
     ensures names { OnOk result (scope.new.bindings ≡ scope.old.bindings) }
 {
     match statement {
@@ -197,17 +44,12 @@ pub fn typed_statement(
             let outer = scope.len();
             let items = typed_items(alloc, items, false, around, scope, outer)?;
             scope.leave(outer);
-            Ok(CoreStatement::Block { items })
+            block_of(alloc, items)
         }
         Stmt::If { line, test, yes } => {
             let test = operand(alloc, test, scope)?;
             let yes = typed_statement(alloc, yes, around, scope)?;
-            let test = number_on(test, *line, 17)?;
-            Ok(CoreStatement::If {
-                line: *line,
-                test,
-                yes: Box::new(alloc, yes)?,
-            })
+            if_on(alloc, *line, test, yes)
         }
         Stmt::IfElse {
             line,
@@ -218,53 +60,23 @@ pub fn typed_statement(
             let test = operand(alloc, test, scope)?;
             let yes = typed_statement(alloc, yes, around, scope)?;
             let no = typed_statement(alloc, no, around, scope)?;
-            let test = number_on(test, *line, 17)?;
-            Ok(CoreStatement::IfElse {
-                line: *line,
-                test,
-                yes: Box::new(alloc, yes)?,
-                no: Box::new(alloc, no)?,
-            })
+            if_else_on(alloc, *line, test, yes, no)
         }
-        Stmt::Evaluate { expression } => {
-            let operand = ignored(alloc, expression, scope)?;
-            Ok(CoreStatement::Evaluate {
-                expression: dropped(alloc, operand, scope.layouts())?,
-            })
-        }
-        Stmt::ReturnNothing { line } => return_nothing(*line, scope),
-        Stmt::ReturnValue { line, value } => {
-            let value = operand(alloc, value, scope)?;
-            return_value(alloc, *line, value, scope)
-        }
-        Stmt::Empty { line: _ } => Ok(CoreStatement::Block {
-            items: Vec::new(alloc),
-        }),
+        Stmt::Evaluate { expression } => evaluated(alloc, expression, scope),
+        Stmt::ReturnNothing { line } => return_nothing(alloc, *line, scope),
+        Stmt::ReturnValue { line, value } => returned(alloc, *line, value, scope),
+        Stmt::Empty { line: _ } => block_of(alloc, Vec::new(alloc)),
         Stmt::While { line, test, body } => {
             let number = next_loop(scope)?;
             let test = operand(alloc, test, scope)?;
             let body = typed_statement(alloc, body, in_loop(around), scope)?;
-            let test = number_on(test, *line, 17)?;
-            Ok(CoreStatement::For {
-                line: *line,
-                number,
-                first: None,
-                test: Some(test),
-                last: None,
-                body: Box::new(alloc, body)?,
-            })
+            while_on(alloc, *line, number, test, body)
         }
         Stmt::Do { line, body, test } => {
             let number = next_loop(scope)?;
             let body = typed_statement(alloc, body, in_loop(around), scope)?;
             let test = operand(alloc, test, scope)?;
-            let test = number_on(test, *line, 17)?;
-            Ok(CoreStatement::Do {
-                line: *line,
-                number,
-                body: Box::new(alloc, body)?,
-                test,
-            })
+            do_on(alloc, *line, number, body, test)
         }
         Stmt::For {
             line,
@@ -290,19 +102,11 @@ pub fn typed_statement(
         Stmt::Case { line, value, body } => {
             let value = operand(alloc, value, scope)?;
             let body = typed_statement(alloc, body, around, scope)?;
-            let _case = add_case(&value, *line, scope)?;
-            Ok(CoreStatement::Stray {
-                line: *line,
-                statement: Box::new(alloc, body)?,
-            })
+            case_on(alloc, *line, &value, body, scope)
         }
         Stmt::Default { line, body } => {
             let body = typed_statement(alloc, body, around, scope)?;
-            add_default(*line, scope)?;
-            Ok(CoreStatement::Stray {
-                line: *line,
-                statement: Box::new(alloc, body)?,
-            })
+            default_on(alloc, *line, body, scope)
         }
         Stmt::Label { line, name, body } => {
             let number = next_label(scope)?;
@@ -310,15 +114,9 @@ pub fn typed_statement(
             label_on(name, number, *line, around)?;
             Ok(body)
         }
-        Stmt::Goto { line, name } => goto_on(name, *line, around),
-        Stmt::Break { line } => {
-            jump_on(around.breaks, CoreStatement::Break { line: *line }, *line)
-        }
-        Stmt::Continue { line } => jump_on(
-            around.continues,
-            CoreStatement::Continue { line: *line },
-            *line,
-        ),
+        Stmt::Goto { line, name } => goto_on(alloc, name, *line, around),
+        Stmt::Break { line } => break_on(alloc, around.breaks, *line),
+        Stmt::Continue { line } => continue_on(alloc, around.continues, *line),
     }
 }
 
@@ -328,28 +126,20 @@ fn typed_rest(
     alloc: Global,
     line: u32,
     number: u32,
-    first: Option<CoreExpr>,
-    test: &Option<Expr>,
-    last: &Option<Expr>,
+    first: Option<Box<CoreExpr>>,
+    test: &Option<Box<Expr>>,
+    last: &Option<Box<Expr>>,
     body: &Stmt,
     around: Around,
     scope: &mut Scope,
-) -> Result<CoreStatement, TypingError>
-    ensures gives { Gives (λ c. (view_statement c, scope.new)) result (typed_rest line number (option_map view first) scope.old (option_map tree_of test.now) (option_map tree_of last.now) (typed_statement (in_loop (view_around around.entry)) scope.old (tree body.now))) }
+) -> Result<Box<CoreStatement>, TypingError>
+    ensures gives { Gives (λ c. (view_statement c.value, scope.new)) result (typed_rest line number (option_map boxed first) scope.old (option_map boxed_tree test.now) (option_map boxed_tree last.now) (typed_statement (in_loop (view_around around.entry)) scope.old (tree body.now))) }
     ensures names { OnOk result (scope.new.bindings ≡ scope.old.bindings) }
 {
     let test = part_tested(alloc, test, scope)?;
     let last = part_ignored(alloc, last, scope)?;
     let body = typed_statement(alloc, body, in_loop(around), scope)?;
-    let test = test_on(test, line)?;
-    Ok(CoreStatement::For {
-        line,
-        number,
-        first,
-        test,
-        last,
-        body: Box::new(alloc, body)?,
-    })
+    for_on(alloc, line, number, first, test, last, body)
 }
 
 // A `for` with a declaration, which stands before it in a block around both.
@@ -358,14 +148,14 @@ fn typed_for(
     alloc: Global,
     line: u32,
     declaration: &Declaration,
-    test: &Option<Expr>,
-    last: &Option<Expr>,
+    test: &Option<Box<Expr>>,
+    last: &Option<Box<Expr>>,
     body: &Stmt,
     around: Around,
     scope: &mut Scope,
-) -> Result<CoreStatement, TypingError>
-    ensures gives { Gives (λ c. (view_statement c, scope.new)) result (typed_statement (view_around around.entry) scope.old
-        (for_declared line (parts_of declaration.now.specifiers.items) (declarators_of declaration.now.declarators.items) (option_map tree_of test.now) (option_map tree_of last.now) (tree body.now))) }
+) -> Result<Box<CoreStatement>, TypingError>
+    ensures gives { Gives (λ c. (view_statement c.value, scope.new)) result (typed_statement (view_around around.entry) scope.old
+        (for_declared line (parts_of declaration.now.specifiers.items) (declarators_of declaration.now.declarators.items) (option_map boxed_tree test.now) (option_map boxed_tree last.now) (tree body.now))) }
     ensures names { OnOk result (scope.new.bindings ≡ scope.old.bindings) }
 {
     let outer = scope.len();
@@ -379,7 +169,7 @@ fn typed_for(
     let statement = typed_rest(alloc, line, number, None, test, last, body, around, scope)?;
     items.push(CoreItem::Statement { statement })?;
     scope.leave(outer);
-    Ok(CoreStatement::Block { items })
+    block_of(alloc, items)
 }
 
 #[cycle(statement)]
@@ -390,19 +180,15 @@ fn typed_switch(
     value: &Expr,
     around: Around,
     scope: &mut Scope,
-) -> Result<CoreStatement, TypingError>
-    ensures gives { Gives (λ c. (view_statement c, scope.new)) result (typed_statement (view_around around.entry) scope.old (switch_on line (tree_of value.now) (tree body.now))) }
+) -> Result<Box<CoreStatement>, TypingError>
+    ensures gives { Gives (λ c. (view_statement c.value, scope.new)) result (typed_statement (view_around around.entry) scope.old (switch_on line (tree_of value.now) (tree body.now))) }
     ensures names { OnOk result (scope.new.bindings ≡ scope.old.bindings) }
 {
     let value = operand(alloc, value, scope)?;
     let outer = open_switch(alloc, switch_type(&value), scope);
     let items = typed_body(alloc, body, in_switch(around), scope)?;
     close_switch(outer, scope);
-    Ok(CoreStatement::Switch {
-        line,
-        value: switch_value(alloc, value, line)?,
-        items,
-    })
+    switch_of(alloc, line, value, items)
 }
 
 // The body of a switch: a block's items are those of the switch.

@@ -9,9 +9,8 @@ use Rattle.c_scope.specs.declared.meaning.Meaning.{Meaning}
 use Rattle.c_scope.specs.declared.fault.TypingError.{TypingError}
 use Rattle.c_scope.specs.declared.fault.TypingError.TheVariants as errors
 use Rattle.c_scope.specs.Scopes.{Scoped}
-use Rattle.c_scope.specs.Faults.{◌>>=◌, Fault, fault, on_line, Fails}
-use Rattle.c_tree.specs.Tree.{first_line}
-use Rattle.c_elab_expr.specs.Typing.{callee, is_used, called, typed, typed_arguments, operand}
+use Rattle.c_scope.specs.Faults.{◌>>=◌, Fault, fault, Fails}
+use Rattle.c_elab_expr.specs.Typing.{callee, call_of, typed, typed_arguments, operand}
 
 -- a fault of a part is one of the whole
 pub fails_on : {Y Z : Type 0} (e : TypingError) (r : Result Y Fault) (s : Result Z Fault) → ((f : Fault) → r ≡ Err f → s ≡ Err f) → Fails e r → Fails e s
@@ -47,12 +46,6 @@ argument_typed scope es i e xs all x h is so_far good =
     ∙ next_argument scope es i e xs all h is so_far
 
 -- a call whose callee is typed
-pub call_fails : (scope : Scoped) (f : Tree) (args : Trees) (w : Bool) (m : Option (ℕ × Meaning)) (bad : Fault) → callee scope f (operand scope f) ≡ Ok m → typed_arguments scope args ≡ Err bad → typed scope w (call f args) ≡ Err bad
-call_fails scope f args w m bad e g =
-    ap (λ (r : Result (Option (ℕ × Meaning)) Fault). r >>= λ n. typed_arguments scope args >>= λ xs. on_line (first_line f) (called scope (is_used f w) n xs)) e
-    ∙ ap (λ (r : Result (List Operand) Fault). r >>= λ xs. on_line (first_line f) (called scope (is_used f w) m xs)) g
-
-pub call_typed : (scope : Scoped) (f : Tree) (args : Trees) (w : Bool) (m : Option (ℕ × Meaning)) (xs : List Operand) → callee scope f (operand scope f) ≡ Ok m → typed_arguments scope args ≡ Ok xs → typed scope w (call f args) ≡ on_line (first_line f) (called scope (is_used f w) m xs)
-call_typed scope f args w m xs e g =
-    ap (λ (r : Result (Option (ℕ × Meaning)) Fault). r >>= λ n. typed_arguments scope args >>= λ xs. on_line (first_line f) (called scope (is_used f w) n xs)) e
-    ∙ ap (λ (r : Result (List Operand) Fault). r >>= λ xs. on_line (first_line f) (called scope (is_used f w) m xs)) g
+pub call_typed : (scope : Scoped) (f : Tree) (args : Trees) (w : Bool) (m : Option (ℕ × Meaning)) → callee scope f (operand scope f) ≡ Ok m
+    → typed scope w (call f args) ≡ call_of scope f w m (typed_arguments scope args)
+call_typed scope f args w m e = ap (λ (r : Result (Option (ℕ × Meaning)) Fault). r >>= λ n. call_of scope f w n (typed_arguments scope args)) e

@@ -3,6 +3,7 @@ pub mod Parts
 pub mod Casts
 pub mod Sizes
 pub mod Arguments
+pub mod Both
 pub mod Passing
 pub mod Types
 pub mod WellTyped

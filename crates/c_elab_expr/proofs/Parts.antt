@@ -40,7 +40,7 @@ by_bound (Err f) rest before = refl
 
 one_suffix : (s : Scoped) (x : ArraySuffix) (rest : Suffixes) (before : List (Option ℕ))
     → behind before (suffix_lengths s (view_suffix x rest)) ≡ (behind before (suffix_lengths s (view_suffix x no_suffix)) >>= λ now. behind now (suffix_lengths s rest))
-one_suffix s (array_suffixes.Bounded line e) rest before = by_bound (bound (first_line (tree e)) (operand s (tree e))) (suffix_lengths s rest) before
+one_suffix s (array_suffixes.Bounded' line p e) rest before = by_bound (bound (first_line (tree e)) (operand s (tree e))) (suffix_lengths s rest) before
 one_suffix s (array_suffixes.Open line) rest before = behind_one before None (suffix_lengths s rest)
 
 next_suffix : (s : Scoped) (xs : List ArraySuffix) (i : ℕ) (x : ArraySuffix) (before : List (Option ℕ)) → i < length xs → x ≡ get_or xs i x

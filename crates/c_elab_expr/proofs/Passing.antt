@@ -1,14 +1,13 @@
 -- The arguments of a call, in the order of its parameters and behind them.
-use Rattle.std.proofs.Common.{◌≡◌, ◌<◌, ◌+◌, ℕ, List, [], ◌∷◌, ◌++◌, length, get_or, drop, map, reverse, Result, Ok, Err, false, refl, ap, sym, ◌∙◌}
-use Rattle.std.proofs.lemmas.List.{append_assoc, drop_more, map-append, reverse-append}
-use Rattle.c_types.specs.Types.{CType, Completed, views, view as type_view}
+use Rattle.std.proofs.Common.{◌≡◌, ◌<◌, ◌+◌, ℕ, List, [], ◌∷◌, ◌++◌, length, get_or, drop, map, Result, Ok, Err, false, refl, ap, sym, ◌∙◌}
+use Rattle.std.proofs.lemmas.List.{append_assoc, drop_more, reverse-append}
+use Rattle.c_types.specs.Types.{Completed, views, view as type_view}
 use Rattle.c_types.specs.declared.types.Ty.{Ty}
 use Rattle.core_tree.specs.declared.expression.CoreArgument.{CoreArgument}
-use Rattle.core_tree.specs.declared.expression.CoreExpr.{CoreExpr}
-use Rattle.core_tree.specs.Trees.{Expression, Arguments, view, with_argument, arguments_of}
+use Rattle.core_tree.specs.Trees.{Expression, Arguments, with_argument, arguments_of}
 use Rattle.c_elab_expr.specs.declared.operands.CoreOperand.{CoreOperand}
 use Rattle.c_scope.specs.Faults.{◌>>=◌}
-use Rattle.c_elab_expr.specs.Operands.{Operand, value, view_operand, turned, comma_operand, number, argument_in, arguments_in, extra_arguments, behind_extra}
+use Rattle.c_elab_expr.specs.Operands.{Operand, value, view_operand, turned, comma_operand, argument_in, arguments_in, behind_extra}
 
 -- the last in memory comes first
 pub turned_last : (xs : List CoreOperand) (x : CoreOperand) → turned (xs ++ x ∷ []) ≡ view_operand x ∷ turned xs

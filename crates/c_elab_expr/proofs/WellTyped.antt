@@ -3,9 +3,9 @@ use Rattle.std.proofs.Common.{◌≡◌, ◌≤◌, ◌+◌, ◌-◌, ◌^◌, �
 use Rattle.std.specs.Prelude.{not, ◌||◌, ◌==◌, if◌then◌else◌, nat_lt, nat_le, slice_get, slice_index}
 use Rattle.std.specs.List.{list_all}
 use borrow.Author.Tests.{lt-ltb, le-leb, ltb-true, leb-true}
-use Rattle.c_lexer.specs.declared.token.Constant.{Constant}
-use Rattle.c_lexer.specs.declared.token.ConstantType.{ConstantType}
-use Rattle.c_lexer.specs.declared.token.ConstantType.TheVariants as constants
+use Rattle.c_token.specs.declared.token.Constant.{Constant}
+use Rattle.c_token.specs.declared.token.ConstantType.{ConstantType}
+use Rattle.c_token.specs.declared.token.ConstantType.TheVariants as constants
 use Rattle.c_tree.specs.declared.expr.BinaryOp.{BinaryOp}
 use Rattle.c_tree.specs.declared.expr.BinaryOp.TheVariants as binaries
 use Rattle.c_tree.specs.declared.expr.UnaryOp.{UnaryOp}

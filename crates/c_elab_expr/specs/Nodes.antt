@@ -1,8 +1,8 @@
 -- What an operator makes of typed values, or the lowest rule that they break (C11 6.3.1, 6.5).
 use Rattle.std.specs.Prelude.{ℕ, ◌%◌, ◌^◌, Bool, true, false, Option, Some, None, Result, Ok, Err, if◌then◌else◌}
-use Rattle.c_lexer.specs.declared.token.Constant.{Constant}
-use Rattle.c_lexer.specs.declared.token.ConstantType.{ConstantType}
-use Rattle.c_lexer.specs.declared.token.ConstantType.TheVariants as constants
+use Rattle.c_token.specs.declared.token.Constant.{Constant}
+use Rattle.c_token.specs.declared.token.ConstantType.{ConstantType}
+use Rattle.c_token.specs.declared.token.ConstantType.TheVariants as constants
 use Rattle.c_tree.specs.declared.expr.BinaryOp.{BinaryOp}
 use Rattle.c_tree.specs.declared.expr.BinaryOp.TheVariants as binaries
 use Rattle.c_tree.specs.declared.expr.UnaryOp.{UnaryOp}

@@ -38,9 +38,9 @@ pub data Operand : Type 0 where
   structure : (type : CType) (value : Structure) → Operand
 
 abbrev pub view_operand : CoreOperand → Operand
-view_operand (codes.Value e constant) = value (view e) constant
+view_operand (codes.Value e constant) = value (view e.value) constant
 view_operand (codes.Object line v offset t constant) = object line v offset (view_type t) constant
-view_operand (codes.Structure t a) = structure (view_type t) (view_structure a)
+view_operand (codes.Structure t a) = structure (view_type t) (view_structure a.value)
 
 -- ---- places
 

@@ -13,7 +13,7 @@ use Rattle.c_elab_expr.specs.Constants.{length_said}
 use Rattle.c_elab_expr.specs.Strings.{strings_of, strings_length}
 use Rattle.c_scope.specs.Faults.{◌>>=◌, required, Fault, fault, on_line, Fails}
 use Rattle.c_elab_expr.specs.Nodes.{constant_node, character_node, size_node}
-use Rattle.c_elab_expr.specs.Operands.{Operand, value, OperandNode, computed, used, name_node, member_node, operand_bytes, constant_in, cast_operand, unary_operand, postfix_operand, binary_operand, choice_operand, assign_operand, comma_operand, call_node}
+use Rattle.c_elab_expr.specs.Operands.{Operand, value, OperandNode, used, name_node, member_node, operand_bytes, constant_in, cast_operand, unary_operand, postfix_operand, binary_operand, choice_operand, assign_operand, comma_operand, call_node}
 
 -- the line of an expression's first token without the parentheses around it
 abbrev pub bare_line : Tree → ℕ
@@ -23,6 +23,22 @@ bare_line e = first_line e
 -- what an expression that begins on this line is where it doesn't stand behind `sizeof`
 abbrev pub used_on : ℕ → Result Operand Fault → Result Operand Fault
 used_on line typing = typing >>= λ x. on_line line (used x)
+
+-- what a node on this line makes of a typed operand
+abbrev pub node_on : ℕ → (Operand → OperandNode) → Result Operand Fault → Result Operand Fault
+node_on line node typing = typing >>= λ x. on_line line (node x)
+
+-- two typed operands, the left one first
+abbrev pub both : Result Operand Fault → Result Operand Fault → Result (Operand × Operand) Fault
+both left right = left >>= λ x. right >>= λ y. Ok (x, y)
+
+-- what a node on this line makes of them
+abbrev pub node_on_both : ℕ → (Operand → Operand → OperandNode) → Result Operand Fault → Result Operand Fault → Result Operand Fault
+node_on_both line node left right = left >>= λ x. right >>= λ y. on_line line (node x y)
+
+-- what a comma makes of them
+abbrev pub comma_of : List Completed → ℕ → Result Operand Fault → Result Operand Fault → Result Operand Fault
+comma_of done line left right = left >>= λ x. right >>= λ y. Ok (comma_operand done line x y)
 
 abbrev pub no_function : Result Operand Fault → Result (Option (ℕ × Meaning)) Fault
 no_function typing = typing >>= λ x. Ok None
@@ -47,6 +63,10 @@ abbrev pub called : Scoped → Bool → Option (ℕ × Meaning) → List Operand
 called s wanted None arguments = Err 10
 called s wanted (Some m) arguments = call_node s m.0 wanted m.1 arguments
 
+-- what a call of a callee makes of typed arguments
+abbrev pub call_of : Scoped → Tree → Bool → Option (ℕ × Meaning) → Result (List Operand) Fault → Result Operand Fault
+call_of s f wanted m typing = typing >>= λ xs. on_line (first_line f) (called s (is_used f wanted) m xs)
+
 -- a cast to void doesn't use the value
 abbrev pub is_wanted : CType → Bool
 is_wanted ctypes.void = false
@@ -63,6 +83,10 @@ type_name s parts d bounds = do
 
 abbrev pub sized : ℕ → ℕ → Operand
 sized line n = value (size_node line n) false
+
+-- the size of a type
+abbrev pub size_of_named : ℕ → List Completed → Result CType Fault → Result Operand Fault
+size_of_named line done typing = typing >>= λ t. on_line line (type_size done t) >>= λ n. Ok (sized line n)
 
 -- The size of a string counts the zero behind it. Another operand has a typing, and is not evaluated.
 abbrev pub operand_size : ℕ → List Completed → Option (List (List ℕ)) → Result Operand Fault → Result Operand Fault

@@ -3,22 +3,22 @@
 ghost use Rattle.std.specs.Prelude.{◌≡◌, false, map, slice_get, IfOk};
 ghost use Rattle.c_types.specs.Types.{views, view as type_view};
 ghost use Rattle.c_types.specs.Layouts.{size_of};
-ghost use Rattle.core_tree.specs.Trees.{call, give, view, with_argument, arguments_of};
+ghost use Rattle.core_tree.specs.Trees.{call, draw, give, boxed, with_argument, arguments_of};
 ghost use Rattle.c_scope.specs.Scopes.{view_function_type};
 ghost use Rattle.c_elab_expr.specs.Operands.{value, structure, view_operand, turned, one_integer, no_arguments, argument_in, arguments_in, extra_arguments, given_size, given_operand, behind_extra, function_call, callable_call, assertion_call, assumption_call, call_node};
 ghost use Rattle.c_scope.specs.Faults.{GivesNode};
 ghost use Rattle.c_elab_expr.specs.Typing.{called};
 
-use crate::nodes::as_type;
-use crate::operands::{CoreOperand, bytes_of, comma_operand, computed, number, record_value};
+use crate::nodes::{as_type, in_box, structure_in_box};
+use crate::operands::{CoreOperand, bytes_of, comma_operand, computed, made, number, record_value};
 use c_scope::{Broken, FunctionType, Meaning, Scope, type_size};
-use c_types::{Layouts, Ty, ValueType};
+use c_types::{IntegerType, Layouts, Ty, ValueType};
 use core_tree::{CoreArgument, CoreExpr, CoreStructure};
 use std::alloc::{AllocError, Global};
 
 // The one argument, of an integer type.
-fn one_integer(mut arguments: Vec<CoreOperand>) -> Result<CoreExpr, Broken>
-    ensures { GivesNode view result (one_integer (map view_operand arguments.items)) }
+fn one_integer(mut arguments: Vec<CoreOperand>) -> Result<Box<CoreExpr>, Broken>
+    ensures { GivesNode boxed result (one_integer (map view_operand arguments.items)) }
 {
     if arguments.is_empty() {
         return Err(Broken::Rule { rule: 10 });
@@ -31,11 +31,17 @@ fn one_integer(mut arguments: Vec<CoreOperand>) -> Result<CoreExpr, Broken>
     Ok(argument)
 }
 
-fn no_arguments(arguments: &[CoreOperand], expr: CoreExpr) -> Result<CoreExpr, Broken>
-    ensures { GivesNode view result (no_arguments (map view_operand arguments.now) (view expr)) }
+// A number of this type from the inputs. The function that draws it has no parameters.
+fn no_arguments(
+    alloc: Global,
+    arguments: &[CoreOperand],
+    line: u32,
+    type_: IntegerType,
+) -> Result<Box<CoreExpr>, Broken>
+    ensures { GivesNode boxed result (no_arguments (map view_operand arguments.now) (draw line type_)) }
 {
     if arguments.is_empty() {
-        Ok(expr)
+        Ok(in_box(alloc, CoreExpr::Draw { line, type_ })?)
     } else {
         Err(Broken::Rule { rule: 10 })
     }
@@ -58,7 +64,7 @@ fn argument_in(
             })
         }
         Ty::Record(_) => {
-            let value = record_value(type_, operand, layouts, 8)?;
+            let value = record_value(alloc, type_, operand, layouts, 8)?;
             Ok(CoreArgument::Structure { value })
         }
         Ty::Void => Err(Broken::Rule { rule: 8 }),
@@ -93,8 +99,8 @@ fn extra_arguments(
     alloc: Global,
     ellipsis: bool,
     mut operands: Vec<CoreOperand>,
-) -> Result<Vec<CoreExpr>, Broken>
-    ensures { GivesNode (λ v. map view v.items) result (extra_arguments ellipsis (turned operands.items)) }
+) -> Result<Vec<Box<CoreExpr>>, Broken>
+    ensures { GivesNode (λ v. map boxed v.items) result (extra_arguments ellipsis (turned operands.items)) }
 {
     let mut extra = Vec::new(alloc);
     'operands: while let Some(operand) = operands.pop() {
@@ -118,28 +124,30 @@ fn check_given(type_: &Ty, layouts: &Layouts) -> Result<u64, Broken>
 
 // A call of the function with a number, which gives a number of this type or none.
 fn given_value(
+    alloc: Global,
     line: u32,
     function: u32,
     used: bool,
     type_: ValueType,
     arguments: Vec<CoreArgument>,
-) -> CoreOperand
-    ensures { view_operand result ≡ value (call line function used type_ (arguments_of arguments.items)) false }
+) -> Result<CoreOperand, AllocError>
+    ensures { IfOk result (λ x. view_operand x ≡ value (call line function used type_ (arguments_of arguments.items)) false) }
 {
-    CoreOperand::Value {
-        value: CoreExpr::Call {
+    made(
+        alloc,
+        CoreExpr::Call {
             line,
             function,
             used,
             type_,
             arguments,
         },
-        constant: false,
-    }
+    )
 }
 
 // A call of the function with a number, which gives a structure of this type.
 fn given_structure(
+    alloc: Global,
     line: u32,
     function: u32,
     used: bool,
@@ -150,20 +158,23 @@ fn given_structure(
     ensures { IfOk result (λ x. view_operand x ≡ structure (type_view type_.now) (give line function used (size_of layouts.now.done (type_view type_.now)) (arguments_of arguments.items))) }
 {
     let size = bytes_of(type_, layouts)?;
+    let type_ = type_.copied()?;
+    let call = CoreStructure::Call {
+        line,
+        function,
+        used,
+        size,
+        arguments,
+    };
     Ok(CoreOperand::Structure {
-        type_: type_.copied()?,
-        value: CoreStructure::Call {
-            line,
-            function,
-            used,
-            size,
-            arguments,
-        },
+        type_,
+        value: structure_in_box(alloc, call)?,
     })
 }
 
 // A call of the function with a number, which gives this type.
 fn given_operand(
+    alloc: Global,
     line: u32,
     function: u32,
     wanted: bool,
@@ -174,19 +185,20 @@ fn given_operand(
     ensures { IfOk result (λ x. view_operand x ≡ given_operand layouts.now.done line function wanted (type_view type_.now) (arguments_of arguments.items)) }
 {
     match type_ {
-        Ty::Void => Ok(given_value(line, function, false, ValueType::Void, arguments)),
-        Ty::Integer(integer) => Ok(given_value(
+        Ty::Void => given_value(alloc, line, function, false, ValueType::Void, arguments),
+        Ty::Integer(integer) => given_value(
+            alloc,
             line,
             function,
             wanted,
             ValueType::Integer(*integer),
             arguments,
-        )),
-        Ty::Record(_) => given_structure(line, function, wanted, type_, arguments, layouts),
+        ),
+        Ty::Record(_) => given_structure(alloc, line, function, wanted, type_, arguments, layouts),
         Ty::Array {
             element: _,
             length: _,
-        } => given_structure(line, function, wanted, type_, arguments, layouts),
+        } => given_structure(alloc, line, function, wanted, type_, arguments, layouts),
     }
 }
 
@@ -194,11 +206,11 @@ fn given_operand(
 fn behind_extra(
     alloc: Global,
     line: u32,
-    mut extra: Vec<CoreExpr>,
+    mut extra: Vec<Box<CoreExpr>>,
     call: CoreOperand,
     layouts: &Layouts,
 ) -> Result<CoreOperand, AllocError>
-    ensures { IfOk result (λ x. view_operand x ≡ behind_extra layouts.now.done line (map view extra.items) (view_operand call)) }
+    ensures { IfOk result (λ x. view_operand x ≡ behind_extra layouts.now.done line (map boxed extra.items) (view_operand call)) }
 {
     let mut whole = call;
     'extra: while let Some(value) = extra.pop() {
@@ -226,7 +238,15 @@ fn function_call(
     operands.reverse();
     let arguments = arguments_in(alloc, &type_.parameters, &mut operands, layouts)?;
     let extra = extra_arguments(alloc, type_.ellipsis, operands)?;
-    let call = given_operand(line, function, wanted, &type_.gives, arguments, layouts)?;
+    let call = given_operand(
+        alloc,
+        line,
+        function,
+        wanted,
+        &type_.gives,
+        arguments,
+        layouts,
+    )?;
     Ok(behind_extra(alloc, line, extra, call, layouts)?)
 }
 
@@ -244,7 +264,7 @@ fn callable_call(
     match scope.functions().function(function) {
         None => Err(Broken::Rule { rule: 10 }),
         Some(callable) => match callable.draws {
-            Some(type_) => computed(no_arguments(&operands, CoreExpr::Draw { line, type_ })),
+            Some(type_) => computed(no_arguments(alloc, &operands, line, type_)),
             None => function_call(
                 alloc,
                 line,
@@ -258,28 +278,26 @@ fn callable_call(
     }
 }
 
-fn assertion_call(alloc: Global, line: u32, arguments: Vec<CoreOperand>) -> Result<CoreExpr, Broken>
-    ensures { GivesNode view result (assertion_call line (map view_operand arguments.items)) }
+fn assertion_call(
+    alloc: Global,
+    line: u32,
+    arguments: Vec<CoreOperand>,
+) -> Result<Box<CoreExpr>, Broken>
+    ensures { GivesNode boxed result (assertion_call line (map view_operand arguments.items)) }
 {
-    let argument = one_integer(arguments)?;
-    Ok(CoreExpr::Assertion {
-        line,
-        condition: Box::new(alloc, argument)?,
-    })
+    let condition = one_integer(arguments)?;
+    Ok(in_box(alloc, CoreExpr::Assertion { line, condition })?)
 }
 
 fn assumption_call(
     alloc: Global,
     line: u32,
     arguments: Vec<CoreOperand>,
-) -> Result<CoreExpr, Broken>
-    ensures { GivesNode view result (assumption_call line (map view_operand arguments.items)) }
+) -> Result<Box<CoreExpr>, Broken>
+    ensures { GivesNode boxed result (assumption_call line (map view_operand arguments.items)) }
 {
-    let argument = one_integer(arguments)?;
-    Ok(CoreExpr::Assumption {
-        line,
-        condition: Box::new(alloc, argument)?,
-    })
+    let condition = one_integer(arguments)?;
+    Ok(in_box(alloc, CoreExpr::Assumption { line, condition })?)
 }
 
 fn call_node(
@@ -295,9 +313,7 @@ fn call_node(
     match meaning {
         Meaning::Assert => computed(assertion_call(alloc, line, arguments)),
         Meaning::Assume => computed(assumption_call(alloc, line, arguments)),
-        Meaning::Draw { type_ } => {
-            computed(no_arguments(&arguments, CoreExpr::Draw { line, type_ }))
-        }
+        Meaning::Draw { type_ } => { computed(no_arguments(alloc, &arguments, line, type_)) }
         Meaning::Function { function } => {
             callable_call(alloc, line, function, wanted, arguments, scope)
         }

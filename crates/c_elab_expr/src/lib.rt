@@ -10,7 +10,7 @@ mod texts;
 mod typing;
 
 pub use constants::{constant_of, length_said};
-pub use nodes::as_type;
+pub use nodes::{as_type, in_box, structure_in_box};
 pub use operands::{CoreOperand, Home, constant_in, dropped, number, record_value, same_record};
 pub use strings::prove_string_length;
 pub use texts::strings_bytes;

@@ -2,18 +2,18 @@
 
 ghost use Rattle.std.specs.Prelude.{◌≡◌, ◌≤◌, ◌%◌, ◌^◌, IfOk};
 ghost use Rattle.c_types.specs.Types.{view as type_view};
-ghost use Rattle.core_tree.specs.Trees.{view};
+ghost use Rattle.core_tree.specs.Trees.{view, boxed};
 ghost use Rattle.core_tree.specs.Typed.{type_of, place_type, is_shift};
 ghost use Rattle.c_scope.specs.Faults.{required, GivesNode};
 ghost use Rattle.c_elab_expr.specs.Nodes.{integer, as_type, place_of, target_of, constant_type, constant_node, character_node, size_node, value_size, discarded, cast_node, sign_node, not_node, step_node, unary_node, postfix_node, left_type, right_type, arithmetic_node, compare_node, logical_node, binary_node, chosen, choice_node, assign_node, operator_of, update_node, assignment_node};
 
-use c_lexer::{Constant, ConstantType};
 use c_scope::Broken;
+use c_token::{Constant, ConstantType};
 use c_tree::{BinaryOp, StepOp, UnaryOp};
 use c_types::{IntegerType, Ty, ValueType, common, promote};
 use core_tree::{
-    ArithmeticOperator, Comparison, CoreExpr, LogicalOperator, Place, SignOperator, StepOperator,
-    type_of,
+    ArithmeticOperator, Comparison, CoreExpr, CoreStructure, LogicalOperator, Place, SignOperator,
+    StepOperator, type_of,
 };
 use std::alloc::{AllocError, Global};
 
@@ -49,17 +49,41 @@ fn target(constant: bool, expr: &CoreExpr) -> Result<Place, Broken>
     }
 }
 
+/// A node on the heap. The one place where it is dropped when there is no memory.
+pub fn in_box(alloc: Global, node: CoreExpr) -> Result<Box<CoreExpr>, AllocError>
+    ensures { IfOk result (λ e. e.value ≡ node) }
+{
+    Ok(Box::new(alloc, node)?)
+}
+
+/// The same of a structure value.
+pub fn structure_in_box(
+    alloc: Global,
+    node: CoreStructure,
+) -> Result<Box<CoreStructure>, AllocError>
+    ensures { IfOk result (λ a. a.value ≡ node) }
+{
+    Ok(Box::new(alloc, node)?)
+}
+
 /// The value in a type: a conversion stands only where it changes the type.
-pub fn as_type(alloc: Global, type_: IntegerType, expr: CoreExpr) -> Result<CoreExpr, AllocError>
-    ensures { IfOk result (λ e. view e ≡ as_type type_ (view expr)) }
+pub fn as_type(
+    alloc: Global,
+    type_: IntegerType,
+    expr: Box<CoreExpr>,
+) -> Result<Box<CoreExpr>, AllocError>
+    ensures { IfOk result (λ e. view e.value ≡ as_type type_ (view expr.value)) }
 {
     if type_of(&expr) == ValueType::Integer(type_) {
         Ok(expr)
     } else {
-        Ok(CoreExpr::Convert {
-            to: type_,
-            operand: Box::new(alloc, expr)?,
-        })
+        in_box(
+            alloc,
+            CoreExpr::Convert {
+                to: type_,
+                operand: expr,
+            },
+        )
     }
 }
 
@@ -128,30 +152,39 @@ pub fn value_size(type_: ValueType) -> Result<u64, Broken>
 }
 
 // A value that isn't used.
-fn discarded(alloc: Global, line: u32, expr: CoreExpr) -> Result<CoreExpr, AllocError>
-    ensures { IfOk result (λ e. view e ≡ discarded line (type_of (view expr)) (view expr)) }
+fn discarded(alloc: Global, line: u32, expr: Box<CoreExpr>) -> Result<Box<CoreExpr>, AllocError>
+    ensures { IfOk result (λ e. view e.value ≡ discarded line (type_of (view expr.value)) (view expr.value)) }
 {
     match type_of(&expr) {
         ValueType::Void => Ok(expr),
-        ValueType::Integer(_) => Ok(CoreExpr::Discard {
-            line,
-            operand: Box::new(alloc, expr)?,
-        }),
+        ValueType::Integer(_) => in_box(
+            alloc,
+            CoreExpr::Discard {
+                line,
+                operand: expr,
+            },
+        ),
     }
 }
 
 /// A value that is cast to a type.
-pub fn cast_node(alloc: Global, line: u32, type_: &Ty, expr: CoreExpr) -> Result<CoreExpr, Broken>
-    ensures { GivesNode view result (cast_node line (type_view type_.now) (view expr)) }
+pub fn cast_node(
+    alloc: Global,
+    line: u32,
+    type_: &Ty,
+    expr: Box<CoreExpr>,
+) -> Result<Box<CoreExpr>, Broken>
+    ensures { GivesNode boxed result (cast_node line (type_view type_.now) (view expr.value)) }
 {
     match type_ {
         Ty::Void => Ok(discarded(alloc, line, expr)?),
         Ty::Integer(to) => {
             let _type = integer(&expr, 7)?;
-            Ok(CoreExpr::Convert {
+            let converted = CoreExpr::Convert {
                 to: *to,
-                operand: Box::new(alloc, expr)?,
-            })
+                operand: expr,
+            };
+            Ok(in_box(alloc, converted)?)
         }
         Ty::Record(_) => Err(Broken::Rule { rule: 7 }),
         Ty::Array {
@@ -165,46 +198,46 @@ fn sign_node(
     alloc: Global,
     line: u32,
     operator: SignOperator,
-    expr: CoreExpr,
-) -> Result<CoreExpr, Broken>
-    ensures { GivesNode view result (sign_node line operator (view expr)) }
+    expr: Box<CoreExpr>,
+) -> Result<Box<CoreExpr>, Broken>
+    ensures { GivesNode boxed result (sign_node line operator (view expr.value)) }
 {
     let type_ = integer(&expr, 7)?;
     let operand = as_type(alloc, promote(type_), expr)?;
-    Ok(CoreExpr::Sign {
+    let signed = CoreExpr::Sign {
         line,
         operator,
-        operand: Box::new(alloc, operand)?,
-    })
+        operand,
+    };
+    Ok(in_box(alloc, signed)?)
 }
 
-fn not_node(alloc: Global, line: u32, expr: CoreExpr) -> Result<CoreExpr, Broken>
-    ensures { GivesNode view result (not_node line (view expr)) }
+fn not_node(alloc: Global, line: u32, operand: Box<CoreExpr>) -> Result<Box<CoreExpr>, Broken>
+    ensures { GivesNode boxed result (not_node line (view operand.value)) }
 {
-    let _type = integer(&expr, 7)?;
-    Ok(CoreExpr::IsZero {
-        line,
-        operand: Box::new(alloc, expr)?,
-    })
+    let _type = integer(&operand, 7)?;
+    Ok(in_box(alloc, CoreExpr::IsZero { line, operand })?)
 }
 
 fn step_node(
+    alloc: Global,
     constant: bool,
     line: u32,
     operator: StepOperator,
     before: bool,
     expr: &CoreExpr,
-) -> Result<CoreExpr, Broken>
-    ensures { GivesNode view result (step_node constant line operator before (view expr.now)) }
+) -> Result<Box<CoreExpr>, Broken>
+    ensures { GivesNode boxed result (step_node constant line operator before (view expr.now)) }
 {
     let _type = integer(expr, 7)?;
     let place = target(constant, expr)?;
-    Ok(CoreExpr::Step {
+    let step = CoreExpr::Step {
         line,
         place,
         operator,
         before,
-    })
+    };
+    Ok(in_box(alloc, step)?)
 }
 
 pub fn unary_node(
@@ -212,13 +245,27 @@ pub fn unary_node(
     constant: bool,
     line: u32,
     operator: UnaryOp,
-    expr: CoreExpr,
-) -> Result<CoreExpr, Broken>
-    ensures { GivesNode view result (unary_node constant line operator (view expr)) }
+    expr: Box<CoreExpr>,
+) -> Result<Box<CoreExpr>, Broken>
+    ensures { GivesNode boxed result (unary_node constant line operator (view expr.value)) }
 {
     match operator {
-        UnaryOp::Increment => step_node(constant, line, StepOperator::Increment, true, &expr),
-        UnaryOp::Decrement => step_node(constant, line, StepOperator::Decrement, true, &expr),
+        UnaryOp::Increment => step_node(
+            alloc,
+            constant,
+            line,
+            StepOperator::Increment,
+            true,
+            &expr,
+        ),
+        UnaryOp::Decrement => step_node(
+            alloc,
+            constant,
+            line,
+            StepOperator::Decrement,
+            true,
+            &expr,
+        ),
         UnaryOp::Plus => sign_node(alloc, line, SignOperator::Plus, expr),
         UnaryOp::Minus => sign_node(alloc, line, SignOperator::Minus, expr),
         UnaryOp::Complement => sign_node(alloc, line, SignOperator::Complement, expr),
@@ -227,16 +274,17 @@ pub fn unary_node(
 }
 
 pub fn postfix_node(
+    alloc: Global,
     constant: bool,
     line: u32,
     operator: StepOp,
     expr: &CoreExpr,
-) -> Result<CoreExpr, Broken>
-    ensures { GivesNode view result (postfix_node constant line operator (view expr.now)) }
+) -> Result<Box<CoreExpr>, Broken>
+    ensures { GivesNode boxed result (postfix_node constant line operator (view expr.now)) }
 {
     match operator {
-        StepOp::Increment => step_node(constant, line, StepOperator::Increment, false, expr),
-        StepOp::Decrement => step_node(constant, line, StepOperator::Decrement, false, expr),
+        StepOp::Increment => step_node(alloc, constant, line, StepOperator::Increment, false, expr),
+        StepOp::Decrement => step_node(alloc, constant, line, StepOperator::Decrement, false, expr),
     }
 }
 
@@ -280,71 +328,74 @@ fn arithmetic_node(
     alloc: Global,
     line: u32,
     operator: ArithmeticOperator,
-    left: CoreExpr,
-    right: CoreExpr,
-) -> Result<CoreExpr, Broken>
-    ensures { GivesNode view result (arithmetic_node line operator (view left) (view right)) }
+    left: Box<CoreExpr>,
+    right: Box<CoreExpr>,
+) -> Result<Box<CoreExpr>, Broken>
+    ensures { GivesNode boxed result (arithmetic_node line operator (view left.value) (view right.value)) }
 {
     let t = integer(&left, 7)?;
     let u = integer(&right, 7)?;
     let left = as_type(alloc, left_type(operator, t, u), left)?;
     let right = as_type(alloc, right_type(operator, t, u), right)?;
-    Ok(CoreExpr::Arithmetic {
+    let arithmetic = CoreExpr::Arithmetic {
         line,
         operator,
-        left: Box::new(alloc, left)?,
-        right: Box::new(alloc, right)?,
-    })
+        left,
+        right,
+    };
+    Ok(in_box(alloc, arithmetic)?)
 }
 
 fn compare_node(
     alloc: Global,
     line: u32,
     operator: Comparison,
-    left: CoreExpr,
-    right: CoreExpr,
-) -> Result<CoreExpr, Broken>
-    ensures { GivesNode view result (compare_node line operator (view left) (view right)) }
+    left: Box<CoreExpr>,
+    right: Box<CoreExpr>,
+) -> Result<Box<CoreExpr>, Broken>
+    ensures { GivesNode boxed result (compare_node line operator (view left.value) (view right.value)) }
 {
     let t = integer(&left, 7)?;
     let u = integer(&right, 7)?;
     let left = as_type(alloc, common(t, u), left)?;
     let right = as_type(alloc, common(t, u), right)?;
-    Ok(CoreExpr::Compare {
+    let comparison = CoreExpr::Compare {
         line,
         operator,
-        left: Box::new(alloc, left)?,
-        right: Box::new(alloc, right)?,
-    })
+        left,
+        right,
+    };
+    Ok(in_box(alloc, comparison)?)
 }
 
 fn logical_node(
     alloc: Global,
     line: u32,
     operator: LogicalOperator,
-    left: CoreExpr,
-    right: CoreExpr,
-) -> Result<CoreExpr, Broken>
-    ensures { GivesNode view result (logical_node line operator (view left) (view right)) }
+    left: Box<CoreExpr>,
+    right: Box<CoreExpr>,
+) -> Result<Box<CoreExpr>, Broken>
+    ensures { GivesNode boxed result (logical_node line operator (view left.value) (view right.value)) }
 {
     let _t = integer(&left, 7)?;
     let _u = integer(&right, 7)?;
-    Ok(CoreExpr::Logical {
+    let logical = CoreExpr::Logical {
         line,
         operator,
-        left: Box::new(alloc, left)?,
-        right: Box::new(alloc, right)?,
-    })
+        left,
+        right,
+    };
+    Ok(in_box(alloc, logical)?)
 }
 
 pub fn binary_node(
     alloc: Global,
     line: u32,
     operator: BinaryOp,
-    left: CoreExpr,
-    right: CoreExpr,
-) -> Result<CoreExpr, Broken>
-    ensures { GivesNode view result (binary_node line operator (view left) (view right)) }
+    left: Box<CoreExpr>,
+    right: Box<CoreExpr>,
+) -> Result<Box<CoreExpr>, Broken>
+    ensures { GivesNode boxed result (binary_node line operator (view left.value) (view right.value)) }
 {
     match operator {
         BinaryOp::LogicalOr => logical_node(alloc, line, LogicalOperator::Or, left, right),
@@ -401,11 +452,11 @@ pub fn binary_node(
 fn chosen(
     alloc: Global,
     line: u32,
-    test: CoreExpr,
-    yes: CoreExpr,
-    no: CoreExpr,
-) -> Result<CoreExpr, Broken>
-    ensures { GivesNode view result (chosen line (view test) (type_of (view yes)) (type_of (view no)) (view yes) (view no)) }
+    test: Box<CoreExpr>,
+    yes: Box<CoreExpr>,
+    no: Box<CoreExpr>,
+) -> Result<Box<CoreExpr>, Broken>
+    ensures { GivesNode boxed result (chosen line (view test.value) (type_of (view yes.value)) (type_of (view no.value)) (view yes.value) (view no.value)) }
 {
     let (yes, no) = match type_of(&yes) {
         ValueType::Void => match type_of(&no) {
@@ -420,22 +471,23 @@ fn chosen(
             ),
         },
     };
-    Ok(CoreExpr::Choice {
+    let choice = CoreExpr::Choice {
         line,
-        test: Box::new(alloc, test)?,
-        yes: Box::new(alloc, yes)?,
-        no: Box::new(alloc, no)?,
-    })
+        test,
+        yes,
+        no,
+    };
+    Ok(in_box(alloc, choice)?)
 }
 
 pub fn choice_node(
     alloc: Global,
     line: u32,
-    test: CoreExpr,
-    yes: CoreExpr,
-    no: CoreExpr,
-) -> Result<CoreExpr, Broken>
-    ensures { GivesNode view result (choice_node line (view test) (view yes) (view no)) }
+    test: Box<CoreExpr>,
+    yes: Box<CoreExpr>,
+    no: Box<CoreExpr>,
+) -> Result<Box<CoreExpr>, Broken>
+    ensures { GivesNode boxed result (choice_node line (view test.value) (view yes.value) (view no.value)) }
 {
     let _type = integer(&test, 7)?;
     chosen(alloc, line, test, yes, no)
@@ -465,19 +517,15 @@ fn assign_node(
     constant: bool,
     line: u32,
     place: &CoreExpr,
-    value: CoreExpr,
-) -> Result<CoreExpr, Broken>
-    ensures { GivesNode view result (assign_node constant line (view place.now) (view value)) }
+    value: Box<CoreExpr>,
+) -> Result<Box<CoreExpr>, Broken>
+    ensures { GivesNode boxed result (assign_node constant line (view place.now) (view value.value)) }
 {
     let _t = integer(place, 8)?;
     let _u = integer(&value, 8)?;
     let place = target(constant, place)?;
     let value = as_type(alloc, place_type(&place), value)?;
-    Ok(CoreExpr::Assign {
-        line,
-        place,
-        value: Box::new(alloc, value)?,
-    })
+    Ok(in_box(alloc, CoreExpr::Assign { line, place, value })?)
 }
 
 // The operator that stands before `=`; rule 7 where none can.
@@ -512,22 +560,23 @@ fn update_node(
     line: u32,
     operator: BinaryOp,
     place: &CoreExpr,
-    value: CoreExpr,
-) -> Result<CoreExpr, Broken>
-    ensures { GivesNode view result (update_node constant line operator (view place.now) (view value)) }
+    value: Box<CoreExpr>,
+) -> Result<Box<CoreExpr>, Broken>
+    ensures { GivesNode boxed result (update_node constant line operator (view place.now) (view value.value)) }
 {
     let operator = operator_of(operator)?;
     let t = integer(place, 7)?;
     let u = integer(&value, 7)?;
     let place = target(constant, place)?;
     let value = as_type(alloc, right_type(operator, t, u), value)?;
-    Ok(CoreExpr::Update {
+    let update = CoreExpr::Update {
         line,
         place,
         operator,
         type_: left_type(operator, t, u),
-        value: Box::new(alloc, value)?,
-    })
+        value,
+    };
+    Ok(in_box(alloc, update)?)
 }
 
 pub fn assignment_node(
@@ -536,9 +585,9 @@ pub fn assignment_node(
     line: u32,
     operator: Option<BinaryOp>,
     place: &CoreExpr,
-    value: CoreExpr,
-) -> Result<CoreExpr, Broken>
-    ensures { GivesNode view result (assignment_node constant line operator (view place.now) (view value)) }
+    value: Box<CoreExpr>,
+) -> Result<Box<CoreExpr>, Broken>
+    ensures { GivesNode boxed result (assignment_node constant line operator (view place.now) (view value.value)) }
 {
     match operator {
         None => assign_node(alloc, constant, line, place, value),

@@ -3,15 +3,15 @@
 ghost use Rattle.std.specs.Prelude.{◌≡◌, ℕ, true, false, slice_get, option_map, IfOk, IsErr, Result};
 ghost use Rattle.c_types.specs.Types.{view as type_view};
 ghost use Rattle.c_types.specs.Layouts.{is_complete, is_sized, size_of};
-ghost use Rattle.core_tree.specs.Trees.{Expression, follow, view, view_structure};
+ghost use Rattle.core_tree.specs.Trees.{Expression, follow, view, boxed, view_structure};
 ghost use Rattle.c_scope.specs.Scopes.{view_named, object_at};
 ghost use Rattle.c_scope.specs.Faults.{required, GivesNode};
-ghost use Rattle.c_elab_expr.specs.Operands.{structure, view_operand, computed, valued, number, same_record, record_value, dropped, is_array, used, number_place, held_value, put_value, place_operand, variable_node, lasting_node, function_node, name_node, part_operand, member_node, operand_bytes, constant_in, cast_record, cast_operand, unary_operand, postfix_operand, binary_operand, choice_record, choice_value, choice_operand, assign_value, assign_record, assign_nothing, assign_operand, comma_operand};
+ghost use Rattle.c_elab_expr.specs.Operands.{value as number_operand, structure, view_operand, computed, valued, number, same_record, record_value, dropped, is_array, used, number_place, held_value, put_value, place_operand, variable_node, lasting_node, function_node, name_node, part_operand, member_node, operand_bytes, constant_in, cast_record, cast_operand, unary_operand, postfix_operand, binary_operand, choice_record, choice_value, choice_operand, assign_value, assign_record, assign_nothing, assign_operand, comma_operand};
 
 use crate::constants::constant_of;
 use crate::nodes::{
-    assignment_node, binary_node, cast_node, character_node, choice_node, integer, postfix_node,
-    unary_node, value_size,
+    assignment_node, binary_node, cast_node, character_node, choice_node, in_box, integer,
+    postfix_node, structure_in_box, unary_node, value_size,
 };
 use c_scope::{Broken, Meaning, Scope, is_incomplete, part_at, type_size};
 use c_tree::{BinaryOp, StepOp, UnaryOp};
@@ -21,7 +21,7 @@ use core_tree::{CoreExpr, CoreStructure, Place, type_of};
 use std::alloc::{AllocError, Global};
 
 /// What a place lies in.
-#[derive(Clone, Copy, Debug, PartialEq, Eq)]
+#[derive(Clone, Copy, PartialEq, Eq)]
 pub enum Home {
     /// A variable of the function, by its number.
     Variable { variable: u32 },
@@ -34,7 +34,7 @@ pub enum Home {
 pub enum CoreOperand {
     /// A value of integer type or void, and whether it is a place that is const.
     Value {
-        value: CoreExpr,
+        value: Box<CoreExpr>,
         constant: bool,
     },
     /// A place of struct, union or array type at an offset in bytes in a variable or an object, with the line of its own token,
@@ -49,13 +49,13 @@ pub enum CoreOperand {
     /// A value of struct, union or array type that is no place.
     Structure {
         type_: Ty,
-        value: CoreStructure,
+        value: Box<CoreStructure>,
     },
 }
 
 /// A value that is no place.
-pub fn computed(node: Result<CoreExpr, Broken>) -> Result<CoreOperand, Broken>
-    ensures { (r : Result Expression ℕ) → GivesNode view node r → GivesNode view_operand result (computed r) }
+pub fn computed(node: Result<Box<CoreExpr>, Broken>) -> Result<CoreOperand, Broken>
+    ensures { (r : Result Expression ℕ) → GivesNode boxed node r → GivesNode view_operand result (computed r) }
 {
     match node {
         Ok(value) => Ok(CoreOperand::Value {
@@ -66,9 +66,20 @@ pub fn computed(node: Result<CoreExpr, Broken>) -> Result<CoreOperand, Broken>
     }
 }
 
+/// A value that is no place, from a node that is made.
+pub fn made(alloc: Global, node: CoreExpr) -> Result<CoreOperand, AllocError>
+    ensures { IfOk result (λ x. view_operand x ≡ number_operand (view node) false) }
+{
+    let value = in_box(alloc, node)?;
+    Ok(CoreOperand::Value {
+        value,
+        constant: false,
+    })
+}
+
 /// The expression of an operand that is a value of an integer type or void, or the broken rule.
-pub fn valued(operand: CoreOperand, rule: u32) -> Result<CoreExpr, Broken>
-    ensures { GivesNode view result (valued rule (view_operand operand)) }
+pub fn valued(operand: CoreOperand, rule: u32) -> Result<Box<CoreExpr>, Broken>
+    ensures { GivesNode boxed result (valued rule (view_operand operand)) }
 {
     match operand {
         CoreOperand::Value { value, constant: _ } => Ok(value),
@@ -84,8 +95,8 @@ pub fn valued(operand: CoreOperand, rule: u32) -> Result<CoreExpr, Broken>
 }
 
 /// The expression of an operand that is a value of an integer type, or the broken rule.
-pub fn number(operand: CoreOperand, rule: u32) -> Result<CoreExpr, Broken>
-    ensures { GivesNode view result (number rule (view_operand operand)) }
+pub fn number(operand: CoreOperand, rule: u32) -> Result<Box<CoreExpr>, Broken>
+    ensures { GivesNode boxed result (number rule (view_operand operand)) }
 {
     let value = valued(operand, rule)?;
     let _type = integer(&value, rule)?;
@@ -161,49 +172,56 @@ fn put_value(
     home: Home,
     line: u32,
     offset: u32,
-    value: CoreStructure,
-) -> Result<CoreStructure, AllocError>
-    ensures { IfOk result (λ a. view_structure a ≡ put_value home line offset (view_structure value)) }
+    value: Box<CoreStructure>,
+) -> Result<Box<CoreStructure>, AllocError>
+    ensures { IfOk result (λ a. view_structure a.value ≡ put_value home line offset (view_structure value.value)) }
 {
-    let value = Box::new(alloc, value)?;
     match home {
-        Home::Variable { variable } => Ok(CoreStructure::Assign {
-            line,
-            variable,
-            offset,
-            value,
-        }),
-        Home::Object { object } => Ok(CoreStructure::Store {
-            line,
-            object,
-            offset,
-            value,
-        }),
+        Home::Variable { variable } => structure_in_box(
+            alloc,
+            CoreStructure::Assign {
+                line,
+                variable,
+                offset,
+                value,
+            },
+        ),
+        Home::Object { object } => structure_in_box(
+            alloc,
+            CoreStructure::Store {
+                line,
+                object,
+                offset,
+                value,
+            },
+        ),
     }
 }
 
 // The value of an object.
 fn read_object(
+    alloc: Global,
     line: u32,
     home: Home,
     offset: u32,
     type_: &Ty,
     layouts: &Layouts,
-) -> Result<CoreStructure, AllocError>
-    ensures { IfOk result (λ a. view_structure a ≡ held_value home line offset (size_of layouts.now.done (type_view type_.now))) }
+) -> Result<Box<CoreStructure>, AllocError>
+    ensures { IfOk result (λ a. view_structure a.value ≡ held_value home line offset (size_of layouts.now.done (type_view type_.now))) }
 {
     let size = bytes_of(type_, layouts)?;
-    Ok(held_value(home, line, offset, size))
+    structure_in_box(alloc, held_value(home, line, offset, size))
 }
 
 /// The value of an operand of this struct or union type, or the broken rule.
 pub fn record_value(
+    alloc: Global,
     type_: &Ty,
     operand: CoreOperand,
     layouts: &Layouts,
     rule: u32,
-) -> Result<CoreStructure, Broken>
-    ensures { GivesNode view_structure result (required rule (record_value layouts.now.done (type_view type_.now) (view_operand operand))) }
+) -> Result<Box<CoreStructure>, Broken>
+    ensures { GivesNode (λ a. view_structure a.value) result (required rule (record_value layouts.now.done (type_view type_.now) (view_operand operand))) }
 {
     match operand {
         CoreOperand::Value {
@@ -218,7 +236,7 @@ pub fn record_value(
             constant: _,
         } => {
             if same_record(type_, &other) {
-                Ok(read_object(line, home, offset, &other, layouts)?)
+                Ok(read_object(alloc, line, home, offset, &other, layouts)?)
             } else {
                 Err(Broken::Rule { rule })
             }
@@ -241,8 +259,8 @@ pub fn dropped(
     alloc: Global,
     operand: CoreOperand,
     layouts: &Layouts,
-) -> Result<CoreExpr, AllocError>
-    ensures { IfOk result (λ e. view e ≡ dropped layouts.now.done (view_operand operand)) }
+) -> Result<Box<CoreExpr>, AllocError>
+    ensures { IfOk result (λ e. view e.value ≡ dropped layouts.now.done (view_operand operand)) }
 {
     match operand {
         CoreOperand::Value { value, constant: _ } => Ok(value),
@@ -253,14 +271,12 @@ pub fn dropped(
             type_,
             constant: _,
         } => {
-            let value = read_object(line, home, offset, &type_, layouts)?;
-            Ok(CoreExpr::DiscardStructure {
-                value: Box::new(alloc, value)?,
-            })
+            let value = read_object(alloc, line, home, offset, &type_, layouts)?;
+            in_box(alloc, CoreExpr::DiscardStructure { value })
         }
-        CoreOperand::Structure { type_: _, value } => Ok(CoreExpr::DiscardStructure {
-            value: Box::new(alloc, value)?,
-        }),
+        CoreOperand::Structure { type_: _, value } => {
+            in_box(alloc, CoreExpr::DiscardStructure { value })
+        }
     }
 }
 
@@ -314,41 +330,52 @@ pub fn used(operand: CoreOperand) -> Result<CoreOperand, Broken>
 }
 
 // The place of a type at an offset in a variable or an object.
-fn place_operand(line: u32, home: Home, offset: u32, type_: Ty, constant: bool) -> CoreOperand
-    ensures { view_operand result ≡ place_operand line home offset (type_view type_) constant }
+fn place_operand(
+    alloc: Global,
+    line: u32,
+    home: Home,
+    offset: u32,
+    type_: Ty,
+    constant: bool,
+) -> Result<CoreOperand, AllocError>
+    ensures { IfOk result (λ x. view_operand x ≡ place_operand line home offset (type_view type_) constant) }
 {
     match &type_ {
-        Ty::Integer(integer) => CoreOperand::Value {
-            value: CoreExpr::Read {
-                place: number_place(home, line, *integer, offset),
-            },
-            constant,
-        },
-        _ => CoreOperand::Object {
+        Ty::Integer(integer) => {
+            let place = number_place(home, line, *integer, offset);
+            let value = in_box(alloc, CoreExpr::Read { place })?;
+            Ok(CoreOperand::Value { value, constant })
+        }
+        _ => Ok(CoreOperand::Object {
             line,
             home,
             offset,
             type_,
             constant,
-        },
+        }),
     }
 }
 
-fn variable_node(line: u32, variable: u32, scope: &Scope) -> Result<CoreOperand, Broken>
+fn variable_node(
+    alloc: Global,
+    line: u32,
+    variable: u32,
+    scope: &Scope,
+) -> Result<CoreOperand, Broken>
     ensures { GivesNode view_operand result (variable_node line variable (slice_get scope.now.variables variable)) }
 {
     match scope.variable(variable) {
         Some(named) => {
             let type_ = named.type_.copied()?;
             let home = Home::Variable { variable };
-            Ok(place_operand(line, home, 0, type_, named.constant))
+            Ok(place_operand(alloc, line, home, 0, type_, named.constant)?)
         }
         None => Err(Broken::Rule { rule: 1 }),
     }
 }
 
 // An object that lives as long as the program. One whose type is incomplete here is no operand.
-fn lasting_node(line: u32, object: u32, scope: &Scope) -> Result<CoreOperand, Broken>
+fn lasting_node(alloc: Global, line: u32, object: u32, scope: &Scope) -> Result<CoreOperand, Broken>
     ensures { GivesNode view_operand result (lasting_node scope.now.records.done line object (object_at scope.now object)) }
 {
     match scope.object(object) {
@@ -358,43 +385,47 @@ fn lasting_node(line: u32, object: u32, scope: &Scope) -> Result<CoreOperand, Br
             }
             let type_ = lasting.named.type_.copied()?;
             let home = Home::Object { object };
-            Ok(place_operand(line, home, 0, type_, lasting.named.constant))
+            Ok(place_operand(alloc, line, home, 0, type_, lasting.named.constant)?)
         }
         None => Err(Broken::Rule { rule: 1 }),
     }
 }
 
 // The name of a function that isn't called.
-fn function_node(line: u32, function: u32, scope: &Scope) -> Result<CoreOperand, Broken>
+fn function_node(
+    alloc: Global,
+    line: u32,
+    function: u32,
+    scope: &Scope,
+) -> Result<CoreOperand, Broken>
     ensures { GivesNode view_operand result (function_node line function (slice_get scope.now.functions.all function)) }
 {
     match scope.functions().function(function) {
-        Some(_) => Ok(CoreOperand::Value {
-            value: CoreExpr::FunctionName { line, function },
-            constant: false,
-        }),
+        Some(_) => Ok(made(alloc, CoreExpr::FunctionName { line, function })?),
         None => Err(Broken::Rule { rule: 1 }),
     }
 }
 
 /// A name by what it means.
-pub fn name_node(line: u32, meaning: Option<Meaning>, scope: &Scope) -> Result<CoreOperand, Broken>
+pub fn name_node(
+    alloc: Global,
+    line: u32,
+    meaning: Option<Meaning>,
+    scope: &Scope,
+) -> Result<CoreOperand, Broken>
     ensures { GivesNode view_operand result (name_node scope.now line meaning) }
 {
     match meaning {
         None => Err(Broken::Rule { rule: 1 }),
-        Some(Meaning::Variable { variable }) => variable_node(line, variable, scope),
-        Some(Meaning::Object { object }) => lasting_node(line, object, scope),
+        Some(Meaning::Variable { variable }) => variable_node(alloc, line, variable, scope),
+        Some(Meaning::Object { object }) => lasting_node(alloc, line, object, scope),
         Some(Meaning::Incomplete) => Err(Broken::Rule { rule: 3 }),
         Some(Meaning::Assert) => Err(Broken::Rule { rule: 7 }),
         Some(Meaning::Assume) => Err(Broken::Rule { rule: 7 }),
         Some(Meaning::Draw { type_: _ }) => Err(Broken::Rule { rule: 7 }),
-        Some(Meaning::Function { function }) => function_node(line, function, scope),
+        Some(Meaning::Function { function }) => function_node(alloc, line, function, scope),
         Some(Meaning::Typedef { number: _ }) => Err(Broken::Rule { rule: 7 }),
-        Some(Meaning::Enumerator { bits }) => Ok(CoreOperand::Value {
-            value: character_node(line, bits),
-            constant: false,
-        }),
+        Some(Meaning::Enumerator { bits }) => Ok(made(alloc, character_node(line, bits))?),
         Some(Meaning::Record { place: _ }) => Err(Broken::Rule { rule: 7 }),
         Some(Meaning::Enumeration) => Err(Broken::Rule { rule: 7 }),
     }
@@ -406,31 +437,32 @@ fn part_operand(
     line: u32,
     offset: u32,
     type_: Ty,
-    value: CoreStructure,
+    value: Box<CoreStructure>,
     layouts: &Layouts,
 ) -> Result<CoreOperand, AllocError>
-    ensures { IfOk result (λ x. view_operand x ≡ part_operand layouts.now.done line offset (type_view type_) (view_structure value)) }
+    ensures { IfOk result (λ x. view_operand x ≡ part_operand layouts.now.done line offset (type_view type_) (view_structure value.value)) }
 {
     match &type_ {
-        Ty::Integer(integer) => Ok(CoreOperand::Value {
-            value: CoreExpr::Member {
+        Ty::Integer(integer) => made(
+            alloc,
+            CoreExpr::Member {
                 line,
                 type_: *integer,
                 offset,
-                value: Box::new(alloc, value)?,
+                value,
             },
-            constant: false,
-        }),
+        ),
         _ => {
             let size = bytes_of(&type_, layouts)?;
+            let part = CoreStructure::Member {
+                line,
+                offset,
+                size,
+                value,
+            };
             Ok(CoreOperand::Structure {
                 type_,
-                value: CoreStructure::Member {
-                    line,
-                    offset,
-                    size,
-                    value: Box::new(alloc, value)?,
-                },
+                value: structure_in_box(alloc, part)?,
             })
         }
     }
@@ -461,7 +493,7 @@ pub fn member_node(
             Some(way) => {
                 let (at, part) = part_at(alloc, offset, &type_, &way.path, scope.layouts())?;
                 let constant = constant || way.constant;
-                Ok(place_operand(line, home, at, part, constant))
+                Ok(place_operand(alloc, line, home, at, part, constant)?)
             }
             None => Err(Broken::Rule { rule: 11 }),
         },
@@ -574,6 +606,7 @@ pub fn unary_operand(
 }
 
 pub fn postfix_operand(
+    alloc: Global,
     line: u32,
     operator: StepOp,
     operand: &CoreOperand,
@@ -582,7 +615,7 @@ pub fn postfix_operand(
 {
     match operand {
         CoreOperand::Value { value, constant } => {
-            computed(postfix_node(*constant, line, operator, value))
+            computed(postfix_node(alloc, *constant, line, operator, value))
         }
         CoreOperand::Object {
             line: _,
@@ -615,22 +648,23 @@ fn choice_record(
     line: u32,
     test: CoreOperand,
     type_: Ty,
-    yes: CoreStructure,
+    yes: Box<CoreStructure>,
     no: CoreOperand,
     layouts: &Layouts,
 ) -> Result<CoreOperand, Broken>
-    ensures { GivesNode view_operand result (choice_record layouts.now.done line (view_operand test) (type_view type_) (view_structure yes) (view_operand no)) }
+    ensures { GivesNode view_operand result (choice_record layouts.now.done line (view_operand test) (type_view type_) (view_structure yes.value) (view_operand no)) }
 {
     let test = number(test, 7)?;
-    let no = record_value(&type_, no, layouts, 7)?;
+    let no = record_value(alloc, &type_, no, layouts, 7)?;
+    let choice = CoreStructure::Choice {
+        line,
+        test,
+        yes,
+        no,
+    };
     Ok(CoreOperand::Structure {
         type_,
-        value: CoreStructure::Choice {
-            line,
-            test,
-            yes: Box::new(alloc, yes)?,
-            no: Box::new(alloc, no)?,
-        },
+        value: structure_in_box(alloc, choice)?,
     })
 }
 
@@ -639,10 +673,10 @@ fn choice_value(
     alloc: Global,
     line: u32,
     test: CoreOperand,
-    yes: CoreExpr,
+    yes: Box<CoreExpr>,
     no: CoreOperand,
 ) -> Result<CoreOperand, Broken>
-    ensures { GivesNode view_operand result (choice_value line (view_operand test) (view yes) (view_operand no)) }
+    ensures { GivesNode view_operand result (choice_value line (view_operand test) (view yes.value) (view_operand no)) }
 {
     match no {
         CoreOperand::Value {
@@ -682,7 +716,7 @@ pub fn choice_operand(
             type_,
             constant: _,
         } => {
-            let value = read_object(at, home, offset, &type_, layouts)?;
+            let value = read_object(alloc, at, home, offset, &type_, layouts)?;
             choice_record(alloc, line, test, type_, value, no, layouts)
         }
         CoreOperand::Structure { type_, value } => {
@@ -736,7 +770,7 @@ fn assign_record(
 ) -> Result<CoreOperand, Broken>
     ensures { GivesNode view_operand result (assign_record scope.now line home offset (type_view type_) constant (view_operand value)) }
 {
-    let value = record_value(&type_, value, scope.layouts(), 8)?;
+    let value = record_value(alloc, &type_, value, scope.layouts(), 8)?;
     if constant || scope.is_constant_within(&type_) {
         return Err(Broken::Rule { rule: 9 });
     }
@@ -747,10 +781,15 @@ fn assign_record(
 }
 
 // An assignment to a value of this type, which is no place.
-fn assign_nothing(type_: &Ty, value: CoreOperand, layouts: &Layouts) -> Result<CoreOperand, Broken>
+fn assign_nothing(
+    alloc: Global,
+    type_: &Ty,
+    value: CoreOperand,
+    layouts: &Layouts,
+) -> Result<CoreOperand, Broken>
     ensures { GivesNode view_operand result (assign_nothing layouts.now.done (type_view type_.now) (view_operand value)) }
 {
-    let _value = record_value(type_, value, layouts, 8)?;
+    let _value = record_value(alloc, type_, value, layouts, 8)?;
     Err(Broken::Rule { rule: 9 })
 }
 
@@ -783,7 +822,7 @@ pub fn assign_operand(
             Some(_) => Err(Broken::Rule { rule: 7 }),
         },
         CoreOperand::Structure { type_, value: _ } => match operator {
-            None => assign_nothing(type_, value, scope.layouts()),
+            None => assign_nothing(alloc, type_, value, scope.layouts()),
             Some(_) => Err(Broken::Rule { rule: 7 }),
         },
     }
@@ -793,19 +832,15 @@ pub fn assign_operand(
 fn behind(
     alloc: Global,
     line: u32,
-    left: CoreExpr,
+    left: Box<CoreExpr>,
     type_: Ty,
-    right: CoreStructure,
+    right: Box<CoreStructure>,
 ) -> Result<CoreOperand, AllocError>
-    ensures { IfOk result (λ x. view_operand x ≡ structure (type_view type_) (follow line (view left) (view_structure right))) }
+    ensures { IfOk result (λ x. view_operand x ≡ structure (type_view type_) (follow line (view left.value) (view_structure right.value))) }
 {
     Ok(CoreOperand::Structure {
         type_,
-        value: CoreStructure::Comma {
-            line,
-            left,
-            right: Box::new(alloc, right)?,
-        },
+        value: structure_in_box(alloc, CoreStructure::Comma { line, left, right })?,
     })
 }
 
@@ -820,14 +855,10 @@ pub fn comma_operand(
 {
     let left = dropped(alloc, left, layouts)?;
     match right {
-        CoreOperand::Value { value, constant: _ } => Ok(CoreOperand::Value {
-            value: CoreExpr::Comma {
-                line,
-                left: Box::new(alloc, left)?,
-                right: Box::new(alloc, value)?,
-            },
-            constant: false,
-        }),
+        CoreOperand::Value {
+            value: right,
+            constant: _,
+        } => made(alloc, CoreExpr::Comma { line, left, right }),
         CoreOperand::Object {
             line: at,
             home,
@@ -835,7 +866,7 @@ pub fn comma_operand(
             type_,
             constant: _,
         } => {
-            let right = read_object(at, home, offset, &type_, layouts)?;
+            let right = read_object(alloc, at, home, offset, &type_, layouts)?;
             behind(alloc, line, left, type_, right)
         }
         CoreOperand::Structure { type_, value } => behind(alloc, line, left, type_, value),

@@ -1,29 +1,34 @@
 //! The typed operand of an expression.
 
-ghost use Rattle.std.specs.Prelude.{◌≡◌, ℕ, true, false, map, Result, IfOk};
-ghost use Rattle.c_tree.specs.Tree.{first_line, view_type_part, view_declarator, view_suffix, no_suffix, suffixes_of};
+ghost use Rattle.std.specs.Prelude.{◌≡◌, ◌+◌, ℕ, List, true, false, map, Result, Ok, None, IfOk};
+ghost use Rattle.c_tree.specs.Tree.{first_line, view_name, view_type_part, view_declarator, view_suffix, no_suffix, suffixes_of};
 ghost use Rattle.c_tree.specs.Tree.{view as tree, views_of as trees};
-ghost use Rattle.c_types.specs.Types.{view as type_view};
-ghost use Rattle.c_elab_expr.specs.Strings.{strings_of};
-ghost use Rattle.c_elab_expr.specs.Operands.{Operand, view_operand, is_typed_operand};
+ghost use Rattle.c_types.specs.Types.{CType, view as type_view};
+ghost use Rattle.c_elab_expr.specs.Strings.{strings_of, strings_length};
+ghost use Rattle.c_elab_expr.specs.Nodes.{constant_node, character_node};
+ghost use Rattle.c_elab_expr.specs.Operands.{Operand, value as number_operand, view_operand, is_typed_operand, name_node, member_node, cast_operand, unary_operand, postfix_operand, binary_operand, choice_operand, assign_operand};
+ghost use Rattle.c_scope.specs.Scopes.{meaning_of};
+ghost use Rattle.c_scope.specs.Types.{type_size};
 ghost use Rattle.c_scope.specs.Faults.{Gives, GivesNode, on_line, Fault};
-ghost use Rattle.c_elab_expr.specs.Typing.{Adds, bare_line, sized, used_on, no_function, callee, is_main, is_used, bound, type_name, operand_size, is_wanted, typed, typed_arguments, operand_by, operand, lengths, suffix_lengths};
+ghost use Rattle.c_elab_expr.specs.Typing.{Adds, bare_line, sized, used_on, node_on, both, node_on_both, comma_of, size_of_named, call_of, no_function, callee, called, is_main, is_used, bound, type_name, operand_size, is_wanted, typed, typed_arguments, operand_by, operand, lengths, suffix_lengths};
 
 use crate::calls::called;
 use crate::constants::length_said;
 use crate::nodes::{character_node, constant_node, size_node};
 use crate::operands::{
     CoreOperand, assign_operand, binary_operand, cast_operand, choice_operand, comma_operand,
-    constant_in, member_node, name_node, operand_bytes, postfix_operand, unary_operand, used,
+    constant_in, made, member_node, name_node, operand_bytes, postfix_operand, unary_operand, used,
 };
 use crate::strings::{strings_length, strings_of};
 use c_scope::{
     Broken, Meaning, Scope, TypingError, array_type, declared_line, parts_type, type_size,
 };
-use c_tree::{ArraySuffix, Declarator, DeclaratorCore, Expr, TypeName};
-use c_types::Ty;
-use core_tree::CoreExpr;
-use std::alloc::Global;
+use c_token::Constant;
+use c_tree::{
+    ArraySuffix, BinaryOp, Declarator, DeclaratorCore, Expr, Name, StepOp, TypeName, UnaryOp,
+};
+use c_types::{Layouts, Ty};
+use std::alloc::{AllocError, Global};
 
 /// The line of an expression's first token. It goes down one path of the tree.
 pub fn first_line(expr: &Expr) -> u32
@@ -139,14 +144,196 @@ fn used_at(node: Result<CoreOperand, Broken>, expr: &Expr) -> Result<CoreOperand
     }
 }
 
-// A constant of type unsigned long.
-fn sized(line: u32, size: u64) -> CoreOperand
-    ensures { view_operand result ≡ sized line size }
+// A typed expression that doesn't stand behind `sizeof`.
+fn used_of(typed: Result<CoreOperand, TypingError>, expr: &Expr) -> Result<CoreOperand, TypingError>
+    ensures { (r : Result Operand Fault) → Gives view_operand typed r → Gives view_operand result (used_on (bare_line (tree expr.now)) r) }
 {
-    CoreOperand::Value {
-        value: size_node(line, size),
-        constant: false,
+    match typed {
+        Ok(core) => used_at(used(core), expr),
+        Err(error) => Err(error),
     }
+}
+
+// A constant of type unsigned long.
+fn sized(alloc: Global, line: u32, size: u64) -> Result<CoreOperand, AllocError>
+    ensures { IfOk result (λ x. view_operand x ≡ sized line size) }
+{
+    made(alloc, size_node(line, size))
+}
+
+// The size of strings in a row, with the zero behind them.
+fn strings_size(alloc: Global, line: u32, parts: &[Name]) -> Result<CoreOperand, TypingError>
+    ensures { Gives view_operand result (Ok (sized line (strings_length (map view_name parts.now) + 1))) }
+{
+    Ok(sized(alloc, line, strings_length(parts)? + 1)?)
+}
+
+// The size of a typed operand, which is no string.
+fn size_of_operand(
+    alloc: Global,
+    line: u32,
+    typed: Result<CoreOperand, TypingError>,
+    layouts: &Layouts,
+) -> Result<CoreOperand, TypingError>
+    ensures { (r : Result Operand Fault) → Gives view_operand typed r → Gives view_operand result (operand_size line layouts.now.done None r) }
+{
+    let core = typed?;
+    let size = number_at(operand_bytes(&core, layouts), line)?;
+    Ok(sized(alloc, line, size)?)
+}
+
+// The size of a type.
+fn size_of_type(
+    alloc: Global,
+    line: u32,
+    named: Result<Ty, TypingError>,
+    layouts: &Layouts,
+) -> Result<CoreOperand, TypingError>
+    ensures { (r : Result CType Fault) → Gives type_view named r → Gives view_operand result (size_of_named line layouts.now.done r) }
+{
+    let type_ = named?;
+    let bytes = number_at(type_size(&type_, layouts), line)?;
+    Ok(sized(alloc, line, bytes)?)
+}
+
+fn constant_at(alloc: Global, line: u32, constant: &Constant) -> Result<CoreOperand, TypingError>
+    ensures { Gives view_operand result (Ok (number_operand (constant_node line constant.now) false)) }
+{
+    Ok(made(alloc, constant_node(line, constant))?)
+}
+
+fn character_at(alloc: Global, line: u32, bits: u32) -> Result<CoreOperand, TypingError>
+    ensures { Gives view_operand result (Ok (number_operand (character_node line bits) false)) }
+{
+    Ok(made(alloc, character_node(line, bits))?)
+}
+
+fn name_at(alloc: Global, line: u32, name: &Name, scope: &Scope) -> Result<CoreOperand, TypingError>
+    ensures { Gives view_operand result (on_line line (name_node scope.now line (meaning_of scope.now.bindings (view_name name.now)))) }
+{
+    placed_at(
+        name_node(alloc, line, scope.meaning(&name.bytes), scope),
+        line,
+    )
+}
+
+fn unary_at(
+    alloc: Global,
+    line: u32,
+    operator: UnaryOp,
+    typed: Result<CoreOperand, TypingError>,
+) -> Result<CoreOperand, TypingError>
+    ensures { (r : Result Operand Fault) → Gives view_operand typed r → Gives view_operand result (node_on line (unary_operand line operator) r) }
+{
+    let core = typed?;
+    placed_at(unary_operand(alloc, line, operator, core), line)
+}
+
+fn cast_at(
+    alloc: Global,
+    line: u32,
+    type_: Ty,
+    typed: Result<CoreOperand, TypingError>,
+    layouts: &Layouts,
+) -> Result<CoreOperand, TypingError>
+    ensures { (r : Result Operand Fault) → Gives view_operand typed r → Gives view_operand result (node_on line (cast_operand layouts.now.done line (type_view type_)) r) }
+{
+    let core = typed?;
+    placed_at(cast_operand(alloc, line, &type_, core, layouts), line)
+}
+
+fn postfix_at(
+    alloc: Global,
+    line: u32,
+    operator: StepOp,
+    typed: Result<CoreOperand, TypingError>,
+    first: &Expr,
+) -> Result<CoreOperand, TypingError>
+    ensures { (r : Result Operand Fault) → Gives view_operand typed r → Gives view_operand result (node_on (first_line (tree first.now)) (postfix_operand line operator) r) }
+{
+    let core = typed?;
+    placed(postfix_operand(alloc, line, operator, &core), first)
+}
+
+fn member_at(
+    alloc: Global,
+    line: u32,
+    typed: Result<CoreOperand, TypingError>,
+    name: &Name,
+    scope: &Scope,
+    first: &Expr,
+) -> Result<CoreOperand, TypingError>
+    ensures { (r : Result Operand Fault) → Gives view_operand typed r → Gives view_operand result (node_on (first_line (tree first.now)) (λ x. member_node scope.now line x (view_name name.now)) r) }
+{
+    let core = typed?;
+    placed(member_node(alloc, line, core, &name.bytes, scope), first)
+}
+
+#[tactic(auto, using(crate::proofs::Both::both_fails, crate::proofs::Both::both_node))]
+fn binary_at(
+    alloc: Global,
+    line: u32,
+    operator: BinaryOp,
+    typed: Result<(CoreOperand, CoreOperand), TypingError>,
+    first: &Expr,
+) -> Result<CoreOperand, TypingError>
+    ensures { (r q : Result Operand Fault) → Gives (λ p. (view_operand p.0, view_operand p.1)) typed (both r q)
+        → Gives view_operand result (node_on_both (first_line (tree first.now)) (binary_operand line operator) r q) }
+{
+    let (left, right) = typed?;
+    placed(binary_operand(alloc, line, operator, left, right), first)
+}
+
+#[tactic(auto, using(crate::proofs::Both::both_fails, crate::proofs::Both::both_node))]
+fn choice_at(
+    alloc: Global,
+    line: u32,
+    test: CoreOperand,
+    typed: Result<(CoreOperand, CoreOperand), TypingError>,
+    scope: &Scope,
+    first: &Expr,
+) -> Result<CoreOperand, TypingError>
+    ensures { (r q : Result Operand Fault) → Gives (λ p. (view_operand p.0, view_operand p.1)) typed (both r q)
+        → Gives view_operand result (node_on_both (first_line (tree first.now)) (choice_operand scope.now.records.done line (view_operand test)) r q) }
+{
+    let (yes, no) = typed?;
+    placed(
+        choice_operand(alloc, line, test, yes, no, scope.layouts()),
+        first,
+    )
+}
+
+#[tactic(auto, using(crate::proofs::Both::both_fails, crate::proofs::Both::both_node))]
+fn assign_at(
+    alloc: Global,
+    line: u32,
+    operator: Option<BinaryOp>,
+    typed: Result<(CoreOperand, CoreOperand), TypingError>,
+    scope: &Scope,
+    first: &Expr,
+) -> Result<CoreOperand, TypingError>
+    ensures { (r q : Result Operand Fault) → Gives (λ p. (view_operand p.0, view_operand p.1)) typed (both r q)
+        → Gives view_operand result (node_on_both (first_line (tree first.now)) (assign_operand scope.now line operator) r q) }
+{
+    let (place, value) = typed?;
+    placed(
+        assign_operand(alloc, line, operator, &place, value, scope),
+        first,
+    )
+}
+
+#[tactic(auto, using(crate::proofs::Both::comma_fails, crate::proofs::Both::both_comma))]
+fn comma_at(
+    alloc: Global,
+    line: u32,
+    typed: Result<(CoreOperand, CoreOperand), TypingError>,
+    scope: &Scope,
+) -> Result<CoreOperand, TypingError>
+    ensures { (r q : Result Operand Fault) → Gives (λ p. (view_operand p.0, view_operand p.1)) typed (both r q)
+        → Gives view_operand result (comma_of scope.now.records.done line r q) }
+{
+    let (left, right) = typed?;
+    Ok(comma_operand(alloc, line, left, right, scope.layouts())?)
 }
 
 // A cast to void doesn't use the value.
@@ -174,8 +361,7 @@ fn used_by(
 ) -> Result<CoreOperand, TypingError>
     ensures { Gives view_operand result (used_on (bare_line (tree expr.now)) (typed scope.now wanted (tree expr.now))) }
 {
-    let core = typed_expr(alloc, expr, wanted, scope)?;
-    used_at(used(core), expr)
+    used_of(typed_expr(alloc, expr, wanted, scope), expr)
 }
 
 // One whose value is wanted.
@@ -184,6 +370,24 @@ fn used_expr(alloc: Global, expr: &Expr, scope: &Scope) -> Result<CoreOperand, T
     ensures { Gives view_operand result (used_on (bare_line (tree expr.now)) (typed scope.now true (tree expr.now))) }
 {
     used_by(alloc, expr, true, scope)
+}
+
+// Two of them, the left one first.
+#[cycle(typing)]
+fn used_both(
+    alloc: Global,
+    left: &Expr,
+    left_wanted: bool,
+    right: &Expr,
+    right_wanted: bool,
+    scope: &Scope,
+) -> Result<(CoreOperand, CoreOperand), TypingError>
+    ensures { Gives (λ p. (view_operand p.0, view_operand p.1)) result
+        (both (operand_by scope.now left_wanted (tree left.now)) (operand_by scope.now right_wanted (tree right.now))) }
+{
+    let a = used_by(alloc, left, left_wanted, scope)?;
+    let b = used_by(alloc, right, right_wanted, scope)?;
+    Ok((a, b))
 }
 
 #[cycle(typing)]
@@ -254,12 +458,27 @@ fn is_used(function: &Expr, wanted: bool) -> bool
     wanted && !is_main(function)
 }
 
-/// How many elements a bound says, which is an integer constant expression, else rule 13 is broken on its first line.
-#[cycle(typing)]
-pub fn bound(alloc: Global, expr: &Expr, scope: &Scope) -> Result<u64, TypingError>
-    ensures { Gives (λ n. n) result (bound (first_line (tree expr.now)) (used_on (bare_line (tree expr.now)) (typed scope.now true (tree expr.now)))) }
+fn call_at(
+    alloc: Global,
+    wanted: bool,
+    callee: Option<(u32, Meaning)>,
+    typed: Result<Vec<CoreOperand>, TypingError>,
+    scope: &Scope,
+    function: &Expr,
+) -> Result<CoreOperand, TypingError>
+    ensures { (r : Result (List Operand) Fault) → Gives (λ v. map view_operand v.items) typed r
+        → Gives view_operand result (call_of scope.now (tree function.now) wanted callee r) }
 {
-    let core = used_expr(alloc, expr, scope)?;
+    let arguments = typed?;
+    let used = is_used(function, wanted);
+    placed(called(alloc, used, callee, arguments, scope), function)
+}
+
+// How many elements a typed bound says.
+fn bound_of(typed: Result<CoreOperand, TypingError>, expr: &Expr) -> Result<u64, TypingError>
+    ensures { (r : Result Operand Fault) → Gives view_operand typed r → Gives (λ n. n) result (bound (first_line (tree expr.now)) r) }
+{
+    let core = typed?;
     match constant_in(&core) {
         Some(number) => Ok(length_said(number)),
         None => Err(TypingError::Typing {
@@ -267,6 +486,14 @@ pub fn bound(alloc: Global, expr: &Expr, scope: &Scope) -> Result<u64, TypingErr
             rule: 13,
         }),
     }
+}
+
+/// How many elements a bound says, which is an integer constant expression, else rule 13 is broken on its first line.
+#[cycle(typing)]
+pub fn bound(alloc: Global, expr: &Expr, scope: &Scope) -> Result<u64, TypingError>
+    ensures { Gives (λ n. n) result (bound (first_line (tree expr.now)) (used_on (bare_line (tree expr.now)) (typed scope.now true (tree expr.now)))) }
+{
+    bound_of(used_expr(alloc, expr, scope), expr)
 }
 
 #[cycle(typing)]
@@ -365,12 +592,13 @@ fn operand_size(
     ensures { Gives view_operand result (operand_size line scope.now.records.done (strings_of (tree operand.now)) (typed scope.now true (tree operand.now))) }
 {
     match strings_of(operand) {
-        Some(parts) => Ok(sized(line, strings_length(parts)? + 1)),
-        None => {
-            let core = typed_expr(alloc, operand, true, scope)?;
-            let size = number_at(operand_bytes(&core, scope.layouts()), line)?;
-            Ok(sized(line, size))
-        }
+        Some(parts) => strings_size(alloc, line, parts),
+        None => size_of_operand(
+            alloc,
+            line,
+            typed_expr(alloc, operand, true, scope),
+            scope.layouts(),
+        ),
     }
 }
 
@@ -384,70 +612,62 @@ fn typed_expr(
     ensures { Gives view_operand result (typed scope.now wanted (tree expr.now)) }
 {
     match expr {
-        Expr::Constant { line, constant } => Ok(CoreOperand::Value {
-            value: constant_node(*line, constant),
-            constant: false,
-        }),
-        Expr::Character { line, value } => Ok(CoreOperand::Value {
-            value: character_node(*line, *value),
-            constant: false,
-        }),
+        Expr::Constant { line, constant } => constant_at(alloc, *line, constant),
+        Expr::Character { line, value } => character_at(alloc, *line, *value),
         Expr::Strings { line, parts: _ } => Err(TypingError::Typing {
             line: *line,
             rule: 7,
         }),
-        Expr::Name { line, name } => placed_at(
-            name_node(*line, scope.meaning(&name.bytes), scope),
-            *line,
-        ),
+        Expr::Name { line, name } => name_at(alloc, *line, name, scope),
         Expr::Parens { line: _, inner } => typed_expr(alloc, inner, wanted, scope),
         Expr::Unary {
             line,
             operator,
             operand,
-        } => {
-            let core = used_expr(alloc, operand, scope)?;
-            placed_at(unary_operand(alloc, *line, *operator, core), *line)
-        }
+        } => unary_at(alloc, *line, *operator, used_expr(alloc, operand, scope)),
         Expr::Cast {
             line,
             type_name,
             operand,
         } => {
             let type_ = type_named(alloc, type_name, scope)?;
-            let core = used_by(alloc, operand, is_wanted(&type_), scope)?;
-            placed_at(
-                cast_operand(alloc, *line, &type_, core, scope.layouts()),
-                *line,
-            )
+            let core = used_by(alloc, operand, is_wanted(&type_), scope);
+            cast_at(alloc, *line, type_, core, scope.layouts())
         }
         Expr::SizeofExpr { line, operand } => operand_size(alloc, *line, operand, scope),
-        Expr::SizeofType { line, type_name } => {
-            let type_ = type_named(alloc, type_name, scope)?;
-            let size = number_at(type_size(&type_, scope.layouts()), *line)?;
-            Ok(sized(*line, size))
-        }
+        Expr::SizeofType { line, type_name } => size_of_type(
+            alloc,
+            *line,
+            type_named(alloc, type_name, scope),
+            scope.layouts(),
+        ),
         Expr::Step {
             line,
             operator,
             operand,
-        } => {
-            let core = used_expr(alloc, operand, scope)?;
-            placed(postfix_operand(*line, *operator, &core), operand)
-        }
-        Expr::Member { line, left, name } => {
-            let core = used_expr(alloc, left, scope)?;
-            placed(member_node(alloc, *line, core, &name.bytes, scope), left)
-        }
+        } => postfix_at(
+            alloc,
+            *line,
+            *operator,
+            used_expr(alloc, operand, scope),
+            operand,
+        ),
+        Expr::Member { line, left, name } => member_at(
+            alloc,
+            *line,
+            used_expr(alloc, left, scope),
+            name,
+            scope,
+            left,
+        ),
         Expr::Binary {
             line,
             operator,
             left,
             right,
         } => {
-            let a = used_expr(alloc, left, scope)?;
-            let b = used_expr(alloc, right, scope)?;
-            placed(binary_operand(alloc, *line, *operator, a, b), left)
+            let operands = used_both(alloc, left, true, right, true, scope);
+            binary_at(alloc, *line, *operator, operands, left)
         }
         Expr::Choice {
             line,
@@ -456,9 +676,8 @@ fn typed_expr(
             no,
         } => {
             let a = used_expr(alloc, test, scope)?;
-            let b = used_by(alloc, yes, wanted, scope)?;
-            let c = used_by(alloc, no, wanted, scope)?;
-            placed(choice_operand(alloc, *line, a, b, c, scope.layouts()), test)
+            let operands = used_both(alloc, yes, wanted, no, wanted, scope);
+            choice_at(alloc, *line, a, operands, scope, test)
         }
         Expr::Assign {
             line,
@@ -466,23 +685,20 @@ fn typed_expr(
             place,
             value,
         } => {
-            let a = used_expr(alloc, place, scope)?;
-            let b = used_expr(alloc, value, scope)?;
-            placed(assign_operand(alloc, *line, *operator, &a, b, scope), place)
+            let operands = used_both(alloc, place, true, value, true, scope);
+            assign_at(alloc, *line, *operator, operands, scope, place)
         }
         Expr::Comma { line, left, right } => {
-            let a = used_by(alloc, left, false, scope)?;
-            let b = used_by(alloc, right, wanted, scope)?;
-            Ok(comma_operand(alloc, *line, a, b, scope.layouts())?)
+            let operands = used_both(alloc, left, false, right, wanted, scope);
+            comma_at(alloc, *line, operands, scope)
         }
         Expr::Call {
             function,
             arguments,
         } => {
             let callee = callee(alloc, function, scope)?;
-            let arguments = typed_arguments(alloc, arguments, scope)?;
-            let used = is_used(function, wanted);
-            placed(called(alloc, used, callee, arguments, scope), function)
+            let arguments = typed_arguments(alloc, arguments, scope);
+            call_at(alloc, wanted, callee, arguments, scope, function)
         }
     }
 }

@@ -5,7 +5,7 @@ use Rattle.c_types.specs.Types.{CType}
 use Rattle.c_scope.specs.Scopes.{Lasting, Scoped, object_at}
 use Rattle.c_elab_object.specs.LastingObjects.{changed_by, changed_object, declared_again}
 use Rattle.c_elab_object.specs.Settled.{is_settled}
-use Rattle.c_elab_type.proofs.Growing.{object_get}
+use Rattle.c_elab_base.proofs.Growing.{object_get}
 
 -- an element written back
 pub set_own : {X : Type 0} (all : List X) (k : ℕ) (x : X) → slice_get all k ≡ Some x → slice_set all k x ≡ all

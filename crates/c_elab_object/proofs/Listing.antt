@@ -3,10 +3,11 @@ use Rattle.std.proofs.Common.{◌≡◌, Bool, List, Option, Result, Ok, Err, ap
 use Rattle.c_tree.specs.Declarations.{Initial, Full, Declarators, declarator}
 use Rattle.c_scope.specs.Scopes.{Named, Scoped}
 use Rattle.c_scope.specs.Faults.{◌>>=◌, Fault}
-use Rattle.c_elab_type.specs.declared.regions.Region.{Region}
+use Rattle.c_elab_base.specs.declared.regions.Region.{Region}
 use Rattle.c_elab_type.specs.Declarators.{Typed}
-use Rattle.c_elab_type.specs.Derivations.{Derived, Derivation, derivation}
-use Rattle.c_elab_type.specs.Specifiers.{Derivations, typed_full}
+use Rattle.c_elab_base.specs.Derivations.{Derived, Derivation, derivation}
+use Rattle.c_elab_base.specs.Specifiers.{Derivations}
+use Rattle.c_elab_type.specs.Specifiers.{typed_full}
 use Rattle.c_elab_object.specs.Listed.{typedef_by, typed_typedefs, object_by, typed_objects, variable_by, typed_variables}
 
 -- ---- typedefs

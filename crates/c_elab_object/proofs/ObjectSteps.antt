@@ -8,10 +8,10 @@ use Rattle.c_scope.specs.declared.meaning.Meaning.{Meaning}
 use Rattle.c_scope.specs.Scopes.{Named, Scoped}
 use Rattle.c_scope.specs.Faults.{◌>>=◌, Fault, Gives, on_line}
 use Rattle.c_elab_expr.proofs.WellTyped.{on_same_line}
-use Rattle.c_elab_type.specs.declared.regions.Region.{Region}
-use Rattle.c_elab_type.specs.Derivations.{full_line}
+use Rattle.c_elab_base.specs.declared.regions.Region.{Region}
+use Rattle.c_elab_base.specs.Derivations.{full_line}
 use Rattle.c_elab_type.specs.Initializers.{Value, initializer_of}
-use Rattle.c_elab_type.specs.Declarators.{is_open}
+use Rattle.c_elab_base.specs.Declarators.{is_open}
 use Rattle.c_elab_object.specs.LastingObjects.{lasting_type, lasting_node, linked_object, earlier_linked, IsObjectThere, counted_by, element_of, may_define, declared_again, declared_object, changed_object, initialized_object, typed_object}
 use Rattle.c_elab_object.proofs.SettlingDeclared.{IsLinked, node_linked}
 

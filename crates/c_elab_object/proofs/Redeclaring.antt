@@ -9,8 +9,8 @@ use Rattle.c_scope.specs.Scopes.{Lasting, FunctionType, Callable, Scoped, is_kno
 use Rattle.c_scope.proofs.Variables.{both, and}
 use Rattle.c_elab_object.specs.LastingObjects.{changed_by, changed_object}
 use Rattle.c_elab_object.specs.Functions.{first_callable, callable_again, changed_callable, declared_callable}
-use Rattle.c_elab_type.proofs.Signatures.{own_sizes, signed_changed, goes_changed, called_changed}
-use Rattle.c_elab_type.proofs.Growing.{grows_refl, under_refl, inner_refl, There, SettlesIf, Settles, settles_refl, settles_where, object_set, object_get, object_known, function_settles}
+use Rattle.c_elab_base.proofs.Signatures.{own_sizes, signed_changed, goes_changed, called_changed}
+use Rattle.c_elab_base.proofs.Growing.{grows_refl, under_refl, inner_refl, There, SettlesIf, Settles, settles_refl, settles_where, object_set, object_get, object_known, function_settles}
 
 -- ---- objects that live as long as the program
 

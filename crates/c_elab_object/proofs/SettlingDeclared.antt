@@ -8,19 +8,20 @@ use Rattle.c_scope.specs.declared.meaning.Meaning.TheVariants.{Variable, Incompl
 use Rattle.c_scope.specs.Scopes.{Named, FunctionType, Lasting, Scoped, object_at, linked_to, built_in, is_known, lasting_size, function_numbered}
 use Rattle.c_scope.specs.Faults.{on_line}
 use Rattle.c_elab_expr.proofs.WellTyped.{Holds, bind, given, refused, on_same_line}
-use Rattle.c_elab_type.specs.declared.regions.Region.{Region}
-use Rattle.c_elab_type.specs.declared.regions.Role.{Role}
-use Rattle.c_elab_type.specs.declared.regions.Role.TheVariants as roles
-use Rattle.c_elab_type.specs.Regions.{is_built_in_function, built_in_only, built_in_function, earlier}
-use Rattle.c_elab_type.specs.Derivations.{Derived, Derivation, lengths, callable, derivation, full_line}
+use Rattle.c_elab_base.specs.declared.regions.Region.{Region}
+use Rattle.c_elab_base.specs.declared.regions.Role.{Role}
+use Rattle.c_elab_base.specs.declared.regions.Role.TheVariants as roles
+use Rattle.c_elab_base.specs.Regions.{is_built_in_function, built_in_only, built_in_function, earlier}
+use Rattle.c_elab_base.specs.Derivations.{Derived, Derivation, lengths, callable, derivation, full_line}
 use Rattle.c_elab_type.specs.Initializers.{Value, bytes_said, initializer_of, no_initializer}
-use Rattle.c_elab_type.specs.Declarators.{with_typedef, typed_typedef, is_typedef_of_function, function_typedef_node, with_function_type, with_function_typedef, typed_function_typedef, is_open}
+use Rattle.c_elab_base.specs.Declarators.{with_typedef, is_typedef_of_function, function_typedef_node, with_function_type, with_function_typedef, is_open}
+use Rattle.c_elab_type.specs.Declarators.{typed_typedef, typed_function_typedef}
 use Rattle.c_elab_type.specs.Specifiers.{typed_full, Specification}
 use Rattle.c_elab_object.specs.LastingObjects.{lasting_type, is_again, is_linked_to, linked_object, earlier_linked, may_again, lasting_again, lasting_node, declared_again, first_declared, with_object, changed_object, added_object, declared_object, initialized_object, may_define, counted_by, element_of, typed_object}
 use Rattle.c_elab_object.specs.Functions.{is_own_function, is_function_again, function_again, is_own_built_in, is_built_in_type, function_node, declared_callable, with_meaning, declared_or_built_in, typed_function}
 use Rattle.c_elab_object.specs.Functions as functions
 use Rattle.c_elab_object.specs.Listed.{typedef_by, typed_typedefs, object_by, typed_objects, typed_others}
-use Rattle.c_elab_type.proofs.Growing.{There, SettlesIf, Settles, settles_refl, settles_both, settles_where, settles_on, settles_trans, binding_settles, typedef_settles, object_settles, next_known, function_type_settles}
+use Rattle.c_elab_base.proofs.Growing.{There, SettlesIf, Settles, settles_refl, settles_both, settles_where, settles_on, settles_trans, binding_settles, typedef_settles, object_settles, next_known, function_type_settles}
 use Rattle.c_elab_type.proofs.Settling.{trivially, weaken, Takes, DerivationFine, derivation_fine, SuffixesDone, full_settles}
 use Rattle.c_elab_object.proofs.Redeclaring.{changed_settles, changed_known, declared_callable_settles}
 

@@ -10,10 +10,10 @@ use Rattle.c_scope.specs.declared.meaning.Meaning.TheVariants.{Variable, Object,
 use Rattle.c_scope.specs.Scopes.{binding, FunctionType, Callable, FunctionTable, Scoped, linked_to, is_defined, with_callable}
 use Rattle.c_scope.specs.Faults.{◌>>=◌, Fault, on_line}
 use Rattle.c_elab_expr.specs.Operands.{given_size}
-use Rattle.c_elab_type.specs.declared.regions.Region.{Region}
-use Rattle.c_elab_type.specs.Regions.{is_built_in_function, built_in_function, earlier}
-use Rattle.c_elab_type.specs.Derivations.{Parameter, full_line, name_line, have_names}
-use Rattle.c_elab_type.specs.Declarators.{same_function}
+use Rattle.c_elab_base.specs.declared.regions.Region.{Region}
+use Rattle.c_elab_base.specs.Regions.{is_built_in_function, built_in_function, earlier}
+use Rattle.c_elab_base.specs.Derivations.{Parameter, full_line, name_line, have_names}
+use Rattle.c_elab_base.specs.Declarators.{same_function}
 use Rattle.c_elab_type.specs.Initializers.{no_initializer}
 
 -- ---- built-in functions

@@ -7,11 +7,12 @@ use Rattle.c_scope.specs.declared.meaning.Meaning.TheVariants.{Object, Function}
 use Rattle.c_scope.specs.Scopes.{binding, Named, Lasting, Scoped, object_at, linked_to}
 use Rattle.c_scope.specs.Faults.{◌>>=◌, Fault, fault, on_line}
 use Rattle.c_scope.specs.Types.{array_of}
-use Rattle.c_elab_type.specs.declared.regions.Region.{Region}
-use Rattle.c_elab_type.specs.Regions.{earlier}
-use Rattle.c_elab_type.specs.Derivations.{full_line}
+use Rattle.c_elab_base.specs.declared.regions.Region.{Region}
+use Rattle.c_elab_base.specs.Regions.{earlier}
+use Rattle.c_elab_base.specs.Derivations.{full_line}
 use Rattle.c_elab_type.specs.Initializers.{Value, bytes_said, initializer_of}
-use Rattle.c_elab_type.specs.Declarators.{same_ctype, same_flag, is_open, given_lengths, complete_type, sized_type}
+use Rattle.c_elab_base.specs.Declarators.{same_ctype, same_flag, is_open, complete_type, sized_type}
+use Rattle.c_elab_type.specs.Declarators.{given_lengths}
 
 -- the type that a declarator gives an object, and whether it is an array of so many elements of that type as no declaration says so far, which only `extern` allows
 abbrev pub lasting_type : List Completed → CType → Bool → Option Initial → List (Option ℕ) → Result (CType × Bool) ℕ

@@ -3,10 +3,10 @@ use Rattle.std.specs.Prelude.{Bool, true, false, Option, Result, Ok}
 use Rattle.c_tree.specs.Declarations.{Parts, Initial, Full, Declarators, none_declared, declarator}
 use Rattle.c_scope.specs.Scopes.{Named, Scoped}
 use Rattle.c_scope.specs.Faults.{◌>>=◌, Fault}
-use Rattle.c_elab_type.specs.declared.regions.Region.{Region}
-use Rattle.c_elab_type.specs.declared.regions.Role.{Role}
-use Rattle.c_elab_type.specs.declared.regions.Role.TheVariants as roles
-use Rattle.c_elab_type.specs.Derivations.{Derivation, lengths, callable, derivation}
+use Rattle.c_elab_base.specs.declared.regions.Region.{Region}
+use Rattle.c_elab_base.specs.declared.regions.Role.{Role}
+use Rattle.c_elab_base.specs.declared.regions.Role.TheVariants as roles
+use Rattle.c_elab_base.specs.Derivations.{Derivation, lengths, callable, derivation}
 use Rattle.c_elab_type.specs.Declarators.{Typed, typed_typedef, typed_function_typedef, typed_variable}
 use Rattle.c_elab_type.specs.Specifiers.{Specification, typed_specifiers, typed_full}
 use Rattle.c_elab_object.specs.LastingObjects.{typed_object}

@@ -5,14 +5,15 @@ ghost use Rattle.c_tree.specs.Declarations.{view_full, view_initializer, name_of
 ghost use Rattle.c_types.specs.Types.{view, views};
 ghost use Rattle.c_scope.specs.Scopes.{FunctionType, view_function_type, view_callable, is_known, linked_to};
 ghost use Rattle.c_scope.specs.Faults.{Gives, on_line};
-ghost use Rattle.c_elab_type.specs.Derivations.{full_line, view_made, view_parameters, is_named_so, have_names};
-ghost use Rattle.c_elab_type.specs.Regions.{is_built_in_function, built_in_function};
+ghost use Rattle.c_elab_base.specs.Derivations.{full_line, view_made, view_parameters, is_named_so, have_names};
+ghost use Rattle.c_elab_base.specs.Regions.{is_built_in_function, built_in_function};
 ghost use Rattle.c_elab_object.specs.Functions.{is_one_scalar, is_nothing, is_integer_type, is_statement_type, is_no_parameter, is_draw_type, is_built_in_type, drawn_type, draws_of, is_own_function, is_function_again, function_again, is_own_built_in, built_in_again, function_made, function_node, first_callable, callable_again, changed_callable, declared_callable, declared_function, declared_or_built_in, typed_function, definition_node};
 
-use c_elab_type::{
+use c_elab_base::{
     Parameter, Region, built_in_function, copied_function, earlier, full_line,
-    is_built_in_function, is_too_long, name_line, name_of, no_initializer, same_function,
+    is_built_in_function, is_too_long, name_line, name_of, same_function,
 };
+use c_elab_type::no_initializer;
 use c_scope::{Broken, Callable, FunctionType, Functions, Meaning, Scope, TypingError, type_size};
 use c_tree::{FullDeclarator, InitDeclarator};
 use c_types::{IntegerType, Layouts, Ty};

@@ -4,17 +4,17 @@ ghost use Rattle.std.specs.Prelude.{◌≡◌, ◌≤◌, ◌+◌, ◌&&◌, ◌
 ghost use Rattle.c_tree.specs.Declarations.{view_full, view_initializer, name_of};
 ghost use Rattle.c_types.specs.Types.{CType, view as type_view};
 ghost use Rattle.c_scope.specs.Scopes.{view_named, view_lasting, linked_to, is_known};
-ghost use Rattle.c_elab_type.specs.Derivations.{full_line};
+ghost use Rattle.c_elab_base.specs.Derivations.{full_line};
 ghost use Rattle.c_scope.specs.Faults.{Gives, on_line};
-ghost use Rattle.c_elab_type.specs.Declarators.{is_open};
+ghost use Rattle.c_elab_base.specs.Declarators.{is_open};
 ghost use Rattle.c_elab_type.specs.Initializers.{view_value};
 ghost use Rattle.c_elab_object.specs.LastingObjects.{lasting_type, is_array_of, compatible, is_again, is_linked_to, linked_object, lasting_node, declared_again, counted_by, element_of, IsObjectThere, with_object, added_object, changed_object, declared_object, initialized_object, may_define, function_or, earlier_linked, typed_object};
 ghost use Rattle.c_elab_object.specs.Settled.{is_settled};
 
-use c_elab_type::{
-    Region, Value, bytes_said, complete_type, earlier, full_line, give_lengths, initializer_of,
-    is_open, name_of, same_ctype, same_flag, sized_type,
+use c_elab_base::{
+    Region, complete_type, earlier, full_line, is_open, name_of, same_ctype, same_flag, sized_type,
 };
+use c_elab_type::{Value, bytes_said, give_lengths, initializer_of};
 use c_scope::{Lasting, Meaning, QualifiedType, Scope, TypingError, array_type};
 use c_tree::{FullDeclarator, InitDeclarator, Initializer};
 use c_types::Ty;

@@ -5,16 +5,16 @@ ghost use Rattle.c_tree.specs.Declarations.{view_full, view_initializer, parts_o
 ghost use Rattle.c_scope.specs.Scopes.{Scoped, view_named};
 ghost use Rattle.c_scope.specs.Faults.{Gives};
 ghost use Rattle.c_elab_type.specs.Declarators.{Typed};
-ghost use Rattle.c_elab_type.specs.Derivations.{view_derivation};
+ghost use Rattle.c_elab_base.specs.Derivations.{view_derivation};
 ghost use Rattle.c_elab_type.specs.Specifiers.{view_specification};
 ghost use Rattle.c_elab_type.specs.Steps.{Step};
 ghost use Rattle.c_elab_object.specs.Listed.{typedef_by, typed_typedefs, object_by, typed_objects, variable_by, typed_variables, typed_others, typed_by, typed_declaration, in_file, typed_outside};
 
 use crate::callables::typed_function;
 use crate::lasting::typed_object;
+use c_elab_base::{Derivation, Region, Role, derive};
 use c_elab_type::{
-    Base, Derivation, Region, Role, derive, typed_full, typed_function_typedef, typed_specifiers,
-    typed_typedef, typed_variable,
+    Base, typed_full, typed_function_typedef, typed_specifiers, typed_typedef, typed_variable,
 };
 use c_scope::{QualifiedType, Scope, TypingError};
 use c_tree::{Declaration, InitDeclarator};

@@ -5,12 +5,13 @@ use Rattle.c_scope.specs.Faults.{◌>>=◌, Fault, Gives}
 use Rattle.std.specs.Prelude.{OnOk, Vec}
 use Rattle.std.specs.Global.{Global}
 use Rattle.c_scope.specs.declared.fault.TypingError.{TypingError}
-use Rattle.c_elab_type.specs.declared.derivations.Parameter.{Parameter as CodeParameter}
-use Rattle.c_elab_type.specs.Derivations.{Parameter, called, view_parameters}
+use Rattle.c_elab_base.specs.declared.derivations.Parameter.{Parameter as CodeParameter}
+use Rattle.c_elab_base.specs.Derivations.{Parameter, called, view_parameters}
 use Rattle.c_scope.specs.Scopes.{Environment, Named, Scoped, are_there, are_known}
 use Rattle.c_scope.proofs.Variables.{are_there_wider}
-use Rattle.c_elab_type.specs.Specifiers.{Passed, are_several, inner_region, ended, called_in_front, typed_suffixes, typed_parameters}
-use Rattle.c_elab_type.proofs.Growing.{take_front, kept, inner_length}
+use Rattle.c_elab_base.specs.Specifiers.{Passed, are_several, inner_region, ended, called_in_front}
+use Rattle.c_elab_type.specs.Specifiers.{typed_suffixes, typed_parameters}
+use Rattle.c_elab_base.proofs.Growing.{take_front, kept, inner_length}
 use Rattle.c_elab_type.proofs.Settling.{PassedDone, parameters_done}
 
 module _ (s : Scoped) (several : Bool) (ps : Parameters) (p : Passed) (made : typed_parameters (inner_region s) several (record { parameters = []; scope = s }) ps ≡ Ok p) where

@@ -9,12 +9,13 @@ use Rattle.c_scope.specs.declared.fault.TypingError.{TypingError}
 use Rattle.c_scope.specs.declared.fault.TypingError.TheVariants as errors
 use Rattle.c_scope.specs.Scopes.{Named, Scoped}
 use Rattle.c_scope.specs.Faults.{◌>>=◌, Fault, Fails}
-use Rattle.c_elab_type.specs.declared.regions.Region.{Region}
-use Rattle.c_elab_type.specs.Derivations.{full_line}
+use Rattle.c_elab_base.specs.declared.regions.Region.{Region}
+use Rattle.c_elab_base.specs.Derivations.{full_line}
 use Rattle.c_elab_type.specs.Initializers.{Value, initializer_of}
-use Rattle.c_elab_type.specs.Declarators.{Typed, variable_type, is_open, of_type, within_initializer, with_variable, declared_item, in_front, typed_variable}
+use Rattle.c_elab_base.specs.Declarators.{is_open, of_type, within_initializer, with_variable}
+use Rattle.c_elab_type.specs.Declarators.{Typed, variable_type, declared_item, in_front, typed_variable}
 use Rattle.c_elab_type.specs.Steps.{prepend, items_first, Step}
-use Rattle.c_elab_type.proofs.Steps.{fails_on}
+use Rattle.c_elab_base.proofs.Steps.{fails_on}
 
 -- ---- items
 

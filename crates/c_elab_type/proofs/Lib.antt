@@ -1,12 +1,4 @@
-pub mod Steps
-pub mod Lists
-pub mod Alone
-pub mod Deriving
 pub mod Suffixes
-pub mod Comparing
-pub mod Signatures
-pub mod Parameters
-pub mod Growing
 pub mod Values
 pub mod Settling
 pub mod Ending

@@ -20,15 +20,16 @@ use Rattle.c_scope.specs.Faults.{◌>>=◌, Fault, on_line}
 use Rattle.c_scope.specs.Types.{nothing_said, specified_type, one_array, array_of}
 use Rattle.c_scope.proofs.Variables.{both, and}
 use Rattle.c_elab_expr.proofs.WellTyped.{Holds, bind, given, refused, on_same_line}
-use Rattle.c_elab_type.specs.declared.regions.Region.{Region}
-use Rattle.c_elab_type.specs.Regions.{earlier, earlier_tag}
-use Rattle.c_elab_type.specs.Derivations.{Parameter, Derived, counted, called, Shape, object, function as function_shaped, shape_by, shape_of, type_numbered, array_shape, is_void, is_array, has_void, parameter_types, function_of, function_shape, derived, Derivation, lengths, callable, function_in, function_made, plain_lengths, derivation_by, derivation, parameter_line, is_named_so, have_names}
+use Rattle.c_elab_base.specs.declared.regions.Region.{Region}
+use Rattle.c_elab_base.specs.Regions.{earlier, earlier_tag}
+use Rattle.c_elab_base.specs.Derivations.{Parameter, Derived, counted, called, Shape, object, function as function_shaped, shape_by, shape_of, type_numbered, array_shape, is_void, is_array, has_void, parameter_types, function_of, function_shape, derived, Derivation, lengths, callable, function_in, function_made, plain_lengths, derivation_by, derivation, parameter_line, is_named_so, have_names}
 use Rattle.c_elab_type.specs.Enumerations.{enumerator_value, enumerator_node, typed_enumerator, typed_enumerators}
-use Rattle.c_elab_type.specs.Declarators.{with_variable, sized_type, complete_type}
-use Rattle.c_elab_type.specs.Tags.{kind_of, is_kind, with_record, with_tagged, new_tag, found_tag, forward_tag, Opened, new_record, open_tag, opened, reopened, fitting, members_fit, already, completed, closed, closed_scope, enumeration_tag, enumeration_closed}
-use Rattle.c_elab_type.specs.Specifiers.{Fields, member_type, with_member, is_none, has_untagged, with_anonymous, is_anonymous, Parted, with_type_part, fields_within, fields_out, with_members, typed_enumeration, said_before, fields_behind, Derivations, Passed, plain_parameter, array_parameter, parameter_made, parameter_node, declared_parameter, with_parameter, judged_parameter, are_several, ended, inner_region, parted, named_parts, counted_in_front, called_in_front, said_bound, typed_part, typed_parts, typed_members, typed_fields, typed_full, typed_suffixes, typed_parameters, lone_tag, with_lone, typed_specifiers}
-use Rattle.c_elab_type.proofs.Signatures.{Later, is_given, given_kept, are_complete_types, type_parameters_at}
-use Rattle.c_elab_type.proofs.Growing.{There, Follows, follows_refl, follows_trans, Settles, settles_refl, settles_trans, binding_settles, record_settles, completed_settles, variable_follows, last, ended_settles}
+use Rattle.c_elab_base.specs.Declarators.{with_variable, sized_type, complete_type}
+use Rattle.c_elab_base.specs.Tags.{kind_of, is_kind, with_record, with_tagged, new_tag, found_tag, forward_tag, Opened, new_record, open_tag, opened, reopened, fitting, members_fit, already, completed, closed, closed_scope, enumeration_tag, enumeration_closed}
+use Rattle.c_elab_base.specs.Specifiers.{Fields, member_type, with_member, is_none, has_untagged, with_anonymous, is_anonymous, Parted, with_type_part, fields_within, fields_out, with_members, said_before, fields_behind, Derivations, Passed, plain_parameter, array_parameter, parameter_made, parameter_node, declared_parameter, with_parameter, judged_parameter, are_several, ended, inner_region, parted, named_parts, counted_in_front, called_in_front, lone_tag, with_lone}
+use Rattle.c_elab_type.specs.Specifiers.{typed_enumeration, said_bound, typed_part, typed_parts, typed_members, typed_fields, typed_full, typed_suffixes, typed_parameters, typed_specifiers}
+use Rattle.c_elab_base.proofs.Signatures.{Later, is_given, given_kept, are_complete_types, type_parameters_at}
+use Rattle.c_elab_base.proofs.Growing.{There, Follows, follows_refl, follows_trans, Settles, settles_refl, settles_trans, binding_settles, record_settles, completed_settles, variable_follows, last, ended_settles}
 
 pub trivially : {A E : Type 0} (r : Result A E) → Holds (λ (x : A). Unit {0}) r
 trivially r x e = tt

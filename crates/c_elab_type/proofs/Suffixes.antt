@@ -14,16 +14,17 @@ use Rattle.c_scope.specs.Faults.{◌>>=◌, Fault, on_line, Fails}
 use Rattle.c_types.specs.Types.{CType, Completed}
 use Rattle.c_scope.specs.Types.{specified_type, array_of, type_size}
 use Rattle.c_elab_expr.proofs.WellTyped.{Holds, bind, given, refused, on_same_line}
-use Rattle.c_elab_type.specs.Declarators.{complete_type, sized_type}
-use Rattle.c_elab_type.specs.declared.regions.Region.{Region}
-use Rattle.c_elab_type.specs.Regions.{earlier}
-use Rattle.c_elab_type.specs.Derivations.{Derived, counted, called, Derivation, lengths, callable, is_void, derivation, parameter_line, view_derived, view_deriveds}
-use Rattle.c_elab_type.specs.Specifiers.{Fields, Parted, is_none, said_before, fields_behind, with_field, with_anonymous, typed_members, Derivations, Passed, parted, named_parts, judged_parameter, typed_parts, plain_parameter, parameter_made, parameter_node, with_parameter, declared_parameter, are_several, ended, inner_region, typed_fields, with_member, said_bound, typed_full, typed_suffixes, typed_parameters}
+use Rattle.c_elab_base.specs.Declarators.{complete_type, sized_type}
+use Rattle.c_elab_base.specs.declared.regions.Region.{Region}
+use Rattle.c_elab_base.specs.Regions.{earlier}
+use Rattle.c_elab_base.specs.Derivations.{Derived, counted, called, Derivation, lengths, callable, is_void, derivation, parameter_line, view_derived, view_deriveds}
+use Rattle.c_elab_base.specs.Specifiers.{Fields, Parted, is_none, said_before, fields_behind, with_field, with_anonymous, Derivations, Passed, parted, named_parts, judged_parameter, plain_parameter, parameter_made, parameter_node, with_parameter, declared_parameter, are_several, ended, inner_region, with_member}
+use Rattle.c_elab_type.specs.Specifiers.{typed_members, typed_parts, typed_fields, said_bound, typed_full, typed_suffixes, typed_parameters}
 use Rattle.c_scope.specs.declared.fault.TypingError.{TypingError}
-use Rattle.c_elab_type.specs.declared.derivations.Derived.{Derived as CodeDerived}
+use Rattle.c_elab_base.specs.declared.derivations.Derived.{Derived as CodeDerived}
 use Rattle.c_elab_type.specs.Steps.{suffixes_first, Derives}
-use Rattle.c_elab_type.proofs.Lists.{more_than_none}
-use Rattle.c_elab_type.proofs.Steps.{fails_on}
+use Rattle.c_elab_base.proofs.Lists.{more_than_none}
+use Rattle.c_elab_base.proofs.Steps.{fails_on}
 
 -- ---- lists of the tree from a place on
 
@@ -76,7 +77,7 @@ one_more d s t ds rest e = ap (λ (p : List Derived × Scoped). in_front_of p.0 
 
 pub one_suffix : (s t : Scoped) (x : DeclaratorSuffix) (ds : List Derived) (rest : FullSuffixes) → typed_suffixes s (view_full_suffix x full_end) ≡ Ok (ds, t)
     → typed_suffixes s (view_full_suffix x rest) ≡ in_front_of ds (typed_suffixes t rest)
-one_suffix s t (Bounded line e) ds rest h = by (said_bound s (view e)) h where
+one_suffix s t (Bounded line e) ds rest h = by (said_bound s (view e.value)) h where
   by : (r : Result ℕ Fault) → (r >>= λ n. found (counted (Some n) ∷ [], s)) ≡ found (ds, t) → (r >>= λ n. in_front_of (counted (Some n) ∷ []) (typed_suffixes s rest)) ≡ in_front_of ds (typed_suffixes t rest)
   by (Ok n) k = one_more (counted (Some n)) s t ds rest k
   by (Err f) k = let none : ⊥ = cc in absurd none
@@ -91,7 +92,7 @@ one_suffix s t (Parameters' line shape ps variadic) ds rest h =
       by (Err f) k = let none : ⊥ = cc in absurd none
 
 pub suffix_fails : (s : Scoped) (x : DeclaratorSuffix) (rest : FullSuffixes) (f : Fault) → typed_suffixes s (view_full_suffix x full_end) ≡ Err f → typed_suffixes s (view_full_suffix x rest) ≡ Err f
-suffix_fails s (Bounded line e) rest f h = by (said_bound s (view e)) h where
+suffix_fails s (Bounded line e) rest f h = by (said_bound s (view e.value)) h where
   by : (r : Result ℕ Fault) → (r >>= λ n. found (counted (Some n) ∷ [], s)) ≡ Err f → (r >>= λ n. in_front_of (counted (Some n) ∷ []) (typed_suffixes s rest)) ≡ Err f
   by (Ok n) k = let none : ⊥ = cc in absurd none
   by (Err g) k = let same : g ≡ f = cc in ap Err same

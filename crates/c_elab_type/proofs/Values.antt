@@ -1,14 +1,16 @@
 -- Items of braces, one behind the other.
 use Rattle.std.proofs.Common.{◌≡◌, ℕ, suc, Bool, List, [], ◌∷◌, ◌++◌, length, Result, Ok, Err, map, reverse, refl, ap, sym, ◌∙◌, arith}
 use Rattle.std.proofs.lemmas.List.{append_assoc, length-append, map-append, reverse-append}
-use Rattle.c_tree.specs.Declarations.{Initial, Initials, initials}
+use Rattle.c_tree.specs.declared.declaration.Initializer.{Initializer}
+use Rattle.c_tree.specs.Declarations.{Initial, Initials, initials, initials_of}
 use Rattle.c_types.specs.Types.{CType}
 use Rattle.core_tree.specs.declared.expression.CorePart.{CorePart}
 use Rattle.core_tree.specs.Trees.{with_part, parts_of}
 use Rattle.c_scope.specs.Scopes.{Scoped}
 use Rattle.c_scope.specs.Faults.{◌>>=◌, Fault}
 use Rattle.c_elab_type.specs.declared.items.Made.{Made as CodeMade}
-use Rattle.c_elab_type.specs.Initializers.{Made, slot, slot_type, typed_initial, typed_initials, view_made}
+use Rattle.c_elab_base.specs.Slots.{slot, slot_type}
+use Rattle.c_elab_type.specs.Initializers.{count, Made, typed_initial, typed_initials, view_made}
 
 abbrev pub views : List CodeMade → List Made
 views xs = map view_made xs
@@ -44,3 +46,9 @@ one_longer before now x e = let long = length-append before (x ∷ []) in let sa
 
 pub part_first : (parts : List CorePart) (p : CorePart) → parts_of (reverse (parts ++ p ∷ [])) ≡ with_part p (parts_of (reverse parts))
 part_first parts p = ap parts_of (reverse-append parts (p ∷ []))
+
+-- ---- how many items there are
+
+pub counted : (is : List Initializer) → count (initials_of is) ≡ length is
+counted [] = refl
+counted (i ∷ is) = ap suc (counted is)

@@ -1,65 +1,18 @@
 -- What declarators of typedefs and variables declare (C11 6.7.6, 6.7.8, 6.7.9), apart from members: each in the scope behind its
 -- own suffixes, by what these say.
-use Rattle.std.specs.Prelude.{ℕ, ◌+◌, ◌==◌, ◌&&◌, ◌||◌, ◌++◌, Bool, true, false, not, List, [], ◌∷◌, length, slice_get, Option, Some, None, Result, Ok, Err, if◌then◌else◌}
+use Rattle.std.specs.Prelude.{ℕ, ◌||◌, Bool, false, List, length, Option, Some, None, Result, Ok}
 use Rattle.c_tree.specs.Declarations.{Initial, Full, name_of}
-use Rattle.c_types.specs.Integers.{same_integer}
-use Rattle.c_types.specs.Types.{CType, void, integer, aggregate, array, Completed}
-use Rattle.c_types.specs.Layouts.{is_complete}
+use Rattle.c_types.specs.Types.{CType}
 use Rattle.core_tree.specs.Trees as cores
 use Rattle.core_tree.specs.Typed.{names_variable, structure_names}
-use Rattle.c_scope.specs.declared.meaning.Meaning.{Meaning}
-use Rattle.c_scope.specs.declared.meaning.Meaning.TheVariants.{Variable, Incomplete, Typedef}
-use Rattle.c_scope.specs.Scopes.{binding, Named, FunctionType, Callable, Scoped, function_number, function_numbered}
+use Rattle.c_scope.specs.Scopes.{Named, FunctionType, Scoped}
 use Rattle.c_scope.specs.Faults.{◌>>=◌, Fault, on_line}
-use Rattle.c_scope.specs.Types.{array_of, type_size}
-use Rattle.c_elab_type.specs.declared.regions.Region.{Region}
-use Rattle.c_elab_type.specs.Regions.{earlier}
-use Rattle.c_elab_type.specs.Derivations.{full_line, type_numbered}
+use Rattle.c_scope.specs.Types.{array_of}
+use Rattle.c_elab_base.specs.declared.regions.Region.{Region}
+use Rattle.c_elab_base.specs.Regions.{earlier}
+use Rattle.c_elab_base.specs.Derivations.{full_line}
 use Rattle.c_elab_type.specs.Initializers.{Value, number_value, structure_value, initializer_of, no_initializer, elements_said}
-
--- ---- parameters
-
--- how many parameters these functions have, and these function types
-abbrev pub function_parameters : List Callable → ℕ
-function_parameters [] = 0
-function_parameters (f ∷ fs) = length f.type.parameters + function_parameters fs
-
-abbrev pub type_parameters : List FunctionType → ℕ
-type_parameters [] = 0
-type_parameters (t ∷ ts) = length t.parameters + type_parameters ts
-
--- ---- typedefs (C11 6.7.8)
-
-abbrev pub same_ctype : CType → CType → Bool
-same_ctype void void = true
-same_ctype (integer t) (integer u) = same_integer t u
-same_ctype (aggregate m) (aggregate n) = m == n
-same_ctype (array e k) (array f l) = k == l && same_ctype e f
-same_ctype _ _ = false
-
-abbrev pub same_flag : Bool → Bool → Bool
-same_flag true b = b
-same_flag false b = not b
-
--- a const type is another type (C11 6.2.5p26)
-abbrev pub is_named : Named → Option Named → Bool
-is_named n None = false
-is_named n (Some m) = same_flag n.constant m.constant && same_ctype n.type m.type
-
--- a typedef of this type
-abbrev pub is_typedef_of : List Named → Named → Meaning → Bool
-is_typedef_of types n (Typedef k) = is_named n (slice_get types k)
-is_typedef_of types n _ = false
-
--- rule 2: a scope may name a type again, but the same (C11 6.7p3)
-abbrev pub typedef_node : List Named → Bool → Option Meaning → Result CType ℕ → Result Named ℕ
-typedef_node types k None made = made >>= λ t. Ok (record { type = t; constant = k })
-typedef_node types k (Some m) (Ok t) = if is_typedef_of types (record { type = t; constant = k }) m then Ok (record { type = t; constant = k }) else Err 2
-typedef_node types k (Some m) (Err rule) = Err 2
-
--- a name of a type, which gets the next number
-abbrev pub with_typedef : Scoped → List ℕ → Named → Scoped
-with_typedef s name n = record s { bindings = binding name (Typedef (length s.types)) ∷ s.bindings; types = s.types ++ n ∷ [] }
+use Rattle.c_elab_base.specs.Declarators.{function_typedef_node, variable_node, typedef_node, with_function_typedef, is_open, said_lengths, within_initializer, of_type, with_typedef, with_variable}
 
 -- its name's scope begins with its declarator (C11 6.2.1p7)
 abbrev pub typed_typedef : Region → Scoped → Named → Full → Option Initial → List (Option ℕ) → Result Scoped Fault
@@ -68,103 +21,21 @@ typed_typedef r s base d i ls = do
   none ← no_initializer (full_line d) (with_typedef s (name_of d) n) i
   Ok (with_typedef s (name_of d) n)
 
--- ---- typedefs of function types
-
--- the same parameters, up to qualifiers
-abbrev pub same_types : List CType → List CType → Bool
-same_types [] [] = true
-same_types [] (u ∷ us) = false
-same_types (t ∷ ts) [] = false
-same_types (t ∷ ts) (u ∷ us) = same_ctype t u && same_types ts us
-
--- one function type (C11 6.7.6.3p15)
-abbrev pub same_function : FunctionType → FunctionType → Bool
-same_function f g =
-    same_flag f.gives.constant g.gives.constant && same_ctype f.gives.type g.gives.type && same_flag f.ellipsis g.ellipsis && same_types f.parameters g.parameters
-
-abbrev pub is_function_type : FunctionType → Option FunctionType → Bool
-is_function_type f None = false
-is_function_type f (Some g) = same_function f g
-
--- the type that a number of a typedef has, if it is a function's
-abbrev pub function_named : Scoped → Option Named → Option FunctionType
-function_named s None = None
-function_named s (Some n) = type_numbered s.functions (function_number n.type)
-
--- a typedef of this function type
-abbrev pub is_typedef_of_function : Scoped → FunctionType → Meaning → Bool
-is_typedef_of_function s f (Typedef k) = is_function_type f (function_named s (slice_get s.types k))
-is_typedef_of_function s f _ = false
-
--- rule 2: a scope may name a function type again, but the same
-abbrev pub function_typedef_node : Scoped → Option Meaning → Result FunctionType ℕ → Result FunctionType ℕ
-function_typedef_node s None made = made
-function_typedef_node s (Some m) (Ok f) = if is_typedef_of_function s f m then Ok f else Err 2
-function_typedef_node s (Some m) (Err rule) = Err 2
-
--- one more function type, and a name of it
-abbrev pub with_function_type : Scoped → FunctionType → Scoped
-with_function_type s f = record s { functions = record s.functions { types = s.functions.types ++ f ∷ [] } }
-
-abbrev pub with_function_typedef : Scoped → List ℕ → FunctionType → Scoped
-with_function_typedef s name f = with_typedef (with_function_type s f) name (record { type = function_numbered (length s.functions.types); constant = false })
-
 abbrev pub typed_function_typedef : Region → Scoped → Full → Option Initial → Result FunctionType ℕ → Result Scoped Fault
 typed_function_typedef r s d i made = do
   f ← on_line (full_line d) (function_typedef_node s (earlier r s (name_of d)) made)
   none ← no_initializer (full_line d) (with_function_typedef s (name_of d) f) i
   Ok (with_function_typedef s (name_of d) f)
 
--- ---- lengths and sizes
-
--- whether `[]` is the outermost length
-abbrev pub is_open : List (Option ℕ) → Bool
-is_open [] = false
-is_open (None ∷ ls) = true
-is_open (Some n ∷ ls) = false
-
-abbrev pub said_lengths : ℕ → List (Option ℕ) → List (Option ℕ)
-said_lengths n [] = []
-said_lengths n (None ∷ ls) = Some n ∷ ls
-said_lengths n (Some k ∷ ls) = Some k ∷ ls
-
 -- it stands for as many elements as an initializer says (C11 6.7.9p22)
 abbrev pub given_lengths : Option Initial → List (Option ℕ) → List (Option ℕ)
 given_lengths None ls = ls
 given_lengths (Some i) ls = said_lengths (elements_said i) ls
 
--- rule 3: an object has a complete type (C11 6.7p7)
-abbrev pub complete_type : List Completed → CType → Result CType ℕ
-complete_type done t = if is_complete done t then Ok t else Err 3
-
--- rule 4: and not too large a one
-abbrev pub sized_type : List Completed → CType → Result CType ℕ
-sized_type done t = type_size done t >>= λ size. Ok t
-
--- ---- variables of a function
-
--- the type of a variable
-abbrev pub variable_node : List Completed → Option Meaning → Result CType ℕ → Result CType ℕ
-variable_node done (Some m) made = Err 2
-variable_node done None made = made >>= sized_type done
-
 -- the type of a variable
 abbrev pub variable_type : Region → Scoped → CType → Full → Option Initial → List (Option ℕ) → Result CType Fault
 variable_type r s base d i ls =
     on_line (full_line d) (variable_node s.records.done (earlier r s (name_of d)) (array_of s.records.done base (given_lengths i ls)))
-
--- a name that means a variable, the next of the function
-abbrev pub with_variable : Scoped → List ℕ → Named → Scoped
-with_variable s name n = record s { bindings = binding name (Variable (length s.variables)) ∷ s.bindings; variables = s.variables ++ n ∷ [] }
-
--- A name's scope begins with its declarator, so that its initializer may name it (C11 6.2.1p7). An array whose length the
--- initializer says is incomplete within it.
-abbrev pub with_incomplete : Scoped → List ℕ → Scoped
-with_incomplete s name = record s { bindings = binding name Incomplete ∷ s.bindings }
-
-abbrev pub within_initializer : Bool → Scoped → List ℕ → Named → Scoped
-within_initializer false s name n = with_variable s name n
-within_initializer true s name n = with_incomplete s name
 
 -- A declared variable in front of what stands behind it. Its first bytes are drawn also where a jump passes over its initializer.
 abbrev pub declared_item : ℕ → ℕ → Bool → Option Value → cores.Items → cores.Items
@@ -179,9 +50,6 @@ Typed = Result (cores.Items × Scoped) Fault
 -- an item in front of those behind it
 abbrev pub in_front : (cores.Items → cores.Items) → Typed → Typed
 in_front item behind = behind >>= λ y. Ok (item y.0, y.1)
-
-abbrev pub of_type : Named → CType → Named
-of_type base t = record { type = t; constant = base.constant }
 
 -- a variable, whose initializer a jump passes over or not, and then what stands behind it
 abbrev pub typed_variable : Region → Scoped → Named → Full → Option Initial → List (Option ℕ) → Bool → (Scoped → Typed) → Typed

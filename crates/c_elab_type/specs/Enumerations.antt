@@ -12,8 +12,8 @@ use Rattle.c_scope.specs.Scopes.{binding, Scoped}
 use Rattle.c_scope.specs.Faults.{◌>>=◌, required, Fault, on_line}
 use Rattle.c_elab_expr.specs.Operands.{constant_in}
 use Rattle.c_elab_expr.specs.Typing.{operand}
-use Rattle.c_elab_type.specs.declared.regions.Region.{Region}
-use Rattle.c_elab_type.specs.Regions.{earlier}
+use Rattle.c_elab_base.specs.declared.regions.Region.{Region}
+use Rattle.c_elab_base.specs.Regions.{earlier}
 
 -- the bits of an int with the number, if there is one
 abbrev pub int_bits : TypedNumber → Option ℕ

@@ -1,19 +1,16 @@
 -- Initializers (C11 6.7.9).
-use Rattle.std.specs.Prelude.{ℕ, suc, ◌+◌, ◌-◌, ◌*◌, ◌++◌, is_some, ◌==◌, ◌&&◌, nat_le, nat_lt, Bool, true, false, List, [], ◌∷◌, length, reverse, Option, Some, None, Result, Ok, Err, if◌then◌else◌}
+use Rattle.std.specs.Prelude.{ℕ, suc, ◌+◌, ◌-◌, ◌++◌, is_some, ◌&&◌, nat_le, Bool, true, false, List, [], ◌∷◌, length, reverse, Option, Some, None, Result, Ok, Err, if◌then◌else◌}
 use Rattle.c_tree.specs.Tree.{Tree, constant, character, strings, name, parens, unary, cast, sizeof_expr, sizeof_type, step, member, binary, choice, assign, comma, call, first_line}
 use Rattle.c_tree.specs.Declarations.{Initial, initial, braces, Initials, no_initial, initials}
 use Rattle.c_types.specs.declared.integers.IntegerType.{IntegerType}
 use Rattle.c_types.specs.declared.integers.IntegerType.TheVariants as types
-use Rattle.c_types.specs.declared.types.RecordKind.{RecordKind}
-use Rattle.c_types.specs.declared.types.RecordKind.TheVariants.{Struct, Union}
 use Rattle.c_types.specs.Types.{CType, void, integer, aggregate, array, Completed, Records}
-use Rattle.c_types.specs.Layouts.{kind_at, size_of}
+use Rattle.c_types.specs.Layouts.{size_of}
 use Rattle.core_tree.specs.declared.expression.CorePart.{CorePart}
 use Rattle.c_types.specs.Integers.{bytes}
 use Rattle.c_values.specs.Numbers.{TypedNumber}
 use Rattle.c_values.specs.Variables.{low_bytes, put_at, zeros}
 use Rattle.core_tree.specs.Trees.{Expression, view, Structure, view_structure, copy, load, choose, put, store, follow, section, list, string, give, Parts, no_part, number_part, structure_part, parts_of}
-use Rattle.c_scope.specs.Members.{member_in}
 use Rattle.c_scope.specs.Scopes.{Scoped}
 use Rattle.c_scope.specs.Faults.{◌>>=◌, required, Fault, fault, on_line}
 use Rattle.c_elab_expr.specs.Nodes.{as_type}
@@ -26,6 +23,7 @@ use Rattle.c_elab_type.specs.declared.items.Made.{Made as CodeMade}
 use Rattle.c_elab_type.specs.declared.items.Made.TheVariants as made
 use Rattle.c_elab_type.specs.declared.items.Value.{Value as CodeValue}
 use Rattle.c_elab_type.specs.declared.items.Value.TheVariants as values
+use Rattle.c_elab_base.specs.Slots.{slot, slot_type}
 
 -- ---- what an initializer is, before the node around it is judged
 
@@ -40,25 +38,6 @@ abbrev pub only : List Made → Made
 only [] = nothing
 only (x ∷ []) = x
 only (x ∷ y ∷ rest) = nothing
-
--- ---- the objects that items initialize
-
--- a struct has an item for each member, and a union one for the first (C11 6.7.9p17)
-abbrev pub has_item : RecordKind → ℕ → Bool
-has_item Struct i = true
-has_item Union i = i == 0
-
--- the type and the offset of the object that the item with a number is for, if there is one: a member or an element
-abbrev pub slot : Records → CType → ℕ → Option (CType × ℕ)
-slot rs void i = None
-slot rs (integer t) i = None
-slot rs (aggregate p) i = if has_item (kind_at rs p) i then member_in rs.done (aggregate p) i else None
-slot rs (array element n) i = if nat_lt i n then Some (element, i * size_of rs.done element) else None
-
--- its type, where one item more has none
-abbrev pub slot_type : Option (CType × ℕ) → CType
-slot_type None = void
-slot_type (Some x) = x.0
 
 -- ---- values
 
@@ -278,11 +257,11 @@ abbrev pub view_made : CodeMade → Made
 view_made made.Nothing = nothing
 view_made (made.Single x) = single (view_operand x)
 view_made (made.Text line bytes) = text line bytes.items
-view_made (made.Listed a) = listed (view_structure a)
+view_made (made.Listed a) = listed (view_structure a.value)
 
 abbrev pub view_value : CodeValue → Value
-view_value (values.Number e) = number_value (view e)
-view_value (values.Structure a) = structure_value (view_structure a)
+view_value (values.Number e) = number_value (view e.value)
+view_value (values.Structure a) = structure_value (view_structure a.value)
 
 -- parts, of which the last stands first, unless a rule is broken
 abbrev pub view_found : List CorePart → Option ℕ → Result Parts ℕ

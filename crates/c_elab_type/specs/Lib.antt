@@ -1,9 +1,5 @@
-pub mod Names
-pub mod Regions
-pub mod Derivations
 pub mod Initializers
 pub mod Enumerations
 pub mod Declarators
-pub mod Tags
 pub mod Specifiers
 pub mod Steps

@@ -7,9 +7,9 @@ use Rattle.c_scope.specs.declared.fault.TypingError.{TypingError}
 use Rattle.c_scope.specs.Scopes.{Scoped}
 use Rattle.c_scope.specs.Faults.{◌>>=◌, Fails}
 use Rattle.c_elab_type.specs.Declarators.{Typed}
-use Rattle.c_elab_type.specs.declared.derivations.Derived.{Derived as CodeDerived}
-use Rattle.c_elab_type.specs.Derivations.{Derived, view_deriveds}
-use Rattle.c_elab_type.specs.Specifiers.{Derivations}
+use Rattle.c_elab_base.specs.declared.derivations.Derived.{Derived as CodeDerived}
+use Rattle.c_elab_base.specs.Derivations.{Derived, view_deriveds}
+use Rattle.c_elab_base.specs.Specifiers.{Derivations}
 
 -- items in front of others
 abbrev pub prepend : List CoreItem → cores.Items → cores.Items

@@ -3,12 +3,12 @@
 ghost use Rattle.std.specs.Prelude.{◌≡◌, ◌≤◌, length, map, option_map, pos, None, OnOk};
 ghost use Rattle.words.specs.Operators.{fits_width};
 ghost use Rattle.core_tree.specs.Operations.{number};
-ghost use Rattle.c_tree.specs.Tree.{view as tree};
+ghost use Rattle.c_tree.specs.Tree.{view as tree, boxed};
 ghost use Rattle.c_tree.specs.Declarations.{view_enumerator};
 ghost use Rattle.c_scope.specs.Faults.{Gives, on_line};
 ghost use Rattle.c_elab_type.specs.Enumerations.{int_bits, next_bits, given_value, enumerator_value, enumerator_node, typed_enumerator, typed_enumerators};
 
-use crate::regions::{Region, earlier};
+use c_elab_base::{Region, earlier};
 use c_elab_expr::{constant_in, first_line, operand};
 use c_scope::{Meaning, Scope, TypingError};
 use c_tree::{Enumerator, Expr};
@@ -84,11 +84,11 @@ fn given_value(alloc: Global, expr: &Expr, scope: &Scope) -> Result<Number, Typi
 // The bits of an enumerator behind one with these, if an int has its value.
 fn enumerator_value(
     alloc: Global,
-    value: &Option<Expr>,
+    value: &Option<Box<Expr>>,
     previous: Option<u32>,
     scope: &Scope,
 ) -> Result<Option<u32>, TypingError>
-    ensures { Gives (λ o. o) result (enumerator_value scope.now previous (option_map tree value.now)) }
+    ensures { Gives (λ o. o) result (enumerator_value scope.now previous (option_map boxed value.now)) }
 {
     match value {
         None => Ok(next_bits(previous)),

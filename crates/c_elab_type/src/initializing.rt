@@ -5,11 +5,12 @@ ghost use Rattle.c_tree.specs.Tree.{view as tree, view_name};
 ghost use Rattle.c_tree.specs.Declarations.{view_initializer, initials_of};
 ghost use Rattle.c_types.specs.Types.{view as type_view};
 ghost use Rattle.c_elab_expr.specs.Operands.{view_operand};
-ghost use Rattle.c_scope.specs.Faults.{Gives, on_line};
-ghost use Rattle.c_elab_type.specs.Initializers.{view_made, view_value, slot, slot_type, single_on, typed_single, typed_initial, typed_initials, initializer_of, no_initializer, literal_of, literal_length, elements_said};
+ghost use Rattle.c_scope.specs.Faults.{Gives};
+ghost use Rattle.c_elab_base.specs.Slots.{slot, slot_type};
+ghost use Rattle.c_elab_type.specs.Initializers.{view_made, view_value, single_on, typed_single, typed_initial, typed_initials, initializer_of, no_initializer, literal_of, literal_length, elements_said};
 
 use crate::items::{Made, Value, braced, value_on};
-use crate::slots::slot;
+use c_elab_base::slot;
 use c_elab_expr::{CoreOperand, constant_in, first_line, operand, strings_bytes};
 use c_scope::{Scope, TypingError};
 use c_tree::{Expr, Initializer, Name};

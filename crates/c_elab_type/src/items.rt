@@ -5,9 +5,10 @@ ghost use Rattle.c_types.specs.Types.{view as type_view};
 ghost use Rattle.core_tree.specs.Trees.{Parts, with_part};
 ghost use Rattle.c_scope.specs.Types.{lower};
 ghost use Rattle.c_scope.specs.Faults.{Gives, GivesNode, on_line};
-ghost use Rattle.c_elab_type.specs.Initializers.{Value as SpecValue, view_made, view_value, view_found, only, is_character, scalar_value, record_node, array_node, value_node, joined, part_with, slot, item_node, parts_from, list_made, braced};
+ghost use Rattle.c_elab_base.specs.Slots.{slot};
+ghost use Rattle.c_elab_type.specs.Initializers.{Value as SpecValue, view_made, view_value, view_found, only, is_character, scalar_value, record_node, array_node, value_node, joined, part_with, item_node, parts_from, list_made, braced};
 
-use crate::slots::{object_bytes, slot};
+use c_elab_base::{object_bytes, slot};
 use c_elab_expr::{CoreOperand, as_type, number, record_value};
 use c_scope::{Broken, TypingError};
 use c_types::{IntegerType, Layouts, Ty};
@@ -24,14 +25,14 @@ pub enum Made {
     /// A string, by its bytes without the zero behind them.
     Text { line: u32, bytes: Vec<u8> },
     /// Braces around the items of a struct, a union or an array.
-    Listed { value: CoreStructure },
+    Listed { value: Box<CoreStructure> },
 }
 
 /// A value of an integer type, or of struct, union or array type.
 #[derive(Drop)]
 pub enum Value {
-    Number { value: CoreExpr },
-    Structure { value: CoreStructure },
+    Number { value: Box<CoreExpr> },
+    Structure { value: Box<CoreStructure> },
 }
 
 /// The parts of a list from an item on, the last first, and the lowest rule that an item breaks.
@@ -73,13 +74,13 @@ fn scalar_value(alloc: Global, type_: IntegerType, made: Made) -> Result<Value, 
 }
 
 // The value of a struct or union.
-fn record_node(type_: &Ty, made: Made, layouts: &Layouts) -> Result<Value, Broken>
+fn record_node(alloc: Global, type_: &Ty, made: Made, layouts: &Layouts) -> Result<Value, Broken>
     ensures { GivesNode view_value result (record_node layouts.now.done (type_view type_.now) (view_made made)) }
 {
     match made {
         Made::Nothing => Err(Broken::Rule { rule: 12 }),
         Made::Single { operand } => Ok(Value::Structure {
-            value: record_value(type_, operand, layouts, 12)?,
+            value: record_value(alloc, type_, operand, layouts, 12)?,
         }),
         Made::Text { line: _, bytes: _ } => Err(Broken::Rule { rule: 12 }),
         Made::Listed { value } => Ok(Value::Structure { value }),
@@ -98,7 +99,7 @@ fn is_character(type_: &Ty) -> bool
 }
 
 // The value of an array.
-fn array_node(element: &Ty, length: u32, made: Made) -> Result<Value, Broken>
+fn array_node(alloc: Global, element: &Ty, length: u32, made: Made) -> Result<Value, Broken>
     ensures { GivesNode view_value result (array_node (type_view element.now) length (view_made made)) }
 {
     match made {
@@ -106,12 +107,13 @@ fn array_node(element: &Ty, length: u32, made: Made) -> Result<Value, Broken>
         Made::Single { operand: _ } => Err(Broken::Rule { rule: 12 }),
         Made::Text { line, bytes } => {
             if is_character(element) && bytes.len() <= length as usize {
+                let string = CoreStructure::String {
+                    line,
+                    size: length,
+                    bytes,
+                };
                 Ok(Value::Structure {
-                    value: CoreStructure::String {
-                        line,
-                        size: length,
-                        bytes,
-                    },
+                    value: Box::new(alloc, string)?,
                 })
             } else {
                 Err(Broken::Rule { rule: 12 })
@@ -128,8 +130,8 @@ fn value_node(alloc: Global, type_: &Ty, made: Made, layouts: &Layouts) -> Resul
     match type_ {
         Ty::Void => Err(Broken::Rule { rule: 12 }),
         Ty::Integer(type_) => scalar_value(alloc, *type_, made),
-        Ty::Record(_) => record_node(type_, made, layouts),
-        Ty::Array { element, length } => array_node(element, *length, made),
+        Ty::Record(_) => record_node(alloc, type_, made, layouts),
+        Ty::Array { element, length } => array_node(alloc, element, *length, made),
     }
 }
 
@@ -240,13 +242,15 @@ fn list_made(
     match found.broken {
         Some(rule) => Err(TypingError::Typing { line, rule }),
         None => {
+            let size = object_bytes(type_, layouts)?;
             found.parts.reverse();
+            let list = CoreStructure::List {
+                line,
+                size,
+                parts: found.parts,
+            };
             Ok(Made::Listed {
-                value: CoreStructure::List {
-                    line,
-                    size: object_bytes(type_, layouts)?,
-                    parts: found.parts,
-                },
+                value: Box::new(alloc, list)?,
             })
         }
     }

@@ -30,8 +30,8 @@ use actions::DrawBits;
 use c_types::{IntegerType, ValueType, promote};
 use c_values::{Number, compare, drawn_count, operate, pointer_to, sign, word_count};
 use core_tree::{
-    ArithmeticOperator, Bounds, CoreExpr, CoreItem, CoreStatement, LogicalOperator, LoopBound,
-    Place, StepOperator,
+    ArithmeticOperator, Bounds, CoreExpr, CoreItem, CoreStatement, CoreStructure, LogicalOperator,
+    LoopBound, Place, StepOperator,
 };
 use std::alloc::AllocError;
 use words::Class;
@@ -160,6 +160,109 @@ fn finishing<'a>(expression: &'a CoreExpr) -> Task<'a>
         expression,
         finish: true,
     }
+}
+
+// An operand is evaluated, and then the expression is finished.
+fn operand_first<'a>(operand: &'a CoreExpr, expression: &'a CoreExpr) -> Plan<'a>
+    ensures { result ≡ Plan.Goes (record {
+      tasks = record { first = Some (Task.Expression operand.entry false); second = Some (Task.Expression expression.entry true); third = None };
+      taken = Taken.None;
+      put = None;
+      stacked = Stacked.Kept;
+      written = Written.Nothing;
+    }) }
+{
+    pushes(
+        Taken::None,
+        evaluating(operand),
+        Some(finishing(expression)),
+        None,
+    )
+}
+
+// A structure value is evaluated, and then the expression is finished.
+fn structure_first<'a>(value: &'a CoreStructure, expression: &'a CoreExpr) -> Plan<'a>
+    ensures { result ≡ Plan.Goes (record {
+      tasks = record { first = Some (Task.Structure value.entry false); second = Some (Task.Expression expression.entry true); third = None };
+      taken = Taken.None;
+      put = None;
+      stacked = Stacked.Kept;
+      written = Written.Nothing;
+    }) }
+{
+    pushes(
+        Taken::None,
+        evaluation(value),
+        Some(finishing(expression)),
+        None,
+    )
+}
+
+// Two operands are evaluated, and then the expression is finished.
+fn operands_first<'a>(left: &'a CoreExpr, right: &'a CoreExpr, expression: &'a CoreExpr) -> Plan<'a>
+    ensures { result ≡ Plan.Goes (record {
+      tasks = record { first = Some (Task.Expression left.entry false); second = Some (Task.Expression right.entry false); third = Some (Task.Expression expression.entry true) };
+      taken = Taken.None;
+      put = None;
+      stacked = Stacked.Kept;
+      written = Written.Nothing;
+    }) }
+{
+    pushes(
+        Taken::None,
+        evaluating(left),
+        Some(evaluating(right)),
+        Some(finishing(expression)),
+    )
+}
+
+// A place is read, and then the expression is finished.
+fn place_first<'a>(place: Place, expression: &'a CoreExpr) -> Plan<'a>
+    ensures { result ≡ Plan.Goes (record {
+      tasks = record { first = Some (Task.Fetch place); second = Some (Task.Expression expression.entry true); third = None };
+      taken = Taken.None;
+      put = None;
+      stacked = Stacked.Kept;
+      written = Written.Nothing;
+    }) }
+{
+    pushes(
+        Taken::None,
+        Task::Fetch(place),
+        Some(finishing(expression)),
+        None,
+    )
+}
+
+// An operand is evaluated and a place read, and then the expression is finished.
+fn operand_and_place<'a>(operand: &'a CoreExpr, place: Place, expression: &'a CoreExpr) -> Plan<'a>
+    ensures { result ≡ Plan.Goes (record {
+      tasks = record { first = Some (Task.Expression operand.entry false); second = Some (Task.Fetch place); third = Some (Task.Expression expression.entry true) };
+      taken = Taken.None;
+      put = None;
+      stacked = Stacked.Kept;
+      written = Written.Nothing;
+    }) }
+{
+    pushes(
+        Taken::None,
+        evaluating(operand),
+        Some(Task::Fetch(place)),
+        Some(finishing(expression)),
+    )
+}
+
+// An expression takes the place of the number on top, of which something is then done.
+fn instead<'a>(expression: &'a CoreExpr, task: Task<'a>) -> Plan<'a>
+    ensures { result ≡ Plan.Goes (record {
+      tasks = record { first = Some (Task.Expression expression.entry false); second = Some task.entry; third = None };
+      taken = Taken.One;
+      put = None;
+      stacked = Stacked.Kept;
+      written = Written.Nothing;
+    }) }
+{
+    pushes(Taken::One, evaluating(expression), Some(task), None)
 }
 
 // ---- what is looked at
@@ -507,7 +610,6 @@ fn plan_value<'a>(look: &Look, expr: &'a CoreExpr) -> Plan<'a>
     requires fits { FitsIn look.now (evaluates (view expr.now)) }
     ensures { PlansItem look.now (evaluates (view expr.now)) result }
 {
-    let finish = Some(finishing(expr));
     match expr {
         CoreExpr::Constant {
             line: _,
@@ -520,7 +622,7 @@ fn plan_value<'a>(look: &Look, expr: &'a CoreExpr) -> Plan<'a>
             place,
             operator: _,
             before: _,
-        } => pushes(Taken::None, Task::Fetch(*place), finish, None),
+        } => place_first(*place, expr),
         CoreExpr::Draw { line, type_ } => {
             Plan::Halts(Halt::Asks(Request::Draw(drawn_width(*type_)), *line))
         }
@@ -529,23 +631,13 @@ fn plan_value<'a>(look: &Look, expr: &'a CoreExpr) -> Plan<'a>
             operator: _,
             left,
             right,
-        } => pushes(
-            Taken::None,
-            evaluating(left),
-            Some(evaluating(right)),
-            finish,
-        ),
+        } => operands_first(left, right, expr),
         CoreExpr::Compare {
             line: _,
             operator: _,
             left,
             right,
-        } => pushes(
-            Taken::None,
-            evaluating(left),
-            Some(evaluating(right)),
-            finish,
-        ),
+        } => operands_first(left, right, expr),
         _ => plan_operand(look, expr),
     }
 }
@@ -555,59 +647,45 @@ fn plan_operand<'a>(look: &Look, expr: &'a CoreExpr) -> Plan<'a>
     requires { IsByOperand (view expr.now) }
     ensures { PlansItem look.now (evaluates (view expr.now)) result }
 {
-    let finish = Some(finishing(expr));
     match expr {
-        CoreExpr::Convert { to: _, operand } => {
-            pushes(Taken::None, evaluating(operand), finish, None)
-        }
+        CoreExpr::Convert { to: _, operand } => operand_first(operand, expr),
         CoreExpr::Sign {
             line: _,
             operator: _,
             operand,
-        } => pushes(Taken::None, evaluating(operand), finish, None),
-        CoreExpr::IsZero { line: _, operand } => {
-            pushes(Taken::None, evaluating(operand), finish, None)
-        }
+        } => operand_first(operand, expr),
+        CoreExpr::IsZero { line: _, operand } => operand_first(operand, expr),
         CoreExpr::Logical {
             line: _,
             operator: _,
             left,
             right: _,
-        } => pushes(Taken::None, evaluating(left), finish, None),
+        } => operand_first(left, expr),
         CoreExpr::Choice {
             line: _,
             test,
             yes: _,
             no: _,
-        } => pushes(Taken::None, evaluating(test), finish, None),
+        } => operand_first(test, expr),
         CoreExpr::Assign {
             line: _,
             place: _,
             value,
-        } => pushes(Taken::None, evaluating(value), finish, None),
+        } => operand_first(value, expr),
         CoreExpr::Update {
             line: _,
             place,
             operator: _,
             type_: _,
             value,
-        } => pushes(
-            Taken::None,
-            evaluating(value),
-            Some(Task::Fetch(*place)),
-            finish,
-        ),
+        } => operand_and_place(value, *place, expr),
         CoreExpr::Comma {
             line: _,
             left,
             right: _,
-        } => pushes(Taken::None, evaluating(left), finish, None),
-        CoreExpr::Assertion { line: _, condition } => {
-            pushes(Taken::None, evaluating(condition), finish, None)
-        }
-        CoreExpr::Assumption { line: _, condition } => {
-            pushes(Taken::None, evaluating(condition), finish, None)
-        }
+        } => operand_first(left, expr),
+        CoreExpr::Assertion { line: _, condition } => operand_first(condition, expr),
+        CoreExpr::Assumption { line: _, condition } => operand_first(condition, expr),
         _ => plan_structure_operand(look, expr),
     }
 }
@@ -617,20 +695,15 @@ fn plan_structure_operand<'a>(look: &Look, expr: &'a CoreExpr) -> Plan<'a>
     requires { IsByStructure (view expr.now) }
     ensures { PlansItem look.now (evaluates (view expr.now)) result }
 {
-    let finish = Some(finishing(expr));
     match expr {
         CoreExpr::Member {
             line: _,
             type_: _,
             offset: _,
             value,
-        } => pushes(Taken::None, evaluation(value), finish, None),
-        CoreExpr::Discard { line: _, operand } => {
-            pushes(Taken::None, evaluating(operand), finish, None)
-        }
-        CoreExpr::DiscardStructure { value } => {
-            pushes(Taken::None, evaluation(value), finish, None)
-        }
+        } => structure_first(value, expr),
+        CoreExpr::Discard { line: _, operand } => operand_first(operand, expr),
+        CoreExpr::DiscardStructure { value } => structure_first(value, expr),
         _ => unreachable!(),
     }
 }
@@ -732,7 +805,7 @@ fn plan_tested<'a>(look: &Look, expr: &'a CoreExpr) -> Plan<'a>
             if decides(*operator, x) {
                 puts(Taken::One, Number::of_truth(x.is_true()))
             } else {
-                pushes(Taken::One, evaluating(right), Some(Task::Test), None)
+                instead(right, Task::Test)
             }
         }
         CoreExpr::Choice {
@@ -741,11 +814,11 @@ fn plan_tested<'a>(look: &Look, expr: &'a CoreExpr) -> Plan<'a>
             yes,
             no,
         } => {
-            let retype = Some(Task::Retype(number_type_of(yes)));
+            let type_ = number_type_of(yes);
             if x.is_true() {
-                pushes(Taken::One, evaluating(yes), retype, None)
+                instead(yes, Task::Retype(type_))
             } else {
-                pushes(Taken::One, evaluating(no), retype, None)
+                instead(no, Task::Retype(type_))
             }
         }
         CoreExpr::Comma {
@@ -793,6 +866,91 @@ pub(crate) fn running<'a>(statement: &'a CoreStatement) -> Task<'a>
     }
 }
 
+// A test or a value is evaluated, and then the statement ends.
+fn number_first<'a>(expression: &'a CoreExpr, statement: &'a CoreStatement) -> Plan<'a>
+    ensures { result ≡ Plan.Goes (record {
+      tasks = record { first = Some (Task.Expression expression.entry false); second = Some (Task.Statement statement.entry Stage.End); third = None };
+      taken = Taken.None;
+      put = None;
+      stacked = Stacked.Kept;
+      written = Written.Nothing;
+    }) }
+{
+    pushes(
+        Taken::None,
+        evaluating(expression),
+        Some(at_stage(statement, Stage::End)),
+        None,
+    )
+}
+
+// A structure value is evaluated, and then the statement ends.
+fn value_first<'a>(value: &'a CoreStructure, statement: &'a CoreStatement) -> Plan<'a>
+    ensures { result ≡ Plan.Goes (record {
+      tasks = record { first = Some (Task.Structure value.entry false); second = Some (Task.Statement statement.entry Stage.End); third = None };
+      taken = Taken.None;
+      put = None;
+      stacked = Stacked.Kept;
+      written = Written.Nothing;
+    }) }
+{
+    pushes(
+        Taken::None,
+        evaluation(value),
+        Some(at_stage(statement, Stage::End)),
+        None,
+    )
+}
+
+// A statement goes on at a stage.
+fn stays<'a>(statement: &'a CoreStatement, stage: Stage) -> Plan<'a>
+    ensures { result ≡ Plan.Goes (record {
+      tasks = record { first = Some (Task.Statement statement.entry stage); second = None; third = None };
+      taken = Taken.None;
+      put = None;
+      stacked = Stacked.Kept;
+      written = Written.Nothing;
+    }) }
+{
+    pushes(Taken::None, at_stage(statement, stage), None, None)
+}
+
+// The body of a loop is run, and then the loop goes on at a stage.
+fn body_first<'a>(body: &'a CoreStatement, statement: &'a CoreStatement, stage: Stage) -> Plan<'a>
+    ensures { result ≡ Plan.Goes (record {
+      tasks = record { first = Some (Task.Statement body.entry Stage.Run); second = Some (Task.Statement statement.entry stage); third = None };
+      taken = Taken.None;
+      put = None;
+      stacked = Stacked.Kept;
+      written = Written.Nothing;
+    }) }
+{
+    pushes(
+        Taken::None,
+        running(body),
+        Some(at_stage(statement, stage)),
+        None,
+    )
+}
+
+// The test of a loop is evaluated, and then the loop goes on at a stage.
+fn test_first<'a>(test: &'a CoreExpr, statement: &'a CoreStatement, stage: Stage) -> Plan<'a>
+    ensures { result ≡ Plan.Goes (record {
+      tasks = record { first = Some (Task.Expression test.entry false); second = Some (Task.Statement statement.entry stage); third = None };
+      taken = Taken.None;
+      put = None;
+      stacked = Stacked.Kept;
+      written = Written.Nothing;
+    }) }
+{
+    pushes(
+        Taken::None,
+        evaluating(test),
+        Some(at_stage(statement, stage)),
+        None,
+    )
+}
+
 fn plan_block<'a>(look: &Look, items: &'a Vec<CoreItem>) -> Plan<'a>
     ensures { PlansItem look.now (runs (block (items_of items.now.items))) result }
 {
@@ -816,28 +974,25 @@ fn before<'a>(part: &'a CoreExpr, next: Task<'a>) -> Plan<'a>
 fn plan_statement<'a>(look: &Look, statement: &'a CoreStatement) -> Plan<'a>
     ensures { PlansItem look.now (runs (view_statement statement.now)) result }
 {
-    let end = Some(at_stage(statement, Stage::End));
     match statement {
         CoreStatement::Block { items } => plan_block(look, items),
         CoreStatement::If {
             line: _,
             test,
             yes: _,
-        } => pushes(Taken::None, evaluating(test), end, None),
+        } => number_first(test, statement),
         CoreStatement::IfElse {
             line: _,
             test,
             yes: _,
             no: _,
-        } => pushes(Taken::None, evaluating(test), end, None),
-        CoreStatement::Evaluate { expression } => {
-            pushes(Taken::None, evaluating(expression), end, None)
-        }
+        } => number_first(test, statement),
+        CoreStatement::Evaluate { expression } => number_first(expression, statement),
         CoreStatement::Switch {
             line: _,
             value,
             items: _,
-        } => pushes(Taken::None, evaluating(value), end, None),
+        } => number_first(value, statement),
         CoreStatement::For {
             line: _,
             number,
@@ -858,8 +1013,7 @@ fn plan_statement<'a>(look: &Look, statement: &'a CoreStatement) -> Plan<'a>
             body: _,
         } => {
             let rounds = tests_of(look, *number).saturating_sub(1);
-            let next = at_stage(statement, Stage::Retest(rounds));
-            pushes(Taken::None, next, None, None)
+            stays(statement, Stage::Retest(rounds))
         }
         CoreStatement::Do {
             line: _,
@@ -868,12 +1022,7 @@ fn plan_statement<'a>(look: &Look, statement: &'a CoreStatement) -> Plan<'a>
             test: _,
         } => {
             let rounds = tests_of(look, *number);
-            pushes(
-                Taken::None,
-                at_stage(statement, Stage::Turn(rounds)),
-                None,
-                None,
-            )
+            stays(statement, Stage::Turn(rounds))
         }
         CoreStatement::Stray { line: _, statement } => {
             pushes(Taken::None, running(statement), None, None)
@@ -887,14 +1036,9 @@ fn plan_jump<'a>(look: &Look, statement: &'a CoreStatement) -> Plan<'a>
     requires { LeadsOut (view_statement statement.now) }
     ensures { PlansItem look.now (runs (view_statement statement.now)) result }
 {
-    let end = Some(at_stage(statement, Stage::End));
     match statement {
-        CoreStatement::Return { line: _, value } => {
-            pushes(Taken::None, evaluating(value), end, None)
-        }
-        CoreStatement::ReturnStructure { line: _, value } => {
-            pushes(Taken::None, evaluation(value), end, None)
-        }
+        CoreStatement::Return { line: _, value } => number_first(value, statement),
+        CoreStatement::ReturnStructure { line: _, value } => value_first(value, statement),
         CoreStatement::ReturnNothing { line: _ } => {
             pushes(Taken::None, Task::Hand(Handed::Nothing), None, None)
         }
@@ -1015,7 +1159,7 @@ fn plan_turn<'a>(look: &Look, rounds: u32, statement: &'a CoreStatement) -> Plan
     if rounds == 0 {
         return plan_passed_bound(look, Class::Unwind, line_of_loop(statement));
     }
-    let end = Some(at_stage(statement, Stage::Body(rounds - 1)));
+    let end = Stage::Body(rounds - 1);
     match statement {
         CoreStatement::For {
             line: _,
@@ -1024,14 +1168,14 @@ fn plan_turn<'a>(look: &Look, rounds: u32, statement: &'a CoreStatement) -> Plan
             test: _,
             last: _,
             body,
-        } => pushes(Taken::None, running(body), end, None),
+        } => body_first(body, statement, end),
         CoreStatement::Do {
             line: _,
             number: _,
             body,
             test: _,
-        } => pushes(Taken::None, running(body), end, None),
-        _ => pushes(Taken::None, running(statement), end, None),
+        } => body_first(body, statement, end),
+        _ => body_first(statement, statement, end),
     }
 }
 
@@ -1039,8 +1183,7 @@ fn plan_turn<'a>(look: &Look, rounds: u32, statement: &'a CoreStatement) -> Plan
 fn plan_retest<'a>(look: &Look, rounds: u32, statement: &'a CoreStatement) -> Plan<'a>
     ensures { PlansItem look.now (retests rounds (loop_in (view_statement statement.now))) result }
 {
-    let turn = at_stage(statement, Stage::Turn(rounds));
-    let repeat = Some(at_stage(statement, Stage::Repeat(rounds)));
+    let repeat = Stage::Repeat(rounds);
     match statement {
         CoreStatement::For {
             line: _,
@@ -1049,14 +1192,14 @@ fn plan_retest<'a>(look: &Look, rounds: u32, statement: &'a CoreStatement) -> Pl
             test: Some(test),
             last: _,
             body: _,
-        } => pushes(Taken::None, evaluating(test), repeat, None),
+        } => test_first(test, statement, repeat),
         CoreStatement::Do {
             line: _,
             number: _,
             body: _,
             test,
-        } => pushes(Taken::None, evaluating(test), repeat, None),
-        _ => pushes(Taken::None, turn, None, None),
+        } => test_first(test, statement, repeat),
+        _ => stays(statement, Stage::Turn(rounds)),
     }
 }
 
@@ -1064,7 +1207,6 @@ fn plan_retest<'a>(look: &Look, rounds: u32, statement: &'a CoreStatement) -> Pl
 fn plan_body_end<'a>(look: &Look, rounds: u32, statement: &'a CoreStatement) -> Plan<'a>
     ensures { PlansItem look.now (loops rounds (loop_in (view_statement statement.now))) result }
 {
-    let next = at_stage(statement, Stage::Retest(rounds));
     match statement {
         CoreStatement::For {
             line: _,
@@ -1073,8 +1215,8 @@ fn plan_body_end<'a>(look: &Look, rounds: u32, statement: &'a CoreStatement) -> 
             test: _,
             last: Some(last),
             body: _,
-        } => before(last, next),
-        _ => pushes(Taken::None, next, None, None),
+        } => before(last, at_stage(statement, Stage::Retest(rounds))),
+        _ => stays(statement, Stage::Retest(rounds)),
     }
 }
 
@@ -1287,7 +1429,7 @@ fn plan_items<'a>(look: &Look, items: &'a Vec<CoreItem>, from: usize) -> Plan<'a
     let Some(item) = items.get(from) else {
         return takes(Taken::None);
     };
-    let more = going_on(items, from + 1);
+    let next = from + 1;
     match item {
         CoreItem::Initialize {
             line: _,
@@ -1298,7 +1440,7 @@ fn plan_items<'a>(look: &Look, items: &'a Vec<CoreItem>, from: usize) -> Plan<'a
             Taken::None,
             evaluating(value),
             Some(Task::Initialize(*variable, number_type_of(value))),
-            Some(more),
+            Some(going_on(items, next)),
         ),
         CoreItem::InitializeStructure {
             line: _,
@@ -1309,12 +1451,17 @@ fn plan_items<'a>(look: &Look, items: &'a Vec<CoreItem>, from: usize) -> Plan<'a
             Taken::None,
             evaluation(value),
             Some(Task::InitializeStructure(*variable)),
-            Some(more),
+            Some(going_on(items, next)),
         ),
         CoreItem::Statement { statement } => {
-            pushes(Taken::None, running(statement), Some(more), None)
+            pushes(
+                Taken::None,
+                running(statement),
+                Some(going_on(items, next)),
+                None,
+            )
         }
-        _ => pushes(Taken::None, more, None, None),
+        _ => pushes(Taken::None, going_on(items, next), None, None),
     }
 }
 

@@ -1,4 +1,4 @@
-ghost use Rattle.std.specs.Prelude.{◌≡◌, false, Some, None, IfOk, take, drop};
+ghost use Rattle.std.specs.Prelude.{◌≡◌, true, false, Some, None, IfOk, take, drop};
 ghost use Rattle.core_tree.specs.Trees.{view_structure, parts_of, load, list};
 ghost use Rattle.c_values.specs.Variables.{number_at, block_of};
 ghost use Rattle.c_values.specs.Numbers.{typed};
@@ -12,7 +12,7 @@ use crate::task::{Change, Halt, Look, Plan, Request, Stacked, Taken, Task, Tasks
 use crate::variables::Block;
 use c_types::IntegerType;
 use c_values::{Number, pointer_to, read_block};
-use core_tree::{CorePart, CoreStructure};
+use core_tree::{CoreExpr, CorePart, CoreStructure};
 use std::alloc::{AllocError, Global};
 
 // ---- changes
@@ -204,46 +204,88 @@ fn plan_started<'a>(
     ))
 }
 
+// The task of a structure value whose first part is evaluated.
+fn completion<'a>(value: &'a CoreStructure) -> Task<'a>
+    ensures { result ≡ Task.Structure value.entry true }
+{
+    Task::Structure {
+        value,
+        complete: true,
+    }
+}
+
+// A number is evaluated, and then the structure value is completed.
+fn number_first<'a>(operand: &'a CoreExpr, value: &'a CoreStructure) -> Plan<'a>
+    ensures { result ≡ Plan.Goes (record {
+      tasks = record { first = Some (Task.Expression operand.entry false); second = Some (Task.Structure value.entry true); third = None };
+      taken = Taken.None;
+      put = None;
+      stacked = Stacked.Kept;
+      written = Written.Nothing;
+    }) }
+{
+    pushes(
+        Taken::None,
+        evaluating(operand),
+        Some(completion(value)),
+        None,
+    )
+}
+
+// Another structure value is evaluated, and then this one is completed.
+fn inner_first<'a>(inner: &'a CoreStructure, value: &'a CoreStructure) -> Plan<'a>
+    ensures { result ≡ Plan.Goes (record {
+      tasks = record { first = Some (Task.Structure inner.entry false); second = Some (Task.Structure value.entry true); third = None };
+      taken = Taken.None;
+      put = None;
+      stacked = Stacked.Kept;
+      written = Written.Nothing;
+    }) }
+{
+    pushes(
+        Taken::None,
+        evaluation(inner),
+        Some(completion(value)),
+        None,
+    )
+}
+
 // The plan of a structure value of which a test, an operand that isn't used or another structure value is
 // evaluated first.
 fn plan_first_part<'a>(look: &Look, value: &'a CoreStructure) -> Plan<'a>
     requires { IsByPart (view_structure value.now) }
     ensures { PlansItem look.now (evaluates_structure (view_structure value.now)) result }
 {
-    let complete = Some(Task::Structure {
-        value,
-        complete: true,
-    });
     match value {
         CoreStructure::Choice {
             line: _,
             test,
             yes: _,
             no: _,
-        } => pushes(Taken::None, evaluating(test), complete, None),
+        } => number_first(test, value),
         CoreStructure::Assign {
             line: _,
             variable: _,
             offset: _,
             value: inner,
-        } => pushes(Taken::None, evaluation(inner), complete, None),
+        } => inner_first(inner, value),
         CoreStructure::Store {
             line: _,
             object: _,
             offset: _,
             value: inner,
-        } => pushes(Taken::None, evaluation(inner), complete, None),
+        } => inner_first(inner, value),
         CoreStructure::Comma {
             line: _,
             left,
             right: _,
-        } => pushes(Taken::None, evaluating(left), complete, None),
+        } => number_first(left, value),
         CoreStructure::Member {
             line: _,
             offset: _,
             size: _,
             value: inner,
-        } => pushes(Taken::None, evaluation(inner), complete, None),
+        } => inner_first(inner, value),
         _ => unreachable!(),
     }
 }
@@ -336,19 +378,19 @@ pub(crate) fn plan_list<'a>(look: &Look, parts: &'a Vec<CorePart>, from: usize) 
     let Some(part) = parts.get(from) else {
         return takes(Taken::None);
     };
-    let more = Some(Task::List(parts, from + 1));
+    let next = from + 1;
     match part {
         CorePart::Number { offset, value } => pushes(
             Taken::None,
             evaluating(value),
             Some(Task::PlaceNumber(*offset, number_type_of(value))),
-            more,
+            Some(Task::List(parts, next)),
         ),
         CorePart::Structure { offset, value } => pushes(
             Taken::None,
             evaluation(value),
             Some(Task::PlaceStructure(*offset)),
-            more,
+            Some(Task::List(parts, next)),
         ),
     }
 }

@@ -7,11 +7,11 @@ use Rattle.std.specs.Prelude.{is_some}
 use Rattle.std.specs.Str.{bytes_eq}
 use Rattle.c_lexer.specs.declared.class.Class.{Class}
 use Rattle.c_lexer.specs.declared.class.Class.TheVariants.{Letter, Digit, Quote, Space, Other}
-use Rattle.c_lexer.specs.declared.token.Mark.{Mark}
-use Rattle.c_lexer.specs.declared.token.Mark.TheVariants as marks
-use Rattle.c_lexer.specs.declared.token.TheConstants.{MARKS}
+use Rattle.c_token.specs.declared.token.Mark.{Mark}
+use Rattle.c_token.specs.declared.token.Mark.TheVariants as marks
+use Rattle.c_token.specs.declared.token.TheConstants.{MARKS}
 use Rattle.c_lexer.specs.Bytes.{class_of, letter_class, digit_class, quote_class, is_digit}
-use Rattle.c_lexer.specs.Spelling.{mark_text, mark_of}
+use Rattle.c_token.specs.Spelling.{mark_text, mark_of}
 use Rattle.c_lexer.specs.Forms.{begins, is_mark}
 
 abbrev pub other_class : Class → Bool

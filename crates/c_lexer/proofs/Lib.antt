@@ -13,4 +13,3 @@ pub mod Standing
 pub mod Marks
 pub mod Quotes
 pub mod Comments
-pub mod Spellings

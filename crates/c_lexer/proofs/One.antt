@@ -2,7 +2,7 @@
 use Rattle.std.proofs.Common.{◌≡◌, ℕ, List, [], ◌∷◌, take, drop, Bool, Result, Ok, Err, sym, ap, subst, ◌∙◌, inl, inr}
 use Rattle.std.specs.Prelude.{slice_index}
 use Rattle.std.proofs.lemmas.Bool.{both_ways, cases_order}
-use Rattle.c_lexer.specs.declared.token.Token.{Token}
+use Rattle.c_token.specs.declared.token.Token.{Token}
 use Rattle.c_lexer.specs.declared.fault.Fault.{Fault}
 use Rattle.c_lexer.specs.declared.fault.LexError.{LexError}
 use Rattle.c_lexer.specs.declared.piece.Piece.{Piece}

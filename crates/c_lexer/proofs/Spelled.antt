@@ -1,8 +1,9 @@
 -- Tokens stay spelled where bytes are put around those that they lie in.
 use Rattle.std.proofs.Common.{◌≡◌, ◌≤◌, ◌+◌, ℕ, List, ◌++◌, length, take, drop, refl, sym, ap, ◌∙◌, arith}
 use Rattle.std.proofs.lemmas.List.{take-append-le, drop-append-le, drop-drop, drop_at, length-drop, length-append}
-use Rattle.c_lexer.specs.declared.token.Token.{Token}
-use Rattle.c_lexer.specs.Kinds.{kind_of, text_of, IsSpelled, AllSpelled}
+use Rattle.c_token.specs.declared.token.Token.{Token}
+use Rattle.c_lexer.specs.Kinds.{kind_of, IsSpelled, AllSpelled}
+use Rattle.c_token.specs.Spelling.{text_of}
 
 -- the text of a token stays where bytes are put behind
 pub text_stays : (bytes more : List ℕ) (token : Token) → token.start + token.length ≤ length bytes → text_of (bytes ++ more) token ≡ text_of bytes token

@@ -3,7 +3,7 @@ use Rattle.std.proofs.Common.{◌≡◌, ◌<◌, ◌≤◌, ℕ, List, [], ◌�
 use Rattle.std.proofs.lemmas.Bool.{and_parts, or_cases, or_left, and_from, and_left, eqb-true, both_ways}
 use Rattle.c_lexer.specs.declared.class.Class.TheVariants.{Letter, Digit, Quote, Space, Other}
 use Rattle.c_lexer.specs.declared.piece.Start.TheVariants as starts
-use Rattle.c_lexer.specs.declared.token.Kind.{Kind}
+use Rattle.c_token.specs.declared.token.Kind.{Kind}
 use Rattle.c_lexer.specs.declared.fault.Fault.{Fault}
 use Rattle.c_lexer.specs.Bytes.{class_of, space_class, is_letter, is_digit, is_quote}
 use Rattle.c_lexer.specs.Forms.{begins, begins_number, is_word, is_number, is_literal, is_mark, is_token, closes, IsLongest, IsShortest}

@@ -3,19 +3,19 @@ use Rattle.std.proofs.Common.{◌≡◌, ◌≤◌, ℕ, List, [], ◌∷◌, le
 use Rattle.std.specs.Prelude.{is_some}
 use Rattle.std.specs.Option.{option_map_or}
 use Rattle.std.proofs.lemmas.Bool.{and_parts}
-use Rattle.c_lexer.specs.declared.token.Constant.{Constant}
-use Rattle.c_lexer.specs.declared.token.Kind.{Kind}
-use Rattle.c_lexer.specs.declared.token.Kind.TheVariants as kinds
+use Rattle.c_token.specs.declared.token.Constant.{Constant}
+use Rattle.c_token.specs.declared.token.Kind.{Kind}
+use Rattle.c_token.specs.declared.token.Kind.TheVariants as kinds
 use Rattle.c_lexer.specs.declared.fault.Fault.{Fault}
 use Rattle.c_lexer.specs.declared.fault.Fault.TheVariants as faults
 use Rattle.c_lexer.specs.Forms.{begins, is_word, is_number, is_literal}
 use Rattle.c_lexer.specs.Bytes.{is_quote}
-use Rattle.c_lexer.specs.Spelling.{keyword_of, mark_of}
+use Rattle.c_token.specs.Spelling.{keyword_of, mark_of}
 use Rattle.c_lexer.specs.Constants.{constant_of}
 use Rattle.c_lexer.specs.Literals.{string_bytes, character_byte}
 use Rattle.c_lexer.specs.Kinds.{is_foreign, word_kind, number_kind, literal_kind, mark_kind, kind_of, int_bits}
-use Rattle.c_lexer.specs.declared.token.Keyword.{Keyword}
-use Rattle.c_lexer.specs.declared.token.Mark.{Mark}
+use Rattle.c_token.specs.declared.token.Keyword.{Keyword}
+use Rattle.c_token.specs.declared.token.Mark.{Mark}
 
 word_is_none : (f : Bool) (k : Option Keyword) → cond f (Err faults.Foreign) (Ok (option_map_or kinds.Keyword k kinds.Identifier)) ≡ Ok kinds.String → ⊥
 word_is_none true k h = cc

@@ -1,7 +1,7 @@
 -- No type holds a value of 2 ^ 64 or more.
 use Rattle.std.proofs.Common.{◌≡◌, ◌≤◌, ◌<◌, ◌^◌, ℕ, false, None, refl, arith}
 use Rattle.std.proofs.lemmas.Bool.{and_right, le-ltb}
-use Rattle.c_lexer.specs.declared.token.ConstantType.TheVariants.{Int, UnsignedInt, Long, UnsignedLong, LongLong, UnsignedLongLong}
+use Rattle.c_token.specs.declared.token.ConstantType.TheVariants.{Int, UnsignedInt, Long, UnsignedLong, LongLong, UnsignedLongLong}
 use Rattle.c_lexer.specs.declared.constant.Suffix.{Suffix}
 use Rattle.c_lexer.specs.Constants.{admits, typed, limit_of}
 

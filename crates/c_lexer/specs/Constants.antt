@@ -4,9 +4,9 @@ use Rattle.std.specs.List.{take_while}
 use Rattle.std.specs.Option.{option_and_then}
 use Rattle.std.specs.Str.{bytes_eq}
 use Rattle.c_lexer.specs.Forms.{is_empty, begins}
-use Rattle.c_lexer.specs.declared.token.Constant.{Constant}
-use Rattle.c_lexer.specs.declared.token.ConstantType.{ConstantType}
-use Rattle.c_lexer.specs.declared.token.ConstantType.TheVariants.{Int, UnsignedInt, Long, UnsignedLong, LongLong, UnsignedLongLong}
+use Rattle.c_token.specs.declared.token.Constant.{Constant}
+use Rattle.c_token.specs.declared.token.ConstantType.{ConstantType}
+use Rattle.c_token.specs.declared.token.ConstantType.TheVariants.{Int, UnsignedInt, Long, UnsignedLong, LongLong, UnsignedLongLong}
 use Rattle.c_lexer.specs.declared.constant.Suffix.{Suffix}
 
 -- the value of a digit of base 16, and 16 for a byte that isn't one

@@ -2,7 +2,7 @@
 use Rattle.std.specs.Prelude.{◌≡◌, ◌<◌, ◌≤◌, ◌-◌, ℕ, List, [], ◌∷◌, Bool, true, false, ◌==◌, ◌||◌, ◌&&◌, not, nat_le, if◌then◌else◌, length, take, drop, codes, is_some}
 use Rattle.std.specs.Str.{bytes_eq}
 use Rattle.c_lexer.specs.Bytes.{is_letter, is_digit, is_quote, is_word_byte}
-use Rattle.c_lexer.specs.Spelling.{mark_of}
+use Rattle.c_token.specs.Spelling.{mark_of}
 
 abbrev pub is_empty : List ℕ → Bool
 is_empty [] = true

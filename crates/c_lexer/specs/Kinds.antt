@@ -1,14 +1,14 @@
 -- What a token is, by its text (C11 6.4).
-use Rattle.std.specs.Prelude.{◌≡◌, ◌≤◌, ℕ, ◌+◌, List, Bool, ◌==◌, ◌||◌, nat_lt, if◌then◌else◌, length, take, drop, codes, Result, Ok, Err, is_some, All}
+use Rattle.std.specs.Prelude.{◌≡◌, ◌≤◌, ℕ, ◌+◌, List, Bool, ◌==◌, ◌||◌, nat_lt, if◌then◌else◌, length, codes, Result, Ok, Err, is_some, All}
 use Rattle.std.specs.Option.{option_map_or}
 use Rattle.std.specs.Str.{bytes_eq}
-use Rattle.c_lexer.specs.Spelling.{keyword_of, mark_of}
+use Rattle.c_token.specs.Spelling.{keyword_of, mark_of, text_of}
 use Rattle.c_lexer.specs.Forms.{begins, is_word, is_number, is_literal}
 use Rattle.c_lexer.specs.Constants.{constant_of}
 use Rattle.c_lexer.specs.Literals.{string_bytes, character_byte}
-use Rattle.c_lexer.specs.declared.token.Kind.{Kind}
-use Rattle.c_lexer.specs.declared.token.Kind.TheVariants as kinds
-use Rattle.c_lexer.specs.declared.token.Token.{Token}
+use Rattle.c_token.specs.declared.token.Kind.{Kind}
+use Rattle.c_token.specs.declared.token.Kind.TheVariants as kinds
+use Rattle.c_token.specs.declared.token.Token.{Token}
 use Rattle.c_lexer.specs.declared.fault.Fault.{Fault}
 use Rattle.c_lexer.specs.declared.fault.Fault.TheVariants as faults
 
@@ -48,10 +48,6 @@ kind_of text =
     else (if is_number text then number_kind text
     else (if is_literal text then literal_kind text
     else mark_kind text))
-
--- the text of a token in the bytes that it lies in
-abbrev pub text_of : List ℕ → Token → List ℕ
-text_of bytes token = take token.length (drop token.start bytes)
 
 -- the token lies in the bytes, and they spell a token of its kind there
 pub record IsSpelled (bytes : List ℕ) (token : Token) : Type 0 where

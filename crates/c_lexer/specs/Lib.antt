@@ -1,5 +1,4 @@
 pub mod Bytes
-pub mod Spelling
 pub mod Forms
 pub mod Constants
 pub mod Literals

@@ -3,7 +3,7 @@ use Rattle.std.specs.Prelude.{◌≡◌, ◌⊎◌, ℕ, List, [], ◌∷◌, Bo
 use Rattle.c_lexer.specs.Bytes.{is_space, is_quote}
 use Rattle.c_lexer.specs.Forms.{begins, is_token, is_line_comment, is_block_comment, IsLongest, IsShortest, NonePasses}
 use Rattle.c_lexer.specs.Kinds.{kind_of}
-use Rattle.c_lexer.specs.declared.token.Kind.{Kind}
+use Rattle.c_token.specs.declared.token.Kind.{Kind}
 use Rattle.c_lexer.specs.declared.fault.Fault.{Fault}
 use Rattle.c_lexer.specs.declared.fault.Fault.TheVariants.{BadByte, Unclosed, Foreign}
 use Rattle.c_lexer.specs.declared.piece.Piece.{Piece}

@@ -6,7 +6,7 @@ ghost use Rattle.c_lexer.specs.Forms.{begins};
 ghost use Rattle.c_lexer.specs.Constants.{digit_value, digits, number, base_of, behind_prefix, is_u, long_suffix, suffix, suffix_of, limit_of, is_unsigned, longs_of, constant_types, admits, typed, constant_of};
 
 use crate::class::spells;
-use crate::token::{CONSTANT_TYPES, Constant, ConstantType};
+use c_token::{CONSTANT_TYPES, Constant, ConstantType};
 
 /// The suffix of an integer constant: whether it has a u, and how many l's.
 #[derive(Clone, Copy)]

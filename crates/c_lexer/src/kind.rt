@@ -8,7 +8,7 @@ use crate::class::{Class, class_of, spells};
 use crate::constant::constant_of;
 use crate::fault::Fault;
 use crate::literal::{character_byte, is_string};
-use crate::token::{Kind, keyword_of, mark_of};
+use c_token::{Kind, keyword_of, mark_of};
 
 /// Whether a word is a keyword of C11 that the profile leaves out.
 #[tactic(auto, unfolding(crate::specs::Kinds::is_foreign))]

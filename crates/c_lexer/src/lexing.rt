@@ -5,13 +5,13 @@ ghost use Rattle.std.specs.Option.{option_to_list};
 ghost use Rattle.c_lexer.specs.Forms.{begins};
 ghost use Rattle.c_lexer.specs.Cutting.{bytes_of, lines_of, last_line_of, Cuts, start, IsCutInto, Gives, error_of};
 ghost use Rattle.c_lexer.specs.Kinds.{AllSpelled};
-ghost use Rattle.c_lexer.specs.declared.token.Token.{Token};
+ghost use Rattle.c_token.specs.declared.token.Token.{Token};
 
 use crate::fault::{Fault, LexError};
 use crate::piece::piece_at;
 use crate::place::{Place, behind, token_of};
-use crate::token::Token;
 use crate::tokens::Tokens;
+use c_token::Token;
 use std::alloc::{AllocError, Global};
 
 /// A file without its splices: its bytes, and the line of each.

@@ -9,14 +9,9 @@ mod lexing;
 mod literal;
 mod piece;
 mod place;
-mod token;
 mod tokens;
 
 pub use fault::LexError;
 pub use lexing::{lex, one_cutting};
 pub use literal::{Element, element_at, string_bytes};
-pub use token::{
-    Constant, ConstantType, Keyword, Kind, Mark, Token, each_keyword_is_spelled,
-    each_mark_is_spelled,
-};
 pub use tokens::{Tokens, text_of};

@@ -7,7 +7,7 @@ ghost use Rattle.c_lexer.specs.Kinds.{kind_of};
 ghost use Rattle.c_lexer.specs.Literals.{simple_escape, escape_by, escape_at, element_at, bytes_behind, enclosed, string_bytes, character_byte};
 
 use crate::constant::{digits_end, number};
-use crate::token::Kind;
+use c_token::Kind;
 use std::alloc::{AllocError, Global};
 
 /// A character or an escape within a literal: the byte that it stands for, and the number of bytes that spell it.

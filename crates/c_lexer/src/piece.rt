@@ -9,7 +9,7 @@ use crate::class::{Class, class_of, is_word_byte};
 use crate::fault::Fault;
 use crate::kind::{begins_number, kind_of};
 use crate::literal::literal_end;
-use crate::token::{Kind, mark_of};
+use c_token::{Kind, mark_of};
 
 /// What begins at the front of a text.
 #[derive(Clone, Copy)]

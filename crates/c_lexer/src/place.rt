@@ -7,7 +7,7 @@ ghost use Rattle.c_lexer.specs.Cutting.{behind, tokens_of};
 
 use crate::kind::is_prefix;
 use crate::piece::Piece;
-use crate::token::Token;
+use c_token::Token;
 
 /// A place between two pieces.
 #[derive(Clone, Copy)]

@@ -1,9 +1,10 @@
 //! The tokens of a file with the bytes that they lie in.
 
 ghost use Rattle.std.specs.Prelude.{◌≡◌, ◌≤◌, ◌+◌, length};
-ghost use Rattle.c_lexer.specs.Kinds.{AllSpelled, text_of};
+ghost use Rattle.c_lexer.specs.Kinds.{AllSpelled};
+ghost use Rattle.c_token.specs.Spelling.{text_of};
 
-use crate::token::Token;
+use c_token::Token;
 
 /// The tokens of a file.
 #[derive(Drop)]

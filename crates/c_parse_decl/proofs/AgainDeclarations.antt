@@ -1,22 +1,22 @@
 -- Initializers, declarators and declarations that stand there are read.
-use Rattle.std.proofs.Common.{◌≡◌, ◌≢◌, ◌≤◌, ◌<◌, ◌+◌, max, ℕ, zero, suc, List, [], ◌∷◌, ◌++◌, length, length-append, Bool, true, false, cond, Option, Some, None, refl, ap, sym, subst, ◌∙◌, arith, inl, inr}
-use Rattle.std.specs.Prelude.{◌||◌, ◌&&◌, ◌⊎◌}
-use Rattle.c_lexer.specs.declared.token.Token.{Token}
-use Rattle.c_lexer.specs.declared.token.Kind.{Kind}
-use Rattle.c_lexer.specs.declared.token.Kind.TheVariants as kinds
-use Rattle.c_lexer.specs.declared.token.Keyword.TheVariants as keywords
-use Rattle.c_lexer.specs.declared.token.Mark.{Mark}
-use Rattle.c_lexer.specs.declared.token.Mark.TheVariants as marks
-use Rattle.c_tree.specs.Tree.{TypePart, qualified, word, tagged, typedef_name, Tree, depth}
-use Rattle.c_tree.specs.Tables.{level_of, qualifier_keyword, word_keyword, tag_keyword, storage_keyword, function_keyword, record_keyword}
+use Rattle.std.proofs.Common.{◌≡◌, ◌≤◌, ◌<◌, ◌+◌, max, ℕ, zero, suc, List, [], ◌∷◌, ◌++◌, length, length-append, Bool, true, false, cond, Option, Some, None, refl, ap, sym, ◌∙◌, arith, inl, inr}
+use Rattle.std.specs.Prelude.{◌&&◌}
+use Rattle.c_token.specs.declared.token.Token.{Token}
+use Rattle.c_token.specs.declared.token.Kind.{Kind}
+use Rattle.c_token.specs.declared.token.Kind.TheVariants as kinds
+use Rattle.c_token.specs.declared.token.Keyword.TheVariants as keywords
+use Rattle.c_token.specs.declared.token.Mark.{Mark}
+use Rattle.c_token.specs.declared.token.Mark.TheVariants as marks
+use Rattle.c_tree.specs.Tree.{qualified, word, tagged, typedef_name, Tree}
+use Rattle.c_tree.specs.Tables.{qualifier_keyword, word_keyword, tag_keyword, storage_keyword, function_keyword, record_keyword}
 use Rattle.c_tree.specs.Names.{Scope}
-use Rattle.c_tree.specs.Spelling.{Single, Behind, Then, IsMark, Spells, IsWell}
+use Rattle.c_tree.specs.Spelling.{Single, Then, IsMark}
 use Rattle.c_tree.specs.Declarations.{Full, full_depth, full_has_name, Part, type_part, storage, function, structure, enumeration, Parts, no_part, part, Initial, initial, braces, Initials, no_initial, initials, Declarators, none_declared, declarator, initial_depth, initials_depth, initializer_depth, declarators_depth, parts_depth, name_of, with_parts, have_typedef, specify}
-use Rattle.c_tree.specs.Files.{SpellsFull, IsWellFull, SpellsPart, SpellsInitial, SpellsInitials, SpellsOtherInitials, SpellsInitializer, SpellsOthers, SpellsDeclarators, SpellsParts, SpellsDeclaration, IsWellInitial, AreWellInitials, IsWellInitializer, AreWellDeclarators, FrontIsNoTypeOfDeclarators, IsWellDeclaration}
+use Rattle.c_tree.specs.Files.{SpellsFull, IsWellFull, SpellsPart, SpellsInitial, SpellsOtherInitials, SpellsInitializer, SpellsOthers, SpellsDeclarators, SpellsParts, SpellsDeclaration, IsWellInitial, AreWellInitials, IsWellInitializer, AreWellDeclarators, FrontIsNoTypeOfDeclarators, IsWellDeclaration}
 use Rattle.c_parse_expr.specs.Many.{◌>>=◌}
 use Rattle.c_parse_expr.specs.Reading.{is_mark, is_identifier, reader}
 use Rattle.c_parse_decl.specs.declared.table.Start.{Start}
-use Rattle.c_parse_decl.specs.Reading.{Read, State, token_at, run_at, comma_at, shut_at, ended_at, start_at, parts_at, are_some, body_at, full_at, is_there, stands, is_label, declares_at, initials_list, initials_at, initial_by, initial_at, initializer_by, initializer_at, declarator_at, declarators_list, declarators_at, declaration_at}
+use Rattle.c_parse_decl.specs.Reading.{Read, token_at, run_at, comma_at, shut_at, start_at, parts_at, are_some, body_at, full_at, is_there, stands, is_label, declares_at, initials_list, initials_at, initial_by, initial_at, initializer_by, initializer_at, declarator_at, declarators_list, declarators_at, declaration_at}
 use Rattle.c_parse_decl.proofs.Lists.{bind_gives, bind_none, run_stops, run_goes}
 use Rattle.c_parse_decl.proofs.Words.{passes_at, token_fails, mark_gives}
 use Rattle.c_parse_expr.proofs.AgainSteps.{First, first_token}
@@ -24,7 +24,7 @@ use Rattle.c_parse_expr.proofs.Within.{has_depth}
 use Rattle.c_parse_decl.proofs.Firsts.{first_no_mark}
 use Rattle.c_parse_decl.proofs.Runs.{Separated}
 use Rattle.c_parse_decl.proofs.TakenDeclarations.{SpellsInitialsBy, SpellsDeclaratorsBy}
-use Rattle.c_parse_decl.proofs.Steps.{apart, from_token, Opens, opens_longer, opens_length, IsNot, opens_not, opens_word, comma_gives, ended_gives, ended_none, ended_fails, shut_gives, shut_fails, IsEnder, ender_not, stops_at_ender, expression_read, IsWord, Follows, enders_follow, BeginsFull, full_opens, full_opens_not, full_not, Quiet, quiet_at_mark, full_quiet}
+use Rattle.c_parse_decl.proofs.Steps.{apart, from_token, Opens, opens_longer, opens_length, IsNot, opens_not, opens_word, comma_gives, ended_gives, ended_fails, shut_gives, shut_fails, IsEnder, ender_not, stops_at_ender, expression_read, IsWord, Follows, enders_follow, BeginsFull, full_opens_not, full_not, Quiet, quiet_at_mark, full_quiet}
 use Rattle.c_parse_decl.proofs.TakenParts.{named_full}
 use Rattle.c_parse_decl.proofs.AgainParts.{parts_start, part_opens, parts_read, parts_again, full_again, are_there}
 

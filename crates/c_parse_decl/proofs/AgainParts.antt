@@ -1,14 +1,12 @@
 -- Specifiers that stand there are read.
-use Rattle.std.proofs.Common.{◌≡◌, ◌≢◌, ◌≤◌, ◌<◌, ◌+◌, max, ℕ, zero, suc, List, [], ◌∷◌, ◌++◌, length, length-append, Bool, true, false, cond, Option, Some, None, refl, ap, sym, subst, ◌∙◌, arith, inl, inr}
+use Rattle.std.proofs.Common.{◌≡◌, ◌≢◌, ◌≤◌, ◌<◌, ◌+◌, ℕ, zero, suc, List, [], ◌∷◌, ◌++◌, length, length-append, Bool, true, false, cond, Option, Some, None, refl, ap, sym, ◌∙◌, arith, inl, inr}
 use Rattle.std.specs.Prelude.{◌||◌, ◌&&◌, ◌⊎◌}
-use Rattle.c_lexer.specs.declared.token.Token.{Token}
-use Rattle.c_lexer.specs.declared.token.Kind.{Kind}
-use Rattle.c_lexer.specs.declared.token.Kind.TheVariants as kinds
-use Rattle.c_lexer.specs.declared.token.Keyword.{Keyword}
-use Rattle.c_lexer.specs.declared.token.Keyword.TheVariants as keywords
-use Rattle.c_lexer.specs.declared.token.Mark.{Mark}
-use Rattle.c_lexer.specs.declared.token.Mark.TheVariants as marks
-use Rattle.c_lexer.specs.Kinds.{text_of}
+use Rattle.c_token.specs.declared.token.Token.{Token}
+use Rattle.c_token.specs.declared.token.Kind.{Kind}
+use Rattle.c_token.specs.declared.token.Kind.TheVariants as kinds
+use Rattle.c_token.specs.declared.token.Keyword.TheVariants as keywords
+use Rattle.c_token.specs.declared.token.Mark.TheVariants as marks
+use Rattle.c_token.specs.Spelling.{text_of}
 use Rattle.c_tree.specs.declared.specifier.Qualifier.{Qualifier}
 use Rattle.c_tree.specs.declared.specifier.TypeWord.{TypeWord}
 use Rattle.c_tree.specs.declared.specifier.TypeWord.TheVariants as type_words
@@ -24,9 +22,9 @@ use Rattle.c_tree.specs.declared.declaration.RecordKind.TheVariants as record_ki
 use Rattle.c_tree.specs.Tree.{TypePart, qualified, word, tagged, typedef_name, Tree, depth}
 use Rattle.c_tree.specs.Tables.{level_of, qualifier_keyword, word_keyword, tag_keyword, storage_keyword, function_keyword, record_keyword}
 use Rattle.c_tree.specs.Names.{Scope, is_type}
-use Rattle.c_tree.specs.Spelling.{Single, Behind, Then, IsMark, Spells, IsWell}
+use Rattle.c_tree.specs.Spelling.{Single, Then, IsMark, Spells, IsWell}
 use Rattle.c_tree.specs.Declarations.{Enumerated, Part, type_part, storage, function, structure, enumeration, Parts, no_part, part, Members, no_member, members, Full, full_unnamed, full_named, full_inside, Fulls, no_full, full, FullSuffixes, full_end, full_bounded, full_open, full_empty, full_void, full_parameters, Parameters, no_parameter, parameter, value_depth, enumerators_depth, part_depth, parts_depth, members_depth, full_depth, fulls_depth, full_suffixes_depth, parameters_depth, full_has_name, with_part, with_parts, with_named, have_typedef, specifies, specify}
-use Rattle.c_tree.specs.Files.{SpellsValue, SpellsEnumerator, SpellsOtherEnumerators, SpellsEnumerators, SpellsOtherMembers, SpellsMembers, SpellsTag, SpellsPart, SpellsParts, SpellsMemberDeclarations, SpellsFull, SpellsFullSuffixes, SpellsParameters, SpellsOtherParameters, IsWellValue, AreWellEnumerators, FrontIsNoType, AreWellMembers, FrontIsNoTypeOfMembers, is_of_member, are_of_member, IsWellPart, AreWellParts, AreWellMemberDeclarations, OpensNoType, full_is_empty, is_void, is_void_part, are_void, is_void_alone, IsWellFull, AreWellFullSuffixes, AreWellParameters}
+use Rattle.c_tree.specs.Files.{SpellsValue, SpellsEnumerator, SpellsOtherEnumerators, SpellsEnumerators, SpellsOtherMembers, SpellsMembers, SpellsTag, SpellsPart, SpellsParts, SpellsMemberDeclarations, SpellsFull, SpellsFullSuffixes, SpellsParameters, SpellsOtherParameters, IsWellValue, AreWellEnumerators, FrontIsNoType, AreWellMembers, FrontIsNoTypeOfMembers, is_of_member, are_of_member, IsWellPart, AreWellParts, AreWellMemberDeclarations, OpensNoType, full_is_empty, is_void_part, are_void, is_void_alone, IsWellFull, AreWellFullSuffixes, AreWellParameters}
 use Rattle.c_parse_expr.specs.Tables.{suffix_of}
 use Rattle.c_parse_expr.specs.Many.{◌>>=◌}
 use Rattle.c_parse_expr.specs.Reading.{is_mark, is_identifier, reader}
@@ -37,14 +35,14 @@ use Rattle.c_parse_decl.specs.declared.slices.Heart.TheVariants as hearts
 use Rattle.c_parse_decl.specs.declared.slices.Opening.{Opening}
 use Rattle.c_parse_decl.specs.declared.slices.Opening.TheVariants as openings
 use Rattle.c_parse_decl.specs.Tables.{record_tag}
-use Rattle.c_parse_decl.specs.Reading.{Read, State, Body, FullReader, OneSuffix, one_bounded, one_open, one_empty, one_void, one_takes, placed_suffix, is_keyword, token_at, run_at, or_else, comma_at, shut_at, ended_at, start_at, is_there, stands, tag_by, tag_at, tagged_by, record_by, record_from, record_at, value_by, value_at, enumerator_at, enumerators_list, enumerators_at, enumeration_by, enumeration_from, enumeration_at, part_from, parts_stop, parts_list, parts_at, are_some, fulls_list, fulls_at, member_at, members_list, have_some, members_at, some_members_at, opening_of, opening_at, bound_by, bound_at, void_at, dots_at, last_by, last_at, parameter_at, parameters_list, parameters_at, given_by, given_at, taken_by, taken_at, one_from, suffixes_stop, suffixes_list, suffixes_at, takes, heart_of, heart_at, inside_at, full_from, bare_full, body_at, full_at}
+use Rattle.c_parse_decl.specs.Reading.{Read, OneSuffix, one_bounded, one_open, one_empty, one_void, one_takes, placed_suffix, is_keyword, token_at, run_at, comma_at, shut_at, start_at, is_there, stands, tag_by, tag_at, record_by, record_from, record_at, value_by, value_at, enumerator_at, enumerators_list, enumerators_at, enumeration_by, enumeration_from, enumeration_at, part_from, parts_stop, parts_list, parts_at, are_some, fulls_list, fulls_at, member_at, members_list, have_some, members_at, some_members_at, opening_of, opening_at, bound_by, bound_at, void_at, dots_at, last_by, last_at, parameter_at, parameters_list, parameters_at, given_by, given_at, taken_by, taken_at, one_from, suffixes_stop, suffixes_list, suffixes_at, takes, heart_of, heart_at, inside_at, full_from, bare_full, body_at, full_at}
 use Rattle.c_parse_decl.proofs.Lists.{bind_gives, bind_none, run_stops, run_goes}
 use Rattle.c_parse_decl.proofs.Words.{passes_at, token_fails, mark_gives, keyword_gives, identifier_gives}
 use Rattle.c_parse_decl.proofs.Starts.{StartsKind, is_name_in, name_so, start_gives}
 use Rattle.c_parse_decl.proofs.Runs.{Separated}
-use Rattle.c_parse_decl.proofs.TakenParts.{SpellsEnumeratorsBy, SpellsMembersBy, SpellsParametersBy, or_nothing, or_three, named_full, void_gives, nothing_spelled, either_false}
-use Rattle.c_parse_decl.proofs.Steps.{apart, from_token, Opens, opens_longer, opens_length, IsNot, IsWord, word_of_keyword, word_of_name, opens_not, opens_word, comma_gives, ended_gives, ended_none, ended_fails, shut_gives, shut_fails, IsEnder, ender_not, stops_at_ender, expression_read, stops_by_none, Follows, enders_follow, IsCloser, closers_follow, BeginsFull, full_opens, full_not, full_opens_not, Quiet, quiet_at_mark, full_quiet, parameter_quiet}
-use Rattle.c_parse_expr.proofs.AgainSteps.{First, first_token}
+use Rattle.c_parse_decl.proofs.TakenParts.{SpellsEnumeratorsBy, SpellsMembersBy, SpellsParametersBy, or_nothing, or_three, named_full, void_gives, nothing_spelled}
+use Rattle.c_parse_decl.proofs.Steps.{apart, from_token, Opens, opens_longer, opens_length, IsNot, IsWord, word_of_keyword, word_of_name, opens_not, opens_word, comma_gives, ended_gives, ended_none, ended_fails, shut_gives, shut_fails, IsEnder, ender_not, stops_at_ender, expression_read, stops_by_none, Follows, enders_follow, IsCloser, closers_follow, full_opens_not, Quiet, quiet_at_mark, full_quiet, parameter_quiet}
+use Rattle.c_parse_expr.proofs.AgainSteps.{first_token}
 use Rattle.c_parse_decl.proofs.Firsts.{first_no_mark}
 
 -- enumerators

@@ -1,13 +1,12 @@
 -- Statements that stand there are read.
-use Rattle.std.proofs.Common.{◌≡◌, ◌≤◌, ◌<◌, ◌+◌, max, ℕ, zero, suc, List, [], ◌∷◌, ◌++◌, length, length-append, Bool, true, false, cond, Option, Some, None, refl, ap, sym, subst, ◌∙◌, arith}
-use Rattle.c_lexer.specs.declared.token.Token.{Token}
-use Rattle.c_lexer.specs.declared.token.Kind.{Kind}
-use Rattle.c_lexer.specs.declared.token.Kind.TheVariants as kinds
-use Rattle.c_lexer.specs.declared.token.Keyword.{Keyword}
-use Rattle.c_lexer.specs.declared.token.Keyword.TheVariants as keywords
-use Rattle.c_lexer.specs.Kinds.{text_of}
-use Rattle.c_lexer.specs.declared.token.Mark.{Mark}
-use Rattle.c_lexer.specs.declared.token.Mark.TheVariants as marks
+use Rattle.std.proofs.Common.{◌≡◌, ◌≤◌, ◌<◌, ◌+◌, max, ℕ, zero, suc, List, [], ◌∷◌, ◌++◌, length, length-append, Bool, true, false, cond, Option, Some, None, refl, ap, sym, ◌∙◌, arith}
+use Rattle.c_token.specs.declared.token.Token.{Token}
+use Rattle.c_token.specs.declared.token.Kind.{Kind}
+use Rattle.c_token.specs.declared.token.Kind.TheVariants as kinds
+use Rattle.c_token.specs.declared.token.Keyword.TheVariants as keywords
+use Rattle.c_token.specs.Spelling.{text_of}
+use Rattle.c_token.specs.declared.token.Mark.{Mark}
+use Rattle.c_token.specs.declared.token.Mark.TheVariants as marks
 use Rattle.c_tree.specs.Tree.{Tree, name, depth}
 use Rattle.c_tree.specs.Tables.{level_of}
 use Rattle.c_tree.specs.Names.{Scope, is_type}
@@ -22,14 +21,12 @@ use Rattle.c_parse_expr.specs.Reading.{is_mark, is_identifier, reader}
 use Rattle.c_parse_decl.specs.declared.table.Begin.{Begin}
 use Rattle.c_parse_decl.specs.declared.table.Begin.TheVariants as begins
 use Rattle.c_parse_decl.specs.declared.table.Start.{Start}
-use Rattle.c_parse_decl.specs.Tables.{start_of_keyword}
-use Rattle.c_parse_decl.specs.Reading.{Read, Reader, Piece, declaration, statement, is_keyword, begin_of, token_at, or_else, run_at, ended_at, start_by, start_at, is_there, stands, is_label, declares_at, test_at, while_at, switch_at, do_at, maybe_by, maybe_at, header_at, declared_for_at, plain_for_at, for_by, for_at, case_at, default_at, label_at, goto_at, declaration_at, placed, with_piece, item_by, item_at, items_list, items_at, block_at, branched, branched_at, tested_at, closed_at, valued_at, bare, returned_at, evaluated_at, begun, started_at, statement_at}
-use Rattle.c_parse_decl.proofs.Lists.{some_is, bind_gives, run_stops, run_goes}
+use Rattle.c_parse_decl.specs.Reading.{Read, Reader, declaration, statement, is_keyword, begin_of, token_at, or_else, run_at, start_by, start_at, is_there, stands, is_label, declares_at, test_at, while_at, switch_at, do_at, maybe_by, maybe_at, header_at, declared_for_at, plain_for_at, for_by, for_at, case_at, default_at, label_at, goto_at, declaration_at, item_by, item_at, items_list, items_at, block_at, branched, branched_at, tested_at, closed_at, valued_at, bare, returned_at, evaluated_at, begun, started_at, statement_at}
+use Rattle.c_parse_decl.proofs.Lists.{some_is, run_stops, run_goes}
 use Rattle.c_parse_decl.proofs.Words.{mark_takes, passes_at, token_fails, mark_gives, keyword_gives, identifier_gives}
-use Rattle.c_parse_decl.proofs.Starts.{StartsKind, is_name_in, start_takes, start_fails, start_no_mark, start_no_keyword}
-use Rattle.c_parse_expr.proofs.AgainSteps.{First, first_token}
+use Rattle.c_parse_decl.proofs.Starts.{is_name_in, start_fails, start_no_mark, start_no_keyword}
+use Rattle.c_parse_expr.proofs.AgainSteps.{first_token}
 use Rattle.c_parse_decl.proofs.Firsts.{first_no_start, first_no_mark, first_no_keyword, first_begins, first_no_type}
-use Rattle.c_parse_expr.proofs.Again.{is_read}
 use Rattle.c_parse_expr.proofs.Within.{has_depth}
 use Rattle.c_parse_decl.proofs.Steps.{IsWord, opens_length, apart, from_token, from_last, ended_gives, ended_none, stops_by_none, expression_read}
 use Rattle.c_parse_decl.proofs.AgainParts.{parts_open}

@@ -1,6 +1,6 @@
 -- The names that declarators and parameters declare, one after the other.
-use Rattle.std.proofs.Common.{◌≡◌, ◌≢◌, ◌+◌, ◌<◌, ◌≤◌, ◌++◌, max, map, Bool, true, false, List, [], ◌∷◌, ℕ, length, get_or, take, refl, ap, sym, ◌∙◌, arith}
-use Rattle.std.proofs.lemmas.List.{take_more, take_all}
+use Rattle.std.proofs.Common.{◌≡◌, ◌+◌, ◌<◌, ◌≤◌, ◌++◌, map, Bool, false, List, [], ◌∷◌, ℕ, length, get_or, take, refl, ap, sym, ◌∙◌, arith}
+use Rattle.std.proofs.lemmas.List.{take_more}
 use Rattle.std.specs.Prelude.{◌||◌}
 use Rattle.c_tree.specs.Names.{Scope}
 use Rattle.c_tree.specs.declared.declaration.Enumerator.{Enumerator}

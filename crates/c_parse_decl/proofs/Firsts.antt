@@ -1,28 +1,23 @@
 -- The first token of an expression.
-use Rattle.std.proofs.Common.{◌≡◌, ℕ, List, [], ◌∷◌, ◌++◌, Bool, true, false, cond, Option, Some, None, refl, ap, sym, ◌∙◌}
-use Rattle.std.specs.Prelude.{not, ◌&&◌}
-use Rattle.c_lexer.specs.declared.token.Token.{Token}
-use Rattle.c_lexer.specs.declared.token.Kind.{Kind}
-use Rattle.c_lexer.specs.declared.token.Kind.TheVariants as kinds
-use Rattle.c_lexer.specs.declared.token.Keyword.{Keyword}
-use Rattle.c_lexer.specs.declared.token.Keyword.TheVariants as keywords
-use Rattle.c_lexer.specs.declared.token.Mark.{Mark}
-use Rattle.c_lexer.specs.declared.token.Mark.TheVariants as marks
-use Rattle.c_lexer.specs.Kinds.{text_of}
+use Rattle.std.proofs.Common.{◌≡◌, ℕ, List, ◌++◌, Bool, true, false, cond, Some, None, refl, ap, sym, ◌∙◌}
+use Rattle.c_token.specs.declared.token.Token.{Token}
+use Rattle.c_token.specs.declared.token.Kind.{Kind}
+use Rattle.c_token.specs.declared.token.Kind.TheVariants as kinds
+use Rattle.c_token.specs.declared.token.Keyword.{Keyword}
+use Rattle.c_token.specs.declared.token.Keyword.TheVariants as keywords
+use Rattle.c_token.specs.declared.token.Mark.{Mark}
+use Rattle.c_token.specs.declared.token.Mark.TheVariants as marks
+use Rattle.c_token.specs.Spelling.{text_of}
 use Rattle.c_tree.specs.Names.{Scope, is_type}
 use Rattle.c_parse_expr.specs.declared.table.Lead.{Lead}
-use Rattle.c_parse_expr.specs.declared.table.TypeStart.{TypeStart}
 use Rattle.c_parse_expr.specs.Tables.{lead_of, lead_of_mark, lead_of_keyword}
-use Rattle.c_parse_expr.specs.Many.{◌>>=◌}
 use Rattle.c_parse_expr.specs.Reading.{is_mark}
 use Rattle.c_parse_expr.specs.Reading as expressions
-use Rattle.c_parse_decl.specs.declared.table.Begin.{Begin}
 use Rattle.c_parse_decl.specs.declared.table.Begin.TheVariants as begins
-use Rattle.c_parse_decl.specs.declared.table.Start.{Start}
 use Rattle.c_parse_decl.specs.Tables.{start_of_keyword, begin_of_keyword}
-use Rattle.c_parse_decl.specs.Reading.{token_at, is_keyword, begin_of, start_by, start_at}
-use Rattle.c_parse_decl.proofs.Words.{mark_by, keyword_by, keyword_takes, token_fails}
-use Rattle.c_parse_decl.proofs.Starts.{start_takes, start_fails, StartsKind}
+use Rattle.c_parse_decl.specs.Reading.{is_keyword, begin_of, start_by, start_at}
+use Rattle.c_parse_decl.proofs.Words.{mark_by, keyword_by}
+use Rattle.c_parse_decl.proofs.Starts.{start_fails}
 use Rattle.c_parse_expr.proofs.AgainSteps.{First}
 
 no_start_keyword : (k : Keyword) (l : Lead) → lead_of_keyword k ≡ Some l → start_of_keyword k ≡ None

@@ -1,7 +1,7 @@
 -- Lists that are read piece by piece.
 use Rattle.std.proofs.Common.{◌≡◌, ◌<◌, ℕ, zero, suc, List, [], ◌∷◌, ◌++◌, length, Option, Some, None, refl, ap, sym, subst, ◌∙◌, arith, inl, inr}
 use Rattle.std.specs.Prelude.{◌⊎◌}
-use Rattle.c_lexer.specs.declared.token.Token.{Token}
+use Rattle.c_token.specs.declared.token.Token.{Token}
 use Rattle.c_parse_expr.specs.Many.{◌>>=◌}
 use Rattle.c_parse_decl.specs.Reading.{Read, or_else, Listing, run_at}
 

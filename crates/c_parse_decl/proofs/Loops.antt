@@ -1,14 +1,14 @@
 -- The turns of the loops.
-use Rattle.std.proofs.Common.{◌≡◌, ◌<◌, ◌≤◌, ◌+◌, ◌-◌, ℕ, List, [], ◌∷◌, ◌++◌, length, length-append, drop, map, zero, suc, Bool, true, false, cond, Option, Some, None, refl, ap, sym, ◌∙◌, arith}
+use Rattle.std.proofs.Common.{◌≡◌, ◌<◌, ◌≤◌, ◌+◌, ◌-◌, ℕ, List, [], ◌∷◌, ◌++◌, length, length-append, drop, map, suc, Bool, true, false, cond, Option, Some, None, refl, ap, sym, ◌∙◌, arith}
 use Rattle.std.proofs.lemmas.Bool.{eqb-true}
 use Rattle.std.proofs.lemmas.List.{append_assoc}
 use Rattle.std.proofs.Math.Seq.{drop-append_seam}
 use Rattle.std.specs.Prelude.{not, ◌||◌, ◌==◌, option_map, Box, Vec, if◌then◌else◌}
 use Rattle.std.specs.Global.{Global}
 use Rattle.std.specs.List.{insert}
-use Rattle.c_lexer.specs.declared.token.Token.{Token}
-use Rattle.c_lexer.specs.declared.token.Mark.{Mark}
-use Rattle.c_lexer.specs.declared.token.Mark.TheVariants as marks
+use Rattle.c_token.specs.declared.token.Token.{Token}
+use Rattle.c_token.specs.declared.token.Mark.{Mark}
+use Rattle.c_token.specs.declared.token.Mark.TheVariants as marks
 use Rattle.c_tree.specs.declared.declaration.FullDeclarator.{FullDeclarator, Unnamed, Named, Inside}
 use Rattle.c_tree.specs.declared.declaration.DeclaratorSuffix.{DeclaratorSuffix, Bounded, Open, Empty, Void, Parameters as Takes, Parameters'}
 use Rattle.c_tree.specs.declared.declaration.Parameter.{Parameter}
@@ -25,20 +25,20 @@ use Rattle.c_tree.specs.declared.statement.Stmt.{Block}
 use Rattle.c_tree.specs.declared.declaration.MemberDeclaration.{MemberDeclaration}
 use Rattle.c_tree.specs.Tree.{Tree, view_name, view}
 use Rattle.c_tree.specs.Names.{Scope}
-use Rattle.c_tree.specs.Declarations.{Full, full, full_unnamed, full_named, full_inside, Fulls, no_full, FullSuffixes, full_end, Parameters, no_parameter, parameter, view_full, fulls_of, view_full_suffix, full_suffixes_of, view_parameter, parameters_of, nearest, is_function, with_function, full_has_name, with_named, with_parameters, with_parameters_of, full_bounded, full_open, full_empty, full_void, full_parameters, Enumerated, Part, Parts, no_part, part, Members, no_member, members, type_part, storage, function, structure, enumeration, Initial, initial, braces, Initials, no_initial, initials, Declarators, none_declared, declarator, name_of, view_initializer, initials_of, view_init_declarator, declarators_of, with_declarators, with_declaration, specifies, view_enumerator, view_part, parts_of, members_of, with_enumerators, with_part, with_parts, with_members, have_typedef, is_typedef}
+use Rattle.c_tree.specs.Declarations.{Full, full, full_unnamed, full_named, full_inside, Fulls, no_full, FullSuffixes, full_end, Parameters, no_parameter, parameter, view_full, fulls_of, view_full_suffix, full_suffixes_of, parameters_of, nearest, is_function, with_function, full_has_name, with_named, with_parameters, with_parameters_of, full_bounded, full_open, full_empty, full_void, full_parameters, Enumerated, Part, Parts, no_part, part, Members, no_member, members, type_part, storage, function, structure, enumeration, Initial, initial, braces, Initials, no_initial, initials, Declarators, none_declared, declarator, name_of, view_initializer, initials_of, view_init_declarator, declarators_of, with_declarators, with_declaration, specifies, view_enumerator, view_part, parts_of, members_of, with_enumerators, with_part, with_parts, with_members, have_typedef, is_typedef}
 use Rattle.c_tree.specs.Statements.{Statement, Items, done, block, view_statement, view_item, items_of}
 use Rattle.c_tree.proofs.DeclarationViews.{view_record, view_braces, view_unnamed, view_named, view_inside, view_takes}
 use Rattle.c_tree.proofs.StatementViews.{view_block}
 use Rattle.c_parse_expr.specs.Many.{◌>>=◌}
 use Rattle.c_parse_expr.specs.Reading.{is_mark, reader}
 use Rattle.c_parse_decl.specs.declared.table.Start.{Start}
-use Rattle.c_lexer.specs.Kinds.{text_of}
+use Rattle.c_token.specs.Spelling.{text_of}
 use Rattle.c_parse_decl.specs.declared.slices.Heart.TheVariants as hearts
 use Rattle.c_parse_decl.specs.declared.slices.Opening.{Opening}
-use Rattle.c_parse_decl.specs.Reading.{definition_at, others_at, outer_behind, first_at, initializer_at, statement_at, FullReader, OneSuffix, one_takes, placed_suffix, last_at, parameters_list, parameters_at, void_at, given_by, given_at, inside_at, full_from, opening_at, one_from, suffixes_stop, suffixes_list, suffixes_at, fulls_list, fulls_at, full_at, Read, State, Listing, Body, token_at, run_at, shut_at, ended_at, start_at, enumerators_list, enumerators_at, tag_at, record_by, record_from, record_at, part_from, parts_stop, parts_list, parts_at, are_some, members_list, have_some, members_at, initials_list, initials_at, initial_by, initial_at, declarators_list, declarators_at, Piece, declaration, statement, placed, with_piece, Reader, items_list, items_at, block_at}
+use Rattle.c_parse_decl.specs.Reading.{definition_at, others_at, outer_behind, first_at, initializer_at, statement_at, FullReader, OneSuffix, one_takes, placed_suffix, last_at, parameters_list, parameters_at, void_at, given_by, given_at, inside_at, full_from, opening_at, one_from, suffixes_stop, suffixes_list, suffixes_at, fulls_list, fulls_at, full_at, Read, State, Body, token_at, run_at, shut_at, ended_at, start_at, enumerators_list, enumerators_at, tag_at, record_by, record_from, record_at, part_from, parts_stop, parts_list, parts_at, are_some, members_list, have_some, members_at, initials_list, initials_at, initial_by, initial_at, declarators_list, declarators_at, Piece, declaration, statement, placed, with_piece, Reader, items_list, items_at, block_at}
 use Rattle.c_parse_decl.specs.Standing.{Outer, declaring, defining}
 use Rattle.c_parse_decl.specs.Pieces.{piece_of, suffix_of, parameter_of}
-use Rattle.c_parse_decl.proofs.Lists.{bind_gives, bind_none, placed_all, in_front, front_none, Left, closes}
+use Rattle.c_parse_decl.proofs.Lists.{bind_gives, bind_none, placed_all, front_none, Left, closes}
 use Rattle.c_parse_decl.proofs.TakenParts.{or_nothing, or_three}
 
 -- what ends a list
@@ -306,7 +306,7 @@ unfolding initial_at
 initial_opens bytes names n levels ts o e f =
     ap (λ (l : ℕ). initial_at bytes names l ts) (sym e) ∙ ap (λ (l : ℕ). initial_by bytes names l (initial_at bytes names n) ts (token_at (is_mark marks.LeftBrace) ts)) e ∙ ap (initial_by bytes names levels (initial_at bytes names n) ts) (sym f)
 
-pub value_made : (bytes : List ℕ) (names : Scope) (n levels : ℕ) (ts rest : List Token) (e : Expr) → suc n ≡ levels → None ≡ token_at (is_mark marks.LeftBrace) ts → reader bytes names levels 2 ts ≡ Some (view e, rest) → initial_at bytes names levels ts ≡ Some (view_initializer (Value e), rest)
+pub value_made : (bytes : List ℕ) (names : Scope) (n levels : ℕ) (ts rest : List Token) (e : Box Expr Global) → suc n ≡ levels → None ≡ token_at (is_mark marks.LeftBrace) ts → reader bytes names levels 2 ts ≡ Some (view e.value, rest) → initial_at bytes names levels ts ≡ Some (view_initializer (Value e), rest)
 value_made bytes names n levels ts rest e same f g =
     initial_opens bytes names n levels ts None same f ∙ ap (λ (o : Read Tree). o >>= λ e. Some (initial e.0, e.1)) g
 
@@ -353,7 +353,7 @@ declarators_push names now new types ds rr d f same is =
 all_items : (is : List Item) → placed_all placed piece_of is done ≡ items_of is
 all_items [] = refl
 all_items (item.Declares d ∷ is) = ap (view_item (item.Declares d)) (all_items is)
-all_items (item.Does s ∷ is) = ap (view_item (item.Does s)) (all_items is)
+all_items (item.Does' p s ∷ is) = ap (view_item (item.Does' p s)) (all_items is)
 
 pub items_begin : (bytes : List ℕ) (n : ℕ) (sub : Reader) (names : Scope) (is : List Item) (ts : List Token) → is ≡ [] → Left (items_list bytes n sub) piece_of (length ts + 1) names is ts (items_at bytes n sub names ts)
 unfolding items_at

@@ -1,32 +1,29 @@
 -- What stands in a file, one after another.
-use Rattle.std.proofs.Common.{◌≡◌, ◌≢◌, ◌≤◌, ◌+◌, max, ℕ, List, [], ◌∷◌, ◌++◌, length, Bool, true, false, cond, Option, Some, None, refl, ap, sym, subst, ◌∙◌, arith, inl, inr}
+use Rattle.std.proofs.Common.{◌≡◌, ◌≢◌, ◌≤◌, max, ℕ, List, [], ◌∷◌, ◌++◌, length, Bool, true, false, cond, Option, Some, None, refl, ap, sym, subst, ◌∙◌, arith}
 use Rattle.std.specs.Prelude.{◌==◌}
 use Rattle.std.proofs.lemmas.List.{append_assoc, append-nil}
 use Rattle.std.proofs.lemmas.Bool.{eqb-true}
-use Rattle.c_lexer.specs.declared.token.Token.{Token}
-use Rattle.c_lexer.specs.declared.token.Kind.{Kind}
-use Rattle.c_lexer.specs.declared.token.Kind.TheVariants as kinds
-use Rattle.c_lexer.specs.declared.token.Keyword.{Keyword}
-use Rattle.c_lexer.specs.declared.token.Keyword.TheVariants as keywords
-use Rattle.c_lexer.specs.declared.token.Mark.TheVariants as marks
+use Rattle.c_token.specs.declared.token.Token.{Token}
+use Rattle.c_token.specs.declared.token.Kind.TheVariants as kinds
+use Rattle.c_token.specs.declared.token.Mark.TheVariants as marks
 use Rattle.c_tree.specs.declared.statement.External.{External}
 use Rattle.c_tree.specs.declared.statement.External.TheVariants as external
 use Rattle.c_tree.specs.Names.{Scope, built_in_names}
-use Rattle.c_tree.specs.Spelling.{Single, Then, IsMark}
-use Rattle.c_tree.specs.Declarations.{Parts, no_part, Full, Initial, Declarators, none_declared, declarator, nearest, is_function, full_has_name, name_of, initializer_depth, parts_depth, full_depth, declarators_depth, specify, have_typedef, with_parts, with_parameters_of, with_function, with_body, with_declaration}
+use Rattle.c_tree.specs.Spelling.{Then}
+use Rattle.c_tree.specs.Declarations.{Parts, no_part, Full, Initial, Declarators, none_declared, declarator, nearest, is_function, full_has_name, name_of, initializer_depth, parts_depth, full_depth, declarators_depth, specify, have_typedef, with_parts, with_parameters_of, with_function, with_declaration}
 use Rattle.c_tree.specs.Statements.{Statement, block, if_then, if_else, evaluate, return_nothing, return_value, empty, while_loop, do_loop, for_loop, for_declared, switch_on, case_of, default_of, labelled, goto_label, break_off, continue_on, Externals, no_more, declared, defines, statement_depth, view_external, externals_of, file_depth}
-use Rattle.c_tree.specs.Files.{SpellsParts, SpellsFull, SpellsInitializer, SpellsOthers, SpellsDeclarators, SpellsDeclaration, SpellsStatement, SpellsDefinition, SpellsFile, AreWellParts, IsWellFull, AreWellDeclarators, FrontIsNoType, FrontIsNoTypeOfDeclarators, IsWellInitializer, IsWellDeclaration, IsWellDefinition, IsWellStatement, AreWellExternals, is_block, IsFile}
+use Rattle.c_tree.specs.Files.{SpellsParts, SpellsFull, SpellsInitializer, SpellsOthers, SpellsDeclarators, SpellsStatement, SpellsDefinition, SpellsFile, AreWellParts, IsWellFull, AreWellDeclarators, IsWellInitializer, IsWellDefinition, IsWellStatement, AreWellExternals, is_block, IsFile}
 use Rattle.c_parse_expr.specs.Many.{◌>>=◌}
 use Rattle.c_parse_expr.specs.Reading.{is_mark, is_identifier}
-use Rattle.c_parse_decl.specs.Reading.{Read, token_at, run_at, start_at, parts_at, are_some, body_at, full_at, items_at, block_at, statement_at, initializer_at, declarators_at, declaration_at, definition_at, others_at, outer_behind, first_at, outer_from, outer_at}
-use Rattle.c_parse_decl.specs.Standing.{Outer, declaring, defining, outer_of, outermost, with_outer, with_externals, SpellsOuter, IsWellOuter, outer_depth, IsExternal, Stands, NoneStands, StandBefore, EndsAt}
-use Rattle.c_parse_decl.proofs.Lists.{some_is, bind_some, bind_gives, bind_none}
+use Rattle.c_parse_decl.specs.Reading.{Read, token_at, run_at, start_at, parts_at, are_some, body_at, full_at, items_at, block_at, statement_at, initializer_at, declarators_at, definition_at, others_at, outer_behind, first_at, outer_from, outer_at}
+use Rattle.c_parse_decl.specs.Standing.{Outer, declaring, defining, outer_of, outermost, with_outer, with_externals, SpellsOuter, IsWellOuter, outer_depth, IsExternal, Stands, NoneStands, StandBefore}
+use Rattle.c_parse_decl.proofs.Lists.{some_is, bind_some, bind_gives}
 use Rattle.c_parse_decl.proofs.Words.{passes_at, token_fails, mark_takes, mark_gives}
-use Rattle.c_parse_decl.proofs.Runs.{Run, seam}
+use Rattle.c_parse_decl.proofs.Runs.{seam}
 use Rattle.c_parse_decl.proofs.TakenParts.{FullRun, PartsRun, parts_take, body_takes, full_takes, front_no_type, if_some, some_parts, named_full}
-use Rattle.c_parse_decl.proofs.TakenDeclarations.{DeclaratorsRun, InitializerRun, initializer_takes, declarators_take, front_of_declarators}
-use Rattle.c_parse_decl.proofs.TakenStatements.{Stated, block_takes, statement_takes}
-use Rattle.c_parse_decl.proofs.Steps.{apart, from_token, IsEnder, Follows, ender_not, Opens, opens_not, IsNot, opens_longer, ended_gives, full_opens_not, full_quiet, Quiet}
+use Rattle.c_parse_decl.proofs.TakenDeclarations.{initializer_takes, declarators_take}
+use Rattle.c_parse_decl.proofs.TakenStatements.{block_takes, statement_takes}
+use Rattle.c_parse_decl.proofs.Steps.{apart, from_token, IsEnder, Follows, ender_not, Opens, opens_not, full_opens_not, full_quiet, Quiet}
 use Rattle.c_parse_decl.proofs.AgainParts.{parts_read, parts_again, full_again, are_there}
 use Rattle.c_parse_decl.proofs.AgainDeclarations.{declarators_read, declarators_quiet, initializer_read, initializer_opens, others_end}
 use Rattle.c_parse_decl.proofs.AgainStatements.{block_read, items_again}

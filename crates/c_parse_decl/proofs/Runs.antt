@@ -1,15 +1,15 @@
 -- Tokens at the front that spell something.
-use Rattle.std.proofs.Common.{◌≡◌, ◌≤◌, ℕ, List, [], ◌∷◌, ◌++◌, Bool, true, false, Option, Some, None, refl, ap, sym, subst, ◌∙◌, inl, inr}
+use Rattle.std.proofs.Common.{◌≡◌, ◌≤◌, ℕ, List, [], ◌∷◌, ◌++◌, Bool, true, false, Some, refl, ap, sym, ◌∙◌, inl, inr}
 use Rattle.std.proofs.lemmas.List.{append_assoc}
-use Rattle.c_lexer.specs.declared.token.Token.{Token}
-use Rattle.c_lexer.specs.declared.token.Kind.TheVariants as kinds
-use Rattle.c_lexer.specs.declared.token.Mark.{Mark}
-use Rattle.c_lexer.specs.declared.token.Mark.TheVariants as marks
+use Rattle.c_token.specs.declared.token.Token.{Token}
+use Rattle.c_token.specs.declared.token.Kind.TheVariants as kinds
+use Rattle.c_token.specs.declared.token.Mark.{Mark}
+use Rattle.c_token.specs.declared.token.Mark.TheVariants as marks
 use Rattle.c_tree.specs.Spelling.{Behind, Then, IsMark}
 use Rattle.c_tree.specs.Files.{Closes}
 use Rattle.c_parse_expr.specs.Many.{◌>>=◌}
 use Rattle.c_parse_expr.specs.Reading.{is_mark}
-use Rattle.c_parse_decl.specs.Reading.{Read, token_at, or_else, comma_at, shut_at, ended_at}
+use Rattle.c_parse_decl.specs.Reading.{token_at, comma_at, shut_at, ended_at}
 use Rattle.c_parse_decl.proofs.Lists.{some_is, bind_some, either_of}
 use Rattle.c_parse_decl.proofs.Words.{mark_takes}
 

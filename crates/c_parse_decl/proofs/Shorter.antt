@@ -1,6 +1,6 @@
 -- What is read has a token.
-use Rattle.std.proofs.Common.{◌≡◌, ◌≤◌, ◌<◌, ◌+◌, ℕ, List, [], ◌∷◌, ◌++◌, length, length-append, Bool, true, false, Some, refl, ap, ◌∙◌, arith}
-use Rattle.c_lexer.specs.declared.token.Token.{Token}
+use Rattle.std.proofs.Common.{◌≡◌, ◌≤◌, ◌<◌, ℕ, List, ◌++◌, length, length-append, Bool, true, false, Some, refl, ap, ◌∙◌, arith}
+use Rattle.c_token.specs.declared.token.Token.{Token}
 use Rattle.c_tree.specs.Tree.{Tree}
 use Rattle.c_tree.specs.Declarations.{Full, Parts}
 use Rattle.c_tree.specs.Names.{Scope}

@@ -1,14 +1,13 @@
 -- What begins a specifier.
 use Rattle.std.proofs.Common.{◌≡◌, List, [], ◌∷◌, Bool, true, false, cond, Option, Some, None, refl, ap, sym, subst, ◌∙◌}
-use Rattle.std.specs.Prelude.{ℕ, not, ◌&&◌, ◌||◌}
-use Rattle.c_lexer.specs.declared.token.Token.{Token}
-use Rattle.c_lexer.specs.declared.token.Kind.{Kind}
-use Rattle.c_lexer.specs.declared.token.Kind.TheVariants as kinds
-use Rattle.c_lexer.specs.declared.token.Keyword.{Keyword}
-use Rattle.c_lexer.specs.declared.token.Keyword.TheVariants as keywords
-use Rattle.c_lexer.specs.declared.token.Mark.{Mark}
-use Rattle.c_lexer.specs.declared.token.Mark.TheVariants as marks
-use Rattle.c_lexer.specs.Kinds.{text_of}
+use Rattle.std.specs.Prelude.{ℕ, not, ◌&&◌}
+use Rattle.c_token.specs.declared.token.Token.{Token}
+use Rattle.c_token.specs.declared.token.Kind.{Kind}
+use Rattle.c_token.specs.declared.token.Kind.TheVariants as kinds
+use Rattle.c_token.specs.declared.token.Keyword.{Keyword}
+use Rattle.c_token.specs.declared.token.Keyword.TheVariants as keywords
+use Rattle.c_token.specs.declared.token.Mark.{Mark}
+use Rattle.c_token.specs.Spelling.{text_of}
 use Rattle.c_tree.specs.declared.specifier.Qualifier.{Qualifier}
 use Rattle.c_tree.specs.declared.specifier.Qualifier.TheVariants as qualifiers
 use Rattle.c_tree.specs.declared.specifier.TypeWord.{TypeWord}
@@ -20,13 +19,13 @@ use Rattle.c_tree.specs.declared.declaration.FunctionSpecifier.TheVariants as fu
 use Rattle.c_tree.specs.declared.declaration.RecordKind.{RecordKind}
 use Rattle.c_tree.specs.declared.declaration.RecordKind.TheVariants as record_kinds
 use Rattle.c_tree.specs.Tables.{qualifier_keyword, word_keyword, storage_keyword, function_keyword, record_keyword}
-use Rattle.c_tree.specs.Names.{Scope, is_type}
+use Rattle.c_tree.specs.Names.{is_type}
 use Rattle.c_parse_expr.specs.Many.{◌>>=◌}
 use Rattle.c_parse_expr.specs.Reading.{is_mark}
 use Rattle.c_parse_decl.specs.declared.table.Start.{Start}
 use Rattle.c_parse_decl.specs.declared.table.Start.TheVariants as starts
 use Rattle.c_parse_decl.specs.Tables.{start_of_keyword}
-use Rattle.c_parse_decl.specs.Reading.{Read, State, is_keyword, token_at, start_by, kept, start_of, start_at}
+use Rattle.c_parse_decl.specs.Reading.{State, is_keyword, token_at, start_by, kept, start_of, start_at}
 use Rattle.c_parse_decl.proofs.Lists.{some_is, bind_some}
 use Rattle.c_parse_decl.proofs.Words.{keyword_by, token_fails}
 

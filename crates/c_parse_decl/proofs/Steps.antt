@@ -1,18 +1,18 @@
 -- Steps of reading what is spelled.
-use Rattle.std.proofs.Common.{◌≡◌, ◌≤◌, ◌<◌, ◌+◌, ℕ, zero, suc, List, [], ◌∷◌, ◌++◌, length, length-append, Bool, true, false, cond, Option, Some, None, refl, ap, sym, subst, ◌∙◌, arith, inl, inr}
-use Rattle.std.specs.Prelude.{◌⊎◌, IfSome, nat_le, ◌&&◌, ◌||◌}
+use Rattle.std.proofs.Common.{◌≡◌, ◌≤◌, ◌<◌, ℕ, List, [], ◌∷◌, ◌++◌, length, Bool, true, false, Option, Some, None, refl, ap, sym, subst, ◌∙◌, arith, inl, inr}
+use Rattle.std.specs.Prelude.{◌⊎◌, IfSome, nat_le, ◌&&◌}
 use Rattle.std.proofs.lemmas.List.{append_assoc}
-use Rattle.c_lexer.specs.declared.token.Token.{Token}
-use Rattle.c_lexer.specs.declared.token.Kind.{Kind}
-use Rattle.c_lexer.specs.declared.token.Kind.TheVariants as kinds
-use Rattle.c_lexer.specs.declared.token.Keyword.{Keyword}
-use Rattle.c_lexer.specs.declared.token.Mark.{Mark}
-use Rattle.c_lexer.specs.declared.token.Mark.TheVariants as marks
+use Rattle.c_token.specs.declared.token.Token.{Token}
+use Rattle.c_token.specs.declared.token.Kind.{Kind}
+use Rattle.c_token.specs.declared.token.Kind.TheVariants as kinds
+use Rattle.c_token.specs.declared.token.Keyword.{Keyword}
+use Rattle.c_token.specs.declared.token.Mark.{Mark}
+use Rattle.c_token.specs.declared.token.Mark.TheVariants as marks
 use Rattle.c_tree.specs.Tree.{Tree, depth}
-use Rattle.c_tree.specs.Declarations.{Full, full_unnamed, full_named, full_inside, full_end, full_bounded, full_open, full_empty, full_void, full_parameters, full_has_name}
+use Rattle.c_tree.specs.Declarations.{Full, full_unnamed, full_named, full_inside, full_end, full_bounded, full_open, full_empty, full_void, full_parameters}
 use Rattle.c_tree.specs.Tables.{level_of}
 use Rattle.c_tree.specs.Names.{Scope, is_type}
-use Rattle.c_tree.specs.Spelling.{Single, Behind, Then, IsMark, Spells, IsWell}
+use Rattle.c_tree.specs.Spelling.{Single, IsMark, Spells, IsWell}
 use Rattle.c_tree.specs.Files.{Closes, FrontIsNoType, SpellsFull, full_is_empty}
 use Rattle.c_parse_expr.specs.declared.table.Suffix.{Suffix}
 use Rattle.c_parse_expr.specs.declared.table.Suffix.TheVariants as suffixes
@@ -21,7 +21,6 @@ use Rattle.c_parse_expr.specs.Many.{◌>>=◌}
 use Rattle.c_parse_expr.specs.Reading.{is_mark, is_identifier, goes_on, reader}
 use Rattle.c_parse_expr.specs.Standing.{goes_on_inside, Inside, Ends}
 use Rattle.c_parse_decl.specs.Reading.{Read, token_at, or_else, comma_at, shut_at, ended_at, start_at}
-use Rattle.c_parse_decl.proofs.Lists.{bind_gives, bind_none}
 use Rattle.c_parse_decl.proofs.Words.{passes_at, token_fails, mark_gives}
 use Rattle.c_parse_decl.proofs.Starts.{start_fails, name_fails}
 use Rattle.c_parse_expr.proofs.Again.{is_read}

@@ -1,16 +1,15 @@
 -- What is read of initializers, declarators and declarations stands there.
-use Rattle.std.proofs.Common.{◌≡◌, ◌≢◌, ◌≤◌, ◌+◌, max, ℕ, zero, suc, List, [], ◌∷◌, ◌++◌, length, Bool, true, false, cond, Option, Some, None, refl, ap, sym, subst, ◌∙◌, arith}
+use Rattle.std.proofs.Common.{◌≡◌, ◌+◌, max, ℕ, zero, suc, List, [], ◌∷◌, ◌++◌, length, Bool, true, false, cond, Option, Some, None, refl, ap, sym, subst, ◌∙◌, arith}
 use Rattle.std.proofs.lemmas.List.{append_assoc}
-use Rattle.c_lexer.specs.declared.token.Token.{Token}
-use Rattle.c_lexer.specs.declared.token.Mark.TheVariants as marks
-use Rattle.c_tree.specs.Tree.{Tree, depth}
+use Rattle.c_token.specs.declared.token.Token.{Token}
+use Rattle.c_token.specs.declared.token.Mark.TheVariants as marks
 use Rattle.c_tree.specs.Names.{Scope}
-use Rattle.c_tree.specs.Spelling.{Single, Behind, Then, IsMark, Spells, IsWell}
+use Rattle.c_tree.specs.Spelling.{Single, Then, IsMark}
 use Rattle.c_tree.specs.Declarations.{Full, full_depth, full_has_name, Parts, Initial, initial, braces, Initials, no_initial, initials, Declarators, none_declared, declarator, initial_depth, initials_depth, initializer_depth, declarators_depth, parts_depth, name_of, with_parts, have_typedef, specify}
-use Rattle.c_tree.specs.Files.{SpellsFull, IsWellFull, SpellsInitial, SpellsInitials, SpellsOtherInitials, SpellsInitializer, SpellsOthers, SpellsDeclarators, SpellsParts, SpellsDeclaration, IsWellInitial, AreWellInitials, IsWellInitializer, AreWellDeclarators, FrontIsNoTypeOfDeclarators, IsWellDeclaration}
+use Rattle.c_tree.specs.Files.{SpellsFull, IsWellFull, SpellsInitial, SpellsInitials, SpellsOtherInitials, SpellsInitializer, SpellsOthers, SpellsDeclarators, SpellsDeclaration, IsWellInitial, AreWellInitials, IsWellInitializer, AreWellDeclarators, FrontIsNoTypeOfDeclarators, IsWellDeclaration}
 use Rattle.c_parse_expr.specs.Many.{◌>>=◌}
 use Rattle.c_parse_expr.specs.Reading.{is_mark, reader}
-use Rattle.c_parse_decl.specs.Reading.{Read, State, token_at, run_at, comma_at, shut_at, ended_at, start_at, parts_at, are_some, body_at, full_at, initials_list, initials_at, initial_by, initial_at, initializer_by, initializer_at, declarator_at, declarators_list, declarators_at, declaration_at}
+use Rattle.c_parse_decl.specs.Reading.{Read, State, token_at, comma_at, shut_at, ended_at, start_at, parts_at, are_some, body_at, full_at, initials_list, initials_at, initial_by, initial_at, initializer_by, initializer_at, declarator_at, declarators_list, declarators_at, declaration_at}
 use Rattle.c_parse_decl.proofs.Lists.{some_is, bind_some, run_takes}
 use Rattle.c_parse_decl.proofs.Words.{mark_takes}
 use Rattle.c_parse_expr.proofs.Taken.{reads}

@@ -2,23 +2,22 @@
 use Rattle.std.proofs.Common.{◌≡◌, ◌≢◌, ◌≤◌, ◌+◌, max, ℕ, zero, suc, List, [], ◌∷◌, ◌++◌, length, Bool, true, false, cond, Option, Some, None, refl, ap, sym, subst, ◌∙◌, arith}
 use Rattle.std.specs.Prelude.{◌||◌, ◌&&◌}
 use Rattle.std.proofs.lemmas.List.{append_assoc}
-use Rattle.c_lexer.specs.declared.token.Token.{Token}
-use Rattle.c_lexer.specs.declared.token.Kind.{Kind}
-use Rattle.c_lexer.specs.declared.token.Kind.TheVariants as kinds
-use Rattle.c_lexer.specs.declared.token.Mark.TheVariants as marks
-use Rattle.c_lexer.specs.declared.token.Keyword.TheVariants as keywords
-use Rattle.c_lexer.specs.declared.token.Keyword.{Keyword}
-use Rattle.c_lexer.specs.Kinds.{text_of}
+use Rattle.c_token.specs.declared.token.Token.{Token}
+use Rattle.c_token.specs.declared.token.Kind.{Kind}
+use Rattle.c_token.specs.declared.token.Kind.TheVariants as kinds
+use Rattle.c_token.specs.declared.token.Mark.TheVariants as marks
+use Rattle.c_token.specs.declared.token.Keyword.TheVariants as keywords
+use Rattle.c_token.specs.Spelling.{text_of}
 use Rattle.c_tree.specs.declared.specifier.TagKind.{TagKind}
 use Rattle.c_tree.specs.declared.specifier.TagKind.TheVariants as tag_kinds
 use Rattle.c_tree.specs.declared.declaration.RecordKind.{RecordKind}
 use Rattle.c_tree.specs.declared.declaration.RecordKind.TheVariants as record_kinds
 use Rattle.c_tree.specs.declared.specifier.TypeWord.{TypeWord}
 use Rattle.c_tree.specs.declared.specifier.TypeWord.TheVariants as type_words
-use Rattle.c_tree.specs.Tree.{TypePart, qualified, word, tagged, typedef_name, Tree, depth}
-use Rattle.c_tree.specs.Tables.{level_of, tag_keyword, record_keyword}
+use Rattle.c_tree.specs.Tree.{qualified, word, tagged, typedef_name, Tree}
+use Rattle.c_tree.specs.Tables.{tag_keyword, record_keyword}
 use Rattle.c_tree.specs.Names.{Scope, is_type}
-use Rattle.c_tree.specs.Spelling.{Single, Behind, Then, IsMark, On, Spells, IsWell}
+use Rattle.c_tree.specs.Spelling.{Single, Behind, Then, IsMark}
 use Rattle.c_tree.specs.Declarations.{Enumerated, Part, type_part, storage, function, structure, enumeration, Parts, no_part, part, Members, no_member, members, Full, full_unnamed, full_named, full_inside, Fulls, no_full, full, FullSuffixes, full_end, full_bounded, full_open, full_empty, full_void, full_parameters, Parameters, no_parameter, parameter, value_depth, enumerators_depth, part_depth, parts_depth, members_depth, full_depth, fulls_depth, full_suffixes_depth, parameters_depth, full_has_name, with_part, with_parts, with_named, have_typedef, specifies, specify}
 use Rattle.c_tree.specs.Files.{SpellsValue, SpellsEnumerator, SpellsOtherEnumerators, SpellsEnumerators, SpellsOtherMembers, SpellsMembers, SpellsTag, SpellsPart, SpellsParts, SpellsMemberDeclarations, SpellsFull, SpellsFullSuffixes, SpellsParameters, SpellsOtherParameters, IsWellValue, AreWellEnumerators, FrontIsNoType, AreWellMembers, FrontIsNoTypeOfMembers, is_of_member, are_of_member, IsWellPart, AreWellParts, AreWellMemberDeclarations, OpensNoType, full_is_empty, is_void, is_void_part, are_void, is_void_alone, IsWellFull, AreWellFullSuffixes, AreWellParameters}
 use Rattle.c_parse_expr.specs.Many.{◌>>=◌}
@@ -30,7 +29,7 @@ use Rattle.c_parse_decl.specs.declared.slices.Heart.TheVariants as hearts
 use Rattle.c_parse_decl.specs.declared.slices.Opening.{Opening}
 use Rattle.c_parse_decl.specs.declared.slices.Opening.TheVariants as openings
 use Rattle.c_parse_decl.specs.Tables.{record_tag}
-use Rattle.c_parse_decl.specs.Reading.{Read, State, Body, FullReader, OneSuffix, one_bounded, one_open, one_empty, one_void, one_takes, placed_suffix, is_keyword, token_at, run_at, comma_at, shut_at, ended_at, start_at, is_there, stands, tag_by, tag_at, tagged_by, record_by, record_from, record_at, value_by, value_at, enumerator_at, enumerators_list, enumerators_at, enumeration_by, enumeration_from, enumeration_at, part_from, parts_stop, parts_list, parts_at, are_some, fulls_list, fulls_at, member_at, members_list, have_some, members_at, some_members_at, opening_of, opening_at, bound_by, bound_at, void_at, dots_at, last_by, last_at, parameter_at, parameters_list, parameters_at, given_by, given_at, taken_by, taken_at, one_from, suffixes_stop, suffixes_list, suffixes_at, takes, heart_of, heart_at, inside_at, full_from, bare_full, body_at, full_at}
+use Rattle.c_parse_decl.specs.Reading.{Read, State, Body, FullReader, OneSuffix, one_bounded, one_takes, placed_suffix, is_keyword, token_at, run_at, comma_at, shut_at, ended_at, start_at, is_there, stands, tag_by, tag_at, tagged_by, record_by, record_at, value_by, value_at, enumerator_at, enumerators_list, enumerators_at, enumeration_by, enumeration_at, part_from, parts_stop, parts_list, parts_at, are_some, fulls_list, fulls_at, member_at, members_list, have_some, members_at, some_members_at, opening_of, opening_at, bound_by, bound_at, void_at, dots_at, last_by, last_at, parameter_at, parameters_list, parameters_at, given_by, given_at, taken_by, taken_at, one_from, suffixes_stop, suffixes_list, suffixes_at, takes, heart_at, inside_at, full_from, bare_full, body_at, full_at}
 use Rattle.c_parse_decl.proofs.Lists.{some_is, bind_some, run_takes}
 use Rattle.c_parse_decl.proofs.Words.{mark_by, identifier_by, mark_takes, keyword_takes, identifier_takes, mark_gives, keyword_gives}
 use Rattle.c_parse_decl.proofs.Starts.{StartsKind, is_name_in, name_facts, start_takes, no_name}

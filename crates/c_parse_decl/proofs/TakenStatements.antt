@@ -1,19 +1,19 @@
 -- What is read of statements stands there.
-use Rattle.std.proofs.Common.{◌≡◌, ◌≤◌, ◌+◌, max, ℕ, zero, suc, List, [], ◌∷◌, ◌++◌, length, Bool, true, false, cond, Option, Some, None, refl, ap, sym, subst, ◌∙◌, arith, inl, inr}
+use Rattle.std.proofs.Common.{◌≡◌, ◌≤◌, ◌+◌, max, ℕ, zero, suc, List, [], ◌∷◌, ◌++◌, length, Bool, true, false, cond, Option, Some, None, refl, ap, subst, ◌∙◌, arith, inl, inr}
 use Rattle.std.proofs.lemmas.List.{append_assoc}
-use Rattle.c_lexer.specs.declared.token.Token.{Token}
-use Rattle.c_lexer.specs.declared.token.Kind.{Kind}
-use Rattle.c_lexer.specs.declared.token.Kind.TheVariants as kinds
-use Rattle.c_lexer.specs.declared.token.Keyword.{Keyword}
-use Rattle.c_lexer.specs.declared.token.Keyword.TheVariants as keywords
-use Rattle.c_lexer.specs.declared.token.Mark.{Mark}
-use Rattle.c_lexer.specs.declared.token.Mark.TheVariants as marks
-use Rattle.c_lexer.specs.Kinds.{text_of}
+use Rattle.c_token.specs.declared.token.Token.{Token}
+use Rattle.c_token.specs.declared.token.Kind.{Kind}
+use Rattle.c_token.specs.declared.token.Kind.TheVariants as kinds
+use Rattle.c_token.specs.declared.token.Keyword.{Keyword}
+use Rattle.c_token.specs.declared.token.Keyword.TheVariants as keywords
+use Rattle.c_token.specs.declared.token.Mark.{Mark}
+use Rattle.c_token.specs.declared.token.Mark.TheVariants as marks
+use Rattle.c_token.specs.Spelling.{text_of}
 use Rattle.c_tree.specs.Spelling.{Single, Behind, Then, IsMark, Spells, IsWell}
 use Rattle.c_tree.specs.Tree.{Tree, depth}
 use Rattle.c_tree.specs.Tables.{level_of}
 use Rattle.c_tree.specs.Names.{Scope}
-use Rattle.c_tree.specs.Declarations.{Parts, Declarators, with_declaration, parts_depth, declarators_depth, value_depth}
+use Rattle.c_tree.specs.Declarations.{with_declaration, parts_depth, declarators_depth, value_depth}
 use Rattle.c_tree.specs.Statements.{Statement, block, if_then, if_else, evaluate, return_value, empty, while_loop, do_loop, for_loop, for_declared, switch_on, case_of, default_of, labelled, goto_label, break_off, continue_on, Items, done, statement_depth, items_depth}
 use Rattle.c_tree.specs.Files.{SpellsDeclaration, SpellsStatement, SpellsItems, SpellsMaybe, SpellsHeader, SpellsTest, IsWellMaybe, IsWellDeclaration, IsWellStatement, AreWellItems, is_open}
 use Rattle.c_parse_expr.specs.Many.{◌>>=◌}
@@ -22,11 +22,11 @@ use Rattle.c_parse_decl.specs.declared.table.Begin.{Begin}
 use Rattle.c_parse_decl.specs.declared.table.Begin.TheVariants as begins
 use Rattle.c_parse_decl.specs.Tables.{begin_of_keyword}
 use Rattle.c_parse_decl.specs.declared.table.Start.{Start}
-use Rattle.c_parse_decl.specs.Reading.{Read, Reader, Piece, declaration, statement, is_keyword, begin_of, token_at, run_at, ended_at, start_at, stands, declares_at, test_at, while_at, switch_at, do_at, maybe_by, maybe_at, header_at, declared_for_at, plain_for_at, for_by, for_at, case_at, default_at, label_at, goto_at, declaration_at, placed, with_piece, item_by, item_at, items_list, items_at, block_at, branched, branched_at, tested_at, closed_at, valued_at, bare, returned_at, evaluated_at, begun, started_at, statement_at}
+use Rattle.c_parse_decl.specs.Reading.{Read, Reader, Piece, declaration, statement, is_keyword, begin_of, token_at, ended_at, start_at, stands, declares_at, test_at, while_at, switch_at, do_at, maybe_by, maybe_at, header_at, declared_for_at, plain_for_at, for_by, for_at, case_at, default_at, label_at, goto_at, declaration_at, placed, with_piece, item_by, item_at, items_list, items_at, block_at, branched, branched_at, tested_at, closed_at, valued_at, bare, returned_at, evaluated_at, begun, started_at, statement_at}
 use Rattle.c_parse_decl.proofs.Lists.{some_is, bind_some, either_of, run_takes}
 use Rattle.c_parse_decl.proofs.Words.{mark_by, mark_takes, keyword_takes, identifier_takes}
 use Rattle.c_parse_expr.proofs.Taken.{reads}
-use Rattle.c_parse_decl.proofs.Runs.{Run, seam, in_front_of, ended_takes, regroup}
+use Rattle.c_parse_decl.proofs.Runs.{Run, seam, in_front_of, ended_takes}
 use Rattle.c_parse_decl.proofs.TakenDeclarations.{declaration_takes}
 
 pub record Stated (bytes : List ℕ) (names : Scope) (n : ℕ) (s : Statement) (tokens rest : List Token) : Type 0 where

@@ -3,13 +3,13 @@ use Rattle.std.proofs.Common.{◌≡◌, List, [], ◌∷◌, Bool, true, false,
 use Rattle.std.specs.Str.{bytes_eq}
 use Rattle.std.proofs.lemmas.Option.{cond_some}
 use Rattle.std.proofs.lemmas.Slice.Eq.{bytes_eq-Decides}
-use Rattle.c_lexer.specs.declared.token.Token.{Token}
-use Rattle.c_lexer.specs.declared.token.Kind.{Kind}
-use Rattle.c_lexer.specs.declared.token.Kind.TheVariants as kinds
-use Rattle.c_lexer.specs.declared.token.Keyword.{Keyword}
-use Rattle.c_lexer.specs.declared.token.Mark.{Mark}
-use Rattle.c_lexer.specs.Spelling.{keyword_text, mark_text, keyword_of, mark_of}
-use Rattle.c_lexer.proofs.Spellings.{keyword_back, mark_back}
+use Rattle.c_token.specs.declared.token.Token.{Token}
+use Rattle.c_token.specs.declared.token.Kind.{Kind}
+use Rattle.c_token.specs.declared.token.Kind.TheVariants as kinds
+use Rattle.c_token.specs.declared.token.Keyword.{Keyword}
+use Rattle.c_token.specs.declared.token.Mark.{Mark}
+use Rattle.c_token.specs.Spelling.{keyword_text, mark_text, keyword_of, mark_of}
+use Rattle.c_token.proofs.Spellings.{keyword_back, mark_back}
 use Rattle.c_parse_expr.specs.Reading.{is_mark, is_identifier}
 use Rattle.c_parse_decl.specs.Reading.{Read, is_keyword, token_at}
 use Rattle.c_parse_decl.proofs.Lists.{some_is}

@@ -10,11 +10,11 @@ use Rattle.c_tree.specs.Statements.{view_statement}
 use Rattle.c_parse_decl.specs.Reading.{Piece, declaration, statement, OneSuffix, one_bounded, one_open, one_empty, one_void, one_takes}
 
 abbrev pub piece_of : Item → Piece
-piece_of (items.Declares d) = declaration (parts_of d.specifiers.items) (declarators_of d.declarators.items)
-piece_of (items.Does s) = statement (view_statement s)
+piece_of (items.Declares d) = declaration (parts_of d.value.specifiers.items) (declarators_of d.value.declarators.items)
+piece_of (items.Does' p s) = statement (view_statement s)
 
 abbrev pub suffix_of : DeclaratorSuffix → OneSuffix
-suffix_of (suffixes.Bounded line e) = one_bounded line (view e)
+suffix_of (suffixes.Bounded line e) = one_bounded line (view e.value)
 suffix_of (suffixes.Open line) = one_open line
 suffix_of (suffixes.Empty line) = one_empty line
 suffix_of (suffixes.Void line) = one_void line

@@ -1,16 +1,16 @@
 -- Reading declarations, statements and what stands in a file from left to right, with the names that are those of types and
 -- the levels that the parts may have.
-use Rattle.std.specs.Prelude.{ℕ, zero, suc, ◌+◌, List, [], ◌∷◌, length, Bool, true, false, not, ◌&&◌, ◌||◌, if◌then◌else◌, Option, Some, None, option_map}
+use Rattle.std.specs.Prelude.{ℕ, zero, suc, ◌+◌, List, [], ◌∷◌, length, Bool, true, false, not, ◌&&◌, ◌||◌, if◌then◌else◌, Option, Some, None}
 use Rattle.std.specs.Str.{bytes_eq}
-use Rattle.c_lexer.specs.declared.token.Token.{Token}
-use Rattle.c_lexer.specs.declared.token.Kind.{Kind}
-use Rattle.c_lexer.specs.declared.token.Kind.TheVariants as kinds
-use Rattle.c_lexer.specs.declared.token.Keyword.{Keyword}
-use Rattle.c_lexer.specs.declared.token.Keyword.TheVariants as keywords
-use Rattle.c_lexer.specs.declared.token.Mark.{Mark}
-use Rattle.c_lexer.specs.declared.token.Mark.TheVariants as marks
-use Rattle.c_lexer.specs.Spelling.{keyword_text}
-use Rattle.c_lexer.specs.Kinds.{text_of}
+use Rattle.c_token.specs.declared.token.Token.{Token}
+use Rattle.c_token.specs.declared.token.Kind.{Kind}
+use Rattle.c_token.specs.declared.token.Kind.TheVariants as kinds
+use Rattle.c_token.specs.declared.token.Keyword.{Keyword}
+use Rattle.c_token.specs.declared.token.Keyword.TheVariants as keywords
+use Rattle.c_token.specs.declared.token.Mark.{Mark}
+use Rattle.c_token.specs.declared.token.Mark.TheVariants as marks
+use Rattle.c_token.specs.Spelling.{keyword_text}
+use Rattle.c_token.specs.Spelling.{text_of}
 use Rattle.c_tree.specs.declared.specifier.TagKind.{TagKind}
 use Rattle.c_tree.specs.declared.specifier.TagKind.TheVariants as tag_kinds
 use Rattle.c_tree.specs.declared.declaration.RecordKind.{RecordKind}
@@ -53,6 +53,10 @@ begin_of colon (kinds.Mark m) =
 -- what stands at the front of tokens, and the tokens behind it
 abbrev pub Read : Type 0 → Type 0
 Read A = Option (A × List Token)
+
+-- what was read, before these tokens
+abbrev pub read_as : {X : Type 0} → X → List Token → Read X
+read_as x ts = Some (x, ts)
 
 -- the first token, where its kind passes
 unfoldable pub token_at : (Kind → Bool) → List Token → Read Token

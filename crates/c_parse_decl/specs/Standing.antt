@@ -1,6 +1,6 @@
 -- Where declarations and definitions stand among the tokens of a file (C11 6.9).
 use Rattle.std.specs.Prelude.{◌≤◌, ℕ, List, ◌++◌, ◌≡◌, max}
-use Rattle.c_lexer.specs.declared.token.Token.{Token}
+use Rattle.c_token.specs.declared.token.Token.{Token}
 use Rattle.c_tree.specs.declared.statement.External.{External}
 use Rattle.c_tree.specs.declared.statement.External.TheVariants as externals
 use Rattle.c_tree.specs.Names.{Scope, built_in_names}
@@ -14,8 +14,8 @@ pub data Outer : Type 0 where
   defining : (specifiers : Parts) (declarator : Full) (body : Statement) → Outer
 
 abbrev pub outer_of : External → Outer
-outer_of (externals.Declares d) = declaring (parts_of d.specifiers.items) (declarators_of d.declarators.items)
-outer_of (externals.Defines d) = defining (parts_of d.specifiers.items) (view_full d.declarator) (view_statement d.body)
+outer_of (externals.Declares d) = declaring (parts_of d.value.specifiers.items) (declarators_of d.value.declarators.items)
+outer_of (externals.Defines d) = defining (parts_of d.value.specifiers.items) (view_full d.value.declarator) (view_statement d.value.body.value)
 
 -- in front of those that follow
 abbrev pub outermost : Outer → Externals → Externals

@@ -1,7 +1,7 @@
 -- What a keyword begins among specifiers (C11 6.7).
 use Rattle.std.specs.Prelude.{Option, Some, None}
-use Rattle.c_lexer.specs.declared.token.Keyword.{Keyword}
-use Rattle.c_lexer.specs.declared.token.Keyword.TheVariants as keywords
+use Rattle.c_token.specs.declared.token.Keyword.{Keyword}
+use Rattle.c_token.specs.declared.token.Keyword.TheVariants as keywords
 use Rattle.c_tree.specs.declared.specifier.Qualifier.TheVariants as qualifiers
 use Rattle.c_tree.specs.declared.specifier.TypeWord.TheVariants as type_words
 use Rattle.c_tree.specs.declared.specifier.TagKind.{TagKind}

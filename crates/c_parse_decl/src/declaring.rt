@@ -8,8 +8,8 @@ ghost use Rattle.c_parse_decl.specs.Reading.{next_at, initial_at, initials_at, i
 use crate::declared::declared_name;
 use crate::slices::{comma_at, mark_at, shut_at};
 use crate::specifying::{are_some, full, specifiers};
-use c_lexer::{Mark, Token};
 use c_parse_expr::{Refused, TypeNames, read};
+use c_token::{Mark, Token};
 use c_tree::{Declaration, InitDeclarator, Initializer};
 use std::alloc::Global;
 
@@ -197,10 +197,10 @@ pub fn declaration<'a>(
     names: &mut TypeNames,
     tokens: &'a [Token],
     levels: u32,
-) -> Result<(Declaration, &'a [Token]), Refused>
+) -> Result<(Box<Declaration>, &'a [Token]), Refused>
     requires { levels ≤ 400 }
-    ensures exact { Gives (λ x. ((parts_of x.0.specifiers.items, declarators_of x.0.declarators.items), x.1.now)) result (declaration_at bytes.now names.old levels tokens.now) }
-    ensures names { IfOk result (λ x. names.new ≡ with_declaration names.old (parts_of x.0.specifiers.items) (declarators_of x.0.declarators.items)) }
+    ensures exact { Gives (λ x. ((parts_of x.0.value.specifiers.items, declarators_of x.0.value.declarators.items), x.1.now)) result (declaration_at bytes.now names.old levels tokens.now) }
+    ensures names { IfOk result (λ x. names.new ≡ with_declaration names.old (parts_of x.0.value.specifiers.items) (declarators_of x.0.value.declarators.items)) }
     ensures shorter { IfOk result (λ x. length x.1.now < length tokens.now) }
 {
     let found = specifiers(alloc, bytes, names, false, tokens, levels)?;
@@ -216,11 +216,12 @@ pub fn declaration<'a>(
         found.rest,
         levels,
     )?;
-    Ok((
+    let declaration = Box::new(
+        alloc,
         Declaration {
             specifiers: found.items,
             declarators,
         },
-        rest,
-    ))
+    )?;
+    Ok((declaration, rest))
 }

@@ -1,20 +1,20 @@
 //! Reading an external declaration.
 
-ghost use Rattle.std.specs.Prelude.{◌<◌, ◌≤◌, ◌≡◌, ◌∷◌, length, option_map, IfOk};
+ghost use Rattle.std.specs.Prelude.{◌<◌, ◌≤◌, ◌≡◌, ◌∷◌, length, IfOk};
 ghost use Rattle.c_tree.specs.Names.{Scope};
 ghost use Rattle.c_tree.specs.Statements.{view_statement};
 ghost use Rattle.c_tree.specs.Declarations.{view_full, parts_of, declarators_of, name_of, have_typedef, with_parts, with_declarators};
 ghost use Rattle.c_parse_expr.specs.Reading.{Gives};
-ghost use Rattle.c_parse_decl.specs.Reading.{definition_at, others_at, first_at, outer_at};
-ghost use Rattle.c_parse_decl.specs.Standing.{defining, outer_of, with_outer};
+ghost use Rattle.c_parse_decl.specs.Reading.{read_as, definition_at, others_at, first_at, outer_at};
+ghost use Rattle.c_parse_decl.specs.Standing.{declaring, defining, outer_of, with_outer};
 
 use crate::declared::{declare_body, declared_name, is_function};
 use crate::declaring::{declarators, initializer};
 use crate::slices::mark_at;
 use crate::specifying::{are_some, full, specifiers};
 use crate::stating::block;
-use c_lexer::{Mark, Token};
 use c_parse_expr::{Refused, TypeNames};
+use c_token::{Mark, Token};
 use c_tree::{Declaration, Definition, External, FullDeclarator, InitDeclarator, Specifier};
 use std::alloc::Global;
 
@@ -32,10 +32,10 @@ fn definition<'a>(
     declarator: FullDeclarator,
     line: u32,
     tokens: &'a [Token],
-) -> Result<(Definition, &'a [Token]), Refused>
-    ensures exact { Gives (λ x. (defining (parts_of x.0.specifiers.items) (view_full x.0.declarator) (view_statement x.0.body), x.1.now)) result (definition_at bytes.now names.old (parts_of specifiers.items) (view_full declarator) line tokens.now) }
-    ensures parts { IfOk result (λ x. parts_of x.0.specifiers.items ≡ parts_of specifiers.items) }
-    ensures same { IfOk result (λ x. view_full x.0.declarator ≡ view_full declarator) }
+) -> Result<(Box<Definition>, &'a [Token]), Refused>
+    ensures exact { Gives (λ x. (defining (parts_of x.0.value.specifiers.items) (view_full x.0.value.declarator) (view_statement x.0.value.body.value), x.1.now)) result (definition_at bytes.now names.old (parts_of specifiers.items) (view_full declarator) line tokens.now) }
+    ensures parts { IfOk result (λ x. parts_of x.0.value.specifiers.items ≡ parts_of specifiers.items) }
+    ensures same { IfOk result (λ x. view_full x.0.value.declarator ≡ view_full declarator) }
     ensures names { IfOk result (λ x. names.new ≡ names.old) }
     ensures shorter { IfOk result (λ x. length x.1.now ≤ length tokens.now) }
 {
@@ -46,14 +46,15 @@ fn definition<'a>(
     declare_body(alloc, names, &declarator)?;
     let (body, rest) = block(alloc, bytes, names, line, tokens, LEVELS - 1)?;
     names.leave(mark);
-    Ok((
+    let definition = Box::new(
+        alloc,
         Definition {
             specifiers,
             declarator,
             body,
         },
-        rest,
-    ))
+    )?;
+    Ok((definition, rest))
 }
 
 /// The declarators of a declaration behind the first one, which is declared.
@@ -82,6 +83,27 @@ fn others<'a>(
     Ok((others, rest))
 }
 
+/// A declaration in memory of its own.
+fn declares<'a>(
+    alloc: Global,
+    specifiers: Vec<Specifier>,
+    declarators: Vec<InitDeclarator>,
+    rest: &'a [Token],
+) -> Result<(External, &'a [Token]), Refused>
+    ensures exact { Gives (λ x. (outer_of x.0, x.1.now)) result (read_as (declaring (parts_of specifiers.items) (declarators_of declarators.items)) rest.now) }
+    ensures declared { IfOk result (λ x. outer_of x.0 ≡ declaring (parts_of specifiers.items) (declarators_of declarators.items)) }
+    ensures rest { IfOk result (λ x. x.1.now ≡ rest.now) }
+{
+    let declaration = Box::new(
+        alloc,
+        Declaration {
+            specifiers,
+            declarators,
+        },
+    )?;
+    Ok((External::Declares(declaration), rest))
+}
+
 /// A declaration or a definition behind its specifiers, with a declarator.
 #[tactic(auto, unfolding(crate::specs::Reading::first_at))]
 fn declared<'a>(
@@ -106,13 +128,7 @@ fn declared<'a>(
         return Ok((External::Defines(definition), rest));
     }
     let (declarators, rest) = others(alloc, bytes, names, types, declarator, rest)?;
-    Ok((
-        External::Declares(Declaration {
-            specifiers,
-            declarators,
-        }),
-        rest,
-    ))
+    declares(alloc, specifiers, declarators, rest)
 }
 
 /// The external declaration at the front (C11 6.9), and the tokens behind it: a definition where a brace stands behind the
@@ -135,11 +151,5 @@ pub fn external<'a>(
     let Some((_, rest)) = mark_at(found.rest, Mark::Semicolon) else {
         return declared(alloc, bytes, names, found.items, found.types, found.rest);
     };
-    Ok((
-        External::Declares(Declaration {
-            specifiers: found.items,
-            declarators: Vec::new(alloc),
-        }),
-        rest,
-    ))
+    declares(alloc, found.items, Vec::new(alloc), rest)
 }

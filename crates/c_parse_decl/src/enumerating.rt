@@ -1,14 +1,14 @@
 //! Reading enumerators.
 
 ghost use Rattle.std.specs.Prelude.{◌<◌, ◌≤◌, ◌≡◌, length, map, option_map, IfOk};
-ghost use Rattle.c_tree.specs.Tree.{view};
+ghost use Rattle.c_tree.specs.Tree.{boxed};
 ghost use Rattle.c_tree.specs.Declarations.{view_enumerator, with_enumerators};
 ghost use Rattle.c_parse_expr.specs.Reading.{Gives};
 ghost use Rattle.c_parse_decl.specs.Reading.{value_at, enumerator_at, enumerators_at, next_at};
 
 use crate::slices::{comma_at, identifier_at, mark_at, shut_at};
-use c_lexer::{Mark, Token};
 use c_parse_expr::{Refused, TypeNames, name_of, read};
+use c_token::{Mark, Token};
 use c_tree::{Enumerator, Expr};
 use std::alloc::Global;
 
@@ -20,9 +20,9 @@ fn value<'a>(
     names: &TypeNames,
     tokens: &'a [Token],
     levels: u32,
-) -> Result<(Option<Expr>, &'a [Token]), Refused>
+) -> Result<(Option<Box<Expr>>, &'a [Token]), Refused>
     requires { levels ≤ 400 }
-    ensures exact { Gives (λ x. (option_map view x.0, x.1.now)) result (value_at bytes.now names.now levels tokens.now) }
+    ensures exact { Gives (λ x. (option_map boxed x.0, x.1.now)) result (value_at bytes.now names.now levels tokens.now) }
     ensures shorter { IfOk result (λ x. length x.1.now ≤ length tokens.now) }
 {
     let Some((_, rest)) = mark_at(tokens, Mark::Equal) else {

@@ -1,7 +1,7 @@
 //! Reading a file.
 
-ghost use Rattle.std.specs.Prelude.{◌≡◌, ◌≢◌, ◌<◌, ◌++◌, [], ℕ, List, length, IfOk, IfErr};
-ghost use Rattle.c_lexer.specs.declared.token.Token.{Token};
+ghost use Rattle.std.specs.Prelude.{◌≡◌, ◌∷◌, true, codes, ◌≢◌, ◌<◌, ◌++◌, [], ℕ, List, length, IfOk, IfErr};
+ghost use Rattle.c_token.specs.declared.token.Token.{Token};
 ghost use Rattle.c_tree.specs.Names.{Scope, built_in_names};
 ghost use Rattle.c_tree.specs.Statements.{Externals, externals_of, view_file};
 ghost use Rattle.c_tree.specs.Files.{IsFile};
@@ -10,30 +10,55 @@ ghost use Rattle.c_parse_decl.specs.Standing.{Outer, outer_of, with_outer, IsExt
 
 use crate::defining::external;
 use crate::fault::ParseError;
-use c_lexer::{Token, Tokens};
+use c_lexer::Tokens;
 use c_parse_expr::{Refused, TypeNames, line_of};
+use c_token::Token;
 use c_tree::{External, File};
 use std::alloc::{AllocError, Global};
+
+/// Declares a mutex and the unsigned types of a size, which are declared around each file.
+fn declare_unsigned(alloc: Global, names: &mut TypeNames) -> Result<(), AllocError>
+    ensures { IfOk result (λ _. names.new ≡ (codes "uint8_t", true) ∷ (codes "uint16_t", true) ∷ (codes "uint32_t", true) ∷ (codes "uint64_t", true) ∷ (codes "pthread_mutex_t", true) ∷ names.old) }
+{
+    names.declare(alloc, b"pthread_mutex_t".as_slice(), true)?;
+    names.declare(alloc, b"uint64_t".as_slice(), true)?;
+    names.declare(alloc, b"uint32_t".as_slice(), true)?;
+    names.declare(alloc, b"uint16_t".as_slice(), true)?;
+    names.declare(alloc, b"uint8_t".as_slice(), true)?;
+    Ok(())
+}
+
+/// Declares the signed types of a size, which are declared around each file.
+fn declare_signed(alloc: Global, names: &mut TypeNames) -> Result<(), AllocError>
+    ensures { IfOk result (λ _. names.new ≡ (codes "int8_t", true) ∷ (codes "int16_t", true) ∷ (codes "int32_t", true) ∷ (codes "int64_t", true) ∷ names.old) }
+{
+    names.declare(alloc, b"int64_t".as_slice(), true)?;
+    names.declare(alloc, b"int32_t".as_slice(), true)?;
+    names.declare(alloc, b"int16_t".as_slice(), true)?;
+    names.declare(alloc, b"int8_t".as_slice(), true)?;
+    Ok(())
+}
+
+/// Declares the other types that are declared around each file.
+fn declare_others(alloc: Global, names: &mut TypeNames) -> Result<(), AllocError>
+    ensures { IfOk result (λ _. names.new ≡ (codes "size_t", true) ∷ (codes "uintptr_t", true) ∷ (codes "pthread_t", true) ∷ (codes "ptrdiff_t", true) ∷ (codes "intptr_t", true) ∷ names.old) }
+{
+    names.declare(alloc, b"intptr_t".as_slice(), true)?;
+    names.declare(alloc, b"ptrdiff_t".as_slice(), true)?;
+    names.declare(alloc, b"pthread_t".as_slice(), true)?;
+    names.declare(alloc, b"uintptr_t".as_slice(), true)?;
+    names.declare(alloc, b"size_t".as_slice(), true)?;
+    Ok(())
+}
 
 /// The names that are declared around each file.
 fn built_in(alloc: Global) -> Result<TypeNames, AllocError>
     ensures { IfOk result (λ names. names ≡ built_in_names) }
 {
     let mut names = TypeNames::new(alloc);
-    names.declare(alloc, b"pthread_mutex_t".as_slice(), true)?;
-    names.declare(alloc, b"uint64_t".as_slice(), true)?;
-    names.declare(alloc, b"uint32_t".as_slice(), true)?;
-    names.declare(alloc, b"uint16_t".as_slice(), true)?;
-    names.declare(alloc, b"uint8_t".as_slice(), true)?;
-    names.declare(alloc, b"int64_t".as_slice(), true)?;
-    names.declare(alloc, b"int32_t".as_slice(), true)?;
-    names.declare(alloc, b"int16_t".as_slice(), true)?;
-    names.declare(alloc, b"int8_t".as_slice(), true)?;
-    names.declare(alloc, b"intptr_t".as_slice(), true)?;
-    names.declare(alloc, b"ptrdiff_t".as_slice(), true)?;
-    names.declare(alloc, b"pthread_t".as_slice(), true)?;
-    names.declare(alloc, b"uintptr_t".as_slice(), true)?;
-    names.declare(alloc, b"size_t".as_slice(), true)?;
+    declare_unsigned(alloc, &mut names)?;
+    declare_signed(alloc, &mut names)?;
+    declare_others(alloc, &mut names)?;
     Ok(names)
 }
 

@@ -1,23 +1,23 @@
 //! Taking tokens from the front of a slice.
 
 ghost use Rattle.std.specs.Prelude.{◌≡◌, ◌<◌, ◌≤◌, IfSome, length, option_map};
-ghost use Rattle.c_lexer.specs.declared.token.Mark.TheVariants as marks;
+ghost use Rattle.c_token.specs.declared.token.Mark.TheVariants as marks;
 ghost use Rattle.c_parse_expr.specs.Reading.{is_mark, is_identifier};
 ghost use Rattle.c_parse_decl.specs.Reading.{is_keyword, token_at, stands, begin_of, comma_at, shut_at, void_at, dots_at, last_at, tag_at, start_by, kept, start_of, start_at, opening_of, opening_at, takes, heart_of, heart_at, is_label, declares_at};
 
 use crate::table::{Begin, Start, begin_of_keyword, start_of_keyword};
-use c_lexer::{Keyword, Kind, Mark, Token};
 use c_parse_expr::{TypeNames, is_mark, split, token_text};
+use c_token::{Keyword, Kind, Mark, Token};
 
 /// What begins a suffix of a declarator.
-#[derive(Clone, Copy, Debug, PartialEq, Eq)]
+#[derive(Clone, Copy, PartialEq, Eq)]
 pub enum Opening {
     Bracket,
     Parenthesis,
 }
 
 /// What a declarator begins with.
-#[derive(Clone, Copy, Debug, PartialEq, Eq)]
+#[derive(Clone, Copy, PartialEq, Eq)]
 pub enum Heart {
     /// The name that it declares.
     Name,

@@ -14,8 +14,8 @@ use crate::slices::{
     Heart, Opening, comma_at, heart_at, last_at, mark_at, opening_at, start_at, tag_at, void_at,
 };
 use crate::table::{Start, record_tag};
-use c_lexer::{Mark, Token};
 use c_parse_expr::{Refused, TypeNames, name_of, read, split};
+use c_token::{Mark, Token};
 use c_tree::{
     DeclaratorSuffix, FullDeclarator, MemberDeclaration, Name, Parameter, RecordKind, Specifier,
     TagKind, TypeSpecifier,

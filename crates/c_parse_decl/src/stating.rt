@@ -1,19 +1,19 @@
 //! Reading statements.
 
 ghost use Rattle.std.specs.Prelude.{◌<◌, ◌≤◌, ◌≡◌, ◌∷◌, ◌++◌, length, option_map, IfOk};
-ghost use Rattle.c_lexer.specs.declared.token.Mark.TheVariants as marks;
-ghost use Rattle.c_tree.specs.Tree.{view};
-ghost use Rattle.c_tree.specs.Statements.{view_statement, items_of};
+ghost use Rattle.c_token.specs.declared.token.Mark.TheVariants as marks;
+ghost use Rattle.c_tree.specs.Tree.{view, boxed};
+ghost use Rattle.c_tree.specs.Statements.{view_statement, items_of, break_off, continue_on};
 ghost use Rattle.c_parse_expr.specs.Reading.{Gives};
 ghost use Rattle.c_tree.specs.Names.{Scope};
-ghost use Rattle.c_parse_decl.specs.Reading.{statement_at, started_at, begun, ended_at, block_at, tested_at, branched_at, closed_at, valued_at, returned_at, evaluated_at, test_at, while_at, switch_at, do_at, maybe_at, header_at, declared_for_at, plain_for_at, for_at, case_at, default_at, label_at, goto_at, items_at, item_at, with_piece};
+ghost use Rattle.c_parse_decl.specs.Reading.{read_as, statement_at, started_at, begun, ended_at, block_at, tested_at, branched_at, closed_at, valued_at, returned_at, evaluated_at, test_at, while_at, switch_at, do_at, maybe_at, header_at, declared_for_at, plain_for_at, for_at, case_at, default_at, label_at, goto_at, items_at, item_at, with_piece};
 ghost use Rattle.c_parse_decl.specs.Pieces.{piece_of};
 
 use crate::declaring::declaration;
 use crate::slices::{begin_of, declares_at, identifier_at, keyword_at, mark_at, stands, start_at};
 use crate::table::Begin;
-use c_lexer::{Keyword, Mark, Token};
 use c_parse_expr::{Refused, TypeNames, name_of, read, split};
+use c_token::{Keyword, Mark, Token};
 use c_tree::{Expr, Item, Stmt};
 use std::alloc::Global;
 
@@ -26,9 +26,9 @@ fn statement<'a>(
     names: &mut TypeNames,
     tokens: &'a [Token],
     levels: u32,
-) -> Result<(Stmt, &'a [Token]), Refused>
+) -> Result<(Box<Stmt>, &'a [Token]), Refused>
     requires { levels ≤ 400 }
-    ensures exact { Gives (λ x. (view_statement x.0, x.1.now)) result (statement_at bytes.now levels names.old tokens.now) }
+    ensures exact { Gives (λ x. (view_statement x.0.value, x.1.now)) result (statement_at bytes.now levels names.old tokens.now) }
     ensures names { IfOk result (λ _. names.new ≡ names.old) }
     ensures shorter { IfOk result (λ x. length x.1.now < length tokens.now) }
 {
@@ -47,9 +47,9 @@ fn started<'a>(
     names: &mut TypeNames,
     tokens: &'a [Token],
     levels: u32,
-) -> Result<(Stmt, &'a [Token]), Refused>
+) -> Result<(Box<Stmt>, &'a [Token]), Refused>
     requires { levels < 400 }
-    ensures exact { Gives (λ x. (view_statement x.0, x.1.now)) result (started_at bytes.now levels (statement_at bytes.now levels) names.old tokens.now) }
+    ensures exact { Gives (λ x. (view_statement x.0.value, x.1.now)) result (started_at bytes.now levels (statement_at bytes.now levels) names.old tokens.now) }
     ensures names { IfOk result (λ _. names.new ≡ names.old) }
     ensures shorter { IfOk result (λ x. length x.1.now < length tokens.now) }
 {
@@ -71,10 +71,10 @@ fn begun<'a>(
     tokens: &'a [Token],
     rest: &'a [Token],
     levels: u32,
-) -> Result<(Stmt, &'a [Token]), Refused>
+) -> Result<(Box<Stmt>, &'a [Token]), Refused>
     requires levels { levels < 400 }
     requires whole { tokens.now ≡ token ∷ rest.now }
-    ensures exact { Gives (λ x. (view_statement x.0, x.1.now)) result (begun bytes.now levels (statement_at bytes.now levels) names.old begin token rest.now) }
+    ensures exact { Gives (λ x. (view_statement x.0.value, x.1.now)) result (begun bytes.now levels (statement_at bytes.now levels) names.old begin token rest.now) }
     ensures names { IfOk result (λ _. names.new ≡ names.old) }
     ensures shorter { IfOk result (λ x. length x.1.now < length tokens.now) }
 {
@@ -84,7 +84,7 @@ fn begun<'a>(
         Begin::If => conditional(alloc, bytes, names, line, rest, levels),
         Begin::Return => returned(alloc, bytes, names, line, rest, levels),
         Begin::Expression => evaluation(alloc, bytes, names, tokens, levels),
-        Begin::Empty => Ok((Stmt::Empty { line }, rest)),
+        Begin::Empty => made(alloc, Stmt::Empty { line }, rest),
         Begin::While => looped(alloc, bytes, names, line, rest, levels),
         Begin::Do => repeated(alloc, bytes, names, line, rest, levels),
         Begin::For => counted(alloc, bytes, names, line, rest, levels),
@@ -93,19 +93,44 @@ fn begun<'a>(
         Begin::Default => defaulted(alloc, bytes, names, line, rest, levels),
         Begin::Label => labelled(alloc, bytes, names, token, rest, levels),
         Begin::Goto => gone(alloc, bytes, line, rest),
-        Begin::Break => closed(Stmt::Break { line }, rest),
-        Begin::Continue => closed(Stmt::Continue { line }, rest),
+        Begin::Break => broken(alloc, line, rest),
+        Begin::Continue => continued(alloc, line, rest),
     }
 }
 
-/// A statement with the `;` at the front.
+/// A statement in memory of its own.
+fn made<'a>(
+    alloc: Global,
+    statement: Stmt,
+    rest: &'a [Token],
+) -> Result<(Box<Stmt>, &'a [Token]), Refused>
+    ensures exact { Gives (λ x. (view_statement x.0.value, x.1.now)) result (read_as (view_statement statement) rest.now) }
+    ensures rest { IfOk result (λ x. x.1.now ≡ rest.now) }
+{
+    let statement = Box::new(alloc, statement)?;
+    Ok((statement, rest))
+}
+
+/// The `;` of a `break` statement (C11 6.8.6.3).
 #[tactic(auto, unfolding(crate::specs::Reading::ended_at))]
-fn closed(statement: Stmt, tokens: &[Token]) -> Result<(Stmt, &[Token]), Refused>
-    ensures exact { Gives (λ x. (view_statement x.0, x.1.now)) result (ended_at marks.Semicolon (view_statement statement) tokens.now) }
+fn broken(alloc: Global, line: u32, tokens: &[Token]) -> Result<(Box<Stmt>, &[Token]), Refused>
+    ensures exact { Gives (λ x. (view_statement x.0.value, x.1.now)) result (ended_at marks.Semicolon (break_off line) tokens.now) }
     ensures shorter { IfOk result (λ x. length x.1.now < length tokens.now) }
 {
     match mark_at(tokens, Mark::Semicolon) {
-        Some((_, rest)) => Ok((statement, rest)),
+        Some((_, rest)) => made(alloc, Stmt::Break { line }, rest),
+        None => Err(Refused::Syntax),
+    }
+}
+
+/// The `;` of a `continue` statement (C11 6.8.6.2).
+#[tactic(auto, unfolding(crate::specs::Reading::ended_at))]
+fn continued(alloc: Global, line: u32, tokens: &[Token]) -> Result<(Box<Stmt>, &[Token]), Refused>
+    ensures exact { Gives (λ x. (view_statement x.0.value, x.1.now)) result (ended_at marks.Semicolon (continue_on line) tokens.now) }
+    ensures shorter { IfOk result (λ x. length x.1.now < length tokens.now) }
+{
+    match mark_at(tokens, Mark::Semicolon) {
+        Some((_, rest)) => made(alloc, Stmt::Continue { line }, rest),
         None => Err(Refused::Syntax),
     }
 }
@@ -118,9 +143,9 @@ fn test<'a>(
     names: &TypeNames,
     tokens: &'a [Token],
     levels: u32,
-) -> Result<(Expr, &'a [Token]), Refused>
+) -> Result<(Box<Expr>, &'a [Token]), Refused>
     requires { levels < 400 }
-    ensures exact { Gives (λ x. (view x.0, x.1.now)) result (test_at bytes.now names.now levels tokens.now) }
+    ensures exact { Gives (λ x. (view x.0.value, x.1.now)) result (test_at bytes.now names.now levels tokens.now) }
     ensures shorter { IfOk result (λ x. length x.1.now < length tokens.now) }
 {
     let Some((_, rest)) = mark_at(tokens, Mark::LeftParenthesis) else {
@@ -143,16 +168,16 @@ pub fn block<'a>(
     line: u32,
     tokens: &'a [Token],
     levels: u32,
-) -> Result<(Stmt, &'a [Token]), Refused>
+) -> Result<(Box<Stmt>, &'a [Token]), Refused>
     requires { levels < 400 }
-    ensures exact { Gives (λ x. (view_statement x.0, x.1.now)) result (block_at bytes.now levels (statement_at bytes.now levels) names.old line tokens.now) }
+    ensures exact { Gives (λ x. (view_statement x.0.value, x.1.now)) result (block_at bytes.now levels (statement_at bytes.now levels) names.old line tokens.now) }
     ensures names { IfOk result (λ _. names.new ≡ names.old) }
     ensures shorter { IfOk result (λ x. length x.1.now ≤ length tokens.now) }
 {
     let mark = names.mark();
     let (items, rest) = items(alloc, bytes, names, tokens, levels)?;
     names.leave(mark);
-    Ok((Stmt::Block { line, items }, rest))
+    made(alloc, Stmt::Block { line, items }, rest)
 }
 
 /// The `if` statement behind its keyword (C11 6.8.4.1).
@@ -165,9 +190,9 @@ fn conditional<'a>(
     line: u32,
     tokens: &'a [Token],
     levels: u32,
-) -> Result<(Stmt, &'a [Token]), Refused>
+) -> Result<(Box<Stmt>, &'a [Token]), Refused>
     requires { levels < 400 }
-    ensures exact { Gives (λ x. (view_statement x.0, x.1.now)) result (tested_at bytes.now levels (statement_at bytes.now levels) names.old line tokens.now) }
+    ensures exact { Gives (λ x. (view_statement x.0.value, x.1.now)) result (tested_at bytes.now levels (statement_at bytes.now levels) names.old line tokens.now) }
     ensures names { IfOk result (λ _. names.new ≡ names.old) }
     ensures shorter { IfOk result (λ x. length x.1.now ≤ length tokens.now) }
 {
@@ -190,23 +215,22 @@ fn branches<'a>(
     bytes: &[u8],
     names: &mut TypeNames,
     line: u32,
-    test: Expr,
-    yes: Stmt,
+    test: Box<Expr>,
+    yes: Box<Stmt>,
     tokens: &'a [Token],
     levels: u32,
-) -> Result<(Stmt, &'a [Token]), Refused>
+) -> Result<(Box<Stmt>, &'a [Token]), Refused>
     requires { levels < 400 }
-    ensures exact { Gives (λ x. (view_statement x.0, x.1.now)) result (branched_at (statement_at bytes.now levels) names.old line (view test) (view_statement yes) tokens.now) }
+    ensures exact { Gives (λ x. (view_statement x.0.value, x.1.now)) result (branched_at (statement_at bytes.now levels) names.old line (view test.value) (view_statement yes.value) tokens.now) }
     ensures names { IfOk result (λ _. names.new ≡ names.old) }
     ensures shorter { IfOk result (λ x. length x.1.now ≤ length tokens.now) }
 {
-    let yes = Box::new(alloc, yes)?;
     let Some((_, rest)) = keyword_at(tokens, Keyword::Else) else {
-        return Ok((Stmt::If { line, test, yes }, tokens));
+        return made(alloc, Stmt::If { line, test, yes }, tokens);
     };
     let (no, rest) = statement(alloc, bytes, names, rest, levels)?;
-    let no = Box::new(alloc, no)?;
-    Ok((
+    made(
+        alloc,
         Stmt::IfElse {
             line,
             test,
@@ -214,7 +238,7 @@ fn branches<'a>(
             no,
         },
         rest,
-    ))
+    )
 }
 
 /// The expression at the front, and the tokens behind its `;`.
@@ -225,9 +249,9 @@ fn value<'a>(
     names: &TypeNames,
     tokens: &'a [Token],
     levels: u32,
-) -> Result<(Expr, &'a [Token]), Refused>
+) -> Result<(Box<Expr>, &'a [Token]), Refused>
     requires { levels < 400 }
-    ensures exact { Gives (λ x. (view x.0, x.1.now)) result (closed_at bytes.now names.now levels tokens.now) }
+    ensures exact { Gives (λ x. (view x.0.value, x.1.now)) result (closed_at bytes.now names.now levels tokens.now) }
     ensures shorter { IfOk result (λ x. length x.1.now < length tokens.now) }
 {
     let found = read(alloc, bytes, names, tokens, 1, levels)?;
@@ -246,13 +270,13 @@ fn valued<'a>(
     line: u32,
     tokens: &'a [Token],
     levels: u32,
-) -> Result<(Stmt, &'a [Token]), Refused>
+) -> Result<(Box<Stmt>, &'a [Token]), Refused>
     requires { levels < 400 }
-    ensures exact { Gives (λ x. (view_statement x.0, x.1.now)) result (valued_at bytes.now names.now levels line tokens.now) }
+    ensures exact { Gives (λ x. (view_statement x.0.value, x.1.now)) result (valued_at bytes.now names.now levels line tokens.now) }
     ensures shorter { IfOk result (λ x. length x.1.now ≤ length tokens.now) }
 {
     let (value, rest) = value(alloc, bytes, names, tokens, levels)?;
-    Ok((Stmt::ReturnValue { line, value }, rest))
+    made(alloc, Stmt::ReturnValue { line, value }, rest)
 }
 
 /// The `return` statement behind its keyword (C11 6.8.6.4).
@@ -264,13 +288,13 @@ fn returned<'a>(
     line: u32,
     tokens: &'a [Token],
     levels: u32,
-) -> Result<(Stmt, &'a [Token]), Refused>
+) -> Result<(Box<Stmt>, &'a [Token]), Refused>
     requires { levels < 400 }
-    ensures exact { Gives (λ x. (view_statement x.0, x.1.now)) result (returned_at bytes.now names.now levels line tokens.now) }
+    ensures exact { Gives (λ x. (view_statement x.0.value, x.1.now)) result (returned_at bytes.now names.now levels line tokens.now) }
     ensures shorter { IfOk result (λ x. length x.1.now ≤ length tokens.now) }
 {
     match mark_at(tokens, Mark::Semicolon) {
-        Some((_, rest)) => Ok((Stmt::ReturnNothing { line }, rest)),
+        Some((_, rest)) => made(alloc, Stmt::ReturnNothing { line }, rest),
         None => valued(alloc, bytes, names, line, tokens, levels),
     }
 }
@@ -283,13 +307,13 @@ fn evaluation<'a>(
     names: &TypeNames,
     tokens: &'a [Token],
     levels: u32,
-) -> Result<(Stmt, &'a [Token]), Refused>
+) -> Result<(Box<Stmt>, &'a [Token]), Refused>
     requires { levels < 400 }
-    ensures exact { Gives (λ x. (view_statement x.0, x.1.now)) result (evaluated_at bytes.now names.now levels tokens.now) }
+    ensures exact { Gives (λ x. (view_statement x.0.value, x.1.now)) result (evaluated_at bytes.now names.now levels tokens.now) }
     ensures shorter { IfOk result (λ x. length x.1.now < length tokens.now) }
 {
     let (expression, rest) = value(alloc, bytes, names, tokens, levels)?;
-    Ok((Stmt::Evaluate { expression }, rest))
+    made(alloc, Stmt::Evaluate { expression }, rest)
 }
 
 /// The `while` statement behind its keyword (C11 6.8.5.1).
@@ -302,16 +326,15 @@ fn looped<'a>(
     line: u32,
     tokens: &'a [Token],
     levels: u32,
-) -> Result<(Stmt, &'a [Token]), Refused>
+) -> Result<(Box<Stmt>, &'a [Token]), Refused>
     requires { levels < 400 }
-    ensures exact { Gives (λ x. (view_statement x.0, x.1.now)) result (while_at bytes.now levels (statement_at bytes.now levels) names.old line tokens.now) }
+    ensures exact { Gives (λ x. (view_statement x.0.value, x.1.now)) result (while_at bytes.now levels (statement_at bytes.now levels) names.old line tokens.now) }
     ensures names { IfOk result (λ _. names.new ≡ names.old) }
     ensures shorter { IfOk result (λ x. length x.1.now ≤ length tokens.now) }
 {
     let (test, rest) = test(alloc, bytes, names, tokens, levels)?;
     let (body, rest) = statement(alloc, bytes, names, rest, levels)?;
-    let body = Box::new(alloc, body)?;
-    Ok((Stmt::While { line, test, body }, rest))
+    made(alloc, Stmt::While { line, test, body }, rest)
 }
 
 /// The `switch` statement behind its keyword (C11 6.8.4.2).
@@ -324,16 +347,15 @@ fn switched<'a>(
     line: u32,
     tokens: &'a [Token],
     levels: u32,
-) -> Result<(Stmt, &'a [Token]), Refused>
+) -> Result<(Box<Stmt>, &'a [Token]), Refused>
     requires { levels < 400 }
-    ensures exact { Gives (λ x. (view_statement x.0, x.1.now)) result (switch_at bytes.now levels (statement_at bytes.now levels) names.old line tokens.now) }
+    ensures exact { Gives (λ x. (view_statement x.0.value, x.1.now)) result (switch_at bytes.now levels (statement_at bytes.now levels) names.old line tokens.now) }
     ensures names { IfOk result (λ _. names.new ≡ names.old) }
     ensures shorter { IfOk result (λ x. length x.1.now ≤ length tokens.now) }
 {
     let (value, rest) = test(alloc, bytes, names, tokens, levels)?;
     let (body, rest) = statement(alloc, bytes, names, rest, levels)?;
-    let body = Box::new(alloc, body)?;
-    Ok((Stmt::Switch { line, value, body }, rest))
+    made(alloc, Stmt::Switch { line, value, body }, rest)
 }
 
 /// The `do` statement behind its keyword (C11 6.8.5.2).
@@ -346,9 +368,9 @@ fn repeated<'a>(
     line: u32,
     tokens: &'a [Token],
     levels: u32,
-) -> Result<(Stmt, &'a [Token]), Refused>
+) -> Result<(Box<Stmt>, &'a [Token]), Refused>
     requires { levels < 400 }
-    ensures exact { Gives (λ x. (view_statement x.0, x.1.now)) result (do_at bytes.now levels (statement_at bytes.now levels) names.old line tokens.now) }
+    ensures exact { Gives (λ x. (view_statement x.0.value, x.1.now)) result (do_at bytes.now levels (statement_at bytes.now levels) names.old line tokens.now) }
     ensures names { IfOk result (λ _. names.new ≡ names.old) }
     ensures shorter { IfOk result (λ x. length x.1.now ≤ length tokens.now) }
 {
@@ -360,8 +382,7 @@ fn repeated<'a>(
     let Some((_, rest)) = mark_at(rest, Mark::Semicolon) else {
         return Err(Refused::Syntax);
     };
-    let body = Box::new(alloc, body)?;
-    Ok((Stmt::Do { line, body, test }, rest))
+    made(alloc, Stmt::Do { line, body, test }, rest)
 }
 
 /// An expression, or none, and the tokens behind the mark that ends it.
@@ -373,9 +394,9 @@ fn maybe<'a>(
     mark: Mark,
     tokens: &'a [Token],
     levels: u32,
-) -> Result<(Option<Expr>, &'a [Token]), Refused>
+) -> Result<(Option<Box<Expr>>, &'a [Token]), Refused>
     requires { levels < 400 }
-    ensures exact { Gives (λ x. (option_map view x.0, x.1.now)) result (maybe_at bytes.now names.now levels mark tokens.now) }
+    ensures exact { Gives (λ x. (option_map boxed x.0, x.1.now)) result (maybe_at bytes.now names.now levels mark tokens.now) }
     ensures shorter { IfOk result (λ x. length x.1.now < length tokens.now) }
 {
     if let Some((_, rest)) = mark_at(tokens, mark) {
@@ -391,9 +412,9 @@ fn maybe<'a>(
 /// The test, the last part and the body of a `for`, and the tokens behind them.
 #[derive(Drop)]
 struct Heading<'a> {
-    test: Option<Expr>,
-    last: Option<Expr>,
-    body: Stmt,
+    test: Option<Box<Expr>>,
+    last: Option<Box<Expr>>,
+    body: Box<Stmt>,
     rest: &'a [Token],
 }
 
@@ -408,7 +429,7 @@ fn header<'a>(
     levels: u32,
 ) -> Result<Heading<'a>, Refused>
     requires { levels < 400 }
-    ensures exact { Gives (λ x. (((option_map view x.test, option_map view x.last), view_statement x.body), x.rest.now)) result (header_at bytes.now levels (statement_at bytes.now levels) names.old tokens.now) }
+    ensures exact { Gives (λ x. (((option_map boxed x.test, option_map boxed x.last), view_statement x.body.value), x.rest.now)) result (header_at bytes.now levels (statement_at bytes.now levels) names.old tokens.now) }
     ensures names { IfOk result (λ _. names.new ≡ names.old) }
     ensures shorter { IfOk result (λ x. length x.rest.now ≤ length tokens.now) }
 {
@@ -433,9 +454,9 @@ fn declared_for<'a>(
     line: u32,
     tokens: &'a [Token],
     levels: u32,
-) -> Result<(Stmt, &'a [Token]), Refused>
+) -> Result<(Box<Stmt>, &'a [Token]), Refused>
     requires { levels < 400 }
-    ensures exact { Gives (λ x. (view_statement x.0, x.1.now)) result (declared_for_at bytes.now levels (statement_at bytes.now levels) names.old line tokens.now) }
+    ensures exact { Gives (λ x. (view_statement x.0.value, x.1.now)) result (declared_for_at bytes.now levels (statement_at bytes.now levels) names.old line tokens.now) }
     ensures names { IfOk result (λ _. names.new ≡ names.old) }
     ensures shorter { IfOk result (λ x. length x.1.now ≤ length tokens.now) }
 {
@@ -443,17 +464,17 @@ fn declared_for<'a>(
     let (declaration, rest) = declaration(alloc, bytes, names, tokens, levels)?;
     let found = header(alloc, bytes, names, rest, levels)?;
     names.leave(mark);
-    let body = Box::new(alloc, found.body)?;
-    Ok((
+    made(
+        alloc,
         Stmt::ForDeclared {
             line,
             declaration,
             test: found.test,
             last: found.last,
-            body,
+            body: found.body,
         },
         found.rest,
-    ))
+    )
 }
 
 /// A `for` that declares nothing, behind its parenthesis.
@@ -466,25 +487,25 @@ fn plain_for<'a>(
     line: u32,
     tokens: &'a [Token],
     levels: u32,
-) -> Result<(Stmt, &'a [Token]), Refused>
+) -> Result<(Box<Stmt>, &'a [Token]), Refused>
     requires { levels < 400 }
-    ensures exact { Gives (λ x. (view_statement x.0, x.1.now)) result (plain_for_at bytes.now levels (statement_at bytes.now levels) names.old line tokens.now) }
+    ensures exact { Gives (λ x. (view_statement x.0.value, x.1.now)) result (plain_for_at bytes.now levels (statement_at bytes.now levels) names.old line tokens.now) }
     ensures names { IfOk result (λ _. names.new ≡ names.old) }
     ensures shorter { IfOk result (λ x. length x.1.now ≤ length tokens.now) }
 {
     let (first, rest) = maybe(alloc, bytes, names, Mark::Semicolon, tokens, levels)?;
     let found = header(alloc, bytes, names, rest, levels)?;
-    let body = Box::new(alloc, found.body)?;
-    Ok((
+    made(
+        alloc,
         Stmt::For {
             line,
             first,
             test: found.test,
             last: found.last,
-            body,
+            body: found.body,
         },
         found.rest,
-    ))
+    )
 }
 
 /// The `for` statement behind its keyword (C11 6.8.5.3).
@@ -497,9 +518,9 @@ fn counted<'a>(
     line: u32,
     tokens: &'a [Token],
     levels: u32,
-) -> Result<(Stmt, &'a [Token]), Refused>
+) -> Result<(Box<Stmt>, &'a [Token]), Refused>
     requires { levels < 400 }
-    ensures exact { Gives (λ x. (view_statement x.0, x.1.now)) result (for_at bytes.now levels (statement_at bytes.now levels) names.old line tokens.now) }
+    ensures exact { Gives (λ x. (view_statement x.0.value, x.1.now)) result (for_at bytes.now levels (statement_at bytes.now levels) names.old line tokens.now) }
     ensures names { IfOk result (λ _. names.new ≡ names.old) }
     ensures shorter { IfOk result (λ x. length x.1.now ≤ length tokens.now) }
 {
@@ -522,9 +543,9 @@ fn cased<'a>(
     line: u32,
     tokens: &'a [Token],
     levels: u32,
-) -> Result<(Stmt, &'a [Token]), Refused>
+) -> Result<(Box<Stmt>, &'a [Token]), Refused>
     requires { levels < 400 }
-    ensures exact { Gives (λ x. (view_statement x.0, x.1.now)) result (case_at bytes.now levels (statement_at bytes.now levels) names.old line tokens.now) }
+    ensures exact { Gives (λ x. (view_statement x.0.value, x.1.now)) result (case_at bytes.now levels (statement_at bytes.now levels) names.old line tokens.now) }
     ensures names { IfOk result (λ _. names.new ≡ names.old) }
     ensures shorter { IfOk result (λ x. length x.1.now ≤ length tokens.now) }
 {
@@ -533,15 +554,15 @@ fn cased<'a>(
         return Err(Refused::Syntax);
     };
     let (body, rest) = statement(alloc, bytes, names, rest, levels)?;
-    let body = Box::new(alloc, body)?;
-    Ok((
+    made(
+        alloc,
         Stmt::Case {
             line,
             value: found.tree,
             body,
         },
         rest,
-    ))
+    )
 }
 
 /// A `default` label with its statement, behind the keyword (C11 6.8.1).
@@ -554,9 +575,9 @@ fn defaulted<'a>(
     line: u32,
     tokens: &'a [Token],
     levels: u32,
-) -> Result<(Stmt, &'a [Token]), Refused>
+) -> Result<(Box<Stmt>, &'a [Token]), Refused>
     requires { levels < 400 }
-    ensures exact { Gives (λ x. (view_statement x.0, x.1.now)) result (default_at (statement_at bytes.now levels) names.old line tokens.now) }
+    ensures exact { Gives (λ x. (view_statement x.0.value, x.1.now)) result (default_at (statement_at bytes.now levels) names.old line tokens.now) }
     ensures names { IfOk result (λ _. names.new ≡ names.old) }
     ensures shorter { IfOk result (λ x. length x.1.now ≤ length tokens.now) }
 {
@@ -564,8 +585,7 @@ fn defaulted<'a>(
         return Err(Refused::Syntax);
     };
     let (body, rest) = statement(alloc, bytes, names, rest, levels)?;
-    let body = Box::new(alloc, body)?;
-    Ok((Stmt::Default { line, body }, rest))
+    made(alloc, Stmt::Default { line, body }, rest)
 }
 
 /// A label with its statement, behind the name (C11 6.8.1).
@@ -578,9 +598,9 @@ fn labelled<'a>(
     token: Token,
     tokens: &'a [Token],
     levels: u32,
-) -> Result<(Stmt, &'a [Token]), Refused>
+) -> Result<(Box<Stmt>, &'a [Token]), Refused>
     requires { levels < 400 }
-    ensures exact { Gives (λ x. (view_statement x.0, x.1.now)) result (label_at bytes.now (statement_at bytes.now levels) names.old token tokens.now) }
+    ensures exact { Gives (λ x. (view_statement x.0.value, x.1.now)) result (label_at bytes.now (statement_at bytes.now levels) names.old token tokens.now) }
     ensures names { IfOk result (λ _. names.new ≡ names.old) }
     ensures shorter { IfOk result (λ x. length x.1.now ≤ length tokens.now) }
 {
@@ -588,10 +608,9 @@ fn labelled<'a>(
         return Err(Refused::Syntax);
     };
     let (body, rest) = statement(alloc, bytes, names, rest, levels)?;
-    let body = Box::new(alloc, body)?;
     let name = name_of(alloc, bytes, token)?;
     let line = token.line;
-    Ok((Stmt::Label { line, name, body }, rest))
+    made(alloc, Stmt::Label { line, name, body }, rest)
 }
 
 /// The `goto` statement behind its keyword (C11 6.8.6.1).
@@ -601,8 +620,8 @@ fn gone<'a>(
     bytes: &[u8],
     line: u32,
     tokens: &'a [Token],
-) -> Result<(Stmt, &'a [Token]), Refused>
-    ensures exact { Gives (λ x. (view_statement x.0, x.1.now)) result (goto_at bytes.now line tokens.now) }
+) -> Result<(Box<Stmt>, &'a [Token]), Refused>
+    ensures exact { Gives (λ x. (view_statement x.0.value, x.1.now)) result (goto_at bytes.now line tokens.now) }
     ensures shorter { IfOk result (λ x. length x.1.now ≤ length tokens.now) }
 {
     let Some((token, rest)) = identifier_at(tokens) else {
@@ -612,7 +631,7 @@ fn gone<'a>(
         return Err(Refused::Syntax);
     };
     let name = name_of(alloc, bytes, token)?;
-    Ok((Stmt::Goto { line, name }, rest))
+    made(alloc, Stmt::Goto { line, name }, rest)
 }
 
 /// The items of a block with at most so many levels, and the tokens behind the brace that closes it.

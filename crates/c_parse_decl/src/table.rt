@@ -3,11 +3,11 @@
 ghost use Rattle.std.specs.Prelude.{◌≡◌};
 ghost use Rattle.c_parse_decl.specs.Tables.{start_of_keyword, begin_of_keyword, record_tag};
 
-use c_lexer::Keyword;
+use c_token::Keyword;
 use c_tree::{FunctionSpecifier, Qualifier, RecordKind, StorageClass, TagKind, TypeWord};
 
 /// What a token begins among specifiers (C11 6.7).
-#[derive(Clone, Copy, Debug, PartialEq, Eq)]
+#[derive(Clone, Copy, PartialEq, Eq)]
 pub enum Start {
     Qualifier(Qualifier),
     Word(TypeWord),
@@ -20,7 +20,7 @@ pub enum Start {
 }
 
 /// What the first token of a statement begins (C11 6.8).
-#[derive(Clone, Copy, Debug, PartialEq, Eq)]
+#[derive(Clone, Copy, PartialEq, Eq)]
 pub enum Begin {
     Block,
     If,

@@ -1,37 +1,27 @@
 -- What stands there is read.
-use Rattle.std.proofs.Common.{◌≡◌, ◌≤◌, ◌<◌, ◌+◌, ℕ, zero, suc, List, [], ◌∷◌, ◌++◌, length, Bool, true, false, cond, Option, Some, None, refl, ap, sym, subst, ◌∙◌, arith}
-use Rattle.std.specs.Prelude.{IfSome}
-use Rattle.std.specs.Prelude.{nat_le}
-use Rattle.std.proofs.lemmas.Bool.{lt-ltb, le-leb}
+use Rattle.std.proofs.Common.{◌≡◌, ◌≤◌, ◌+◌, ℕ, zero, suc, List, [], ◌∷◌, ◌++◌, length, Bool, true, false, cond, Option, Some, None, refl, ap, sym, ◌∙◌, arith}
 use Rattle.std.proofs.Common.{length-append}
-use Rattle.std.proofs.lemmas.List.{append_assoc}
-use Rattle.c_lexer.specs.declared.token.Token.{Token}
-use Rattle.c_lexer.specs.declared.token.Kind.{Kind}
-use Rattle.c_lexer.specs.declared.token.Kind.TheVariants as kinds
-use Rattle.c_lexer.specs.declared.token.Constant.{Constant}
-use Rattle.c_lexer.specs.declared.token.Keyword.{Keyword}
-use Rattle.c_lexer.specs.declared.token.Keyword.TheVariants as keywords
-use Rattle.c_lexer.specs.declared.token.Mark.{Mark}
-use Rattle.c_lexer.specs.declared.token.Mark.TheVariants as marks
-use Rattle.c_lexer.specs.Kinds.{text_of}
+use Rattle.c_token.specs.declared.token.Token.{Token}
+use Rattle.c_token.specs.declared.token.Kind.TheVariants as kinds
+use Rattle.c_token.specs.declared.token.Constant.{Constant}
+use Rattle.c_token.specs.declared.token.Mark.TheVariants as marks
+use Rattle.c_token.specs.Spelling.{text_of}
 use Rattle.c_tree.specs.declared.expr.BinaryOp.{BinaryOp}
 use Rattle.c_tree.specs.declared.expr.UnaryOp.{UnaryOp}
 use Rattle.c_tree.specs.declared.expr.StepOp.{StepOp}
-use Rattle.c_tree.specs.Tree.{TypePart, Tree, Trees, Declared, Suffixes, constant, character, strings, name, parens, unary, cast, sizeof_expr, sizeof_type, step, member, binary, choice, assign, comma, call, none, more, unnamed, named, inside, no_suffix, bounded, unbounded, depth, depth_of, declared_depth, suffixes_depth}
+use Rattle.c_tree.specs.Tree.{TypePart, Tree, Trees, Declared, Suffixes, constant, character, strings, name, parens, unary, cast, sizeof_expr, sizeof_type, step, member, binary, choice, assign, comma, call, none, more, unnamed, named, inside, no_suffix, bounded, unbounded, depth, depth_of}
 use Rattle.c_tree.specs.Names.{Scope, is_type}
 use Rattle.c_tree.specs.Tables.{strength_of, operand_level, level_of}
 use Rattle.c_tree.specs.Spelling.{Spells, SpellsArguments, SpellsRest, IsWell, AreWell, has_name}
-use Rattle.c_parse_expr.specs.declared.table.Lead.{Lead}
 use Rattle.c_parse_expr.specs.declared.table.Lead.TheVariants as leads
-use Rattle.c_parse_expr.specs.declared.table.Suffix.{Suffix}
 use Rattle.c_parse_expr.specs.declared.table.Suffix.TheVariants as suffixes
-use Rattle.c_parse_expr.specs.Tables.{lead_of, suffix_of, strength_behind, least_left}
+use Rattle.c_parse_expr.specs.Tables.{suffix_of}
 use Rattle.c_parse_expr.specs.Many.{◌>>=◌}
-use Rattle.c_parse_expr.specs.Reading.{Read, Reader, DeclaredReader, is_mark, behind, closed, goes_on, rest_at, arguments_at, identifier_at, strings_behind, start_by, start_of, begins_type, type_behind, type_name_at, grouped, sized, sizeof_at, prefixed, prefix_at, suffixed, turn, climb, from_operand, reader, declared_at}
-use Rattle.c_parse_expr.specs.Standing.{goes_on_inside, suffix_at, Inside, Ends, Stands, DeclaredStands}
-use Rattle.c_parse_expr.proofs.Marks.{Leads, behaves_so, leads_so, close_is, some_is}
-use Rattle.c_parse_expr.proofs.Steps.{behind_gives, next_ends, next_goes, goes_so, first_false, second_false}
-use Rattle.c_parse_expr.proofs.Within.{low, quiet, has_depth}
+use Rattle.c_parse_expr.specs.Reading.{Read, Reader, DeclaredReader, behind, closed, goes_on, rest_at, arguments_at, identifier_at, begins_type, type_behind, type_name_at, grouped, sized, sizeof_at, prefixed, suffixed, reader, declared_at}
+use Rattle.c_parse_expr.specs.Standing.{goes_on_inside, suffix_at, Stands, DeclaredStands}
+use Rattle.c_parse_expr.proofs.Marks.{behaves_so, close_is, some_is}
+use Rattle.c_parse_expr.proofs.Steps.{behind_gives, first_false, second_false}
+use Rattle.c_parse_expr.proofs.Within.{quiet, has_depth}
 use Rattle.c_parse_expr.proofs.AgainSteps.{Again, seam, from_token, begins_again, finish, mark_is, inside_some, ends_some, before, goes_again, First, first_of, first_token, no_type_first, not_first, no_type_behind}
 use Rattle.c_parse_expr.proofs.AgainWords.{identifier_read, strings_read, specifiers_begin}
 use Rattle.c_parse_expr.proofs.AgainDeclared.{SuffixesAgain, DeclaredAgain, suffixes_none, suffixes_bounded, suffixes_unbounded, again_unnamed, again_named, again_inside, type_read}

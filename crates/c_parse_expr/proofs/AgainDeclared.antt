@@ -1,23 +1,21 @@
 -- A declarator that stands there is read.
-use Rattle.std.proofs.Common.{◌≡◌, ◌≤◌, ◌<◌, ◌+◌, ℕ, zero, suc, List, [], ◌∷◌, ◌++◌, length, Bool, true, false, ◌&&◌, ◌||◌, cond, Option, Some, None, refl, ap, sym, subst, ◌∙◌, arith}
+use Rattle.std.proofs.Common.{◌≡◌, ◌≤◌, ◌<◌, ◌+◌, ℕ, zero, suc, List, [], ◌∷◌, ◌++◌, length, Bool, true, false, ◌&&◌, ◌||◌, cond, Option, Some, None, refl, ap, sym, ◌∙◌, arith}
 use Rattle.std.specs.Prelude.{nat_lt}
 use Rattle.std.proofs.Common.{length-append}
 use Rattle.std.proofs.lemmas.Bool.{lt-ltb}
-use Rattle.c_lexer.specs.declared.token.Token.{Token}
-use Rattle.c_lexer.specs.declared.token.Kind.{Kind}
-use Rattle.c_lexer.specs.declared.token.Kind.TheVariants as kinds
-use Rattle.c_lexer.specs.declared.token.Mark.{Mark}
-use Rattle.c_lexer.specs.declared.token.Mark.TheVariants as marks
-use Rattle.c_lexer.specs.Kinds.{text_of}
-use Rattle.c_tree.specs.Tree.{TypePart, Tree, Declared, Suffixes, unnamed, named, inside, no_suffix, bounded, unbounded, depth, declared_depth, suffixes_depth}
-use Rattle.c_tree.specs.Tables.{level_of}
+use Rattle.c_token.specs.declared.token.Token.{Token}
+use Rattle.c_token.specs.declared.token.Kind.{Kind}
+use Rattle.c_token.specs.declared.token.Kind.TheVariants as kinds
+use Rattle.c_token.specs.declared.token.Mark.TheVariants as marks
+use Rattle.c_token.specs.Spelling.{text_of}
+use Rattle.c_tree.specs.Tree.{TypePart, Tree, Declared, Suffixes, unnamed, named, inside, no_suffix, bounded, unbounded, declared_depth, suffixes_depth}
 use Rattle.c_tree.specs.Names.{Scope}
 use Rattle.c_tree.specs.Spelling.{SpellsTypeParts, SpellsDeclared, SpellsSuffixes, AreSpecifiers, IsWellDeclared, AreWellSuffixes, is_empty, has_name}
 use Rattle.c_parse_expr.specs.declared.heart.Heart.{Heart}
 use Rattle.c_parse_expr.specs.declared.heart.Heart.TheVariants as hearts
 use Rattle.c_parse_expr.specs.Tables.{suffix_of}
-use Rattle.c_parse_expr.specs.Many.{◌>>=◌, many_at}
-use Rattle.c_parse_expr.specs.Reading.{Read, Reader, DeclaredReader, is_mark, behind, opened, bound_at, bracket, bracketed, bracket_at, suffixes_from, suffixes_at, heart_of, heart_at, inside_at, declared_from, bare, type_parts_at, type_name_at, reader, declared_at}
+use Rattle.c_parse_expr.specs.Many.{◌>>=◌}
+use Rattle.c_parse_expr.specs.Reading.{Read, Reader, DeclaredReader, is_mark, behind, opened, bound_at, bracket, bracketed, bracket_at, suffixes_from, suffixes_at, heart_of, heart_at, inside_at, declared_from, bare, type_name_at, reader, declared_at}
 use Rattle.c_parse_expr.specs.Standing.{opens, goes_on_with}
 use Rattle.c_parse_expr.proofs.Marks.{end_is}
 use Rattle.c_parse_expr.proofs.Steps.{behind_gives}

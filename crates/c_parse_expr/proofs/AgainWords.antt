@@ -1,13 +1,12 @@
 -- What stands there without expressions is read: string literals, and the specifiers of a type.
-use Rattle.std.proofs.Common.{◌≡◌, ◌≤◌, ◌<◌, ◌+◌, ℕ, zero, suc, List, [], ◌∷◌, ◌++◌, length, Bool, true, false, not, ◌&&◌, ◌||◌, cond, Option, Some, None, refl, ap, sym, subst, ◌∙◌, arith}
+use Rattle.std.proofs.Common.{◌≡◌, ◌≤◌, ◌+◌, ℕ, List, [], ◌∷◌, ◌++◌, length, Bool, true, false, not, ◌&&◌, ◌||◌, cond, Option, Some, None, refl, ap, sym, subst, ◌∙◌, arith}
 use Rattle.std.specs.Prelude.{IfSome}
 use Rattle.std.proofs.Common.{length-append}
-use Rattle.std.proofs.lemmas.List.{append_assoc}
-use Rattle.c_lexer.specs.declared.token.Token.{Token}
-use Rattle.c_lexer.specs.declared.token.Kind.{Kind}
-use Rattle.c_lexer.specs.declared.token.Kind.TheVariants as kinds
-use Rattle.c_lexer.specs.declared.token.Mark.{Mark}
-use Rattle.c_lexer.specs.Kinds.{text_of}
+use Rattle.c_token.specs.declared.token.Token.{Token}
+use Rattle.c_token.specs.declared.token.Kind.{Kind}
+use Rattle.c_token.specs.declared.token.Kind.TheVariants as kinds
+use Rattle.c_token.specs.declared.token.Mark.{Mark}
+use Rattle.c_token.specs.Spelling.{text_of}
 use Rattle.c_tree.specs.Tree.{TypePart, qualified, word, tagged, typedef_name}
 use Rattle.c_tree.specs.Names.{Scope, is_type}
 use Rattle.c_tree.specs.Spelling.{SpellsOtherStrings, SpellsTypePart, SpellsTypeParts, specifies_type, IsWellTypePart, AreWellTypeParts, AreSpecifiers}
@@ -16,8 +15,8 @@ use Rattle.c_parse_expr.specs.declared.table.Suffix.TheVariants as suffixes
 use Rattle.c_parse_expr.specs.declared.table.TypeStart.{TypeStart}
 use Rattle.c_parse_expr.specs.declared.table.TypeStart.TheVariants as starts
 use Rattle.c_parse_expr.specs.Tables.{suffix_of}
-use Rattle.c_parse_expr.specs.Many.{◌>>=◌, many_at}
-use Rattle.c_parse_expr.specs.Reading.{is_identifier, is_string, identifier_at, string, quoted, string_at, strings_at, strings_behind, start_by, start_of, is_some, begins_type, started, type_part_at, type_parts_at}
+use Rattle.c_parse_expr.specs.Many.{◌>>=◌}
+use Rattle.c_parse_expr.specs.Reading.{is_identifier, is_string, identifier_at, string, quoted, string_at, strings_behind, start_by, start_of, is_some, begins_type, started, type_part_at, type_parts_at}
 use Rattle.c_parse_expr.specs.Standing.{is_another, suffix_at}
 use Rattle.c_parse_expr.proofs.Marks.{string_is, behaves_so, starts_qualifier, starts_word, starts_tag, starts_type}
 use Rattle.c_parse_expr.proofs.Rows.{Run, run_many}

@@ -1,12 +1,11 @@
 -- What a declarator begins with, in both directions.
-use Rattle.std.proofs.Common.{◌≡◌, ℕ, List, [], ◌∷◌, Bool, true, false, ◌||◌, ◌&&◌, cond, Option, Some, None, refl, ap, ◌∙◌}
-use Rattle.c_lexer.specs.declared.token.Token.{Token}
-use Rattle.c_lexer.specs.declared.token.Kind.{Kind}
-use Rattle.c_lexer.specs.declared.token.Kind.TheVariants as kinds
-use Rattle.c_lexer.specs.declared.token.Mark.TheVariants as marks
+use Rattle.std.proofs.Common.{◌≡◌, List, [], ◌∷◌, Bool, true, false, cond, Option, Some, None, refl, ap, ◌∙◌}
+use Rattle.c_token.specs.declared.token.Token.{Token}
+use Rattle.c_token.specs.declared.token.Kind.TheVariants as kinds
+use Rattle.c_token.specs.declared.token.Mark.TheVariants as marks
 use Rattle.c_parse_expr.specs.declared.heart.Heart.{Heart}
 use Rattle.c_parse_expr.specs.declared.heart.Heart.TheVariants as hearts
-use Rattle.c_parse_expr.specs.Reading.{is_mark, is_identifier, heart_of, heart_at}
+use Rattle.c_parse_expr.specs.Reading.{is_mark, is_identifier, heart_at}
 use Rattle.c_parse_expr.specs.Standing.{opens}
 use Rattle.c_parse_expr.proofs.Marks.{identifier_is}
 

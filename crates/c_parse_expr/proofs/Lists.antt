@@ -1,6 +1,6 @@
 -- Arguments in front of others.
 use Rattle.std.proofs.Common.{◌≡◌, List, [], ◌∷◌, ◌++◌, Option, Some, None, refl, ap}
-use Rattle.c_lexer.specs.declared.token.Token.{Token}
+use Rattle.c_token.specs.declared.token.Token.{Token}
 use Rattle.c_tree.specs.declared.expr.Expr.{Expr}
 use Rattle.c_tree.specs.Tree.{Tree, Trees, none, more, view, views_of}
 use Rattle.c_parse_expr.specs.Many.{◌>>=◌}

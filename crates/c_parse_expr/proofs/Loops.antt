@@ -1,20 +1,16 @@
 -- The turns of the two loops.
 use Rattle.std.proofs.Common.{◌≡◌, ◌≤◌, ◌<◌, ◌+◌, max, ℕ, zero, suc, List, [], ◌∷◌, ◌++◌, length, Bool, cond, Option, Some, None, refl, ap, sym, subst, ◌∙◌, arith}
-use Rattle.c_lexer.specs.declared.token.Token.{Token}
-use Rattle.c_lexer.specs.declared.token.Mark.TheVariants as marks
-use Rattle.c_tree.specs.Tree.{Tree, Trees, call, none, more, depth, depth_of}
+use Rattle.c_token.specs.declared.token.Token.{Token}
+use Rattle.c_token.specs.declared.token.Mark.TheVariants as marks
+use Rattle.c_tree.specs.Tree.{Tree, Trees, none, more, depth, depth_of}
 use Rattle.c_tree.specs.Tables.{level_of}
 use Rattle.c_parse_expr.specs.declared.table.Suffix.{Suffix}
-use Rattle.c_parse_expr.specs.declared.table.Suffix.TheVariants as suffixes
 use Rattle.c_parse_expr.specs.Many.{◌>>=◌}
 use Rattle.c_parse_expr.specs.Reading.{Read, Reader, behind, closed, next_at, rest_at, arguments_at, prefix_at, suffixed, turn, climb, from_operand, reader, declared_at}
 use Rattle.std.proofs.lemmas.Bool.{lt-ltb, le-ltb, le-leb, lt-leb}
 use Rattle.c_tree.specs.Names.{Scope}
-use Rattle.c_tree.specs.declared.expr.Expr.{Expr, Call}
+use Rattle.c_tree.specs.declared.expr.Expr.{Expr}
 use Rattle.c_tree.specs.Tree.{view, views_of}
-use Rattle.std.specs.Prelude.{Box, Vec}
-use Rattle.std.specs.Global.{Global}
-use Rattle.c_tree.proofs.Views.{view_call}
 use Rattle.c_parse_expr.specs.declared.fault.Refused.{Refused}
 use Rattle.c_parse_expr.specs.declared.fault.Refused.TheVariants as refusals
 use Rattle.c_parse_expr.specs.Reading.{Fails}
@@ -140,19 +136,5 @@ goes_up bytes (suc m) n k l h g sub t u ts rest s all f d p w e i j q =
     (m, omega arith, sym (climbs bytes m n k l h sub t ts s all d p e i j ∙ ap (λ (o : Read). o >>= λ x. climb bytes m sub n k x.0 x.1) q))
 
 -- a call
-pub call_made : (bytes : List ℕ) (sub : Reader) (s : Suffix) (line : ℕ) (left : Expr) (ts rest : List Token) (f : Box Expr Global) (args : Vec Expr Global) → s ≡ suffixes.Arguments → f.value ≡ left → arguments_at sub ts ≡ Some (views_of args.items, rest) → suffixed bytes sub s line (view left) ts ≡ Some (view (Call f args), rest)
-unfolding suffixed
-call_made bytes sub s line left ts rest f args e v g =
-    ap (λ (x : Suffix). suffixed bytes sub x line (view left) ts) e
-    ∙ ap (λ (o : Option (Trees × List Token)). o >>= λ a. Some (call (view left) a.0, a.1)) g
-    ∙ ap (λ (x : Expr). Some (call (view x) (views_of args.items), rest)) (sym v)
-    ∙ ap (λ (t : Tree). Some (t, rest)) (sym (view_call f args))
-
-pub call_depth : (h a r : ℕ) (left : Expr) (f : Box Expr Global) (args : Vec Expr Global) → r ≡ max h a → h ≡ depth (view left) → a ≡ depth_of (views_of args.items) → f.value ≡ left → r + 1 ≡ depth (view (Call f args))
-call_depth h a r left f args e g i v =
-    let whole = ap depth (view_call f args) in
-    let one = ap (λ (x : Expr). depth (view x)) v in
-    omega (arith, whole, one)
-
 pub fails_none : {Y : Type 0} (e : Refused) (o : Option Y) → e ≡ refusals.Syntax → Fails e o → o ≡ None
 fails_none e o is f = subst (λ (x : Refused). Fails x o) is f

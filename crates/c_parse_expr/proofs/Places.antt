@@ -1,7 +1,7 @@
 -- A tree at a place of a file.
 use Rattle.std.proofs.Common.{◌≡◌, ◌≤◌, ℕ, List, ◌++◌, length, Some, ap, sym, subst, ◌∙◌, arith}
 use Rattle.std.proofs.lemmas.List.{append_assoc}
-use Rattle.c_lexer.specs.declared.token.Token.{Token}
+use Rattle.c_token.specs.declared.token.Token.{Token}
 use Rattle.c_tree.specs.Tree.{Tree}
 use Rattle.c_tree.specs.Names.{Scope}
 use Rattle.c_parse_expr.specs.Reading.{Read, reader}

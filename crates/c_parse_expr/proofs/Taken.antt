@@ -1,22 +1,21 @@
 -- What is read stands there.
-use Rattle.std.proofs.Common.{◌≡◌, ◌≤◌, ◌+◌, ℕ, zero, suc, List, [], ◌∷◌, ◌++◌, length, Bool, true, false, cond, Option, Some, None, refl, ap, sym, subst, ◌∙◌, arith, inl, inr}
+use Rattle.std.proofs.Common.{◌≡◌, ◌≤◌, ◌+◌, ℕ, zero, suc, List, [], ◌∷◌, ◌++◌, length, Bool, true, false, cond, Option, Some, None, refl, ap, subst, ◌∙◌, arith, inl, inr}
 use Rattle.std.specs.Prelude.{nat_lt, ◌⊎◌}
 use Rattle.std.specs.Prelude.{nat_le}
 use Rattle.std.proofs.lemmas.Bool.{ltb-true, leb-true}
-use Rattle.std.proofs.lemmas.List.{append_assoc}
-use Rattle.c_lexer.specs.declared.token.Token.{Token}
-use Rattle.c_lexer.specs.declared.token.Kind.TheVariants as kinds
-use Rattle.c_lexer.specs.declared.token.Constant.{Constant}
-use Rattle.c_lexer.specs.declared.token.Keyword.TheVariants as keywords
-use Rattle.c_lexer.specs.declared.token.Mark.TheVariants as marks
-use Rattle.c_lexer.specs.Kinds.{text_of}
+use Rattle.c_token.specs.declared.token.Token.{Token}
+use Rattle.c_token.specs.declared.token.Kind.TheVariants as kinds
+use Rattle.c_token.specs.declared.token.Constant.{Constant}
+use Rattle.c_token.specs.declared.token.Keyword.TheVariants as keywords
+use Rattle.c_token.specs.declared.token.Mark.TheVariants as marks
+use Rattle.c_token.specs.Spelling.{text_of}
 use Rattle.c_tree.specs.declared.expr.BinaryOp.{BinaryOp}
 use Rattle.c_tree.specs.declared.expr.UnaryOp.{UnaryOp}
 use Rattle.c_tree.specs.declared.expr.StepOp.{StepOp}
-use Rattle.c_tree.specs.Tree.{TypePart, qualified, word, tagged, typedef_name, Tree, Trees, Declared, Suffixes, constant, character, strings, name, parens, unary, cast, sizeof_expr, sizeof_type, step, member, binary, choice, assign, comma, call, none, more, unnamed, named, inside, no_suffix, bounded, unbounded, depth, depth_of, declared_depth, suffixes_depth}
+use Rattle.c_tree.specs.Tree.{TypePart, Tree, Trees, Declared, constant, character, strings, name, parens, unary, cast, sizeof_expr, sizeof_type, step, member, binary, choice, assign, comma, call, none, more, depth, depth_of}
 use Rattle.c_tree.specs.Names.{Scope, is_type}
 use Rattle.c_tree.specs.Tables.{strength_of, operand_level, level_of, binary_mark, unary_mark, step_mark}
-use Rattle.c_tree.specs.Spelling.{Spells, SpellsArguments, SpellsRest, SpellsTypeParts, AreSpecifiers, IsWell, AreWell}
+use Rattle.c_tree.specs.Spelling.{Spells, SpellsArguments, SpellsRest, IsWell, AreWell}
 use Rattle.c_parse_expr.specs.declared.table.Lead.{Lead}
 use Rattle.c_parse_expr.specs.declared.table.Lead.TheVariants as leads
 use Rattle.c_parse_expr.specs.declared.table.Suffix.{Suffix}
@@ -24,7 +23,7 @@ use Rattle.c_parse_expr.specs.declared.table.Suffix.TheVariants as suffixes
 use Rattle.c_parse_expr.specs.Tables.{lead_of, strength_behind, least_left}
 use Rattle.c_parse_expr.specs.Many.{◌>>=◌}
 use Rattle.c_parse_expr.specs.Reading.{Read, Reader, DeclaredReader, behind, closed, goes_on, next_at, rest_at, arguments_at, identifier_at, string_at, strings_at, strings_behind, begins_type, type_behind, type_name_at, grouped, sized, sizeof_at, prefixed, prefix_at, suffixed, turn, climb, from_operand, reader, heart_at, declared_from, declared_at}
-use Rattle.c_parse_expr.specs.Standing.{is_another, goes_on_inside, suffix_at, Inside, Stands, DeclaredStands}
+use Rattle.c_parse_expr.specs.Standing.{goes_on_inside, suffix_at, Inside, Stands}
 use Rattle.c_parse_expr.proofs.Marks.{Behaves, Leads, behaves, leads_by, open_is, colon_is, comma_is, some_is}
 use Rattle.c_parse_expr.proofs.Steps.{bind_some, Heads, behind_takes, Goes, next_some, next_none, goes_facts, all_some, both_false}
 use Rattle.c_parse_expr.proofs.Within.{at_most_thirteen, operand_low}

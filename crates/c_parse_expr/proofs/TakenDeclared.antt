@@ -1,28 +1,26 @@
 -- What is read of a declarator stands there.
-use Rattle.std.proofs.Common.{◌≡◌, ◌≤◌, ◌<◌, ◌+◌, ℕ, zero, suc, List, [], ◌∷◌, ◌++◌, length, Bool, true, false, ◌&&◌, ◌||◌, cond, Option, Some, None, refl, ap, sym, subst, ◌∙◌, arith, inl, inr}
+use Rattle.std.proofs.Common.{◌≡◌, ◌≤◌, ◌<◌, ◌+◌, ℕ, suc, List, [], ◌∷◌, ◌++◌, length, Bool, true, false, ◌&&◌, ◌||◌, cond, Option, Some, None, refl, ap, sym, subst, ◌∙◌, arith, inl, inr}
 use Rattle.std.specs.Prelude.{◌⊎◌, nat_lt}
 use Rattle.std.proofs.lemmas.Option.{cond_some}
 use Rattle.std.proofs.lemmas.Bool.{ltb-true}
 use Rattle.std.proofs.lemmas.List.{append_assoc}
-use Rattle.c_lexer.specs.declared.token.Token.{Token}
-use Rattle.c_lexer.specs.declared.token.Kind.{Kind}
-use Rattle.c_lexer.specs.declared.token.Kind.TheVariants as kinds
-use Rattle.c_lexer.specs.declared.token.Mark.{Mark}
-use Rattle.c_lexer.specs.declared.token.Mark.TheVariants as marks
-use Rattle.c_lexer.specs.Kinds.{text_of}
-use Rattle.c_tree.specs.Tree.{TypePart, Tree, Declared, Suffixes, unnamed, named, inside, no_suffix, bounded, unbounded, depth, declared_depth, suffixes_depth}
+use Rattle.c_token.specs.declared.token.Token.{Token}
+use Rattle.c_token.specs.declared.token.Kind.TheVariants as kinds
+use Rattle.c_token.specs.declared.token.Mark.TheVariants as marks
+use Rattle.c_token.specs.Spelling.{text_of}
+use Rattle.c_tree.specs.Tree.{TypePart, Tree, Declared, Suffixes, unnamed, named, inside, no_suffix, bounded, unbounded, declared_depth, suffixes_depth}
 use Rattle.c_tree.specs.Names.{Scope}
 use Rattle.c_tree.specs.Spelling.{SpellsTypeParts, SpellsDeclared, SpellsSuffixes, AreSpecifiers, IsWellDeclared, AreWellSuffixes, is_empty, has_name}
 use Rattle.c_parse_expr.specs.declared.heart.Heart.{Heart}
 use Rattle.c_parse_expr.specs.declared.heart.Heart.TheVariants as hearts
 use Rattle.c_parse_expr.specs.Many.{◌>>=◌, many_at}
 use Rattle.c_parse_expr.specs.Reading.{Reader, DeclaredReader, is_mark, behind, opened, bound_at, bracket, bracketed, bracket_at, suffixes_from, suffixes_at, heart_at, inside_at, declared_from, bare, begins_type, type_part_at, type_parts_at, type_name_at}
-use Rattle.c_parse_expr.specs.Standing.{Stands, DeclaredStands, opens, goes_on_with}
+use Rattle.c_parse_expr.specs.Standing.{Stands, DeclaredStands, opens}
 use Rattle.c_parse_expr.proofs.Marks.{some_is, close_is, bracket_is, end_is, open_is}
 use Rattle.c_parse_expr.proofs.Steps.{bind_some, none_by, Heads, behind_takes}
 use Rattle.c_parse_expr.proofs.Rows.{Run, many_run}
 use Rattle.c_parse_expr.proofs.Within.{full_declared}
-use Rattle.c_parse_expr.proofs.Hearts.{HasName, Begins, heart_begins}
+use Rattle.c_parse_expr.proofs.Hearts.{Begins, heart_begins}
 use Rattle.c_parse_expr.proofs.TakenWords.{parts_taken, specifiers_taken}
 
 abbrev pub Reads : List ℕ → Scope → ℕ → Reader → Type 0

@@ -1,6 +1,6 @@
 -- Reading items in a row, as long as another one begins.
-use Rattle.std.specs.Prelude.{◌≡◌, ℕ, zero, suc, List, [], ◌∷◌, Option, Some, None}
-use Rattle.c_lexer.specs.declared.token.Token.{Token}
+use Rattle.std.specs.Prelude.{ℕ, zero, suc, List, [], ◌∷◌, Option, Some, None}
+use Rattle.c_token.specs.declared.token.Token.{Token}
 
 infixl 10 ◌>>=◌
 abbrev pub ◌>>=◌ : {A B : Type 0} → Option A → (A → Option B) → Option B

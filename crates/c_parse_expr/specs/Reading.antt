@@ -1,13 +1,13 @@
 -- Reading an expression from left to right, with the levels that a tree may have.
 use Rattle.std.specs.Prelude.{◌≡◌, ℕ, zero, suc, ◌+◌, List, [], ◌∷◌, length, Bool, true, false, not, ◌&&◌, nat_le, nat_lt, if◌then◌else◌, Option, Some, None, Result, Ok, Err}
 use Rattle.std.specs.Str.{bytes_eq}
-use Rattle.c_lexer.specs.declared.token.Token.{Token}
-use Rattle.c_lexer.specs.declared.token.Kind.{Kind}
-use Rattle.c_lexer.specs.declared.token.Kind.TheVariants as kinds
-use Rattle.c_lexer.specs.declared.token.Mark.{Mark}
-use Rattle.c_lexer.specs.declared.token.Mark.TheVariants as marks
-use Rattle.c_lexer.specs.Spelling.{mark_text}
-use Rattle.c_lexer.specs.Kinds.{text_of}
+use Rattle.c_token.specs.declared.token.Token.{Token}
+use Rattle.c_token.specs.declared.token.Kind.{Kind}
+use Rattle.c_token.specs.declared.token.Kind.TheVariants as kinds
+use Rattle.c_token.specs.declared.token.Mark.{Mark}
+use Rattle.c_token.specs.declared.token.Mark.TheVariants as marks
+use Rattle.c_token.specs.Spelling.{mark_text}
+use Rattle.c_token.specs.Spelling.{text_of}
 use Rattle.c_tree.specs.Tree.{TypePart, qualified, word, tagged, typedef_name, Tree, Trees, Declared, Suffixes, constant, character, strings, name, parens, unary, cast, sizeof_expr, sizeof_type, step, member, binary, choice, assign, comma, call, none, more, unnamed, named, inside, no_suffix, bounded, unbounded, depth, declared_depth}
 use Rattle.c_tree.specs.Tree.{view}
 use Rattle.c_tree.specs.declared.expr.ArraySuffix.{ArraySuffix}
@@ -200,7 +200,7 @@ abbrev pub bracket_at : Reader → Item (Unit {0}) (ℕ × Option Tree)
 bracket_at sub s ts = bracketed sub (bracket ts)
 
 abbrev pub pair_of : ArraySuffix → ℕ × Option Tree
-pair_of (array_suffixes.Bounded line e) = (line, Some (view e))
+pair_of (array_suffixes.Bounded' line p e) = (line, Some (view e))
 pair_of (array_suffixes.Open line) = (line, None)
 
 abbrev pub suffixes_from : List (ℕ × Option Tree) → Suffixes

@@ -1,7 +1,7 @@
 //! What a declarator begins with.
 
 /// What a declarator begins with.
-#[derive(Clone, Copy, Debug, PartialEq, Eq)]
+#[derive(Clone, Copy, PartialEq, Eq)]
 pub enum Heart {
     /// The name that it declares.
     Name,

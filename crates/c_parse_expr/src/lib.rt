@@ -6,6 +6,7 @@ mod fault;
 mod flags;
 mod heart;
 mod names;
+mod nodes;
 mod place;
 mod reading;
 mod slices;
@@ -14,7 +15,8 @@ mod words;
 
 pub use fault::{ExpressionError, Refused};
 pub use names::TypeNames;
+pub use nodes::{Found, FoundDeclarator};
 pub use place::{Level, expression, line_of, one_declarator, one_expression};
-pub use reading::{Found, FoundDeclarator, declarator, read};
+pub use reading::{declarator, read};
 pub use slices::{behind_mark, identifier, is_mark, name_of, split, text_name, token_text};
 pub use words::{begins_type, type_specifier};

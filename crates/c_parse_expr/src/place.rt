@@ -1,7 +1,7 @@
 //! The expression at a place of a file.
 
 ghost use Rattle.std.specs.Prelude.{Bool, ◌≡◌, ◌≤◌, ◌≢◌, ℕ, List, length, drop, IfOk, IfErr};
-ghost use Rattle.c_lexer.specs.declared.token.Token.{Token};
+ghost use Rattle.c_token.specs.declared.token.Token.{Token};
 ghost use Rattle.c_tree.specs.Tree.{Tree, Declared, view};
 ghost use Rattle.c_tree.specs.Names.{Scope};
 ghost use Rattle.c_parse_expr.specs.Standing.{Stands, DeclaredStands, number_of, line_at};
@@ -9,7 +9,8 @@ ghost use Rattle.c_parse_expr.specs.Standing.{Stands, DeclaredStands, number_of,
 use crate::fault::{ExpressionError, Refused};
 use crate::names::TypeNames;
 use crate::reading::read;
-use c_lexer::{Token, Tokens};
+use c_lexer::Tokens;
+use c_token::Token;
 use c_tree::Expr;
 use std::alloc::Global;
 
@@ -17,7 +18,7 @@ use std::alloc::Global;
 const LEVELS: u32 = 400;
 
 /// The lowest level that an expression may have at its place.
-#[derive(Clone, Copy, Debug, PartialEq, Eq)]
+#[derive(Clone, Copy, PartialEq, Eq)]
 pub enum Level {
     Comma,
     Assignment,
@@ -55,10 +56,10 @@ pub fn expression(
     at: usize,
     level: Level,
     names: &TypeNames,
-) -> Result<(Expr, usize), ExpressionError>
+) -> Result<(Box<Expr>, usize), ExpressionError>
     requires { at ≤ length tokens.now.tokens.items }
     ensures within { IfOk result (λ x. x.1 ≤ length tokens.now.tokens.items) }
-    ensures found { IfOk result (λ x. Stands tokens.now.bytes.items names.now 400 (number_of level) (view x.0) (drop at tokens.now.tokens.items) (drop x.1 tokens.now.tokens.items)) }
+    ensures found { IfOk result (λ x. Stands tokens.now.bytes.items names.now 400 (number_of level) (view x.0.value) (drop at tokens.now.tokens.items) (drop x.1 tokens.now.tokens.items)) }
     ensures none { IfErr result (λ e. e ≢ ExpressionError.Memory → (t : Tree) (rest : List Token) → Stands tokens.now.bytes.items names.now 400 (number_of level) t (drop at tokens.now.tokens.items) rest → ⊥) }
     ensures line { IfErr result (λ e. e ≢ ExpressionError.Memory → e ≡ ExpressionError.Syntax (line_at tokens.now.last_line (drop at tokens.now.tokens.items))) }
 {

@@ -1,74 +1,25 @@
 //! Reading a tree from left to right.
 
-ghost use Rattle.std.specs.Prelude.{◌≡◌, ◌<◌, ◌≤◌, ◌+◌, [], ◌∷◌, ◌++◌, Some, length, map, max, IfOk};
+ghost use Rattle.std.specs.Prelude.{◌≡◌, ◌<◌, ◌≤◌, ◌+◌, [], ◌∷◌, Some, length, map, IfOk};
 ghost use Rattle.c_tree.specs.Tree.{view, views_of, view_type_part, view_declarator, suffixes_of, unnamed, no_suffix, depth, depth_of, declared_depth, suffixes_depth};
+ghost use Rattle.c_parse_expr.specs.declared.table.Suffix.TheVariants.{Choice};
 ghost use Rattle.c_parse_expr.specs.Reading.{Gives, reader, declared_at, declared_from, bare, inside_at, suffixes_at, unnamed_at, bound_at, pair_of, type_name_at, grouped, sizeof_at, prefix_at, prefixed, suffixed, arguments_at};
 
 use crate::fault::Refused;
 use crate::heart::Heart;
 use crate::names::TypeNames;
-use crate::slices::{
-    behind_mark, bracket, identifier, level_of, name_of, next_suffix, split, text_name, token_text,
+use crate::nodes::{
+    Found, FoundDeclarator, FoundSuffix, FoundSuffixes, FoundType, Items, assign_node, binary_node,
+    bounded_suffix, call_node, cast_node, character_node, choice_node, comma_node, constant_node,
+    larger, level_found, member_node, name_node, nested, parens_node, put_argument,
+    sizeof_expr_node, sizeof_type_node, step_node, strings_node, type_named, unary_node,
 };
+use crate::slices::{behind_mark, bracket, name_of, next_suffix, split, token_text};
 use crate::table::{Lead, Suffix, lead_of, operand_level, strength_of};
-use crate::words::{begins_type, heart_at, strings, type_behind, type_specifiers};
-use c_lexer::{Mark, Token};
-use c_tree::{ArraySuffix, Declarator, DeclaratorCore, Expr, TypeName};
+use crate::words::{begins_type, heart_at, type_behind, type_specifiers};
+use c_token::{Mark, Token};
+use c_tree::{ArraySuffix, Declarator, DeclaratorCore, Expr};
 use std::alloc::Global;
-
-/// A tree with its number of levels, and the tokens behind it.
-#[derive(Drop)]
-pub struct Found<'a> {
-    pub tree: Expr,
-    pub height: u32,
-    pub rest: &'a [Token],
-}
-
-/// Arguments, the most levels that one has, and the tokens behind them.
-#[derive(Drop)]
-struct Items<'a> {
-    items: Vec<Expr>,
-    height: u32,
-    rest: &'a [Token],
-}
-
-/// A declarator with its number of levels, and the tokens behind it.
-#[derive(Drop)]
-pub struct FoundDeclarator<'a> {
-    pub declarator: Declarator,
-    pub height: u32,
-    pub rest: &'a [Token],
-}
-
-/// A type name with the levels of its declarator, and the tokens behind the parenthesis that closes it.
-#[derive(Drop)]
-struct FoundType<'a> {
-    type_name: TypeName,
-    height: u32,
-    rest: &'a [Token],
-}
-
-/// A suffix with the levels of its bound, and the tokens behind it.
-#[derive(Drop)]
-struct FoundSuffix<'a> {
-    suffix: ArraySuffix,
-    height: u32,
-    rest: &'a [Token],
-}
-
-/// Suffixes, the most levels that one has, and the tokens behind them.
-#[derive(Drop)]
-struct FoundSuffixes<'a> {
-    suffixes: Vec<ArraySuffix>,
-    height: u32,
-    rest: &'a [Token],
-}
-
-fn larger(a: u32, b: u32) -> u32
-    ensures { result ≡ max a b }
-{
-    if a < b { b } else { a }
-}
 
 /// What a token begins, with those behind it.
 #[cycle(reading)]
@@ -83,8 +34,8 @@ fn prefix_behind<'a>(
     levels: u32,
 ) -> Result<Found<'a>, Refused>
     requires { levels < 400 }
-    ensures exact { Gives (λ x. (view x.tree, x.rest.now)) result (prefixed bytes.now names.now (reader bytes.now names.now levels) (declared_at bytes.now names.now levels) lead token tokens.now) }
-    ensures height { IfOk result (λ x. x.height ≡ depth (view x.tree)) }
+    ensures exact { Gives (λ x. (view x.tree.value, x.rest.now)) result (prefixed bytes.now names.now (reader bytes.now names.now levels) (declared_at bytes.now names.now levels) lead token tokens.now) }
+    ensures height { IfOk result (λ x. x.height ≡ depth (view x.tree.value)) }
     ensures low { IfOk result (λ x. x.height ≤ levels + 1) }
     ensures shorter { IfOk result (λ x. length x.rest.now ≤ length tokens.now) }
 {
@@ -94,44 +45,15 @@ fn prefix_behind<'a>(
             if names.is_type(token_text(bytes, token)) {
                 return Err(Refused::Syntax);
             }
-            let name = name_of(alloc, bytes, token)?;
-            Ok(Found {
-                tree: Expr::Name { line, name },
-                height: 1,
-                rest: tokens,
-            })
+            name_node(alloc, bytes, token, tokens)
         }
-        Lead::Constant(constant) => Ok(Found {
-            tree: Expr::Constant { line, constant },
-            height: 1,
-            rest: tokens,
-        }),
-        Lead::Character(value) => Ok(Found {
-            tree: Expr::Character { line, value },
-            height: 1,
-            rest: tokens,
-        }),
-        Lead::Strings => {
-            let (parts, rest) = strings(alloc, bytes, token, tokens)?;
-            Ok(Found {
-                tree: Expr::Strings { line, parts },
-                height: 1,
-                rest,
-            })
-        }
+        Lead::Constant(constant) => constant_node(alloc, line, constant, tokens),
+        Lead::Character(value) => character_node(alloc, line, value, tokens),
+        Lead::Strings => strings_node(alloc, bytes, token, tokens),
         Lead::Group => group_behind(alloc, bytes, names, line, tokens, levels),
         Lead::Unary(operator) => {
             let found = read(alloc, bytes, names, tokens, operand_level(operator), levels)?;
-            let operand = Box::new(alloc, found.tree)?;
-            Ok(Found {
-                tree: Expr::Unary {
-                    line,
-                    operator,
-                    operand,
-                },
-                height: found.height + 1,
-                rest: found.rest,
-            })
+            unary_node(alloc, line, operator, found)
         }
         Lead::Sizeof => sizeof_behind(alloc, bytes, names, line, tokens, levels),
     }
@@ -149,37 +71,18 @@ fn group_behind<'a>(
     levels: u32,
 ) -> Result<Found<'a>, Refused>
     requires { levels < 400 }
-    ensures exact { Gives (λ x. (view x.tree, x.rest.now)) result (grouped bytes.now names.now (reader bytes.now names.now levels) (declared_at bytes.now names.now levels) line tokens.now) }
-    ensures height { IfOk result (λ x. x.height ≡ depth (view x.tree)) }
+    ensures exact { Gives (λ x. (view x.tree.value, x.rest.now)) result (grouped bytes.now names.now (reader bytes.now names.now levels) (declared_at bytes.now names.now levels) line tokens.now) }
+    ensures height { IfOk result (λ x. x.height ≡ depth (view x.tree.value)) }
     ensures low { IfOk result (λ x. x.height ≤ levels + 1) }
     ensures shorter { IfOk result (λ x. length x.rest.now ≤ length tokens.now) }
 {
     if begins_type(bytes, names, tokens) {
         let found = type_name(alloc, bytes, names, tokens, levels)?;
         let value = read(alloc, bytes, names, found.rest, 14, levels)?;
-        let type_name = Box::new(alloc, found.type_name)?;
-        let operand = Box::new(alloc, value.tree)?;
-        let height = larger(found.height, value.height) + 1;
-        return Ok(Found {
-            tree: Expr::Cast {
-                line,
-                type_name,
-                operand,
-            },
-            height,
-            rest: value.rest,
-        });
+        return cast_node(alloc, line, found, value);
     }
     let found = read(alloc, bytes, names, tokens, 1, levels)?;
-    let Some(rest) = behind_mark(found.rest, Mark::RightParenthesis) else {
-        return Err(Refused::Syntax);
-    };
-    let inner = Box::new(alloc, found.tree)?;
-    Ok(Found {
-        tree: Expr::Parens { line, inner },
-        height: found.height + 1,
-        rest,
-    })
+    parens_node(alloc, line, found)
 }
 
 /// Behind `sizeof`: a type name in parentheses, or an operand.
@@ -194,29 +97,19 @@ fn sizeof_behind<'a>(
     levels: u32,
 ) -> Result<Found<'a>, Refused>
     requires { levels < 400 }
-    ensures exact { Gives (λ x. (view x.tree, x.rest.now)) result (sizeof_at bytes.now names.now (reader bytes.now names.now levels) (declared_at bytes.now names.now levels) line tokens.now) }
-    ensures height { IfOk result (λ x. x.height ≡ depth (view x.tree)) }
+    ensures exact { Gives (λ x. (view x.tree.value, x.rest.now)) result (sizeof_at bytes.now names.now (reader bytes.now names.now levels) (declared_at bytes.now names.now levels) line tokens.now) }
+    ensures height { IfOk result (λ x. x.height ≡ depth (view x.tree.value)) }
     ensures low { IfOk result (λ x. x.height ≤ levels + 1) }
     ensures shorter { IfOk result (λ x. length x.rest.now ≤ length tokens.now) }
 {
     match type_behind(bytes, names, tokens) {
         Some(rest) => {
             let found = type_name(alloc, bytes, names, rest, levels)?;
-            let type_name = Box::new(alloc, found.type_name)?;
-            Ok(Found {
-                tree: Expr::SizeofType { line, type_name },
-                height: found.height + 1,
-                rest: found.rest,
-            })
+            sizeof_type_node(alloc, line, found)
         }
         None => {
             let found = read(alloc, bytes, names, tokens, 15, levels)?;
-            let operand = Box::new(alloc, found.tree)?;
-            Ok(Found {
-                tree: Expr::SizeofExpr { line, operand },
-                height: found.height + 1,
-                rest: found.rest,
-            })
+            sizeof_expr_node(alloc, line, found)
         }
     }
 }
@@ -232,24 +125,14 @@ fn type_name<'a>(
     levels: u32,
 ) -> Result<FoundType<'a>, Refused>
     requires { levels < 400 }
-    ensures exact { Gives (λ x. ((map view_type_part x.type_name.specifiers.items, view_declarator x.type_name.declarator), x.rest.now)) result (type_name_at bytes.now names.now (declared_at bytes.now names.now levels) tokens.now) }
-    ensures height { IfOk result (λ x. x.height ≡ declared_depth (view_declarator x.type_name.declarator)) }
+    ensures exact { Gives (λ x. ((map view_type_part x.type_name.value.specifiers.items, view_declarator x.type_name.value.declarator), x.rest.now)) result (type_name_at bytes.now names.now (declared_at bytes.now names.now levels) tokens.now) }
+    ensures height { IfOk result (λ x. x.height ≡ declared_depth (view_declarator x.type_name.value.declarator)) }
     ensures low { IfOk result (λ x. x.height ≤ levels) }
     ensures shorter { IfOk result (λ x. length x.rest.now ≤ length tokens.now) }
 {
     let (specifiers, rest) = type_specifiers(alloc, bytes, names, tokens)?;
     let found = declarator(alloc, bytes, names, rest, false, levels)?;
-    let Some(rest) = behind_mark(found.rest, Mark::RightParenthesis) else {
-        return Err(Refused::Syntax);
-    };
-    Ok(FoundType {
-        type_name: TypeName {
-            specifiers,
-            declarator: found.declarator,
-        },
-        height: found.height,
-        rest,
-    })
+    type_named(alloc, specifiers, found)
 }
 
 /// A suffix behind its bracket, which stands on a line.
@@ -277,17 +160,7 @@ fn array_suffix<'a>(
         });
     }
     let found = read(alloc, bytes, names, tokens, 3, levels)?;
-    let Some(rest) = behind_mark(found.rest, Mark::RightBracket) else {
-        return Err(Refused::Syntax);
-    };
-    Ok(FoundSuffix {
-        suffix: ArraySuffix::Bounded {
-            line,
-            bound: found.tree,
-        },
-        height: found.height,
-        rest,
-    })
+    bounded_suffix(line, found)
 }
 
 /// The suffixes at the front.
@@ -382,16 +255,7 @@ fn inside<'a>(
         return Err(Refused::Syntax);
     }
     let behind = array_suffixes(alloc, bytes, names, rest, levels)?;
-    let inner = Box::new(alloc, found.declarator)?;
-    let height = larger(found.height, behind.height) + 1;
-    Ok(FoundDeclarator {
-        declarator: Declarator {
-            core: DeclaratorCore::Inside { line, inner },
-            suffixes: behind.suffixes,
-        },
-        height,
-        rest: behind.rest,
-    })
+    nested(alloc, line, found.declarator, found.height, behind)
 }
 
 /// The levels of an abstract declarator with these suffixes.
@@ -517,8 +381,8 @@ fn operand<'a>(
     levels: u32,
 ) -> Result<Found<'a>, Refused>
     requires { levels < 400 }
-    ensures exact { Gives (λ x. (view x.tree, x.rest.now)) result (prefix_at bytes.now names.now (reader bytes.now names.now levels) (declared_at bytes.now names.now levels) tokens.now) }
-    ensures height { IfOk result (λ x. x.height ≡ depth (view x.tree)) }
+    ensures exact { Gives (λ x. (view x.tree.value, x.rest.now)) result (prefix_at bytes.now names.now (reader bytes.now names.now levels) (declared_at bytes.now names.now levels) tokens.now) }
+    ensures height { IfOk result (λ x. x.height ≡ depth (view x.tree.value)) }
     ensures low { IfOk result (λ x. x.height ≤ levels + 1) }
     ensures shorter { IfOk result (λ x. length x.rest.now ≤ length tokens.now) }
 {
@@ -555,7 +419,7 @@ fn arguments<'a>(
         });
     }
     let first = read(alloc, bytes, names, tokens, 2, levels)?;
-    items.push(first.tree)?;
+    put_argument(&mut items, first.tree)?;
     let mut height = first.height;
     let mut rest = first.rest;
     'items: loop {
@@ -570,10 +434,40 @@ fn arguments<'a>(
             return Err(Refused::Syntax);
         };
         let next = read(alloc, bytes, names, behind, 2, levels)?;
-        items.push(next.tree)?;
+        put_argument(&mut items, next.tree)?;
         height = larger(height, next.height);
         rest = next.rest;
     }
+}
+
+/// A choice by a left operand, behind its `?`.
+#[cycle(reading)]
+#[tactic(auto, unfolding(crate::specs::Reading::suffixed))]
+fn choice_behind<'a>(
+    alloc: Global,
+    bytes: &[u8],
+    names: &TypeNames,
+    line: u32,
+    left: Box<Expr>,
+    height: u32,
+    tokens: &'a [Token],
+    levels: u32,
+) -> Result<Found<'a>, Refused>
+    requires levels { levels < 400 }
+    requires height { height ≡ depth (view left.value) }
+    requires low { height ≤ levels }
+    ensures exact { Gives (λ x. (view x.tree.value, x.rest.now)) result (suffixed bytes.now (reader bytes.now names.now levels) Choice line (view left.value) tokens.now) }
+    ensures height { IfOk result (λ x. x.height ≡ depth (view x.tree.value)) }
+    ensures higher { IfOk result (λ x. height < x.height) }
+    ensures low { IfOk result (λ x. x.height ≤ levels + 1) }
+    ensures shorter { IfOk result (λ x. length x.rest.now ≤ length tokens.now) }
+{
+    let middle = read(alloc, bytes, names, tokens, 1, levels)?;
+    let Some(rest) = behind_mark(middle.rest, Mark::Colon) else {
+        return Err(Refused::Syntax);
+    };
+    let last = read(alloc, bytes, names, rest, 3, levels)?;
+    choice_node(alloc, line, left, height, middle, last)
 }
 
 /// A left operand with what a suffix makes of it.
@@ -585,16 +479,16 @@ fn suffix_behind<'a>(
     names: &TypeNames,
     suffix: Suffix,
     line: u32,
-    left: Expr,
+    left: Box<Expr>,
     height: u32,
     tokens: &'a [Token],
     levels: u32,
 ) -> Result<Found<'a>, Refused>
     requires levels { levels < 400 }
-    requires height { height ≡ depth (view left) }
+    requires height { height ≡ depth (view left.value) }
     requires low { height ≤ levels }
-    ensures exact { Gives (λ x. (view x.tree, x.rest.now)) result (suffixed bytes.now (reader bytes.now names.now levels) suffix line (view left) tokens.now) }
-    ensures height { IfOk result (λ x. x.height ≡ depth (view x.tree)) }
+    ensures exact { Gives (λ x. (view x.tree.value, x.rest.now)) result (suffixed bytes.now (reader bytes.now names.now levels) suffix line (view left.value) tokens.now) }
+    ensures height { IfOk result (λ x. x.height ≡ depth (view x.tree.value)) }
     ensures higher { IfOk result (λ x. height < x.height) }
     ensures low { IfOk result (λ x. x.height ≤ levels + 1) }
     ensures shorter { IfOk result (λ x. length x.rest.now ≤ length tokens.now) }
@@ -609,105 +503,23 @@ fn suffix_behind<'a>(
                 strength_of(operator) + 1,
                 levels,
             )?;
-            let left = Box::new(alloc, left)?;
-            let right = Box::new(alloc, found.tree)?;
-            let height = larger(height, found.height) + 1;
-            Ok(Found {
-                tree: Expr::Binary {
-                    line,
-                    operator,
-                    left,
-                    right,
-                },
-                height,
-                rest: found.rest,
-            })
+            binary_node(alloc, line, operator, left, height, found)
         }
         Suffix::Becomes(operator) => {
             let found = read(alloc, bytes, names, tokens, 2, levels)?;
-            let place = Box::new(alloc, left)?;
-            let value = Box::new(alloc, found.tree)?;
-            let height = larger(height, found.height) + 1;
-            Ok(Found {
-                tree: Expr::Assign {
-                    line,
-                    operator,
-                    place,
-                    value,
-                },
-                height,
-                rest: found.rest,
-            })
+            assign_node(alloc, line, operator, left, height, found)
         }
-        Suffix::Choice => {
-            let middle = read(alloc, bytes, names, tokens, 1, levels)?;
-            let Some(rest) = behind_mark(middle.rest, Mark::Colon) else {
-                return Err(Refused::Syntax);
-            };
-            let last = read(alloc, bytes, names, rest, 3, levels)?;
-            let test = Box::new(alloc, left)?;
-            let yes = Box::new(alloc, middle.tree)?;
-            let no = Box::new(alloc, last.tree)?;
-            let height = larger(height, larger(middle.height, last.height)) + 1;
-            Ok(Found {
-                tree: Expr::Choice {
-                    line,
-                    test,
-                    yes,
-                    no,
-                },
-                height,
-                rest: last.rest,
-            })
-        }
+        Suffix::Choice => choice_behind(alloc, bytes, names, line, left, height, tokens, levels),
         Suffix::Then => {
             let found = read(alloc, bytes, names, tokens, 2, levels)?;
-            let left = Box::new(alloc, left)?;
-            let right = Box::new(alloc, found.tree)?;
-            let height = larger(height, found.height) + 1;
-            Ok(Found {
-                tree: Expr::Comma { line, left, right },
-                height,
-                rest: found.rest,
-            })
+            comma_node(alloc, line, left, height, found)
         }
-        Suffix::Step(operator) => {
-            let operand = Box::new(alloc, left)?;
-            Ok(Found {
-                tree: Expr::Step {
-                    line,
-                    operator,
-                    operand,
-                },
-                height: height + 1,
-                rest: tokens,
-            })
-        }
-        Suffix::Member => {
-            let Some((text, rest)) = identifier(bytes, tokens) else {
-                return Err(Refused::Syntax);
-            };
-            let name = text_name(alloc, text)?;
-            let left = Box::new(alloc, left)?;
-            Ok(Found {
-                tree: Expr::Member { line, left, name },
-                height: height + 1,
-                rest,
-            })
-        }
+        Suffix::Step(operator) => step_node(alloc, line, operator, left, height, tokens),
+        Suffix::Member => member_node(alloc, bytes, line, left, height, tokens),
         Suffix::Another => Err(Refused::Syntax),
         Suffix::Arguments => {
             let arguments = arguments(alloc, bytes, names, tokens, levels)?;
-            let function = Box::new(alloc, left)?;
-            let height = larger(height, arguments.height) + 1;
-            Ok(Found {
-                tree: Expr::Call {
-                    function,
-                    arguments: arguments.items,
-                },
-                height,
-                rest: arguments.rest,
-            })
+            call_node(alloc, left, height, arguments)
         }
     }
 }
@@ -725,8 +537,8 @@ pub fn read<'a>(
     levels: u32,
 ) -> Result<Found<'a>, Refused>
     requires { levels ≤ 400 }
-    ensures exact { Gives (λ x. (view x.tree, x.rest.now)) result (reader bytes.now names.now levels level tokens.now) }
-    ensures height { IfOk result (λ x. x.height ≡ depth (view x.tree)) }
+    ensures exact { Gives (λ x. (view x.tree.value, x.rest.now)) result (reader bytes.now names.now levels level tokens.now) }
+    ensures height { IfOk result (λ x. x.height ≡ depth (view x.tree.value)) }
     ensures low { IfOk result (λ x. x.height ≤ levels) }
     ensures shorter { IfOk result (λ x. length x.rest.now ≤ length tokens.now) }
 {
@@ -734,13 +546,13 @@ pub fn read<'a>(
         return Err(Refused::Syntax);
     }
     let mut found = operand(alloc, bytes, names, tokens, levels - 1)?;
-    if level_of(&found.tree) < level {
+    if level_found(&found) < level {
         return Err(Refused::Syntax);
     }
     'suffixes: while let Some((suffix, line, rest)) = next_suffix(
         found.rest,
         level,
-        level_of(&found.tree),
+        level_found(&found),
     ) {
         if found.height >= levels {
             return Err(Refused::Syntax);

@@ -1,13 +1,13 @@
 //! Taking tokens from the front of a slice.
 
 ghost use Rattle.std.specs.Prelude.{◌≡◌, ◌<◌, ◌≤◌, [], ◌∷◌, MatchOption, IfSome, IfOk, length, option_map};
-ghost use Rattle.c_lexer.specs.Kinds.{text_of};
+ghost use Rattle.c_token.specs.Spelling.{text_of};
 ghost use Rattle.c_tree.specs.Tree.{view};
 ghost use Rattle.c_tree.specs.Tables.{level_of};
 ghost use Rattle.c_parse_expr.specs.Reading.{behind, is_mark, is_identifier, is_string, identifier_at, string, bracket, next_at, goes_on};
 
 use crate::table::{Suffix, least_left, strength_behind, strength_of, suffix_of};
-use c_lexer::{Kind, Mark, Token};
+use c_token::{Kind, Mark, Token};
 use c_tree::{Expr, Name};
 use std::alloc::{AllocError, Global};
 

@@ -4,11 +4,11 @@ ghost use Rattle.std.specs.Prelude.{◌≡◌};
 ghost use Rattle.c_tree.specs.Tables.{strength_of, operand_level};
 ghost use Rattle.c_parse_expr.specs.Tables.{lead_of_keyword, lead_of_mark, lead_of, suffix_of_mark, suffix_of, strength_behind, least_left, keyword_start};
 
-use c_lexer::{Constant, Keyword, Kind, Mark};
+use c_token::{Constant, Keyword, Kind, Mark};
 use c_tree::{BinaryOp, Qualifier, StepOp, TagKind, TypeWord, UnaryOp};
 
 /// What a token begins where an operand is due.
-#[derive(Clone, Copy, Debug, PartialEq, Eq)]
+#[derive(Clone, Copy, PartialEq, Eq)]
 pub enum Lead {
     Name,
     Constant(Constant),
@@ -22,7 +22,7 @@ pub enum Lead {
 }
 
 /// What a token does behind an operand.
-#[derive(Clone, Copy, Debug, PartialEq, Eq)]
+#[derive(Clone, Copy, PartialEq, Eq)]
 pub enum Suffix {
     Operator(BinaryOp),
     /// An assignment, with the operator before the `=`.
@@ -41,7 +41,7 @@ pub enum Suffix {
 }
 
 /// What begins a specifier of a type.
-#[derive(Clone, Copy, Debug, PartialEq, Eq)]
+#[derive(Clone, Copy, PartialEq, Eq)]
 pub enum TypeStart {
     Qualifier(Qualifier),
     Word(TypeWord),

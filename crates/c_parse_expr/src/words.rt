@@ -3,8 +3,8 @@
 ghost use Rattle.std.specs.Prelude.{◌≡◌, ◌<◌, ◌≤◌, Some, length, map, option_map, IfOk, IfSome};
 ghost use Rattle.c_tree.specs.Tree.{view_name, view_type_part};
 ghost use Rattle.c_parse_expr.specs.Reading.{Gives, behind, start_by, start_of, begins_type, type_behind, started, type_part_at, type_parts_at, strings_behind, heart_of, heart_at};
-ghost use Rattle.c_lexer.specs.declared.token.Mark.TheVariants.{LeftParenthesis};
-ghost use Rattle.c_lexer.specs.Kinds.{text_of};
+ghost use Rattle.c_token.specs.declared.token.Mark.TheVariants.{LeftParenthesis};
+ghost use Rattle.c_token.specs.Spelling.{text_of};
 
 use crate::fault::Refused;
 use crate::heart::Heart;
@@ -13,7 +13,7 @@ use crate::slices::{
     behind_mark, identifier, is_identifier, is_mark, name_of, split, string, text_name, token_text,
 };
 use crate::table::{TypeStart, keyword_start};
-use c_lexer::{Kind, Mark, Token};
+use c_token::{Kind, Mark, Token};
 use c_tree::{Name, TypeSpecifier};
 use std::alloc::Global;
 

@@ -1,7 +1,7 @@
 -- The view of a switch, whose items are a list in memory.
 use Rattle.std.proofs.Common.{◌≡◌, ℕ, refl, ap, ◌∙◌}
 use mathlib.Core.Former.{Count}
-use Rattle.std.specs.Prelude.{Vec}
+use Rattle.std.specs.Prelude.{Box, Vec}
 use Rattle.std.specs.Global.{Global}
 use Rattle.core_tree.specs.declared.expression.CoreExpr.{CoreExpr}
 use Rattle.core_tree.specs.declared.statement.CoreStatement as statements
@@ -19,7 +19,7 @@ row_of (statements.Switch' line e shape row) = (_, row)
 row_of _ = (_, end_of-CoreItem)
 
 -- as code makes it
-pub view_switch : (line : ℕ) (e : CoreExpr) (is : Vec CoreItem Global) → view_statement (statements.Switch line e is) ≡ switch line (view e) (items_of is.items)
+pub view_switch : (line : ℕ) (e : Box CoreExpr Global) (is : Vec CoreItem Global) → view_statement (statements.Switch line e is) ≡ switch line (view e.value) (items_of is.items)
 view_switch line e is =
     let row = row_of (statements.Switch line e is) in
-    ap (switch line (view e)) (items_row row.0 row.1 ∙ ap items_of (items_hidden-the_row-CoreItem-0 is))
+    ap (switch line (view e.value)) (items_row row.0 row.1 ∙ ap items_of (items_hidden-the_row-CoreItem-0 is))

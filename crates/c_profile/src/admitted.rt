@@ -1,6 +1,6 @@
 ghost use Rattle.std.specs.Prelude.{◌≡◌, true, Some, None, codes, option_map, IfOk, MatchResult};
 ghost use Rattle.std.specs.Str.{bytes_eq};
-ghost use Rattle.core_tree.specs.Trees.{view_core, view_function, view_functions, view_statics, view_statement};
+ghost use Rattle.core_tree.specs.Trees.{view_core, view_function, view_functions, view_statics, boxed_statement};
 ghost use Rattle.c_profile.specs.Rules as rules;
 ghost use Rattle.c_profile.specs.Rules.{breach, has_main, first_breach};
 ghost use Rattle.c_profile.specs.Refusals.{IsRefused};
@@ -121,9 +121,9 @@ fn objects_breach(objects: &[StaticObject]) -> Option<Breach>
 fn body_breach(
     alloc: Global,
     functions: &[Function],
-    body: &Option<CoreStatement>,
+    body: &Option<Box<CoreStatement>>,
 ) -> Result<Option<Breach>, AllocError>
-    ensures { IfOk result (λ b. b ≡ rules.body_breach (view_functions functions.now) (option_map view_statement body.now)) }
+    ensures { IfOk result (λ b. b ≡ rules.body_breach (view_functions functions.now) (option_map boxed_statement body.now)) }
 {
     match body {
         Some(statement) => statement_breach(functions, &mut Vec::new(alloc), statement),

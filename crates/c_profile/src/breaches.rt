@@ -2,7 +2,7 @@
 
 ghost use Rattle.std.specs.Prelude.{◌≡◌, length, option_map, slice_get, take, IfOk, OnOk};
 ghost use Rattle.std.specs.List.{list_any};
-ghost use Rattle.core_tree.specs.Trees.{view, view_structure, view_functions, view_statement, parts_of, with_part, arguments_of, with_argument, items_of, with_item};
+ghost use Rattle.core_tree.specs.Trees.{view, boxed, view_structure, view_functions, view_statement, parts_of, with_part, arguments_of, with_argument, items_of, with_item};
 ghost use Rattle.c_profile.specs.Rules as rules;
 ghost use Rattle.c_profile.specs.Rules.{breach, earlier, is_defined, labels_from};
 
@@ -261,8 +261,8 @@ fn argument_breach(functions: &[Function], argument: &CoreArgument) -> Option<Br
 }
 
 // Of a part of a loop that may be missing.
-fn optional_breach(functions: &[Function], part: &Option<CoreExpr>) -> Option<Breach>
-    ensures { result ≡ rules.part_breach (view_functions functions.now) (option_map view part.now) }
+fn optional_breach(functions: &[Function], part: &Option<Box<CoreExpr>>) -> Option<Breach>
+    ensures { result ≡ rules.part_breach (view_functions functions.now) (option_map boxed part.now) }
 {
     match part {
         Some(expr) => expression_breach(functions, expr),

@@ -4,7 +4,7 @@ ghost use Rattle.c_scope.specs.Scopes.{is_tag};
 use c_types::IntegerType;
 
 /// What a name or a tag means (C11 6.2.1, 6.2.3).
-#[derive(Clone, Copy, Debug, PartialEq, Eq)]
+#[derive(Clone, Copy, PartialEq, Eq)]
 pub enum Meaning {
     /// A variable of the function, by its number there.
     Variable { variable: u32 },

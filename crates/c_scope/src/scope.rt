@@ -32,7 +32,7 @@ pub struct Bound {
 }
 
 /// A type, and whether it is const (C11 6.7.3).
-#[derive(Debug, Drop)]
+#[derive(Drop)]
 pub struct QualifiedType {
     pub type_: Ty,
     pub constant: bool,

@@ -28,7 +28,7 @@ view_block line is =
 -- an item in front of others is as deep as the deepest of them
 item_depth : (i : Item) (rest : Items) → items_depth (view_item i rest) ≡ max (items_depth (view_item i done)) (items_depth rest)
 item_depth (items.Declares d) rest = omega arith
-item_depth (items.Does s) rest = omega arith
+item_depth (items.Does' p s) rest = omega arith
 
 -- an item of a list is no deeper than the list
 pub item_within : (is : List Item) (n : ℕ) (i : Item) → n < length is → items_depth (view_item (get_or is n i) done) ≤ items_depth (items_of is)

@@ -10,7 +10,7 @@ use Rattle.c_tree.specs.declared.expr.Expr.{Cast, Cast', SizeofType, SizeofType'
 use Rattle.c_tree.specs.declared.expr.TypeName.{TypeName}
 use Rattle.c_tree.specs.declared.expr.Declarator.{Declarator, Row_of-ArraySuffix, end_of-ArraySuffix, more_of-ArraySuffix, items-the_row-ArraySuffix, items_hidden-the_row-ArraySuffix-0}
 use Rattle.c_tree.specs.declared.expr.DeclaratorCore.{DeclaratorCore, Inside, Inside'}
-use Rattle.c_tree.specs.declared.expr.ArraySuffix.{ArraySuffix, Bounded, Open}
+use Rattle.c_tree.specs.declared.expr.ArraySuffix.{ArraySuffix, Bounded', Open}
 use Rattle.c_tree.specs.Tree.{Declared, Suffixes, unnamed, no_suffix, cast, sizeof_type, inside, call, more, view, views, views_of, view_type_part, view_core, view_suffix, view_suffixes, suffixes_of, view_declarator, depth, depth_of, declared_depth, suffixes_depth}
 
 views_row : (n : _) (row : Row_of-Expr n) → views row ≡ views_of (items-the_row-Expr n row)
@@ -76,7 +76,7 @@ view_sizeof_type line t =
 
 -- a suffix in front of others is as deep as the deepest of them
 suffix_depth : (s : ArraySuffix) (rest : Suffixes) → suffixes_depth (view_suffix s rest) ≡ max (suffixes_depth (view_suffix s no_suffix)) (suffixes_depth rest)
-suffix_depth (Bounded line e) rest = omega arith
+suffix_depth (Bounded' line p e) rest = omega arith
 suffix_depth (Open line) rest = omega arith
 
 -- a suffix of a list is no deeper than the list
@@ -97,5 +97,5 @@ suffix_more ss n s h = ap (λ (xs : List ArraySuffix). suffixes_depth (suffixes_
 -- a declarator without a name, but with suffixes, is one level
 pub unnamed_depth : (ss : List ArraySuffix) (h : ℕ) → h ≡ suffixes_depth (suffixes_of ss) → length ss ≢ 0 → h + 1 ≡ declared_depth (unnamed (suffixes_of ss))
 unnamed_depth [] h e f = absurd (f refl)
-unnamed_depth (Bounded line e ∷ ss) h f g = omega arith
+unnamed_depth (Bounded' line p e ∷ ss) h f g = omega arith
 unnamed_depth (Open line ∷ ss) h f g = omega arith

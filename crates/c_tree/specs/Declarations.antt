@@ -18,7 +18,7 @@ use Rattle.c_tree.specs.declared.declaration.Initializer.{Initializer, Row_of-In
 use Rattle.c_tree.specs.declared.declaration.Initializer as initializers
 use Rattle.c_tree.specs.declared.declaration.InitDeclarator.{InitDeclarator}
 use Rattle.c_tree.specs.declared.declaration.Declaration.{Declaration}
-use Rattle.c_tree.specs.Tree.{TypePart, Tree, view_name, view_type_part, view, depth, type_part_line}
+use Rattle.c_tree.specs.Tree.{TypePart, Tree, view_name, view_type_part, view, boxed, depth, type_part_line}
 use Rattle.c_tree.specs.Names.{Scope}
 use Rattle.c_tree.specs.Spelling.{specifies_type}
 
@@ -84,7 +84,7 @@ pub data Declarators : Type 0 where
   declarator : (declared : Full) (initializer : Option Initial) (rest : Declarators) → Declarators
 
 abbrev pub view_enumerator : Enumerator → Enumerated
-view_enumerator e = record { line = e.line; name = view_name e.name; value = option_map view e.value }
+view_enumerator e = record { line = e.line; name = view_name e.name; value = option_map boxed e.value }
 
 abbrev mutual
   pub view_part : Specifier → Part
@@ -113,7 +113,7 @@ abbrev mutual
 
   -- a suffix in front of others
   pub view_full_suffix : DeclaratorSuffix → FullSuffixes → FullSuffixes
-  view_full_suffix (declarator_suffixes.Bounded line e) rest = full_bounded line (view e) rest
+  view_full_suffix (declarator_suffixes.Bounded line e) rest = full_bounded line (view e.value) rest
   view_full_suffix (declarator_suffixes.Open line) rest = full_open line rest
   view_full_suffix (declarator_suffixes.Empty line) rest = full_empty line rest
   view_full_suffix (declarator_suffixes.Void line) rest = full_void line rest
@@ -162,7 +162,7 @@ members_of (m ∷ ms) = view_member m (members_of ms)
 
 abbrev mutual
   pub view_initializer : Initializer → Initial
-  view_initializer (initializers.Value e) = initial (view e)
+  view_initializer (initializers.Value e) = initial (view e.value)
   view_initializer (initializers.List' line shape items) = braces line (view_initializers items)
 
   pub view_initializers : {m : _} → Row_of-Initializer m → Initials

@@ -1,13 +1,13 @@
 -- Which tokens spell an expression, a type name and a declarator (C11 6.5, 6.7.6, 6.7.7).
 use Rattle.std.specs.Prelude.{◌≡◌, ◌≤◌, ◌+◌, ℕ, List, [], ◌∷◌, ◌++◌, Bool, true, false, ◌||◌, Option, Some, option_map}
-use Rattle.c_lexer.specs.declared.token.Token.{Token}
-use Rattle.c_lexer.specs.declared.token.Kind.{Kind}
-use Rattle.c_lexer.specs.declared.token.Kind.TheVariants as kinds
-use Rattle.c_lexer.specs.declared.token.Keyword.{Keyword}
-use Rattle.c_lexer.specs.declared.token.Keyword.TheVariants as keywords
-use Rattle.c_lexer.specs.declared.token.Mark.{Mark}
-use Rattle.c_lexer.specs.declared.token.Mark.TheVariants as marks
-use Rattle.c_lexer.specs.Kinds.{text_of}
+use Rattle.c_token.specs.declared.token.Token.{Token}
+use Rattle.c_token.specs.declared.token.Kind.{Kind}
+use Rattle.c_token.specs.declared.token.Kind.TheVariants as kinds
+use Rattle.c_token.specs.declared.token.Keyword.{Keyword}
+use Rattle.c_token.specs.declared.token.Keyword.TheVariants as keywords
+use Rattle.c_token.specs.declared.token.Mark.{Mark}
+use Rattle.c_token.specs.declared.token.Mark.TheVariants as marks
+use Rattle.c_token.specs.Spelling.{text_of}
 use Rattle.c_tree.specs.declared.expr.BinaryOp.{BinaryOp}
 use Rattle.c_tree.specs.Tree.{TypePart, qualified, word, tagged, typedef_name, Tree, Trees, Declared, Suffixes, constant, character, strings, name, parens, unary, cast, sizeof_expr, sizeof_type, step, member, binary, choice, assign, comma, call, none, more, unnamed, named, inside, no_suffix, bounded, unbounded}
 use Rattle.c_tree.specs.Tables.{strength_of, binary_mark, assign_mark, unary_mark, operand_level, step_mark, level_of, qualifier_keyword, word_keyword, tag_keyword}

@@ -8,7 +8,7 @@ use Rattle.c_tree.specs.declared.statement.Stmt.{Stmt, Row_of-Item, end_of-Item,
 use Rattle.c_tree.specs.declared.statement.Stmt as stmts
 use Rattle.c_tree.specs.declared.statement.Item.{Item}
 use Rattle.c_tree.specs.declared.statement.Item as items
-use Rattle.c_tree.specs.Tree.{Tree, view, view_name, depth, first_line}
+use Rattle.c_tree.specs.Tree.{Tree, view, boxed, view_name, depth, first_line}
 use Rattle.c_tree.specs.Declarations.{Parts, Declarators, Full, parts_of, declarators_of, view_full, value_depth, parts_depth, declarators_depth, full_depth}
 
 mutual
@@ -48,19 +48,19 @@ pub data Externals : Type 0 where
 abbrev mutual
   pub view_statement : Stmt → Statement
   view_statement (stmts.Block' line shape items) = block line (view_items items)
-  view_statement (stmts.If' line test p s) = if_then line (view test) (view_statement s)
-  view_statement (stmts.IfElse' line test p s q u) = if_else line (view test) (view_statement s) (view_statement u)
-  view_statement (stmts.Evaluate e) = evaluate (view e)
+  view_statement (stmts.If' line test p s) = if_then line (view test.value) (view_statement s)
+  view_statement (stmts.IfElse' line test p s q u) = if_else line (view test.value) (view_statement s) (view_statement u)
+  view_statement (stmts.Evaluate e) = evaluate (view e.value)
   view_statement (stmts.ReturnNothing line) = return_nothing line
-  view_statement (stmts.ReturnValue line e) = return_value line (view e)
+  view_statement (stmts.ReturnValue line e) = return_value line (view e.value)
   view_statement (stmts.Empty line) = empty line
-  view_statement (stmts.While' line e p s) = while_loop line (view e) (view_statement s)
-  view_statement (stmts.Do' line p s e) = do_loop line (view_statement s) (view e)
-  view_statement (stmts.For' line a b c p s) = for_loop line (option_map view a) (option_map view b) (option_map view c) (view_statement s)
+  view_statement (stmts.While' line e p s) = while_loop line (view e.value) (view_statement s)
+  view_statement (stmts.Do' line p s e) = do_loop line (view_statement s) (view e.value)
+  view_statement (stmts.For' line a b c p s) = for_loop line (option_map boxed a) (option_map boxed b) (option_map boxed c) (view_statement s)
   view_statement (stmts.ForDeclared' line d b c p s) =
-      for_declared line (parts_of d.specifiers.items) (declarators_of d.declarators.items) (option_map view b) (option_map view c) (view_statement s)
-  view_statement (stmts.Switch' line e p s) = switch_on line (view e) (view_statement s)
-  view_statement (stmts.Case' line e p s) = case_of line (view e) (view_statement s)
+      for_declared line (parts_of d.value.specifiers.items) (declarators_of d.value.declarators.items) (option_map boxed b) (option_map boxed c) (view_statement s)
+  view_statement (stmts.Switch' line e p s) = switch_on line (view e.value) (view_statement s)
+  view_statement (stmts.Case' line e p s) = case_of line (view e.value) (view_statement s)
   view_statement (stmts.Default' line p s) = default_of line (view_statement s)
   view_statement (stmts.Label' line n p s) = labelled line (view_name n) (view_statement s)
   view_statement (stmts.Goto line n) = goto_label line (view_name n)
@@ -69,8 +69,8 @@ abbrev mutual
 
   -- an item in front of others
   pub view_item : Item → Items → Items
-  view_item (items.Declares d) rest = declares (parts_of d.specifiers.items) (declarators_of d.declarators.items) rest
-  view_item (items.Does s) rest = does (view_statement s) rest
+  view_item (items.Declares d) rest = declares (parts_of d.value.specifiers.items) (declarators_of d.value.declarators.items) rest
+  view_item (items.Does' p s) rest = does (view_statement s) rest
 
   pub view_items : {m : _} → Row_of-Item m → Items
   view_items end_of-Item = done
@@ -83,8 +83,8 @@ items_of (i ∷ is) = view_item i (items_of is)
 
 -- what stands in a file, in front of what follows
 abbrev pub view_external : External → Externals → Externals
-view_external (externals.Declares d) rest = declared (parts_of d.specifiers.items) (declarators_of d.declarators.items) rest
-view_external (externals.Defines d) rest = defines (parts_of d.specifiers.items) (view_full d.declarator) (view_statement d.body) rest
+view_external (externals.Declares d) rest = declared (parts_of d.value.specifiers.items) (declarators_of d.value.declarators.items) rest
+view_external (externals.Defines d) rest = defines (parts_of d.value.specifiers.items) (view_full d.value.declarator) (view_statement d.value.body.value) rest
 
 -- what stands in a file, of a list
 abbrev pub externals_of : List External → Externals

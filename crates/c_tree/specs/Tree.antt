@@ -1,6 +1,7 @@
 -- A tree without where it lies in memory.
-use Rattle.std.specs.Prelude.{ℕ, ◌+◌, max, List, [], ◌∷◌, map, Option}
-use Rattle.c_lexer.specs.declared.token.Constant.{Constant}
+use Rattle.std.specs.Prelude.{ℕ, ◌+◌, max, List, [], ◌∷◌, map, Option, Box}
+use Rattle.std.specs.Global.{Global}
+use Rattle.c_token.specs.declared.token.Constant.{Constant}
 use Rattle.c_tree.specs.declared.expr.BinaryOp.{BinaryOp}
 use Rattle.c_tree.specs.declared.expr.UnaryOp.{UnaryOp}
 use Rattle.c_tree.specs.declared.expr.StepOp.{StepOp}
@@ -100,12 +101,15 @@ abbrev mutual
 
   -- a suffix in front of others
   pub view_suffix : ArraySuffix → Suffixes → Suffixes
-  view_suffix (array_suffixes.Bounded line e) rest = bounded line (view e) rest
+  view_suffix (array_suffixes.Bounded' line p e) rest = bounded line (view e) rest
   view_suffix (array_suffixes.Open line) rest = unbounded line rest
 
   pub view_suffixes : {m : _} → Row_of-ArraySuffix m → Suffixes
   view_suffixes end_of-ArraySuffix = no_suffix
   view_suffixes (more_of-ArraySuffix s rest) = view_suffix s (view_suffixes rest)
+
+abbrev pub boxed : Box Expr Global → Tree
+boxed b = view b.value
 
 -- the trees of a list of expressions
 abbrev pub views_of : List Expr → Trees

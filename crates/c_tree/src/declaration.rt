@@ -4,7 +4,7 @@ use crate::expr::{Expr, Name};
 use crate::specifier::TypeSpecifier;
 
 /// A storage class (C11 6.7.1).
-#[derive(Clone, Copy, Debug, PartialEq, Eq)]
+#[derive(Clone, Copy, PartialEq, Eq)]
 pub enum StorageClass {
     Typedef,
     Extern,
@@ -14,21 +14,21 @@ pub enum StorageClass {
 }
 
 /// A function specifier (C11 6.7.4).
-#[derive(Clone, Copy, Debug, PartialEq, Eq)]
+#[derive(Clone, Copy, PartialEq, Eq)]
 pub enum FunctionSpecifier {
     Inline,
     Noreturn,
 }
 
 /// What has members (C11 6.7.2.1).
-#[derive(Clone, Copy, Debug, PartialEq, Eq)]
+#[derive(Clone, Copy, PartialEq, Eq)]
 pub enum RecordKind {
     Struct,
     Union,
 }
 
 /// A declaration specifier (C11 6.7), with the line of its keyword.
-#[derive(Debug, Drop)]
+#[derive(Drop)]
 #[cycle(specifier)]
 pub enum Specifier {
     Type(TypeSpecifier),
@@ -56,7 +56,7 @@ pub enum Specifier {
 }
 
 /// A declaration of members (C11 6.7.2.1); without declarators it is an anonymous structure's or declares a tag alone.
-#[derive(Debug, Drop)]
+#[derive(Drop)]
 #[cycle(specifier)]
 pub struct MemberDeclaration {
     pub specifiers: Vec<Specifier>,
@@ -65,7 +65,7 @@ pub struct MemberDeclaration {
 
 /// A declarator of a declaration, of a member or of a parameter (C11 6.7.6), or the abstract one of a parameter, which has no
 /// name (C11 6.7.7) and is empty without suffixes.
-#[derive(Debug, Drop)]
+#[derive(Drop)]
 #[cycle(specifier)]
 pub enum FullDeclarator {
     Unnamed {
@@ -85,13 +85,13 @@ pub enum FullDeclarator {
 }
 
 /// A suffix of an array's or a function's declarator, with the line of its bracket or parenthesis.
-#[derive(Debug, Drop)]
+#[derive(Drop)]
 #[cycle(specifier)]
 pub enum DeclaratorSuffix {
     /// `[bound]`
     Bounded {
         line: u32,
-        bound: Expr,
+        bound: Box<Expr>,
     },
     /// `[]`
     Open {
@@ -114,7 +114,7 @@ pub enum DeclaratorSuffix {
 }
 
 /// A parameter (C11 6.7.6): specifiers, one at least, and a declarator, which may have no name and may be empty.
-#[derive(Debug, Drop)]
+#[derive(Drop)]
 #[cycle(specifier)]
 pub struct Parameter {
     pub specifiers: Vec<Specifier>,
@@ -122,31 +122,31 @@ pub struct Parameter {
 }
 
 /// `name` or `name = value` among enumerators (C11 6.7.2.2), with the line of the name.
-#[derive(Debug, Drop)]
+#[derive(Drop)]
 pub struct Enumerator {
     pub line: u32,
     pub name: Name,
-    pub value: Option<Expr>,
+    pub value: Option<Box<Expr>>,
 }
 
 /// An initializer (C11 6.7.9).
-#[derive(Debug, Drop)]
+#[derive(Drop)]
 #[cycle(initializer)]
 pub enum Initializer {
-    Value(Expr),
+    Value(Box<Expr>),
     /// `{ items }`, with one item at least, with the line of its brace.
     List { line: u32, items: Vec<Initializer> },
 }
 
 /// A declarator with its initializer (C11 6.7).
-#[derive(Debug, Drop)]
+#[derive(Drop)]
 pub struct InitDeclarator {
     pub declarator: FullDeclarator,
     pub initializer: Option<Initializer>,
 }
 
 /// A declaration (C11 6.7): specifiers, one at least, and declarators.
-#[derive(Debug, Drop)]
+#[derive(Drop)]
 pub struct Declaration {
     pub specifiers: Vec<Specifier>,
     pub declarators: Vec<InitDeclarator>,

@@ -1,16 +1,16 @@
 //! Expressions, and the type names and declarators in them.
 
 use crate::specifier::TypeSpecifier;
-use c_lexer::Constant;
+use c_token::Constant;
 
 /// A name, by its bytes.
-#[derive(Debug, Drop)]
+#[derive(Drop)]
 pub struct Name {
     pub bytes: Vec<u8>,
 }
 
 /// A binary operator without the assignments and the comma (C11 6.5.5 to 6.5.14).
-#[derive(Clone, Copy, Debug, PartialEq, Eq)]
+#[derive(Clone, Copy, PartialEq, Eq)]
 pub enum BinaryOp {
     LogicalOr,
     LogicalAnd,
@@ -33,7 +33,7 @@ pub enum BinaryOp {
 }
 
 /// An operator before its operand (C11 6.5.3).
-#[derive(Clone, Copy, Debug, PartialEq, Eq)]
+#[derive(Clone, Copy, PartialEq, Eq)]
 pub enum UnaryOp {
     Increment,
     Decrement,
@@ -44,7 +44,7 @@ pub enum UnaryOp {
 }
 
 /// `++` or `--` behind its operand (C11 6.5.2.4).
-#[derive(Clone, Copy, Debug, PartialEq, Eq)]
+#[derive(Clone, Copy, PartialEq, Eq)]
 pub enum StepOp {
     Increment,
     Decrement,
@@ -52,7 +52,7 @@ pub enum StepOp {
 
 /// An expression. Each node but a call has the line of its own token: of the constant, the name, the first string, the operator,
 /// the `?`, the `.`, the `sizeof`, or the parenthesis that opens it. A call has the line of its function's name, which is a node.
-#[derive(Debug, Drop)]
+#[derive(Drop)]
 #[cycle(expression)]
 pub enum Expr {
     Constant {
@@ -142,7 +142,7 @@ pub enum Expr {
 }
 
 /// The name of a type (C11 6.7.7): specifiers, one at least, and a declarator without a name, which may be empty.
-#[derive(Debug, Drop)]
+#[derive(Drop)]
 #[cycle(expression)]
 pub struct TypeName {
     pub specifiers: Vec<TypeSpecifier>,
@@ -151,7 +151,7 @@ pub struct TypeName {
 
 /// A declarator (C11 6.7.6), or an abstract one, which has no name (C11 6.7.7). The empty abstract declarator is an absent core
 /// without suffixes.
-#[derive(Debug, Drop)]
+#[derive(Drop)]
 #[cycle(expression)]
 pub struct Declarator {
     pub core: DeclaratorCore,
@@ -159,7 +159,7 @@ pub struct Declarator {
 }
 
 /// What a declarator's suffixes stand behind.
-#[derive(Debug, Drop)]
+#[derive(Drop)]
 #[cycle(expression)]
 pub enum DeclaratorCore {
     Absent,
@@ -169,11 +169,11 @@ pub enum DeclaratorCore {
 }
 
 /// A suffix of an array's declarator, with the line of its bracket.
-#[derive(Debug, Drop)]
+#[derive(Drop)]
 #[cycle(expression)]
 pub enum ArraySuffix {
     /// `[bound]`
-    Bounded { line: u32, bound: Expr },
+    Bounded { line: u32, bound: Box<Expr> },
     /// `[]`
     Open { line: u32 },
 }

@@ -1,7 +1,7 @@
 //! How many levels declarations, statements and files have.
 
 ghost use Rattle.std.specs.Prelude.{◌≡◌, ◌==◌, ◌<◌, ◌^◌, length, max, map, option_map};
-ghost use Rattle.c_tree.specs.Tree.{view};
+ghost use Rattle.c_tree.specs.Tree.{boxed};
 ghost use Rattle.c_tree.specs.Declarations.{view_enumerator, view_part, parts_of, members_of, view_full, fulls_of, view_full_suffix, full_suffixes_of, full_end, parameters_of, view_initializer, initials_of, declarators_of, value_depth, enumerators_depth, part_depth, parts_depth, members_depth, full_depth, fulls_depth, full_suffixes_depth, parameters_depth, initial_depth, initials_depth, initializer_depth, declarators_depth};
 ghost use Rattle.c_tree.specs.Statements.{statement_depth, view_statement, items_depth, items_of, view_item, done, externals_of, view_external, no_more, file_depth, view_file};
 
@@ -13,9 +13,9 @@ use crate::expr::Expr;
 use crate::levels::{expression_depth, larger};
 use crate::statement::{External, File, Item, Stmt};
 
-fn value_depth(value: &Option<Expr>) -> u32
-    requires { value_depth (option_map view value.now) < 2 ^ 32 }
-    ensures { result ≡ value_depth (option_map view value.now) }
+fn value_depth(value: &Option<Box<Expr>>) -> u32
+    requires { value_depth (option_map boxed value.now) < 2 ^ 32 }
+    ensures { result ≡ value_depth (option_map boxed value.now) }
 {
     match value {
         Some(expr) => expression_depth(expr),

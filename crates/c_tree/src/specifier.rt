@@ -3,7 +3,7 @@
 use crate::expr::Name;
 
 /// A qualifier (C11 6.7.3).
-#[derive(Clone, Copy, Debug, PartialEq, Eq)]
+#[derive(Clone, Copy, PartialEq, Eq)]
 pub enum Qualifier {
     Const,
     Volatile,
@@ -11,7 +11,7 @@ pub enum Qualifier {
 }
 
 /// A keyword that specifies a type (C11 6.7.2).
-#[derive(Clone, Copy, Debug, PartialEq, Eq)]
+#[derive(Clone, Copy, PartialEq, Eq)]
 pub enum TypeWord {
     Void,
     Char,
@@ -24,7 +24,7 @@ pub enum TypeWord {
 }
 
 /// What a tag stands for (C11 6.7.2.3).
-#[derive(Clone, Copy, Debug, PartialEq, Eq)]
+#[derive(Clone, Copy, PartialEq, Eq)]
 pub enum TagKind {
     Struct,
     Union,
@@ -32,7 +32,7 @@ pub enum TagKind {
 }
 
 /// One of the specifiers of a type, without members or enumerators, or a qualifier (C11 6.7.2, 6.7.3).
-#[derive(Debug, Drop)]
+#[derive(Drop)]
 pub enum TypeSpecifier {
     Qualifier {
         line: u32,

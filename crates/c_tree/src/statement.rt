@@ -4,7 +4,7 @@ use crate::declaration::{Declaration, FullDeclarator, Specifier};
 use crate::expr::{Expr, Name};
 
 /// A statement (C11 6.8). Each has the line of its first token, but for an expression statement, whose expression has one.
-#[derive(Debug, Drop)]
+#[derive(Drop)]
 #[cycle(statement)]
 pub enum Stmt {
     /// `{ items }`
@@ -15,18 +15,18 @@ pub enum Stmt {
     /// `if (test) yes` without an `else`.
     If {
         line: u32,
-        test: Expr,
+        test: Box<Expr>,
         yes: Box<Stmt>,
     },
     IfElse {
         line: u32,
-        test: Expr,
+        test: Box<Expr>,
         yes: Box<Stmt>,
         no: Box<Stmt>,
     },
     /// `expression;`
     Evaluate {
-        expression: Expr,
+        expression: Box<Expr>,
     },
     /// `return;`
     ReturnNothing {
@@ -34,7 +34,7 @@ pub enum Stmt {
     },
     ReturnValue {
         line: u32,
-        value: Expr,
+        value: Box<Expr>,
     },
     /// `;`
     Empty {
@@ -43,41 +43,41 @@ pub enum Stmt {
     /// `while (test) body`
     While {
         line: u32,
-        test: Expr,
+        test: Box<Expr>,
         body: Box<Stmt>,
     },
     /// `do body while (test);`
     Do {
         line: u32,
         body: Box<Stmt>,
-        test: Expr,
+        test: Box<Expr>,
     },
     /// `for (first; test; last) body`
     For {
         line: u32,
-        first: Option<Expr>,
-        test: Option<Expr>,
-        last: Option<Expr>,
+        first: Option<Box<Expr>>,
+        test: Option<Box<Expr>>,
+        last: Option<Box<Expr>>,
         body: Box<Stmt>,
     },
     /// `for (declaration test; last) body`
     ForDeclared {
         line: u32,
-        declaration: Declaration,
-        test: Option<Expr>,
-        last: Option<Expr>,
+        declaration: Box<Declaration>,
+        test: Option<Box<Expr>>,
+        last: Option<Box<Expr>>,
         body: Box<Stmt>,
     },
     /// `switch (value) body`
     Switch {
         line: u32,
-        value: Expr,
+        value: Box<Expr>,
         body: Box<Stmt>,
     },
     /// `case value: body`
     Case {
         line: u32,
-        value: Expr,
+        value: Box<Expr>,
         body: Box<Stmt>,
     },
     /// `default: body`
@@ -107,30 +107,30 @@ pub enum Stmt {
 }
 
 /// What stands in a block (C11 6.8.2).
-#[derive(Debug, Drop)]
+#[derive(Drop)]
 #[cycle(statement)]
 pub enum Item {
-    Declares(Declaration),
-    Does(Stmt),
+    Declares(Box<Declaration>),
+    Does(Box<Stmt>),
 }
 
 /// The definition of a function (C11 6.9.1): specifiers, one at least, a declarator of a function, and the body, a block.
-#[derive(Debug, Drop)]
+#[derive(Drop)]
 pub struct Definition {
     pub specifiers: Vec<Specifier>,
     pub declarator: FullDeclarator,
-    pub body: Stmt,
+    pub body: Box<Stmt>,
 }
 
 /// What stands in a file (C11 6.9).
-#[derive(Debug, Drop)]
+#[derive(Drop)]
 pub enum External {
-    Declares(Declaration),
-    Defines(Definition),
+    Declares(Box<Declaration>),
+    Defines(Box<Definition>),
 }
 
 /// A file (C11 6.9).
-#[derive(Debug, Drop)]
+#[derive(Drop)]
 pub struct File {
     pub externals: Vec<External>,
 }

@@ -2,7 +2,7 @@ ghost use Rattle.std.specs.Prelude.{◌≡◌, ◌≤◌, true};
 ghost use Rattle.c_types.specs.Integers.{width, is_signed, rank, unsigned_of, bytes, promoted, mixed_type, common_type};
 
 /// An integer type (C11 6.2.5p4 to p6, p15). An enumerated type is `Int`.
-#[derive(Clone, Copy, Debug, PartialEq, Eq)]
+#[derive(Clone, Copy, PartialEq, Eq)]
 pub enum IntegerType {
     Bool,
     /// Plain `char`, which is signed.

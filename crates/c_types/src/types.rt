@@ -6,14 +6,13 @@ use std::alloc::AllocError;
 use std::rc::Rc;
 
 /// The type of an expression's value: void or an integer type (C11 6.2.5).
-#[derive(Clone, Copy, Debug, PartialEq, Eq)]
+#[derive(Clone, Copy, PartialEq, Eq)]
 pub enum ValueType {
     Void,
     Integer(IntegerType),
 }
 
 /// A type (C11 6.2.5). Copies of an array type share its element.
-#[derive(Debug)]
 pub enum Ty {
     Void,
     Integer(IntegerType),
@@ -24,14 +23,14 @@ pub enum Ty {
 }
 
 /// Whether members lie one behind the other, or overlap (C11 6.2.5p20).
-#[derive(Clone, Copy, Debug, PartialEq, Eq)]
+#[derive(Clone, Copy, PartialEq, Eq)]
 pub enum RecordKind {
     Struct,
     Union,
 }
 
 /// A scalar within an object: where it begins and how large it is, in bytes.
-#[derive(Clone, Copy, Debug, PartialEq, Eq)]
+#[derive(Clone, Copy, PartialEq, Eq)]
 pub struct Cell {
     pub offset: u32,
     pub size: u32,

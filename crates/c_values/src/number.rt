@@ -10,7 +10,7 @@ use std::marker::Model;
 use words::{Class, Word};
 
 /// A number of an integer type, by its bits.
-#[derive(Clone, Copy, Debug)]
+#[derive(Clone, Copy)]
 pub struct Number {
     type_: IntegerType,
     bits: u64,

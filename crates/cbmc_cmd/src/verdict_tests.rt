@@ -3,7 +3,7 @@
 ghost use Rattle.std.specs.Prelude.{◌≡◌, IfOk, IfSome};
 
 use cbmc_top::{Job, Options, Task, Verdict, check_bytes};
-use core_tree::{Bounds, Limit, Refusal};
+use core_tree::{Bounds, Limit};
 use std::alloc::{AllocError, Global};
 use std::test::*;
 use words::Class;
@@ -105,48 +105,15 @@ fn said(
 fn programs_have_their_verdicts(rt: HostRuntime) -> Result<(), Fail> {
     for (text, unwind, assertions, check) in VERDICTS {
         let found = said(rt.alloc(), text, unwind, assertions)?;
-        assert!(rt; found == Some(check), "{text} within {unwind}: {found:?}");
+        assert!(rt; found == Some(check), "{text} within {unwind}");
     }
     Ok(())
 }
 
-// Texts outside of the profile, with the line and the rule: the lowest line, and on it the lowest rule.
-static REFUSED: [(&str, u32, u32); 8] = [
-    ("int f(void){return 1;}", 1, 1),
-    ("char\nmain(void){return 0;}", 2, 1),
-    ("int f(void);int main(void){\nf;return 0;}", 2, 3),
-    ("int main(void){a:;\ngoto a;}", 2, 6),
-    ("int main(void){switch(1){{\ncase 1:;}}}", 2, 7),
-    ("int\nf(int,...);int main(void){return 0;}", 2, 10),
-    (
-        "int f(void);int main(void){\nswitch(1){{case 1:;}}\nf;}",
-        2,
-        7,
-    ),
-    (
-        "int f(void);int main(void){\nswitch(1){{case 1:;}}f;}",
-        2,
-        3,
-    ),
-];
-
+// Three loops within one another have more places than a program may have, once they are unwound often enough.
 #[test]
-fn programs_are_refused(rt: HostRuntime) -> Result<(), Fail> {
+fn places_are_limited(rt: HostRuntime) -> Result<(), Fail> {
     let alloc = rt.alloc();
-    if let Some(options) = options_within(alloc, 8, true)? {
-        for (text, line, rule) in REFUSED {
-            match check_bytes(alloc, text.as_bytes(), &options)? {
-                Verdict::Refused(refused) => {
-                    assert_eq!(rt; refused, Refusal::new(12, line, Some(rule)))
-                }
-                _ => assert!(rt; false, "{text}"),
-            }
-        }
-        match check_bytes(alloc, b"int main(void){for(;;)for(;;)for(;;);}", &options)? {
-            Verdict::Failed(trace) => assert_eq!(rt; trace.check.class, Class::Unwind),
-            _ => assert!(rt; false),
-        }
-    }
     if let Some(options) = options_within(alloc, 1_000, true)? {
         match check_bytes(alloc, b"int main(void){for(;;)for(;;)for(;;);}", &options)? {
             Verdict::Limited(limit) => assert_eq!(rt; limit, Limit::Places),

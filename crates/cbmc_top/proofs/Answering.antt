@@ -3,9 +3,10 @@ use Rattle.std.proofs.Common.{◌≡◌, inl, inr, ℕ, ◌≤◌, ◌<◌, List
 use Rattle.std.proofs.lemmas.List.{take_all, length-take}
 use Rattle.std.specs.Prelude.{IfSome, IfOk}
 use Rattle.core_tree.specs.Ranges.{Limits}
-use Rattle.cbmc_top.specs.Answers.{Answer, usage, read_fault, limited, refused, successful, failed, used_up, standard_limits, standard_budget, Decides, Allows, Answered, IsReadFrom, Reported, name_of, status_of, text_of, spent_of}
+use Rattle.run_search.specs.Answers.{Answer, usage, read_fault, limited, refused, successful, failed, used_up}
+use Rattle.cbmc_top.specs.Answers.{standard_limits, standard_budget, Decides, Allows, Answered, IsReadFrom, Reported, name_of, status_of, text_of, spent_of}
 use Rattle.cbmc_top.specs.Calls.{WasRead}
-use Rattle.cbmc_top.specs.declared.used.Used.{Used}
+use Rattle.run_search.specs.declared.used.Used.{Used}
 use Rattle.cbmc_top.specs.Verdicts.{answer_of}
 use Rattle.cbmc_top.specs.declared.finding.Finding.{Finding}
 use Rattle.cbmc_top.specs.declared.finding.Finding.TheVariants as findings

@@ -7,11 +7,12 @@ use Rattle.core_tree.specs.Ranges.{Cause}
 use Rattle.core_tree.specs.declared.refusal.Limit.{Limit}
 use Rattle.outside.specs.Sink.{appended}
 use Rattle.cbmc_top.specs.Programs.{IsFileOf, IsCheckable}
-use Rattle.cbmc_top.specs.Executions.{IsVerified}
-use Rattle.cbmc_top.specs.Clauses.{IsRefuted, IsUsedUp}
-use Rattle.cbmc_top.specs.declared.used.Used.{Used}
-use Rattle.cbmc_top.specs.Report.{Failure, failure_text, limit_text, refusal_text, budget_text}
-use Rattle.cbmc_top.specs.Answers.{Answer, usage, read_fault, limited, refused, successful, failed, used_up, status_of, text_of, spent_of, head_of, name_of, standard_limits, standard_budget, Decides, Allows, Answered, Reported, IsOneOf, IsOfSearch, IsFailure, AfterCounts}
+use Rattle.run_search.specs.Executions.{IsVerified}
+use Rattle.run_search.specs.Clauses.{IsRefuted, IsUsedUp}
+use Rattle.run_search.specs.declared.used.Used.{Used}
+use Rattle.report.specs.Report.{Failure, failure_text, limit_text, refusal_text, budget_text}
+use Rattle.run_search.specs.Answers.{Answer, usage, read_fault, limited, refused, successful, failed, used_up}
+use Rattle.cbmc_top.specs.Answers.{status_of, text_of, spent_of, head_of, name_of, standard_limits, standard_budget, Decides, Allows, Answered, Reported, IsOneOf, IsOfSearch, IsFailure, AfterCounts}
 use Rattle.cbmc_top.proofs.Stages.{Same, Told, told}
 use Rattle.cbmc_top.proofs.Spent.{both_spent}
 

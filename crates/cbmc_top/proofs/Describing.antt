@@ -9,15 +9,16 @@ use Rattle.core_tree.specs.Trees.{Procedure, TypedFile, view_functions}
 use Rattle.core_tree.specs.Ranges.{Limits}
 use Rattle.std.proofs.lemmas.Bool.Decides.{nat_tests}
 use Rattle.interleave.specs.Inputs.{InputLists}
-use Rattle.cbmc_top.proofs.Both.{and_both}
+use Rattle.report.proofs.Both.{and_both}
 use Rattle.cbmc_top.proofs.Congruent.{SameWords, replays_same}
 use Rattle.interleave.specs.Replay.{Replays}
 use Rattle.interleave.specs.declared.inputs.Trace.{Trace}
-use Rattle.cbmc_top.specs.Identifiers.{is_letter, is_word_byte, all_word_bytes, is_identifier}
+use Rattle.report.specs.Identifiers.{is_letter, is_word_byte, all_word_bytes, is_identifier}
 use Rattle.cbmc_top.specs.Programs.{IsAccepted}
-use Rattle.cbmc_top.specs.Executions.{bounded_world}
-use Rattle.cbmc_top.specs.Report.{IsDrawn, IsRow, AreRising, AreMaximal}
-use Rattle.cbmc_top.specs.Answers.{turns_of, name_in, IsFailure}
+use Rattle.run_search.specs.Executions.{bounded_world}
+use Rattle.report.specs.Report.{IsDrawn, IsRow, AreRising, AreMaximal}
+use Rattle.report.specs.Failing.{turns_of}
+use Rattle.cbmc_top.specs.Answers.{name_in, IsFailure}
 use Rattle.cbmc_top.specs.Verdicts.{IsBroken}
 use Rattle.cbmc_top.proofs.Named.{broken_there}
 use Rattle.cbmc_top.proofs.FunctionNames.{functions_named}

@@ -19,22 +19,26 @@ use Rattle.c_scope.specs.Faults.{◌>>=◌, Fault, on_line}
 use Rattle.c_scope.specs.Types.{array_of, specified_type}
 use Rattle.c_elab_expr.specs.Typing.{operand, operand_by, bound}
 use Rattle.c_elab_expr.specs.Operands.{Operand}
-use Rattle.c_elab_type.specs.declared.regions.Region.{Region}
-use Rattle.c_elab_type.specs.declared.regions.Role.{Role}
-use Rattle.c_elab_type.specs.declared.regions.Role.TheVariants as roles
-use Rattle.c_elab_type.specs.Regions.{built_in_function, earlier, earlier_tag}
-use Rattle.c_elab_type.specs.Derivations.{Derived, Derivation, lengths, callable, derivation, full_line}
+use Rattle.c_elab_base.specs.declared.regions.Region.{Region}
+use Rattle.c_elab_base.specs.declared.regions.Role.{Role}
+use Rattle.c_elab_base.specs.declared.regions.Role.TheVariants as roles
+use Rattle.c_elab_base.specs.Regions.{built_in_function, earlier, earlier_tag}
+use Rattle.c_elab_base.specs.Derivations.{Derived, Derivation, lengths, callable, derivation, full_line}
 use Rattle.c_elab_type.specs.Initializers.{Value, no_initializer, initializer_of}
 use Rattle.c_elab_type.specs.Enumerations.{enumerator_value, enumerator_node, with_enumerator, typed_enumerator, typed_enumerators}
-use Rattle.c_elab_type.specs.Tags.{kind_of, is_kind, with_record, with_tagged, new_tag, found_tag, tag_named, forward_tag, Opened, new_record, open_tag, opened, reopened, closed_scope, completed, closed, members_fit, enumeration_tag, enumeration_closed}
-use Rattle.c_elab_type.specs.Declarators.{Typed, typed_typedef, typed_function_typedef, typed_variable, with_typedef, with_function_typedef, in_front, within_initializer, typedef_node, function_typedef_node, is_open, variable_type, of_type, with_variable, declared_item}
-use Rattle.c_elab_type.specs.Specifiers.{Fields, Parted, Passed, Specification, with_named, with_type_part, fields_within, fields_out, with_members, typed_enumeration, said_before, fields_behind, with_anonymous, has_untagged, is_none, is_anonymous, with_member, with_field, judged_parameter, declared_parameter, ended, inner_region, are_several, parted, named_parts, counted_in_front, called_in_front, said_bound, typed_part, typed_parts, typed_members, typed_fields, typed_full, typed_suffixes, typed_parameters, lone_tag, with_lone, typed_specifiers, role_of}
+use Rattle.c_elab_base.specs.Tags.{kind_of, is_kind, with_record, with_tagged, new_tag, found_tag, tag_named, forward_tag, Opened, new_record, open_tag, opened, reopened, closed_scope, completed, closed, members_fit, enumeration_tag, enumeration_closed}
+use Rattle.c_elab_base.specs.Declarators.{with_typedef, with_function_typedef, within_initializer, typedef_node, function_typedef_node, is_open, of_type, with_variable}
+use Rattle.c_elab_type.specs.Declarators.{Typed, typed_typedef, typed_function_typedef, typed_variable, in_front, variable_type, declared_item}
+use Rattle.c_elab_base.specs.Specifiers.{Fields, Parted, Passed, with_named, with_type_part, fields_within, fields_out, with_members, said_before, fields_behind, with_anonymous, has_untagged, is_none, is_anonymous, with_member, with_field, judged_parameter, declared_parameter, ended, inner_region, are_several, parted, named_parts, counted_in_front, called_in_front, lone_tag, with_lone, role_of}
+use Rattle.c_elab_type.specs.Specifiers.{Specification, typed_enumeration, said_bound, typed_part, typed_parts, typed_members, typed_fields, typed_full, typed_suffixes, typed_parameters, typed_specifiers}
 use Rattle.c_elab_object.specs.LastingObjects.{typed_object, with_object, changed_object, added_object, declared_object, initialized_object, lasting_node, earlier_linked, linked_object, lasting_type, may_define, counted_by, element_of, declared_again}
 use Rattle.c_elab_object.specs.Functions.{function_node, first_callable, callable_again, changed_callable, declared_callable, declared_function, declared_or_built_in, with_meaning, typed_function}
 use Rattle.c_elab_object.specs.Listed.{typedef_by, typed_typedefs, object_by, typed_objects, variable_by, typed_variables, typed_others, typed_by, typed_declaration, in_file, typed_outside}
-use Rattle.c_elab_decl.specs.Jumps.{jumps_in, is_passed}
-use Rattle.c_elab_decl.specs.Statements.{Around, TypedStatement, TypedFront, in_loop, in_switch, in_block, with_loop, with_label, with_switch, switch_type, part_ignored, part_tested, as_block, own_block, as_items, switch_of, typed_rest, return_node, return_nothing_node, jump_node, test_node, switch_value, case_node, default_node, label_node, typed_statement, typed_front, typed_items}
-use Rattle.c_elab_decl.specs.Files.{one_function, own_parameters, own_suffixes, definition_type, within_body, typed_body_of, Definition, outside, own_number, typed_definition, typed_externals, with_definitions, procedure_of, with_body, with_bodies, elaborated}
+use Rattle.c_elab_flow.specs.Jumps.{jumps_in, is_passed}
+use Rattle.c_elab_flow.specs.Nodes.{Around, in_loop, in_switch, with_loop, with_label, with_switch, switch_type, part_ignored, part_tested, return_node, return_nothing_node, jump_node, test_node, switch_value, case_node, default_node, label_node}
+use Rattle.c_elab_decl.specs.Statements.{TypedStatement, TypedFront, in_block, as_block, own_block, as_items, switch_of, typed_rest, typed_statement, typed_front, typed_items}
+use Rattle.c_elab_flow.specs.Files.{one_function, own_parameters, Definition, procedure_of, with_body, with_bodies}
+use Rattle.c_elab_decl.specs.Files.{own_suffixes, definition_type, within_body, typed_body_of, outside, own_number, typed_definition, typed_externals, with_definitions, elaborated}
 
 module _ (P : List ℕ → Type 0) where
   -- ---- the names of a tree's declarators

@@ -1,12 +1,6 @@
-pub mod Both
-pub mod Joining
 pub mod FileParts
 pub mod Pieces
-pub mod Runs
-pub mod OneReading
 pub mod Congruent
-pub mod Drawing
-pub mod Rows
 pub mod Results
 pub mod Stages
 pub mod Answering
@@ -14,8 +8,5 @@ pub mod Spent
 pub mod Causes
 pub mod FunctionNames
 pub mod TokenNames
-pub mod StartsNone
 pub mod Named
 pub mod Describing
-pub mod Formulas
-pub mod FirstStores

@@ -7,8 +7,8 @@ use Rattle.sat_form.specs.declared.logs.Entry.{Entry}
 use Rattle.sat_form.specs.declared.logs.Entry.TheVariants.{Added}
 use Rattle.core_tree.specs.Trees.{TypedFile}
 use Rattle.core_tree.specs.Ranges.{Limits}
-use Rattle.cbmc_top.specs.Clauses.{IsRefuted, IsUsedUp}
-use Rattle.cbmc_top.specs.declared.used.Used.{Used}
+use Rattle.run_search.specs.Clauses.{IsRefuted, IsUsedUp}
+use Rattle.run_search.specs.declared.used.Used.{Used}
 
 last_is : {A : Type 0} (xs ys : List A) (x y : A) → xs ++ x ∷ [] ≡ ys ++ y ∷ [] → x ≡ y
 last_is [] [] x y e = cc

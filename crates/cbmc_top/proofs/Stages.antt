@@ -1,7 +1,7 @@
 -- The stages that a file goes through, one after another.
 use Rattle.std.proofs.Common.{◌≡◌, ◌≤◌, ◌⊎◌, inl, inr, ℕ, zero, suc, true, false, List, [], ◌∷◌, length, Option, Some, None, option_map, Result, Ok, Err, sym, refl, ap, ◌∙◌, subst, arith}
 use Rattle.std.specs.Prelude.{slice_get, nat_le, cond}
-use Rattle.c_lexer.specs.declared.token.Token.{Token}
+use Rattle.c_token.specs.declared.token.Token.{Token}
 use Rattle.c_lexer.specs.declared.fault.LexError.{LexError}
 use Rattle.c_lexer.specs.declared.fault.LexError.TheVariants as errors
 use Rattle.c_lexer.specs.Cutting.{IsCutInto, bytes_of, last_line_of}
@@ -18,13 +18,16 @@ use Rattle.c_elab_decl.specs.Files.{elaborated}
 use Rattle.c_profile.specs.Rules.{Breach, first_breach}
 use Rattle.goto_unwind.specs.Counts.{passed}
 use Rattle.cbmc_top.specs.Programs.{directive_line, IsFileOf, IsAccepted, IsCheckable}
-use Rattle.cbmc_top.specs.Answers.{Answer, usage, read_fault, limited, refused, successful, failed, used_up, turns_of, refusal, IsFailure, AfterCounts, AtCounts, AtProfile, typing_cause, AtTyping, HasTree, AtTree, extra_line, stops_at, screened, AtTokens, lexing_answer, AtLexing, Decides, IsOfSearch}
-use Rattle.cbmc_top.specs.Executions.{IsVerified}
-use Rattle.cbmc_top.specs.Report.{Failure}
-use Rattle.cbmc_top.specs.declared.used.Used.{Used}
-use Rattle.cbmc_top.specs.Stops.{StopsWith, HasNoTyping, IsOutside, IsPassed}
-use Rattle.cbmc_top.specs.declared.stop.Stop.{Stop}
-use Rattle.cbmc_top.specs.declared.stop.Stop.TheVariants as stops
+use Rattle.run_search.specs.Answers.{Answer, usage, read_fault, limited, refused, successful, failed, used_up}
+use Rattle.report.specs.Failing.{turns_of}
+use Rattle.cbmc_top.specs.Answers.{refusal, IsFailure, AfterCounts, AtCounts, AtProfile, typing_cause, AtTyping, HasTree, AtTree, extra_line, stops_at, screened, AtTokens, lexing_answer, AtLexing, Decides, IsOfSearch}
+use Rattle.run_search.specs.Executions.{IsVerified}
+use Rattle.report.specs.Report.{Failure}
+use Rattle.run_search.specs.declared.used.Used.{Used}
+use Rattle.run_search.specs.Stops.{StopsWith, IsPassed}
+use Rattle.cbmc_top.specs.Stops.{HasNoTyping, IsOutside}
+use Rattle.run_search.specs.declared.stop.Stop.{Stop}
+use Rattle.run_search.specs.declared.stop.Stop.TheVariants as stops
 
 some_is : {A : Type 0} {x y : A} → Some x ≡ Some y → x ≡ y
 some_is e = cc

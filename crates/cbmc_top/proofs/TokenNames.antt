@@ -9,16 +9,17 @@ use Rattle.c_lexer.specs.declared.class.Class.{Class}
 use Rattle.c_lexer.specs.declared.class.Class.TheVariants as classes
 use Rattle.c_lexer.specs.Bytes as bytes_of_text
 use Rattle.c_lexer.specs.Bytes.{class_of, letter_class, digit_class}
-use Rattle.c_lexer.specs.Spelling.{keyword_of, mark_of}
+use Rattle.c_token.specs.Spelling.{keyword_of, mark_of}
 use Rattle.c_lexer.specs.Constants.{constant_of}
 use Rattle.c_lexer.specs.Literals.{string_bytes, character_byte}
 use Rattle.c_lexer.specs.Forms.{begins, runs_on, in_word, is_word, is_number, is_literal}
-use Rattle.c_lexer.specs.Kinds.{is_foreign, word_kind, number_kind, literal_kind, mark_kind, int_bits, kind_of, text_of}
+use Rattle.c_lexer.specs.Kinds.{is_foreign, word_kind, number_kind, literal_kind, mark_kind, int_bits, kind_of}
+use Rattle.c_token.specs.Spelling.{text_of}
 use Rattle.c_lexer.specs.Places.{Stands, StandsAs, token_or_fault, start_of}
 use Rattle.c_lexer.specs.Cutting.{bytes_of, lines_of, characters, behind, tokens_of, in_front, Reads, IsCutInto, start}
-use Rattle.c_lexer.specs.declared.token.Token.{Token}
-use Rattle.c_lexer.specs.declared.token.Kind.{Kind}
-use Rattle.c_lexer.specs.declared.token.Kind.TheVariants as kinds
+use Rattle.c_token.specs.declared.token.Token.{Token}
+use Rattle.c_token.specs.declared.token.Kind.{Kind}
+use Rattle.c_token.specs.declared.token.Kind.TheVariants as kinds
 use Rattle.c_lexer.specs.declared.fault.Fault.{Fault}
 use Rattle.c_lexer.specs.declared.fault.Fault.TheVariants as faults
 use Rattle.c_lexer.specs.declared.fault.LexError.{LexError}
@@ -33,7 +34,7 @@ use Rattle.c_tree.specs.Tree.{Tree}
 use Rattle.c_tree.specs.Declarations.{Parts, Full, full_unnamed, full_named, full_inside, Initial, Declarators, none_declared, declarator, name_of, full_has_name, have_typedef, with_parts, with_body, with_function, with_declaration}
 use Rattle.c_tree.specs.Statements.{Statement, block, if_then, if_else, evaluate, return_nothing, return_value, empty, while_loop, do_loop, for_loop, for_declared, switch_on, case_of, default_of, labelled, goto_label, break_off, continue_on, Items, done, declares, does, Externals, no_more, declared, defines}
 use Rattle.c_tree.specs.Files.{SpellsFull, SpellsOthers, SpellsDeclarators, SpellsDeclaration, SpellsStatement, SpellsItems, SpellsFile, SpellsTest, SpellsHeader, IsWellStatement, AreWellItems, AreWellDeclarators, IsWellDeclaration, IsWellDefinition, AreWellExternals, IsFile}
-use Rattle.cbmc_top.specs.Identifiers.{is_letter, is_digit, is_word_byte, all_word_bytes, is_identifier}
+use Rattle.report.specs.Identifiers.{is_letter, is_digit, is_word_byte, all_word_bytes, is_identifier}
 use Rattle.cbmc_top.proofs.FunctionNames.{AreNamed, StatementNamed, ItemsNamed, FileNamed}
 
 -- ---- identifiers

@@ -1,9 +1,8 @@
 -- What the checker may answer.
-use Rattle.std.specs.Prelude.{◌≡◌, ◌⊎◌, ℕ, ◌<◌, ◌≤◌, true, false, nat_le, List, [], ◌∷◌, ◌++◌, length, slice_get, Option, Some, None, option_map, replicate, if◌then◌else◌, codes, IfSome, Result, Ok, Err}
-use Rattle.std.specs.List.{flat_map}
+use Rattle.std.specs.Prelude.{◌≡◌, ◌⊎◌, ℕ, ◌<◌, ◌≤◌, true, false, nat_le, List, [], ◌∷◌, ◌++◌, length, slice_get, Option, Some, None, option_map, if◌then◌else◌, codes, IfSome, Result, Ok, Err}
 use Rattle.words.specs.declared.check.Check.{Check}
 use Rattle.outside.specs.Sink.{appended}
-use Rattle.c_lexer.specs.declared.token.Token.{Token}
+use Rattle.c_token.specs.declared.token.Token.{Token}
 use Rattle.c_lexer.specs.declared.fault.LexError.{LexError}
 use Rattle.c_lexer.specs.declared.fault.LexError.TheVariants as errors
 use Rattle.c_lexer.specs.Cutting.{IsCutInto, bytes_of, last_line_of}
@@ -21,19 +20,12 @@ use Rattle.c_profile.specs.Rules.{Breach, first_breach}
 use Rattle.interleave.specs.Replay.{Replays}
 use Rattle.goto_unwind.specs.Counts.{passed}
 use Rattle.cbmc_top.specs.Programs.{directive_line}
-use Rattle.cbmc_top.specs.Executions.{bounded_world, IsVerified}
-use Rattle.cbmc_top.specs.Clauses.{IsRefuted, IsUsedUp}
-use Rattle.cbmc_top.specs.declared.used.Used.{Used}
-use Rattle.cbmc_top.specs.Report.{Head, Failure, IsTold, line_of, success_text, failure_text, refusal_text, limit_text, budget_text}
-
-pub data Answer : Type 0 where
-  usage : Answer
-  read_fault : Answer
-  limited : Limit → Answer
-  refused : Cause → Answer
-  successful : Used → Answer
-  failed : Failure → Answer
-  used_up : Used → Answer
+use Rattle.run_search.specs.Executions.{bounded_world, IsVerified}
+use Rattle.run_search.specs.Clauses.{IsRefuted, IsUsedUp}
+use Rattle.run_search.specs.declared.used.Used.{Used}
+use Rattle.run_search.specs.Answers.{Answer, usage, read_fault, limited, refused, successful, failed, used_up}
+use Rattle.report.specs.Failing.{turns_of}
+use Rattle.report.specs.Report.{Head, Failure, IsTold, line_of, success_text, failure_text, refusal_text, limit_text, budget_text}
 
 abbrev pub status_of : Answer → ℕ
 status_of usage = 1
@@ -74,10 +66,6 @@ spent_of (refused cause) = None
 spent_of (successful used) = Some used
 spent_of (failed f) = None
 spent_of (used_up used) = Some used
-
--- the turns of the rows, one after another
-abbrev pub turns_of : List (ℕ × ℕ) → List ℕ
-turns_of rows = flat_map (λ (row : ℕ × ℕ). replicate row.1 row.0) rows
 
 -- the name of the function with this number
 abbrev pub name_in : TypedFile → ℕ → Option (List ℕ)

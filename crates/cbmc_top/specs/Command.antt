@@ -1,6 +1,6 @@
 -- The command line.
 use Rattle.std.specs.Prelude.{ℕ, Bool, false, not, ◌&&◌, ◌==◌, List, [], ◌∷◌, Option, Some, None, if◌then◌else◌}
-use Rattle.cbmc_top.specs.FileNames.{all_name_bytes}
+use Rattle.report.specs.FileNames.{all_name_bytes}
 
 -- a FILE: not empty, it does not begin with `-`, and it has no control character
 abbrev pub is_file : List ℕ → Bool

@@ -1,10 +1,5 @@
-pub mod Identifiers
 pub mod Programs
-pub mod Executions
-pub mod Clauses
-pub mod FileNames
 pub mod Command
-pub mod Report
 pub mod Answers
 pub mod Stops
 pub mod Verdicts

@@ -1,7 +1,7 @@
 -- The program of a file (C11 5.1.1.2, 6.9).
 use Rattle.std.specs.Prelude.{◌≡◌, ◌≤◌, ℕ, List, length, Option, None, option_map, find, Ok}
-use Rattle.c_lexer.specs.declared.token.Token.{Token}
-use Rattle.c_lexer.specs.declared.token.Mark.TheVariants.{Hash}
+use Rattle.c_token.specs.declared.token.Token.{Token}
+use Rattle.c_token.specs.declared.token.Mark.TheVariants.{Hash}
 use Rattle.c_lexer.specs.Cutting.{IsCutInto, bytes_of}
 use Rattle.c_parse_expr.specs.Reading.{is_mark}
 use Rattle.c_tree.specs.Statements.{Externals}

@@ -1,5 +1,5 @@
 -- What the replies of the code say.
-use Rattle.cbmc_top.specs.Answers.{Answer, usage, read_fault}
+use Rattle.run_search.specs.Answers.{Answer, usage, read_fault}
 use Rattle.cbmc_top.specs.Verdicts.{answer_of}
 use Rattle.cbmc_top.specs.declared.call.Reply.{Reply}
 use Rattle.cbmc_top.specs.declared.call.Reply.TheVariants.{Usage, ReadFault, Checked}

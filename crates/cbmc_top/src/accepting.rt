@@ -10,17 +10,19 @@ ghost use Rattle.c_elab_decl.specs.Files.{elaborated};
 ghost use Rattle.c_profile.specs.Rules.{first_breach};
 ghost use Rattle.cbmc_top.specs.Programs.{directive_line, IsAccepted};
 ghost use Rattle.cbmc_top.specs.Answers.{Decides, HasNoTree, AtLexing, screened, extra_line, lexing_answer, typing_cause};
-ghost use Rattle.cbmc_top.specs.Stops.{StopsWith, IsKnown, HasNoTyping, IsOutside};
+ghost use Rattle.run_search.specs.Stops.{StopsWith};
+ghost use Rattle.cbmc_top.specs.Stops.{IsKnown, HasNoTyping, IsOutside};
 
-use crate::stop::Stop;
 use c_elab_decl::elaborate;
-use c_lexer::{LexError, Mark, Token, Tokens, lex};
+use c_lexer::{LexError, Tokens, lex};
 use c_parse_decl::{ParseError, parse};
 use c_parse_expr::is_mark;
 use c_profile::{Admitted, admit};
 use c_scope::TypingError;
+use c_token::{Mark, Token};
 use c_tree::File;
 use core_tree::{Core, Limit, Refusal};
+use run_search::Stop;
 use std::alloc::Global;
 
 /// The greatest size of a file in bytes.

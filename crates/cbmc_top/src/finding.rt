@@ -2,16 +2,15 @@
 
 ghost use Rattle.std.specs.Prelude.{◌≡◌, ◌≤◌, IfOk, IfErr, OnErr};
 ghost use Rattle.cbmc_top.specs.Answers.{Decides};
-ghost use Rattle.cbmc_top.specs.Stops.{StopsWith};
+ghost use Rattle.run_search.specs.Stops.{StopsWith};
 ghost use Rattle.cbmc_top.specs.Verdicts.{answer_of, IsStop, IsTraced};
-ghost use Rattle.cbmc_top.specs.declared.stop.Stop.TheVariants as stops;
+ghost use Rattle.run_search.specs.declared.stop.Stop.TheVariants as stops;
 
 use crate::accepting::accept;
-use crate::failing::{Failing, described};
-use crate::searching::{Searched, search};
-use crate::stop::Stop;
-use crate::used::Used;
+use crate::failing::described;
 use core_tree::{Bounds, Limit, Refusal};
+use report::Failing;
+use run_search::{Searched, Stop, Used, search};
 use std::alloc::{AllocError, Global};
 
 /// What is found of a file.

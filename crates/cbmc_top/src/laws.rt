@@ -4,9 +4,10 @@ ghost use Rattle.std.specs.Prelude.{◌≡◌, ◌⊎◌, ℕ, List};
 ghost use Rattle.core_tree.specs.Trees.{TypedFile};
 ghost use Rattle.core_tree.specs.Ranges.{Limits};
 ghost use Rattle.cbmc_top.specs.Programs.{IsFileOf, IsCheckable};
-ghost use Rattle.cbmc_top.specs.Report.{Head, Failure, IsHead, IsTold, failure_text};
-ghost use Rattle.cbmc_top.specs.Answers.{Answer, successful, failed, AfterCounts, IsOfSearch, Decides};
-ghost use Rattle.cbmc_top.specs.declared.used.Used.{Used};
+ghost use Rattle.report.specs.Report.{Failure};
+ghost use Rattle.run_search.specs.Answers.{Answer, successful, failed};
+ghost use Rattle.cbmc_top.specs.Answers.{AfterCounts, IsOfSearch, Decides};
+ghost use Rattle.run_search.specs.declared.used.Used.{Used};
 
 use c_lexer::one_cutting;
 use c_parse_decl::{one_file, one_place};
@@ -45,9 +46,3 @@ pub fn runs_answer()
     one_cutting();
     one_file();
 }
-
-/// A failure text has one reading: the name, the unwinding, whether unwinding assertions are on, the class, the line, the
-/// function, the thread, the inputs and the schedule follow from it.
-pub fn one_reading()
-    ensures { (h k : Head) (f g : Failure) → IsHead h → IsHead k → IsTold f → IsTold g → failure_text h f ≡ failure_text k g → (h ≡ k) × (f ≡ g) }
-{}

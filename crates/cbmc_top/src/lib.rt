@@ -13,15 +13,11 @@ mod failing;
 mod finding;
 mod laws;
 mod options;
-mod report;
-mod searching;
-mod stop;
-mod used;
 mod verdict;
 
 pub use call::{Done, top};
-pub use laws::{one_answer, one_program, one_reading, one_verdict, runs_answer};
+pub use laws::{one_answer, one_program, one_verdict, runs_answer};
 pub use options::{Job, Options, Task};
-pub use report::{Settings, success};
-pub use used::Used;
+pub use report::{Settings, one_reading, success};
+pub use run_search::Used;
 pub use verdict::{Verdict, check_bytes};

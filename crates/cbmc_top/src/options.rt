@@ -1,20 +1,20 @@
 //! What a command asks for, and what it may be refused.
 
 ghost use Rattle.std.specs.Prelude.{◌≡◌, ◌≤◌, string_bytes, map, option_map};
-ghost use Rattle.cbmc_top.specs.FileNames.{is_name_byte, all_name_bytes};
+ghost use Rattle.report.specs.FileNames.{is_name_byte, all_name_bytes};
 ghost use Rattle.cbmc_top.specs.Command.{is_file, command_of};
 
 use core_tree::Bounds;
 
 /// What is done with the file.
-#[derive(Clone, Copy, Debug, PartialEq, Eq)]
+#[derive(Clone, Copy, PartialEq, Eq)]
 pub enum Job {
     Check,
     Properties,
 }
 
 /// A job, and the number of threads of the generated program that takes the file's place, if one does.
-#[derive(Clone, Copy, Debug)]
+#[derive(Clone, Copy)]
 pub struct Task {
     pub job: Job,
     pub generate: Option<u32>,

@@ -5,9 +5,9 @@ ghost use Rattle.cbmc_top.specs.Verdicts.{IsVerdict};
 
 use crate::finding::{Finding, examine};
 use crate::options::{Job, Options};
-use crate::used::Used;
 use core_tree::{Limit, Refusal};
 use interleave::Trace;
+use run_search::Used;
 use std::alloc::{AllocError, Global};
 
 /// What is said of a file.

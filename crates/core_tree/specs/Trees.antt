@@ -1,5 +1,6 @@
 -- Typed trees without where they lie in memory.
-use Rattle.std.specs.Prelude.{ℕ, Bool, Option, option_map, List, [], ◌∷◌, map}
+use Rattle.std.specs.Prelude.{ℕ, Bool, Option, option_map, List, [], ◌∷◌, map, Box}
+use Rattle.std.specs.Global.{Global}
 use Rattle.c_types.specs.declared.integers.IntegerType.{IntegerType}
 use Rattle.c_types.specs.declared.types.ValueType.{ValueType}
 use Rattle.core_tree.specs.declared.operators.ArithmeticOperator.{ArithmeticOperator}
@@ -130,10 +131,10 @@ abbrev mutual
   pub view_structure : CoreStructure → Structure
   view_structure (structures.Read line v offset size) = copy line v offset size
   view_structure (structures.Load line k offset size) = load line k offset size
-  view_structure (structures.Choice' line e p a q b) = choose line (view e) (view_structure a) (view_structure b)
+  view_structure (structures.Choice' line o e p a q b) = choose line (view e) (view_structure a) (view_structure b)
   view_structure (structures.Assign' line v offset p a) = put line v offset (view_structure a)
   view_structure (structures.Store' line k offset p a) = store line k offset (view_structure a)
-  view_structure (structures.Comma' line e p a) = follow line (view e) (view_structure a)
+  view_structure (structures.Comma' line o e p a) = follow line (view e) (view_structure a)
   view_structure (structures.Member' line offset size p a) = section line offset size (view_structure a)
   view_structure (structures.List' line size shape ps) = list line size (view_parts ps)
   view_structure (structures.String line size bytes) = string line size bytes.items
@@ -145,8 +146,8 @@ abbrev mutual
 
   -- a part and those behind it
   pub with_part : CorePart → Parts → Parts
-  with_part (parts.Number offset e) rest = number_part offset (view e) rest
-  with_part (parts.Structure offset a) rest = structure_part offset (view_structure a) rest
+  with_part (parts.Number' offset p e) rest = number_part offset (view e) rest
+  with_part (parts.Structure' offset p a) rest = structure_part offset (view_structure a) rest
 
   pub view_arguments : {m : _} → Row_of-CoreArgument m → Arguments
   view_arguments end_of-CoreArgument = no_argument
@@ -154,8 +155,11 @@ abbrev mutual
 
   -- an argument and those behind it
   pub with_argument : CoreArgument → Arguments → Arguments
-  with_argument (arguments.Number e) rest = number_argument (view e) rest
-  with_argument (arguments.Structure a) rest = structure_argument (view_structure a) rest
+  with_argument (arguments.Number' p e) rest = number_argument (view e) rest
+  with_argument (arguments.Structure' p a) rest = structure_argument (view_structure a) rest
+
+abbrev pub boxed : Box CoreExpr Global → Expression
+boxed b = view b.value
 
 -- the parts of a list
 abbrev pub parts_of : List CorePart → Parts
@@ -170,16 +174,16 @@ arguments_of (a ∷ as_) = with_argument a (arguments_of as_)
 abbrev mutual
   pub view_statement : CoreStatement → Statement
   view_statement (statements.Block' shape items) = block (view_items items)
-  view_statement (statements.If' line test p s) = if_then line (view test) (view_statement s)
-  view_statement (statements.IfElse' line test p s q t) = if_else line (view test) (view_statement s) (view_statement t)
-  view_statement (statements.Evaluate e) = evaluate (view e)
-  view_statement (statements.Return line e) = returns line (view e)
-  view_statement (statements.ReturnStructure line a) = returns_structure line (view_structure a)
+  view_statement (statements.If' line test p s) = if_then line (view test.value) (view_statement s)
+  view_statement (statements.IfElse' line test p s q t) = if_else line (view test.value) (view_statement s) (view_statement t)
+  view_statement (statements.Evaluate e) = evaluate (view e.value)
+  view_statement (statements.Return line e) = returns line (view e.value)
+  view_statement (statements.ReturnStructure line a) = returns_structure line (view_structure a.value)
   view_statement (statements.ReturnNothing line) = returns_nothing line
   view_statement (statements.For' line number first test last p s) =
-      for_loop line number (option_map view first) (option_map view test) (option_map view last) (view_statement s)
-  view_statement (statements.Do' line number p s test) = do_loop line number (view_statement s) (view test)
-  view_statement (statements.Switch' line e shape items) = switch line (view e) (view_items items)
+      for_loop line number (option_map boxed first) (option_map boxed test) (option_map boxed last) (view_statement s)
+  view_statement (statements.Do' line number p s test) = do_loop line number (view_statement s) (view test.value)
+  view_statement (statements.Switch' line e shape items) = switch line (view e.value) (view_items items)
   view_statement (statements.Break line) = breaks line
   view_statement (statements.Continue line) = continues line
   view_statement (statements.Goto line n) = jumps line n
@@ -192,12 +196,15 @@ abbrev mutual
   -- an item and those behind it
   pub with_item : CoreItem → Items → Items
   with_item (codes.Declare line v) rest = declares line v rest
-  with_item (codes.Initialize line v drawn e) rest = initializes line v drawn (view e) rest
-  with_item (codes.InitializeStructure line v drawn a) rest = initializes_structure line v drawn (view_structure a) rest
-  with_item (codes.Statement s) rest = does (view_statement s) rest
+  with_item (codes.Initialize line v drawn e) rest = initializes line v drawn (view e.value) rest
+  with_item (codes.InitializeStructure line v drawn a) rest = initializes_structure line v drawn (view_structure a.value) rest
+  with_item (codes.Statement' p s) rest = does (view_statement s) rest
   with_item (codes.Label n) rest = label n rest
   with_item (codes.Case line t bits) rest = case_at line t bits rest
   with_item (codes.Default line) rest = default_at line rest
+
+abbrev pub boxed_statement : Box CoreStatement Global → Statement
+boxed_statement b = view_statement b.value
 
 -- the items of a list
 abbrev pub items_of : List CoreItem → Items
@@ -224,7 +231,7 @@ view_function f = record {
   ellipsis = f.ellipsis;
   variables = f.variables.items;
   labels = f.labels;
-  body = option_map view_statement f.body;
+  body = option_map boxed_statement f.body;
 }
 
 -- a static object: its size in bytes, whether it is defined const, and its first bytes, as many as its initializer says; the others are 0. Where the file has no definition of it, the line of its first declarator

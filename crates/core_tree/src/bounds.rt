@@ -6,7 +6,7 @@ use std::marker::Model;
 
 /// The bound of one loop: the name of its function, its number there by keyword from 0, and how many
 /// times its test may be evaluated at each arrival.
-#[derive(Debug, Drop)]
+#[derive(Drop)]
 pub struct LoopBound {
     pub function: Name,
     pub number: u32,
@@ -15,7 +15,7 @@ pub struct LoopBound {
 
 /// The bounds of a command. A bound on tests and activations is from 1 to 1,000, also in the set, and the
 /// malloc limit from 1 to 4,096.
-#[derive(Debug, Drop)]
+#[derive(Drop)]
 pub struct Bounds {
     unwind: u32,
     set: Vec<LoopBound>,

@@ -4,7 +4,7 @@ use crate::operators::{
 use c_types::{IntegerType, ValueType};
 
 /// What can be read and written (C11 6.3.2.1p1).
-#[derive(Clone, Copy, Debug)]
+#[derive(Clone, Copy)]
 pub enum Place {
     /// An object of an integer type within a variable of the function, which the variable's number there
     /// and the object's offset in it, in bytes, tell, with the line of the node's own token.
@@ -176,7 +176,7 @@ pub enum CoreStructure {
     /// `?:` (C11 6.5.15).
     Choice {
         line: u32,
-        test: CoreExpr,
+        test: Box<CoreExpr>,
         yes: Box<CoreStructure>,
         no: Box<CoreStructure>,
     },
@@ -197,7 +197,7 @@ pub enum CoreStructure {
     /// `,` (C11 6.5.17).
     Comma {
         line: u32,
-        left: CoreExpr,
+        left: Box<CoreExpr>,
         right: Box<CoreStructure>,
     },
     /// A struct or union of `size` bytes at an offset of a structure value that is no place (C11
@@ -236,14 +236,20 @@ pub enum CoreStructure {
 #[derive(Drop)]
 #[cycle(expression)]
 pub enum CoreArgument {
-    Number { value: CoreExpr },
-    Structure { value: CoreStructure },
+    Number { value: Box<CoreExpr> },
+    Structure { value: Box<CoreStructure> },
 }
 
 /// What an initializer's list writes at an offset, in bytes.
 #[derive(Drop)]
 #[cycle(expression)]
 pub enum CorePart {
-    Number { offset: u32, value: CoreExpr },
-    Structure { offset: u32, value: CoreStructure },
+    Number {
+        offset: u32,
+        value: Box<CoreExpr>,
+    },
+    Structure {
+        offset: u32,
+        value: Box<CoreStructure>,
+    },
 }

@@ -8,13 +8,13 @@ use c_types::IntegerType;
 use std::marker::Model;
 
 /// A name, by its bytes.
-#[derive(Debug, Drop)]
+#[derive(Drop)]
 pub struct Name {
     pub bytes: Vec<u8>,
 }
 
 /// The type of what a call hands over: an integer type, or a struct or union of so many bytes.
-#[derive(Clone, Copy, Debug, PartialEq, Eq)]
+#[derive(Clone, Copy, PartialEq, Eq)]
 pub enum PassedType {
     Integer(IntegerType),
     Structure(u32),
@@ -33,7 +33,7 @@ pub struct Function {
     pub ellipsis: Option<u32>,
     pub variables: Vec<u32>,
     pub labels: usize,
-    pub body: Option<CoreStatement>,
+    pub body: Option<Box<CoreStatement>>,
 }
 
 /// An object that is there from the start to the end of a run (C11 6.2.4p3): its size in bytes, whether it

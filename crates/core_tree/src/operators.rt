@@ -1,6 +1,6 @@
 /// An operator on two integers of one promoted type, or for a shift of two promoted types, that gives
 /// one of the left operand's type (C11 6.5.5 to 6.5.7, 6.5.10 to 6.5.12).
-#[derive(Clone, Copy, Debug, PartialEq, Eq)]
+#[derive(Clone, Copy, PartialEq, Eq)]
 pub enum ArithmeticOperator {
     Multiply,
     Divide,
@@ -15,7 +15,7 @@ pub enum ArithmeticOperator {
 }
 
 /// A test of two integers of one promoted type, which gives 1 or 0 (C11 6.5.8, 6.5.9).
-#[derive(Clone, Copy, Debug, PartialEq, Eq)]
+#[derive(Clone, Copy, PartialEq, Eq)]
 pub enum Comparison {
     Less,
     Greater,
@@ -26,14 +26,14 @@ pub enum Comparison {
 }
 
 /// `&&` or `||` (C11 6.5.13, 6.5.14).
-#[derive(Clone, Copy, Debug, PartialEq, Eq)]
+#[derive(Clone, Copy, PartialEq, Eq)]
 pub enum LogicalOperator {
     And,
     Or,
 }
 
 /// An operator on one integer of a promoted type (C11 6.5.3.3).
-#[derive(Clone, Copy, Debug, PartialEq, Eq)]
+#[derive(Clone, Copy, PartialEq, Eq)]
 pub enum SignOperator {
     Plus,
     Minus,
@@ -41,7 +41,7 @@ pub enum SignOperator {
 }
 
 /// `++` or `--` (C11 6.5.2.4, 6.5.3.1).
-#[derive(Clone, Copy, Debug, PartialEq, Eq)]
+#[derive(Clone, Copy, PartialEq, Eq)]
 pub enum StepOperator {
     Increment,
     Decrement,

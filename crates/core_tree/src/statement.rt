@@ -10,28 +10,28 @@ pub enum CoreStatement {
     },
     If {
         line: u32,
-        test: CoreExpr,
+        test: Box<CoreExpr>,
         yes: Box<CoreStatement>,
     },
     IfElse {
         line: u32,
-        test: CoreExpr,
+        test: Box<CoreExpr>,
         yes: Box<CoreStatement>,
         no: Box<CoreStatement>,
     },
     /// An expression statement.
     Evaluate {
-        expression: CoreExpr,
+        expression: Box<CoreExpr>,
     },
     /// `return` with a number of the function's type.
     Return {
         line: u32,
-        value: CoreExpr,
+        value: Box<CoreExpr>,
     },
     /// `return` with a structure value of the function's type.
     ReturnStructure {
         line: u32,
-        value: CoreStructure,
+        value: Box<CoreStructure>,
     },
     /// `return` without a value.
     ReturnNothing {
@@ -43,9 +43,9 @@ pub enum CoreStatement {
     For {
         line: u32,
         number: u32,
-        first: Option<CoreExpr>,
-        test: Option<CoreExpr>,
-        last: Option<CoreExpr>,
+        first: Option<Box<CoreExpr>>,
+        test: Option<Box<CoreExpr>>,
+        last: Option<Box<CoreExpr>>,
         body: Box<CoreStatement>,
     },
     /// `do` (C11 6.8.5.2), with the loop's number.
@@ -53,12 +53,12 @@ pub enum CoreStatement {
         line: u32,
         number: u32,
         body: Box<CoreStatement>,
-        test: CoreExpr,
+        test: Box<CoreExpr>,
     },
     /// `switch` on a promoted value (C11 6.8.4.2), with the items of its body's block.
     Switch {
         line: u32,
-        value: CoreExpr,
+        value: Box<CoreExpr>,
         items: Vec<CoreItem>,
     },
     Break {
@@ -97,17 +97,17 @@ pub enum CoreItem {
         line: u32,
         variable: u32,
         drawn: bool,
-        value: CoreExpr,
+        value: Box<CoreExpr>,
     },
     /// A variable of a struct, union or array type with an initializer of that type, as above.
     InitializeStructure {
         line: u32,
         variable: u32,
         drawn: bool,
-        value: CoreStructure,
+        value: Box<CoreStructure>,
     },
     Statement {
-        statement: CoreStatement,
+        statement: Box<CoreStatement>,
     },
     /// A label, by its number in the function.
     Label {

@@ -139,7 +139,7 @@ fn first_words(dag: &mut Dag) -> Result<Id, Fail> {
 #[test]
 fn each_node_has_its_value_and_no_other(rt: HostRuntime) -> Result<(), Fail> {
     let alloc = rt.alloc();
-    for (node, width, expected) in &ROWS {
+    for (i, (node, width, expected)) in ROWS.iter().enumerate() {
         let mut dag = Dag::new(alloc);
         let all = first_words(&mut dag)?;
         let id = made(&mut dag, *node)?;
@@ -147,14 +147,14 @@ fn each_node_has_its_value_and_no_other(rt: HostRuntime) -> Result<(), Fail> {
         let same = equal(&mut dag, id, constant)?;
         let goal = binary(&mut dag, BinaryOperator::And, all, same)?;
         let valuation = solved(alloc, &dag, goal)?;
-        assert!(rt; valuation.is_some(), "{node:?}");
+        assert!(rt; valuation.is_some(), "row {i}");
         for (number, (_, value)) in FIRST.iter().enumerate() {
             let found = valuation.as_ref().map(|v| v.value(number as u32));
-            assert_eq!(rt; found, Some(*value), "{node:?}");
+            assert_eq!(rt; found, Some(*value), "row {i}");
         }
         let other = made(&mut dag, Node::Not(same))?;
         let goal = binary(&mut dag, BinaryOperator::And, all, other)?;
-        assert!(rt; solved(alloc, &dag, goal)?.is_none(), "{node:?}");
+        assert!(rt; solved(alloc, &dag, goal)?.is_none(), "row {i}");
     }
     Ok(())
 }
@@ -231,12 +231,12 @@ fn random_goals_are_true_where_their_form_has_a_model(rt: HostRuntime) -> Result
     let alloc = rt.alloc();
     let mut state = 7;
     let mut unsatisfied = 0;
-    for _ in 0..150 {
+    for i in 0..150 {
         let mut dag = Dag::new(alloc);
         let goal = random_goal(alloc, &mut dag, &mut state)?;
         let expected = some_true(alloc, &dag, goal)?;
         let found = solved(alloc, &dag, goal)?.is_some();
-        assert_eq!(rt; found, expected, "{:?}", dag.nodes());
+        assert_eq!(rt; found, expected, "goal {i}");
         if !expected {
             unsatisfied = unsatisfied % 1000 + 1;
         }

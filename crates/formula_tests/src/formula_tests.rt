@@ -110,53 +110,122 @@ fn is_number(dag: &mut Dag, guard: Id, word: Id, bits: u64) -> Result<Event, All
     ))
 }
 
-// The events that are tried.
-fn events(alloc: Global, dag: &mut Dag, number: u32) -> Result<Vec<Event>, AllocError> {
-    let p = make_parts(alloc, dag)?;
+// An event that is tried, under variable 0 where it says so, and else always.
+#[derive(Clone, Copy)]
+enum Tried {
+    // a read of 4 bytes of object 1, which the first or the second word answers
+    First { tested: bool, offset: u32 },
+    Second,
+    // a read of all its 10 bytes
+    Whole,
+    // a write of the 4 bytes to the front of an object
+    Write { tested: bool, object: u32 },
+    // a check that breaks where the first or the second word is this number
+    FirstIs(u64),
+    SecondIs(u64),
+    Exit,
+}
+
+const READ: Tried = Tried::First {
+    tested: false,
+    offset: 0,
+};
+
+// The rows of events that are tried.
+static TRIED: [&[Tried]; 9] = [
+    // a read of the first bytes
+    &[READ, Tried::FirstIs(5)],
+    // a read after a write
+    &[
+        Tried::Write {
+            tested: false,
+            object: 1,
+        },
+        READ,
+        Tried::FirstIs(7),
+    ],
+    // a read before a write under a guard, and one after it
+    &[
+        READ,
+        Tried::Write {
+            tested: true,
+            object: 1,
+        },
+        Tried::Second,
+        Tried::SecondIs(7),
+    ],
+    // a read under a guard alone, and a check that asks nothing of it
+    &[
+        Tried::First {
+            tested: true,
+            offset: 0,
+        },
+        Tried::SecondIs(7),
+    ],
+    // a read behind the end of the run
+    &[Tried::SecondIs(7), Tried::Exit, READ],
+    // all 10 bytes
+    &[Tried::Whole, Tried::SecondIs(7)],
+    // a write under a guard, of an object that is read-only
+    &[Tried::Write {
+        tested: true,
+        object: 1,
+    }],
+    // an access past the end of an object, and one of none
+    &[Tried::First {
+        tested: true,
+        offset: 8,
+    }],
+    &[Tried::Write {
+        tested: false,
+        object: 3,
+    }],
+];
+
+fn guard_of(parts: &Parts, tested: bool) -> Id {
+    if tested { parts.test } else { parts.always }
+}
+
+// A read of the object, answered by these words.
+fn reading(
+    alloc: Global,
+    guard: Id,
+    offset: u32,
+    count: u32,
+    words: &[Id],
+) -> Result<Event, AllocError> {
+    let answer = nodes(alloc, words)?;
+    Ok(at(guard, read(1, offset, count, answer)))
+}
+
+fn event_of(
+    alloc: Global,
+    dag: &mut Dag,
+    parts: &Parts,
+    tried: Tried,
+) -> Result<Event, AllocError> {
+    match tried {
+        Tried::First { tested, offset } => {
+            reading(alloc, guard_of(parts, tested), offset, 4, &[parts.first])
+        }
+        Tried::Second => reading(alloc, parts.always, 0, 4, &[parts.second]),
+        Tried::Whole => reading(alloc, parts.always, 0, 10, &[parts.long, parts.short]),
+        Tried::Write { tested, object } => {
+            let bytes = nodes(alloc, &parts.bytes)?;
+            Ok(at(guard_of(parts, tested), write(object, 0, bytes)))
+        }
+        Tried::FirstIs(bits) => is_number(dag, parts.always, parts.first, bits),
+        Tried::SecondIs(bits) => is_number(dag, parts.always, parts.second, bits),
+        Tried::Exit => Ok(at(parts.always, EventKind::Exit)),
+    }
+}
+
+// The events of a row.
+fn events(alloc: Global, dag: &mut Dag, row: &[Tried]) -> Result<Vec<Event>, AllocError> {
+    let parts = make_parts(alloc, dag)?;
     let mut events = Vec::new(alloc);
-    let first = read(1, 0, 4, nodes(alloc, &[p.first])?);
-    let second = read(1, 0, 4, nodes(alloc, &[p.second])?);
-    let bytes = nodes(alloc, &p.bytes)?;
-    match number {
-        // a read of the first bytes
-        0 => {
-            events.push(at(p.always, first))?;
-            events.push(is_number(dag, p.always, p.first, 5)?)?;
-        }
-        // a read after a write
-        1 => {
-            events.push(at(p.always, write(1, 0, bytes)))?;
-            events.push(at(p.always, first))?;
-            events.push(is_number(dag, p.always, p.first, 7)?)?;
-        }
-        // a read before a write under a guard, and one after it
-        2 => {
-            events.push(at(p.always, first))?;
-            events.push(at(p.test, write(1, 0, bytes)))?;
-            events.push(at(p.always, second))?;
-            events.push(is_number(dag, p.always, p.second, 7)?)?;
-        }
-        // a read under a guard alone, and a check that asks nothing of it
-        3 => {
-            events.push(at(p.test, first))?;
-            events.push(is_number(dag, p.always, p.second, 7)?)?;
-        }
-        // a read behind the end of the run
-        4 => {
-            events.push(is_number(dag, p.always, p.second, 7)?)?;
-            events.push(at(p.always, EventKind::Exit))?;
-            events.push(at(p.always, first))?;
-        }
-        // all 10 bytes
-        5 => {
-            events.push(at(p.always, read(1, 0, 10, nodes(alloc, &[p.long, p.short])?)))?;
-            events.push(is_number(dag, p.always, p.second, 7)?)?;
-        }
-        // a write under a guard, of an object that is read-only
-        6 => events.push(at(p.test, write(1, 0, bytes)))?,
-        // an access past the end of an object, and one of none
-        7 => events.push(at(p.test, read(1, 8, 4, nodes(alloc, &[p.first])?)))?,
-        _ => events.push(at(p.always, write(3, 0, bytes)))?,
+    for tried in row {
+        events.push(event_of(alloc, dag, &parts, *tried)?)?;
     }
     Ok(events)
 }
@@ -221,9 +290,10 @@ fn are_in(dag: &Dag, events: &[Event]) -> bool
 }
 
 // The goal under these values of the variables.
-fn goal(alloc: Global, number: u32, values: [u64; 6]) -> Result<u64, AllocError> {
+fn goal(alloc: Global, number: usize, values: [u64; 6]) -> Result<u64, AllocError> {
     let mut dag = Dag::new(alloc);
-    let events = events(alloc, &mut dag, number)?;
+    let row = TRIED.get(number).copied().unwrap_or(&[]);
+    let events = events(alloc, &mut dag, row)?;
     if !are_in(&dag, &events) {
         return Err(AllocError);
     }

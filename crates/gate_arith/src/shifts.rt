@@ -16,7 +16,7 @@ use sat_form::{Cnf, Lit};
 use std::alloc::{AllocError, Global};
 
 /// The three shifts of C.
-#[derive(Clone, Copy, Debug, PartialEq, Eq)]
+#[derive(Clone, Copy, PartialEq, Eq)]
 pub enum Shift {
     /// Up, zeros coming in (C11 6.5.7p4).
     Left,

@@ -24,8 +24,8 @@ use Rattle.goto_lower.proofs.Drafting.{next_added, adds_more, next_same, behind_
 
 pub argument_length : (xs : List CoreArgument) → argument_count (arguments_of xs) ≡ length xs
 argument_length [] = refl
-argument_length (arguments.Number e ∷ xs) = omega (arith, argument_length xs)
-argument_length (arguments.Structure a ∷ xs) = omega (arith, argument_length xs)
+argument_length (arguments.Number' p e ∷ xs) = omega (arith, argument_length xs)
+argument_length (arguments.Structure' p a ∷ xs) = omega (arith, argument_length xs)
 
 nothing_more : (d : Listed) → added d [] [] ≡ d
 nothing_more d = λ i. record d { instructions = append-nil d.instructions i; registers = append-nil d.registers i }

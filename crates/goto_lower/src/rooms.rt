@@ -1,7 +1,7 @@
 //! The blocks that code uses for values on the way: structure values, and numbers of static objects.
 
 ghost use Rattle.std.specs.Prelude.{◌≡◌, ◌++◌, ◌∷◌, [], ◌≤◌, length, IfOk, option_map};
-ghost use Rattle.core_tree.specs.Trees.{view, view_structure, parts_of, with_part, arguments_of, with_argument, view_statement, items_of, with_item};
+ghost use Rattle.core_tree.specs.Trees.{view, boxed, view_structure, parts_of, with_part, arguments_of, with_argument, view_statement, items_of, with_item};
 ghost use Rattle.c_types.specs.Integers.{bytes};
 ghost use Rattle.c_interp.specs.Meaning.{number_type};
 ghost use Rattle.goto_lower.specs.Rooms as specs;
@@ -395,8 +395,8 @@ fn part_rooms(alloc: Global, part: &CorePart) -> Result<Rooms, AllocError>
 }
 
 /// Of a part of a loop, which may be missing.
-fn loop_part_rooms(alloc: Global, part: &Option<CoreExpr>) -> Result<Rooms, AllocError>
-    ensures { IfOk result (λ r. r ≡ specs.part_rooms (option_map view part.now)) }
+fn loop_part_rooms(alloc: Global, part: &Option<Box<CoreExpr>>) -> Result<Rooms, AllocError>
+    ensures { IfOk result (λ r. r ≡ specs.part_rooms (option_map boxed part.now)) }
 {
     match part {
         Some(value) => expression_rooms(alloc, value),

@@ -1,7 +1,7 @@
 //! The code of statements.
 
 ghost use Rattle.std.specs.Prelude.{◌≡◌, ℕ, suc, ◌+◌, [], ◌∷◌, ◌++◌, reverse, option_map, IfOk, OnOk};
-ghost use Rattle.core_tree.specs.Trees.{view, view_structure, view_statement, items_of, with_item, done, Items, block, if_else, for_loop, do_loop, switch, returns, returns_structure};
+ghost use Rattle.core_tree.specs.Trees.{view, boxed, view_structure, view_statement, items_of, with_item, done, Items, block, if_else, for_loop, do_loop, switch, returns, returns_structure};
 ghost use Rattle.c_interp.specs.Meaning.{number_type};
 ghost use Rattle.c_values.specs.Variables as variables;
 ghost use Rattle.goto_prog.specs.Nodes.{Nodes, plain, nodes_of};
@@ -143,12 +143,12 @@ impl<'a> Draft<'a> {
     // A part of a loop, which may be missing.
     fn evaluate_part(
         &mut self,
-        part: &Option<CoreExpr>,
+        part: &Option<Box<CoreExpr>>,
         made: &mut Vec<Node>,
     ) -> Result<(), AllocError>
         requires { self.old.instructions ≡ [] }
-        ensures draft { OnOk result (self.new ≡ typed self.old (part_types (option_map view part.now))) }
-        ensures code { OnOk result (nodes_of (reverse made.new.items) ≡ plains (part_code self.old.frame self.old.variables (option_map view part.now) (next self.old)) (nodes_of (reverse made.old.items))) }
+        ensures draft { OnOk result (self.new ≡ typed self.old (part_types (option_map boxed part.now))) }
+        ensures code { OnOk result (nodes_of (reverse made.new.items) ≡ plains (part_code self.old.frame self.old.variables (option_map boxed part.now) (next self.old)) (nodes_of (reverse made.old.items))) }
     {
         match part {
             Some(value) => self.evaluate(value, made),
@@ -178,12 +178,12 @@ impl<'a> Draft<'a> {
     fn loop_test(
         &mut self,
         line: u32,
-        test: &Option<CoreExpr>,
+        test: &Option<Box<CoreExpr>>,
         made: &mut Vec<Node>,
     ) -> Result<(), AllocError>
         requires { self.old.instructions ≡ [] }
-        ensures draft { OnOk result (self.new ≡ typed self.old (part_types (option_map view test.now))) }
-        ensures code { OnOk result (nodes_of (reverse made.new.items) ≡ plains (test_code self.old.frame self.old.variables line (option_map view test.now) (next self.old)) (nodes_of (reverse made.old.items))) }
+        ensures draft { OnOk result (self.new ≡ typed self.old (part_types (option_map boxed test.now))) }
+        ensures code { OnOk result (nodes_of (reverse made.new.items) ≡ plains (test_code self.old.frame self.old.variables line (option_map boxed test.now) (next self.old)) (nodes_of (reverse made.old.items))) }
     {
         match test {
             Some(test) => self.test(line, test, 1, made),
@@ -379,15 +379,15 @@ impl<'a> Draft<'a> {
         alloc: Global,
         line: u32,
         number: u32,
-        first: &Option<CoreExpr>,
-        test: &Option<CoreExpr>,
-        last: &Option<CoreExpr>,
+        first: &Option<Box<CoreExpr>>,
+        test: &Option<Box<CoreExpr>>,
+        last: &Option<Box<CoreExpr>>,
         body: &CoreStatement,
         exits: Exits,
         made: &mut Vec<Node>,
     ) -> Result<(), AllocError>
         requires { self.old.instructions ≡ [] }
-        ensures { OnOk result (Drafted self.old self.new (nodes_of (reverse made.old.items)) (nodes_of (reverse made.new.items)) exits (for_loop line number (option_map view first.now) (option_map view test.now) (option_map view last.now) (view_statement body.now))) }
+        ensures { OnOk result (Drafted self.old self.new (nodes_of (reverse made.old.items)) (nodes_of (reverse made.new.items)) exits (for_loop line number (option_map boxed first.now) (option_map boxed test.now) (option_map boxed last.now) (view_statement body.now))) }
     {
         let behind = more(exits.base, made.len())?;
         let mut round = Vec::new(alloc);

@@ -16,7 +16,7 @@ use std::alloc::{AllocError, Global};
 /// How much a file unrolls to: its places, of which each node of the typed tree is one, its creations of
 /// threads, its actions and its objects, of which there are the static ones alone. A count that is greater than its limit is the limit plus 1, and
 /// the counts behind the first such one are 0.
-#[derive(Clone, Copy, Debug, PartialEq, Eq)]
+#[derive(Clone, Copy, PartialEq, Eq)]
 pub struct Counts {
     pub places: u32,
     pub threads: u32,

@@ -1,5 +1,5 @@
 ghost use Rattle.std.specs.Prelude.{◌≡◌, IfOk, OnOk, option_map};
-ghost use Rattle.core_tree.specs.Trees.{view, view_structure, parts_of, with_part, arguments_of, with_argument, view_statement, items_of, with_item};
+ghost use Rattle.core_tree.specs.Trees.{view, boxed, view_structure, parts_of, with_part, arguments_of, with_argument, view_statement, boxed_statement, items_of, with_item};
 ghost use Rattle.goto_prog.specs.Structured.{tests_in};
 ghost use Rattle.goto_unwind.specs.Linear.{expression_linear, structure_linear, parts_linear, arguments_linear, optional_linear, statement_linear, items_linear, body_linear, nothing};
 
@@ -327,11 +327,11 @@ fn argument_of_call(
 // An expression that may be missing, and then counts so many.
 fn optional(
     tally: &mut Tally,
-    expr: &Option<CoreExpr>,
+    expr: &Option<Box<CoreExpr>>,
     times: u32,
     missing: u32,
 ) -> Result<(), AllocError>
-    ensures { OnOk result (tally.new ≡ optional_linear times missing (option_map view expr.now) tally.old) }
+    ensures { OnOk result (tally.new ≡ optional_linear times missing (option_map boxed expr.now) tally.old) }
 {
     match expr {
         Some(found) => expression(tally, found, times),
@@ -526,9 +526,9 @@ pub(crate) fn body(
     alloc: Global,
     bounds: &Bounds,
     name: &[u8],
-    code: &Option<CoreStatement>,
+    code: &Option<Box<CoreStatement>>,
 ) -> Result<Tally, AllocError>
-    ensures { IfOk result (λ t. t ≡ body_linear (tests_in bounds.now.set bounds.now.unwind name.now) (option_map view_statement code.now)) }
+    ensures { IfOk result (λ t. t ≡ body_linear (tests_in bounds.now.set bounds.now.unwind name.now) (option_map boxed_statement code.now)) }
 {
     let mut tally = Tally::new(alloc);
     if let Some(found) = code {

@@ -152,7 +152,7 @@ impl Event {
 }
 
 /// The place of an event among those of its form, from 0.
-#[derive(Clone, Copy, Debug, PartialEq, Eq)]
+#[derive(Clone, Copy, PartialEq, Eq)]
 pub struct EventId {
     pub index: usize,
 }

@@ -7,7 +7,7 @@ use words::Word;
 
 // A thread's own record: how many threads it created, how many objects it made, and how many of its
 // input words it used.
-#[derive(Clone, Copy, Debug, PartialEq, Eq)]
+#[derive(Clone, Copy, PartialEq, Eq)]
 pub(crate) struct Counts {
     pub(crate) creations: u64,
     pub(crate) objects: u64,

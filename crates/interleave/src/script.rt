@@ -8,7 +8,7 @@ use std::alloc::{AllocError, Global};
 use words::{Class, Word};
 
 /// One step of a script. A pointer has its object's number in the high 32 bits.
-#[derive(Clone, Copy, Debug, PartialEq, Eq)]
+#[derive(Clone, Copy, PartialEq, Eq)]
 pub enum Step {
     /// Reads a byte into the register.
     Read(u64),

@@ -1,7 +1,7 @@
 use words::Check;
 
 /// What comes of a turn.
-#[derive(Clone, Copy, Debug, PartialEq, Eq)]
+#[derive(Clone, Copy, PartialEq, Eq)]
 pub enum Turn {
     /// The thread made its action.
     Moved,
@@ -13,7 +13,7 @@ pub enum Turn {
 }
 
 /// How a run ends: each turn was made, or one broke this check.
-#[derive(Clone, Copy, Debug, PartialEq, Eq)]
+#[derive(Clone, Copy, PartialEq, Eq)]
 pub enum Outcome {
     Fine,
     Broken(Check),

@@ -192,7 +192,7 @@ fn schedules(rt: HostRuntime) -> Result<(), Fail> {
     ];
     for (i, (steps, schedule, ending, moved, nothing)) in rows.iter().enumerate() {
         let got = run(alloc, steps, &inputs, schedule)?;
-        assert_eq!(rt; got, (*ending, *moved, *nothing), "row {i}");
+        assert!(rt; got == (*ending, *moved, *nothing), "row {i}");
     }
     let trace = Trace {
         inputs,
@@ -300,7 +300,7 @@ fn breaks_and_draws(rt: HostRuntime) -> Result<(), Fail> {
             None => Outcome::Fine,
             Some(class) => breaks(*class, 0),
         };
-        assert_eq!(rt; ending, want, "row {i}");
+        assert!(rt; ending == want, "row {i}");
         assert_eq!(rt; nothing, 0, "row {i}");
         assert_eq!(rt;
             moved,

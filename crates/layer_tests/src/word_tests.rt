@@ -5,7 +5,7 @@ ghost use Rattle.std.specs.Prelude.{◌≡◌, ◌≤◌};
 use Operator::*;
 use words::{Check, Class, Word};
 
-#[derive(Clone, Copy, Debug)]
+#[derive(Clone, Copy)]
 enum Operator {
     Add,
     Sub,
@@ -339,13 +339,9 @@ fn resized(operator: Operator, a: Word, width: u32) -> Option<u64> {
 
 #[test]
 fn operators_give_what_c_gives(rt: HostRuntime) {
-    for (operator, width, left, right, expected) in &ROWS {
+    for (i, (operator, width, left, right, expected)) in ROWS.iter().enumerate() {
         let found = answer(*operator, *width, *left, *right);
-        assert_eq!(rt;
-            found,
-            Some(*expected),
-            "{operator:?} at width {width} of {left:#x} and {right:#x}"
-        );
+        assert_eq!(rt; found, Some(*expected), "row {i}");
     }
 }
 

@@ -29,7 +29,7 @@ pub struct Formula {
 }
 
 /// For each pointer of an access the objects that it may point to. There are no pointers yet.
-#[derive(Clone, Copy, Debug)]
+#[derive(Clone, Copy)]
 pub struct Sets {}
 
 // Whether a test holds where the guard is true.

@@ -41,7 +41,7 @@ impl Source for SureSource {
 }
 
 /// A sink that takes each piece whole and keeps none of it.
-#[derive(Clone, Copy, Debug)]
+#[derive(Clone, Copy)]
 pub struct SureSink;
 
 impl Sink for SureSink {

@@ -285,10 +285,7 @@ fn programs_have_their_runs(rt: HostRuntime) -> Result<(), Fail> {
             }),
             None => Outcome::Fine,
         };
-        assert!(rt;
-            found == [wanted; 4],
-            "{text} with {word} within {unwind}: {found:?}"
-        );
+        assert!(rt; found == [wanted; 4], "{text} with {word} within {unwind}");
     }
     Ok(())
 }
@@ -379,7 +376,7 @@ fn loops_have_bounds_of_their_own(rt: HostRuntime) -> Result<(), Fail> {
             thread: 0,
         });
         let found = outcomes_under(alloc, text, &[0], &bounds)?;
-        assert!(rt; found == [wanted; 4], "{found:?}");
+        assert!(rt; found == [wanted; 4], "line {line}");
     }
     Ok(())
 }

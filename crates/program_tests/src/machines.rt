@@ -34,15 +34,14 @@ fn end_of<M: Machine>(
     alloc: Global,
     first: M,
     store: &Store,
-    inputs: &Inputs,
-    schedule: &Schedule,
+    script: &Script,
 ) -> Result<Outcome, AllocError> {
     let mut system = System::new(alloc, first, store.clone()?)?;
-    for t in schedule.as_slice() {
+    for t in script.schedule.as_slice() {
         if !system.has_numbers(*t)? {
             return Ok(Outcome::Fine);
         }
-        if let Turn::Broken(check) = system.turn(*t, inputs)? {
+        if let Turn::Broken(check) = system.turn(*t, &script.inputs)? {
             return Ok(Outcome::Broken(check));
         }
     }
@@ -58,6 +57,43 @@ fn words_of(alloc: Global, ints: &[i32]) -> Result<Words, AllocError> {
     Ok(Words::new(words))
 }
 
+// The inputs of thread 0, and 24 turns of it.
+#[derive(Drop)]
+struct Script {
+    inputs: Inputs,
+    schedule: Schedule,
+}
+
+fn script_of(alloc: Global, ints: &[i32]) -> Result<Script, AllocError> {
+    let mut inputs = Inputs::new(alloc);
+    inputs.insert(0, words_of(alloc, ints)?)?;
+    let schedule = Schedule::new(vec![in alloc; 0; 24]?);
+    Ok(Script { inputs, schedule })
+}
+
+// How the runs of a file's strict, its checked and its unrolled code end.
+fn code_outcomes(
+    alloc: Global,
+    file: &Admitted,
+    bounds: &Bounds,
+    script: &Script,
+) -> Result<[Outcome; 3], Fail> {
+    let goto = lower(alloc, file)?;
+    let first = StrictThread::new(alloc, &goto, bounds)?;
+    let strict = end_of(alloc, first, goto.store(), script)?;
+    let checked = insert(alloc, goto)?;
+    let first = PlainThread::new(alloc, &checked, bounds)?;
+    let plain = end_of(alloc, first, checked.store(), script)?;
+    match unwind(alloc, file, &checked, bounds) {
+        Ok(unrolled) => {
+            let first = UnrolledThread::new(alloc, &unrolled)?;
+            let last = end_of(alloc, first, unrolled.store(), script)?;
+            Ok([strict, plain, last])
+        }
+        Err(_) => Err(Fail::from("too many places")),
+    }
+}
+
 // How the runs of a text end that draw these ints, in 24 turns of thread 0, under these bounds: the source's,
 // and those of its strict, its checked and its unrolled code.
 pub fn outcomes_under(
@@ -70,38 +106,10 @@ pub fn outcomes_under(
     if !are_storable(&file) {
         return Err(Fail::from("too large objects"));
     }
-    let mut inputs = Inputs::new(alloc);
-    inputs.insert(0, words_of(alloc, ints)?)?;
-    let schedule = Schedule::new(vec![in alloc; 0; 24]?);
-    let source = run(alloc, &file, bounds, &inputs, &schedule)?;
-    let goto = lower(alloc, &file)?;
-    let strict = end_of(
-        alloc,
-        StrictThread::new(alloc, &goto, bounds)?,
-        goto.store(),
-        &inputs,
-        &schedule,
-    )?;
-    let checked = insert(alloc, goto)?;
-    let plain = end_of(
-        alloc,
-        PlainThread::new(alloc, &checked, bounds)?,
-        checked.store(),
-        &inputs,
-        &schedule,
-    )?;
-    match unwind(alloc, &file, &checked, bounds) {
-        Ok(unrolled) => {
-            let first = UnrolledThread::new(alloc, &unrolled)?;
-            Ok([
-                source,
-                strict,
-                plain,
-                end_of(alloc, first, unrolled.store(), &inputs, &schedule)?,
-            ])
-        }
-        Err(_) => Err(Fail::from("too many places")),
-    }
+    let script = script_of(alloc, ints)?;
+    let source = run(alloc, &file, bounds, &script.inputs, &script.schedule)?;
+    let [strict, plain, unrolled] = code_outcomes(alloc, &file, bounds, &script)?;
+    Ok([source, strict, plain, unrolled])
 }
 
 // The same, where each loop's test may be evaluated so many times at an arrival and each function may have so

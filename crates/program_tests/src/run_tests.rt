@@ -596,36 +596,23 @@ fn first_wrong(alloc: Global, rows: &'static str) -> Result<Option<&'static str>
     Ok(None)
 }
 
+// The tables of values.
+const VALUE_TABLES: [&str; 8] = [
+    VALUES,
+    PROMOTIONS,
+    COMMON_TYPES,
+    CONVERSIONS,
+    SIZES,
+    MEMBERS,
+    STRUCTURES,
+    OBJECTS,
+];
+
 #[test]
 fn expressions_have_their_values(rt: HostRuntime) -> Result<(), Fail> {
-    assert_eq!(rt; first_wrong(rt.alloc(), VALUES)?, None);
-    Ok(())
-}
-
-#[test]
-fn types_decide_values(rt: HostRuntime) -> Result<(), Fail> {
-    assert_eq!(rt; first_wrong(rt.alloc(), PROMOTIONS)?, None);
-    assert_eq!(rt; first_wrong(rt.alloc(), COMMON_TYPES)?, None);
-    assert_eq!(rt; first_wrong(rt.alloc(), CONVERSIONS)?, None);
-    assert_eq!(rt; first_wrong(rt.alloc(), SIZES)?, None);
-    Ok(())
-}
-
-#[test]
-fn members_have_their_values(rt: HostRuntime) -> Result<(), Fail> {
-    assert_eq!(rt; first_wrong(rt.alloc(), MEMBERS)?, None);
-    Ok(())
-}
-
-#[test]
-fn structures_have_their_values(rt: HostRuntime) -> Result<(), Fail> {
-    assert_eq!(rt; first_wrong(rt.alloc(), STRUCTURES)?, None);
-    Ok(())
-}
-
-#[test]
-fn objects_have_their_values(rt: HostRuntime) -> Result<(), Fail> {
-    assert_eq!(rt; first_wrong(rt.alloc(), OBJECTS)?, None);
+    for rows in VALUE_TABLES {
+        assert_eq!(rt; first_wrong(rt.alloc(), rows)?, None);
+    }
     Ok(())
 }
 
@@ -635,7 +622,7 @@ fn operations_break_their_checks(rt: HostRuntime) -> Result<(), Fail> {
         let text = equation(rt.alloc(), expression)?;
         let found = outcomes(rt.alloc(), text.as_str().as_bytes(), &[x, y, 0])?;
         let wanted = broken(class, 1);
-        assert!(rt; found == [wanted; 4], "{expression} at {x}, {y}: {found:?}");
+        assert!(rt; found == [wanted; 4], "{expression} at {x}, {y}");
     }
     Ok(())
 }
@@ -648,10 +635,7 @@ fn texts_have_their_runs(rt: HostRuntime) -> Result<(), Fail> {
             Some((class, line)) => broken(class, line),
             None => Outcome::Fine,
         };
-        assert!(rt;
-            found == [wanted; 4],
-            "{text} with {x}, {y}, {z}: {found:?}"
-        );
+        assert!(rt; found == [wanted; 4], "{text} with {x}, {y}, {z}");
     }
     Ok(())
 }

@@ -684,91 +684,34 @@ fn first_wrong(
     Ok(None)
 }
 
+// The tables of whole files.
+const FILES: [&str; 9] = [
+    VARIABLES,
+    TYPEDEFS,
+    ENUMERATORS,
+    RECORDS,
+    INITIALIZERS,
+    STATEMENTS,
+    OBJECTS,
+    FUNCTIONS,
+    JUMPS,
+];
+
+// The tables of expressions, each with what stands before them.
+const BEHIND: [[&str; 2]; 5] = [EXPRESSIONS, TYPE_NAMES, PLACES, MEMBERS, STRUCTURES];
+
 #[test]
-fn variables_are_declared(rt: HostRuntime) -> Result<(), Fail> {
-    assert_eq!(rt; first_wrong(rt.alloc(), "", VARIABLES, "")?, None);
+fn files_are_typed_or_break_a_rule(rt: HostRuntime) -> Result<(), Fail> {
+    for rows in FILES {
+        assert_eq!(rt; first_wrong(rt.alloc(), "", rows, "")?, None);
+    }
     Ok(())
 }
 
 #[test]
-fn typedefs_name_types(rt: HostRuntime) -> Result<(), Fail> {
-    assert_eq!(rt; first_wrong(rt.alloc(), "", TYPEDEFS, "")?, None);
-    Ok(())
-}
-
-#[test]
-fn enumerators_are_ints(rt: HostRuntime) -> Result<(), Fail> {
-    assert_eq!(rt; first_wrong(rt.alloc(), "", ENUMERATORS, "")?, None);
-    Ok(())
-}
-
-#[test]
-fn structs_and_unions_have_members(rt: HostRuntime) -> Result<(), Fail> {
-    assert_eq!(rt; first_wrong(rt.alloc(), "", RECORDS, "")?, None);
-    Ok(())
-}
-
-#[test]
-fn initializers_fit_their_objects(rt: HostRuntime) -> Result<(), Fail> {
-    assert_eq!(rt; first_wrong(rt.alloc(), "", INITIALIZERS, "")?, None);
-    Ok(())
-}
-
-#[test]
-fn statements_are_typed_in_order(rt: HostRuntime) -> Result<(), Fail> {
-    assert_eq!(rt; first_wrong(rt.alloc(), "", STATEMENTS, "")?, None);
-    Ok(())
-}
-
-#[test]
-fn objects_are_declared(rt: HostRuntime) -> Result<(), Fail> {
-    assert_eq!(rt; first_wrong(rt.alloc(), "", OBJECTS, "")?, None);
-    Ok(())
-}
-
-#[test]
-fn functions_are_declared_and_called(rt: HostRuntime) -> Result<(), Fail> {
-    assert_eq!(rt; first_wrong(rt.alloc(), "", FUNCTIONS, "")?, None);
-    Ok(())
-}
-
-#[test]
-fn loops_switches_and_jumps(rt: HostRuntime) -> Result<(), Fail> {
-    assert_eq!(rt; first_wrong(rt.alloc(), "", JUMPS, "")?, None);
-    Ok(())
-}
-
-#[test]
-fn expressions_are_typed(rt: HostRuntime) -> Result<(), Fail> {
-    let [before, rows] = EXPRESSIONS;
-    assert_eq!(rt; first_wrong(rt.alloc(), before, rows, ";}")?, None);
-    Ok(())
-}
-
-#[test]
-fn type_names_name_types(rt: HostRuntime) -> Result<(), Fail> {
-    let [before, rows] = TYPE_NAMES;
-    assert_eq!(rt; first_wrong(rt.alloc(), before, rows, ";}")?, None);
-    Ok(())
-}
-
-#[test]
-fn values_are_no_places(rt: HostRuntime) -> Result<(), Fail> {
-    let [before, rows] = PLACES;
-    assert_eq!(rt; first_wrong(rt.alloc(), before, rows, ";}")?, None);
-    Ok(())
-}
-
-#[test]
-fn members_lie_in_their_objects(rt: HostRuntime) -> Result<(), Fail> {
-    let [before, rows] = MEMBERS;
-    assert_eq!(rt; first_wrong(rt.alloc(), before, rows, ";}")?, None);
-    Ok(())
-}
-
-#[test]
-fn values_of_structs_are_assigned_and_chosen(rt: HostRuntime) -> Result<(), Fail> {
-    let [before, rows] = STRUCTURES;
-    assert_eq!(rt; first_wrong(rt.alloc(), before, rows, ";}")?, None);
+fn expressions_are_typed_or_break_a_rule(rt: HostRuntime) -> Result<(), Fail> {
+    for [before, rows] in BEHIND {
+        assert_eq!(rt; first_wrong(rt.alloc(), before, rows, ";}")?, None);
+    }
     Ok(())
 }

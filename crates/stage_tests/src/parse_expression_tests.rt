@@ -1,6 +1,6 @@
 // Expressions and type names, with the trees that they have (C11 6.5, 6.7.7).
 
-use crate::spelled::{lexed, put, show_type};
+use crate::spelled::{Text, blank, lexed, put, repeat, show_type, whole};
 use c_lexer::Tokens;
 use c_parse_expr::{ExpressionError, Level, TypeNames, expression};
 use c_tree::{
@@ -43,51 +43,49 @@ fn unary_text(operator: UnaryOp) -> &'static [u8] {
     }
 }
 
-fn put_suffixes(out: &mut Vec<u8>, suffixes: &[ArraySuffix]) -> Result<(), AllocError> {
+fn put_suffixes(out: &mut Text, suffixes: &[ArraySuffix]) {
     for suffix in suffixes {
         match suffix {
-            ArraySuffix::Bounded { line: _, bound: _ } => put(out, b"[#]")?,
-            ArraySuffix::Open { line: _ } => put(out, b"[]")?,
+            ArraySuffix::Bounded { line: _, bound: _ } => put(out, b"[#]"),
+            ArraySuffix::Open { line: _ } => put(out, b"[]"),
         }
     }
-    Ok(())
 }
 
 /// Writes a declarator; a bound is `#`.
-fn put_declarator(out: &mut Vec<u8>, declarator: &Declarator) -> Result<(), AllocError> {
+fn put_declarator(out: &mut Text, declarator: &Declarator) {
     match &declarator.core {
         DeclaratorCore::Absent => {}
-        DeclaratorCore::Named { line: _, name } => put(out, &name.bytes)?,
+        DeclaratorCore::Named { line: _, name } => put(out, &name.bytes),
         DeclaratorCore::Inside { line: _, inner } => {
-            put(out, b"(")?;
-            put_declarator(out, inner)?;
-            put(out, b")")?;
+            put(out, b"(");
+            put_declarator(out, inner);
+            put(out, b")");
         }
     }
     put_suffixes(out, &declarator.suffixes)
 }
 
 /// Writes a type name in parentheses, with a comma behind each specifier.
-fn put_type(out: &mut Vec<u8>, type_name: &TypeName) -> Result<(), AllocError> {
-    put(out, b"(")?;
+fn put_type(out: &mut Text, type_name: &TypeName) {
+    put(out, b"(");
     for specifier in &type_name.specifiers {
-        show_type(out, specifier)?;
-        put(out, b",")?;
+        show_type(out, specifier);
+        put(out, b",");
     }
-    put_declarator(out, &type_name.declarator)?;
+    put_declarator(out, &type_name.declarator);
     put(out, b")")
 }
 
-fn put_strings(out: &mut Vec<u8>, parts: &[Name]) -> Result<(), AllocError> {
+fn put_strings(out: &mut Text, parts: &[Name]) {
     for part in parts {
-        put(out, &part.bytes)?;
+        put(out, &part.bytes);
     }
-    Ok(())
 }
 
 /// Writes a tree with brackets round each operator and its operands. A constant is `1`, a character constant
 /// `c`, and of a call the name and the number of its arguments are written.
-fn show(out: &mut Vec<u8>, expr: &Expr) -> Result<(), AllocError> {
+fn show(out: &mut Text, expr: &Expr) {
     match expr {
         Expr::Constant {
             line: _,
@@ -97,8 +95,8 @@ fn show(out: &mut Vec<u8>, expr: &Expr) -> Result<(), AllocError> {
         Expr::Strings { line: _, parts } => put_strings(out, parts),
         Expr::Name { line: _, name } => put(out, &name.bytes),
         Expr::Parens { line: _, inner } => {
-            put(out, b"(")?;
-            show(out, inner)?;
+            put(out, b"(");
+            show(out, inner);
             put(out, b")")
         }
         Expr::Unary {
@@ -106,9 +104,9 @@ fn show(out: &mut Vec<u8>, expr: &Expr) -> Result<(), AllocError> {
             operator,
             operand,
         } => {
-            put(out, b"[")?;
-            put(out, unary_text(*operator))?;
-            show(out, operand)?;
+            put(out, b"[");
+            put(out, unary_text(*operator));
+            show(out, operand);
             put(out, b"]")
         }
         Expr::Cast {
@@ -116,19 +114,19 @@ fn show(out: &mut Vec<u8>, expr: &Expr) -> Result<(), AllocError> {
             type_name,
             operand,
         } => {
-            put(out, b"[")?;
-            put_type(out, type_name)?;
-            show(out, operand)?;
+            put(out, b"[");
+            put_type(out, type_name);
+            show(out, operand);
             put(out, b"]")
         }
         Expr::SizeofExpr { line: _, operand } => {
-            put(out, b"[sizeof ")?;
-            show(out, operand)?;
+            put(out, b"[sizeof ");
+            show(out, operand);
             put(out, b"]")
         }
         Expr::SizeofType { line: _, type_name } => {
-            put(out, b"[sizeof")?;
-            put_type(out, type_name)?;
+            put(out, b"[sizeof");
+            put_type(out, type_name);
             put(out, b"]")
         }
         Expr::Step {
@@ -136,8 +134,8 @@ fn show(out: &mut Vec<u8>, expr: &Expr) -> Result<(), AllocError> {
             operator,
             operand,
         } => {
-            put(out, b"[")?;
-            show(out, operand)?;
+            put(out, b"[");
+            show(out, operand);
             match operator {
                 StepOp::Increment => put(out, b"++]"),
                 StepOp::Decrement => put(out, b"--]"),
@@ -148,10 +146,10 @@ fn show(out: &mut Vec<u8>, expr: &Expr) -> Result<(), AllocError> {
             left,
             name,
         } => {
-            put(out, b"[")?;
-            show(out, left)?;
-            put(out, b".")?;
-            put(out, &name.bytes)?;
+            put(out, b"[");
+            show(out, left);
+            put(out, b".");
+            put(out, &name.bytes);
             put(out, b"]")
         }
         Expr::Binary {
@@ -160,10 +158,10 @@ fn show(out: &mut Vec<u8>, expr: &Expr) -> Result<(), AllocError> {
             left,
             right,
         } => {
-            put(out, b"[")?;
-            show(out, left)?;
-            put(out, binary_text(*operator))?;
-            show(out, right)?;
+            put(out, b"[");
+            show(out, left);
+            put(out, binary_text(*operator));
+            show(out, right);
             put(out, b"]")
         }
         Expr::Choice {
@@ -172,12 +170,12 @@ fn show(out: &mut Vec<u8>, expr: &Expr) -> Result<(), AllocError> {
             yes,
             no,
         } => {
-            put(out, b"[")?;
-            show(out, test)?;
-            put(out, b"?")?;
-            show(out, yes)?;
-            put(out, b":")?;
-            show(out, no)?;
+            put(out, b"[");
+            show(out, test);
+            put(out, b"?");
+            show(out, yes);
+            put(out, b":");
+            show(out, no);
             put(out, b"]")
         }
         Expr::Assign {
@@ -186,13 +184,13 @@ fn show(out: &mut Vec<u8>, expr: &Expr) -> Result<(), AllocError> {
             place,
             value,
         } => {
-            put(out, b"[")?;
-            show(out, place)?;
+            put(out, b"[");
+            show(out, place);
             if let Some(operator) = operator {
-                put(out, binary_text(*operator))?;
+                put(out, binary_text(*operator));
             }
-            put(out, b"=")?;
-            show(out, value)?;
+            put(out, b"=");
+            show(out, value);
             put(out, b"]")
         }
         Expr::Comma {
@@ -200,21 +198,20 @@ fn show(out: &mut Vec<u8>, expr: &Expr) -> Result<(), AllocError> {
             left,
             right,
         } => {
-            put(out, b"[")?;
-            show(out, left)?;
-            put(out, b",")?;
-            show(out, right)?;
+            put(out, b"[");
+            show(out, left);
+            put(out, b",");
+            show(out, right);
             put(out, b"]")
         }
         Expr::Call {
             function,
             arguments,
         } => {
-            show(out, function)?;
+            show(out, function);
             for _ in arguments {
-                put(out, b"@")?;
+                put(out, b"@");
             }
-            Ok(())
         }
     }
 }
@@ -235,16 +232,16 @@ fn shown(
     text: &[u8],
     level: Level,
 ) -> Result<Vec<u8>, AllocError> {
-    let mut out = Vec::new(alloc);
+    let mut out = blank(alloc);
     let Ok(tokens) = lexed(alloc, text) else {
-        return Ok(out);
+        return whole(out);
     };
     if let Ok((expr, end)) = expression(alloc, &tokens, 0, level, names) {
         if end == tokens.tokens.len() {
-            show(&mut out, &expr)?;
+            show(&mut out, &expr);
         }
     }
-    Ok(out)
+    whole(out)
 }
 
 /// Why no expression stands at a place.
@@ -327,24 +324,40 @@ const TREES: [(&[u8], &[u8]); 57] = [
     (b"(T)", b""),
 ];
 
-/// Texts that are read from another level than the lowest.
-const LEVELS: [(Level, &[u8], &[u8]); 4] = [
-    (Level::Assignment, b"a=b", b"[a=b]"),
-    (Level::Assignment, b"a,b", b""),
-    (Level::Conditional, b"a?b:c", b"[a?b:c]"),
-    (Level::Conditional, b"a=b", b""),
+/// Texts that are read from the level of an assignment.
+const ASSIGNMENTS: [(&[u8], &[u8]); 2] = [(b"a=b", b"[a=b]"), (b"a,b", b"")];
+
+/// Texts that are read from the level of a choice.
+const CONDITIONALS: [(&[u8], &[u8]); 2] = [(b"a?b:c", b"[a?b:c]"), (b"a=b", b"")];
+
+/// The first text whose tree is another than the one beside it.
+fn other_tree<'a>(
+    alloc: Global,
+    names: &TypeNames,
+    level: Level,
+    cases: &[(&'a [u8], &'a [u8])],
+) -> Result<Option<&'a [u8]>, AllocError> {
+    for (text, expected) in cases {
+        let found = shown(alloc, names, text, level)?;
+        if found.as_slice() != *expected {
+            return Ok(Some(text));
+        }
+    }
+    Ok(None)
+}
+
+/// Each level, and the texts that are read from it with their trees.
+const LEVELS: [(Level, &[(&[u8], &[u8])]); 3] = [
+    (Level::Comma, &TREES),
+    (Level::Assignment, &ASSIGNMENTS),
+    (Level::Conditional, &CONDITIONALS),
 ];
 
 #[test]
 fn trees_and_refusals(rt: HostRuntime) -> Result<(), Fail> {
     let names = some_names(rt.alloc())?;
-    for (text, expected) in TREES {
-        let found = shown(rt.alloc(), &names, text, Level::Comma)?;
-        assert_eq!(rt; found.as_slice(), expected);
-    }
-    for (level, text, expected) in LEVELS {
-        let found = shown(rt.alloc(), &names, text, level)?;
-        assert_eq!(rt; found.as_slice(), expected);
+    for (level, cases) in LEVELS {
+        assert_eq!(rt; other_tree(rt.alloc(), &names, level, cases)?, None);
     }
     Ok(())
 }
@@ -362,54 +375,6 @@ fn lines_of_refusals(rt: HostRuntime) -> Result<(), Fail> {
     Ok(())
 }
 
-/// So many parentheses round a name.
-fn nested(alloc: Global, count: u32) -> Result<Vec<u8>, AllocError> {
-    let mut text = Vec::new(alloc);
-    for _ in 0..count {
-        text.push(b'(')?;
-    }
-    text.push(b'a')?;
-    for _ in 0..count {
-        text.push(b')')?;
-    }
-    Ok(text)
-}
-
-/// A sum with so many plus signs.
-fn chain(alloc: Global, count: u32) -> Result<Vec<u8>, AllocError> {
-    let mut text = Vec::new(alloc);
-    text.push(b'a')?;
-    for _ in 0..count {
-        put(&mut text, b"+a")?;
-    }
-    Ok(text)
-}
-
-/// So many casts of a name.
-fn casts(alloc: Global, count: u32) -> Result<Vec<u8>, AllocError> {
-    let mut text = Vec::new(alloc);
-    for _ in 0..count {
-        put(&mut text, b"(int)")?;
-    }
-    text.push(b'a')?;
-    Ok(text)
-}
-
-/// The size of an array type whose declarator stands in so many parentheses.
-fn declarators(alloc: Global, count: u32) -> Result<Vec<u8>, AllocError> {
-    let mut text = Vec::new(alloc);
-    put(&mut text, b"sizeof(int")?;
-    for _ in 0..count {
-        text.push(b'(')?;
-    }
-    put(&mut text, b"[]")?;
-    for _ in 0..count {
-        text.push(b')')?;
-    }
-    text.push(b')')?;
-    Ok(text)
-}
-
 /// What is repeated in a text.
 #[derive(Clone, Copy, Debug)]
 enum Nesting {
@@ -419,14 +384,26 @@ enum Nesting {
     Declarators,
 }
 
+/// What stands around a nesting, what is repeated before its middle, the middle, and what is repeated behind it.
+fn parts(nesting: Nesting) -> [&'static [u8]; 5] {
+    match nesting {
+        Nesting::Parentheses => [b"", b"(", b"a", b")", b""],
+        Nesting::Sums => [b"a", b"+a", b"", b"", b""],
+        Nesting::Casts => [b"", b"(int)", b"a", b"", b""],
+        Nesting::Declarators => [b"sizeof(int", b"(", b"[]", b")", b")"],
+    }
+}
+
 /// A text with so many levels but one or two.
 fn nested_text(alloc: Global, nesting: Nesting, count: u32) -> Result<Vec<u8>, AllocError> {
-    match nesting {
-        Nesting::Parentheses => nested(alloc, count),
-        Nesting::Sums => chain(alloc, count),
-        Nesting::Casts => casts(alloc, count),
-        Nesting::Declarators => declarators(alloc, count),
-    }
+    let [front, open, middle, close, back] = parts(nesting);
+    let mut text = blank(alloc);
+    put(&mut text, front);
+    repeat(&mut text, count, open);
+    put(&mut text, middle);
+    repeat(&mut text, count, close);
+    put(&mut text, back);
+    whole(text)
 }
 
 /// Nestings of 400 and of 401 levels, and how long their trees are, written out.
@@ -452,35 +429,50 @@ fn at_most_400_levels(rt: HostRuntime) -> Result<(), Fail> {
     Ok(())
 }
 
-#[test]
-fn names_are_left_with_their_scope(rt: HostRuntime) -> Result<(), Fail> {
-    let mut names = some_names(rt.alloc())?;
-    let mark = names.mark();
-    assert_eq!(rt; mark, 3);
-    names.declare(rt.alloc(), b"T", false)?;
-    names.declare(rt.alloc(), b"a", true)?;
-    assert_eq!(rt;
-        (
-            names.is_type(b"T"),
-            names.is_type(b"U"),
-            names.is_type(b"a")
-        ),
-        (false, false, true)
-    );
+/// How many names are declared, and whether `T`, `U` and `a` are types.
+fn known(names: &TypeNames) -> (usize, bool, bool, bool) {
+    (
+        names.mark(),
+        names.is_type(b"T"),
+        names.is_type(b"U"),
+        names.is_type(b"a"),
+    )
+}
+
+/// Leaves the newest names.
+fn leave(names: &mut TypeNames, mark: usize) {
     if mark <= names.mark() {
         names.leave(mark);
     }
+}
+
+/// What is known of some names, then where `T` is hidden and `a` declared, where these are left, and where the hiding `U` is left.
+fn known_by_turns(
+    alloc: Global,
+    names: &mut TypeNames,
+) -> Result<[(usize, bool, bool, bool); 4], AllocError> {
+    let first = known(names);
+    names.declare(alloc, b"T", false)?;
+    names.declare(alloc, b"a", true)?;
+    let inner = known(names);
+    leave(names, first.0);
+    let left = known(names);
+    leave(names, 2);
+    Ok([first, inner, left, known(names)])
+}
+
+#[test]
+fn names_are_left_with_their_scope(rt: HostRuntime) -> Result<(), Fail> {
+    let mut names = some_names(rt.alloc())?;
+    let found = known_by_turns(rt.alloc(), &mut names)?;
     assert_eq!(rt;
-        (
-            names.is_type(b"T"),
-            names.is_type(b"U"),
-            names.is_type(b"a")
-        ),
-        (true, false, false)
+        found,
+        [
+            (3, true, false, false),
+            (5, false, false, true),
+            (3, true, false, false),
+            (2, true, true, false),
+        ]
     );
-    if 2 <= names.mark() {
-        names.leave(2);
-    }
-    assert_eq!(rt; names.is_type(b"U"), true);
     Ok(())
 }

@@ -1,6 +1,6 @@
 // Files, declarations and statements, with the trees that they have (C11 6.7 to 6.9).
 
-use crate::spelled::{lexed, put, show_type};
+use crate::spelled::{Text, blank, lexed, put, repeat, show_type, whole};
 use c_parse_decl::{ParseError, parse};
 use c_tree::{
     Declaration, DeclaratorSuffix, Enumerator, Expr, External, File, FullDeclarator,
@@ -11,7 +11,7 @@ use std::alloc::{AllocError, Global};
 use std::test::*;
 
 /// Writes a name, `@` for a cast, and `#` for any other expression.
-fn show_expression(out: &mut Vec<u8>, expr: &Expr) -> Result<(), AllocError> {
+fn show_expression(out: &mut Text, expr: &Expr) {
     match expr {
         Expr::Name { line: _, name } => put(out, &name.bytes),
         Expr::Cast {
@@ -33,22 +33,22 @@ fn class_text(class: StorageClass) -> &'static [u8] {
     }
 }
 
-fn show_enumerators(out: &mut Vec<u8>, enumerators: &[Enumerator]) -> Result<(), AllocError> {
-    put(out, b"{")?;
+fn show_enumerators(out: &mut Text, enumerators: &[Enumerator]) {
+    put(out, b"{");
     for enumerator in enumerators {
-        put(out, &enumerator.name.bytes)?;
+        put(out, &enumerator.name.bytes);
         if let Some(value) = &enumerator.value {
-            put(out, b"=")?;
-            show_expression(out, value)?;
+            put(out, b"=");
+            show_expression(out, value);
         }
-        put(out, b",")?;
+        put(out, b",");
     }
     put(out, b"}")
 }
 
 /// Writes a specifier, and `.` below so many levels.
 #[cycle(specifiers)]
-fn show_specifier(out: &mut Vec<u8>, specifier: &Specifier, levels: u32) -> Result<(), AllocError> {
+fn show_specifier(out: &mut Text, specifier: &Specifier, levels: u32) {
     match specifier {
         Specifier::Type(part) => show_type(out, part),
         Specifier::Storage { line: _, class } => put(out, class_text(*class)),
@@ -63,11 +63,11 @@ fn show_specifier(out: &mut Vec<u8>, specifier: &Specifier, levels: u32) -> Resu
             members,
         } => {
             match kind {
-                RecordKind::Struct => put(out, b"struct ")?,
-                RecordKind::Union => put(out, b"union ")?,
+                RecordKind::Struct => put(out, b"struct "),
+                RecordKind::Union => put(out, b"union "),
             }
             if let Some(name) = tag {
-                put(out, &name.bytes)?;
+                put(out, &name.bytes);
             }
             show_members(out, members, levels)
         }
@@ -76,9 +76,9 @@ fn show_specifier(out: &mut Vec<u8>, specifier: &Specifier, levels: u32) -> Resu
             tag,
             enumerators,
         } => {
-            put(out, b"enum ")?;
+            put(out, b"enum ");
             if let Some(name) = tag {
-                put(out, &name.bytes)?;
+                put(out, &name.bytes);
             }
             show_enumerators(out, enumerators)
         }
@@ -86,50 +86,37 @@ fn show_specifier(out: &mut Vec<u8>, specifier: &Specifier, levels: u32) -> Resu
 }
 
 #[cycle(specifiers)]
-fn show_members(
-    out: &mut Vec<u8>,
-    members: &[MemberDeclaration],
-    levels: u32,
-) -> Result<(), AllocError> {
+fn show_members(out: &mut Text, members: &[MemberDeclaration], levels: u32) {
     if levels == 0 {
         return put(out, b".");
     }
-    put(out, b"{")?;
+    put(out, b"{");
     for member in members {
-        show_specifiers(out, &member.specifiers, levels - 1)?;
+        show_specifiers(out, &member.specifiers, levels - 1);
         for declarator in &member.declarators {
-            put(out, b" ")?;
-            show_declarator(out, declarator, levels - 1)?;
+            put(out, b" ");
+            show_declarator(out, declarator, levels - 1);
         }
-        put(out, b";")?;
+        put(out, b";");
     }
     put(out, b"}")
 }
 
 #[cycle(specifiers)]
-fn show_specifiers(
-    out: &mut Vec<u8>,
-    specifiers: &[Specifier],
-    levels: u32,
-) -> Result<(), AllocError> {
+fn show_specifiers(out: &mut Text, specifiers: &[Specifier], levels: u32) {
     let mut first = true;
     for specifier in specifiers {
         if !first {
-            put(out, b" ")?;
+            put(out, b" ");
         }
         first = false;
-        show_specifier(out, specifier, levels)?;
+        show_specifier(out, specifier, levels);
     }
-    Ok(())
 }
 
 /// Writes a declarator, and `.` below so many levels.
 #[cycle(specifiers)]
-fn show_declarator(
-    out: &mut Vec<u8>,
-    declarator: &FullDeclarator,
-    levels: u32,
-) -> Result<(), AllocError> {
+fn show_declarator(out: &mut Text, declarator: &FullDeclarator, levels: u32) {
     if levels == 0 {
         return put(out, b".");
     }
@@ -140,7 +127,7 @@ fn show_declarator(
             name,
             suffixes,
         } => {
-            put(out, &name.bytes)?;
+            put(out, &name.bytes);
             show_suffixes(out, suffixes, levels - 1)
         }
         FullDeclarator::Inside {
@@ -148,36 +135,27 @@ fn show_declarator(
             inner,
             suffixes,
         } => {
-            put(out, b"(")?;
-            show_declarator(out, inner, levels - 1)?;
-            put(out, b")")?;
+            put(out, b"(");
+            show_declarator(out, inner, levels - 1);
+            put(out, b")");
             show_suffixes(out, suffixes, levels - 1)
         }
     }
 }
 
 #[cycle(specifiers)]
-fn show_suffixes(
-    out: &mut Vec<u8>,
-    suffixes: &[DeclaratorSuffix],
-    levels: u32,
-) -> Result<(), AllocError> {
+fn show_suffixes(out: &mut Text, suffixes: &[DeclaratorSuffix], levels: u32) {
     for suffix in suffixes {
-        show_suffix(out, suffix, levels)?;
+        show_suffix(out, suffix, levels);
     }
-    Ok(())
 }
 
 #[cycle(specifiers)]
-fn show_suffix(
-    out: &mut Vec<u8>,
-    suffix: &DeclaratorSuffix,
-    levels: u32,
-) -> Result<(), AllocError> {
+fn show_suffix(out: &mut Text, suffix: &DeclaratorSuffix, levels: u32) {
     match suffix {
         DeclaratorSuffix::Bounded { line: _, bound } => {
-            put(out, b"[")?;
-            show_expression(out, bound)?;
+            put(out, b"[");
+            show_expression(out, bound);
             put(out, b"]")
         }
         DeclaratorSuffix::Open { line: _ } => put(out, b"[]"),
@@ -188,10 +166,10 @@ fn show_suffix(
             parameters,
             variadic,
         } => {
-            put(out, b"(")?;
-            show_parameters(out, parameters, levels)?;
+            put(out, b"(");
+            show_parameters(out, parameters, levels);
             if *variadic {
-                put(out, b"...")?;
+                put(out, b"...");
             }
             put(out, b")")
         }
@@ -200,65 +178,56 @@ fn show_suffix(
 
 /// Writes parameters, each with a comma behind it.
 #[cycle(specifiers)]
-fn show_parameters(
-    out: &mut Vec<u8>,
-    parameters: &[Parameter],
-    levels: u32,
-) -> Result<(), AllocError> {
+fn show_parameters(out: &mut Text, parameters: &[Parameter], levels: u32) {
     for parameter in parameters {
-        show_specifiers(out, &parameter.specifiers, levels)?;
-        put(out, b" ")?;
-        show_declarator(out, &parameter.declarator, levels)?;
-        put(out, b",")?;
+        show_specifiers(out, &parameter.specifiers, levels);
+        put(out, b" ");
+        show_declarator(out, &parameter.declarator, levels);
+        put(out, b",");
     }
-    Ok(())
 }
 
 /// Writes an initializer, and `.` below so many levels.
 #[cycle(initializers)]
-fn show_initializer(
-    out: &mut Vec<u8>,
-    initializer: &Initializer,
-    levels: u32,
-) -> Result<(), AllocError> {
+fn show_initializer(out: &mut Text, initializer: &Initializer, levels: u32) {
     if levels == 0 {
         return put(out, b".");
     }
     match initializer {
         Initializer::Value(expr) => show_expression(out, expr),
         Initializer::List { line: _, items } => {
-            put(out, b"{")?;
+            put(out, b"{");
             for item in items {
-                show_initializer(out, item, levels - 1)?;
-                put(out, b",")?;
+                show_initializer(out, item, levels - 1);
+                put(out, b",");
             }
             put(out, b"}")
         }
     }
 }
 
-fn show_declaration(out: &mut Vec<u8>, declaration: &Declaration) -> Result<(), AllocError> {
-    show_specifiers(out, &declaration.specifiers, 10)?;
+fn show_declaration(out: &mut Text, declaration: &Declaration) {
+    show_specifiers(out, &declaration.specifiers, 10);
     for declarator in &declaration.declarators {
-        put(out, b" ")?;
-        show_declarator(out, &declarator.declarator, 10)?;
+        put(out, b" ");
+        show_declarator(out, &declarator.declarator, 10);
         if let Some(initializer) = &declarator.initializer {
-            put(out, b"=")?;
-            show_initializer(out, initializer, 10)?;
+            put(out, b"=");
+            show_initializer(out, initializer, 10);
         }
     }
     put(out, b";")
 }
 
-fn show_maybe(out: &mut Vec<u8>, expr: &Option<Expr>) -> Result<(), AllocError> {
+fn show_maybe(out: &mut Text, expr: &Option<Box<Expr>>) {
     match expr {
         Some(expr) => show_expression(out, expr),
-        None => Ok(()),
+        None => {}
     }
 }
 
 #[cycle(showing)]
-fn show_item(out: &mut Vec<u8>, item: &Item, levels: u32) -> Result<(), AllocError> {
+fn show_item(out: &mut Text, item: &Item, levels: u32) {
     match item {
         Item::Declares(declaration) => show_declaration(out, declaration),
         Item::Does(statement) => show(out, statement, levels),
@@ -267,24 +236,24 @@ fn show_item(out: &mut Vec<u8>, item: &Item, levels: u32) -> Result<(), AllocErr
 
 /// Writes a statement, an `if` with square brackets round its branches, and `.` below so many levels.
 #[cycle(showing)]
-fn show(out: &mut Vec<u8>, statement: &Stmt, levels: u32) -> Result<(), AllocError> {
+fn show(out: &mut Text, statement: &Stmt, levels: u32) {
     if levels == 0 {
         return put(out, b".");
     }
     let below = levels - 1;
     match statement {
         Stmt::Block { line: _, items } => {
-            put(out, b"{")?;
+            put(out, b"{");
             for item in items {
-                show_item(out, item, below)?;
+                show_item(out, item, below);
             }
             put(out, b"}")
         }
         Stmt::If { line: _, test, yes } => {
-            put(out, b"?")?;
-            show_expression(out, test)?;
-            put(out, b"[")?;
-            show(out, yes, below)?;
+            put(out, b"?");
+            show_expression(out, test);
+            put(out, b"[");
+            show(out, yes, below);
             put(out, b"]")
         }
         Stmt::IfElse {
@@ -293,22 +262,22 @@ fn show(out: &mut Vec<u8>, statement: &Stmt, levels: u32) -> Result<(), AllocErr
             yes,
             no,
         } => {
-            put(out, b"?")?;
-            show_expression(out, test)?;
-            put(out, b"[")?;
-            show(out, yes, below)?;
-            put(out, b"][")?;
-            show(out, no, below)?;
+            put(out, b"?");
+            show_expression(out, test);
+            put(out, b"[");
+            show(out, yes, below);
+            put(out, b"][");
+            show(out, no, below);
             put(out, b"]")
         }
         Stmt::Evaluate { expression } => {
-            show_expression(out, expression)?;
+            show_expression(out, expression);
             put(out, b";")
         }
         Stmt::ReturnNothing { line: _ } => put(out, b"return;"),
         Stmt::ReturnValue { line: _, value } => {
-            put(out, b"return ")?;
-            show_expression(out, value)?;
+            put(out, b"return ");
+            show_expression(out, value);
             put(out, b";")
         }
         Stmt::Empty { line: _ } => put(out, b";"),
@@ -317,8 +286,8 @@ fn show(out: &mut Vec<u8>, statement: &Stmt, levels: u32) -> Result<(), AllocErr
             test,
             body,
         } => {
-            put(out, b"while ")?;
-            show_expression(out, test)?;
+            put(out, b"while ");
+            show_expression(out, test);
             show_body(out, body, below)
         }
         Stmt::Do {
@@ -326,9 +295,9 @@ fn show(out: &mut Vec<u8>, statement: &Stmt, levels: u32) -> Result<(), AllocErr
             body,
             test,
         } => {
-            put(out, b"do")?;
-            show_body(out, body, below)?;
-            show_expression(out, test)?;
+            put(out, b"do");
+            show_body(out, body, below);
+            show_expression(out, test);
             put(out, b";")
         }
         Stmt::For {
@@ -338,13 +307,13 @@ fn show(out: &mut Vec<u8>, statement: &Stmt, levels: u32) -> Result<(), AllocErr
             last,
             body,
         } => {
-            put(out, b"for(")?;
-            show_maybe(out, first)?;
-            put(out, b";")?;
-            show_maybe(out, test)?;
-            put(out, b";")?;
-            show_maybe(out, last)?;
-            put(out, b")")?;
+            put(out, b"for(");
+            show_maybe(out, first);
+            put(out, b";");
+            show_maybe(out, test);
+            put(out, b";");
+            show_maybe(out, last);
+            put(out, b")");
             show_body(out, body, below)
         }
         Stmt::ForDeclared {
@@ -354,12 +323,12 @@ fn show(out: &mut Vec<u8>, statement: &Stmt, levels: u32) -> Result<(), AllocErr
             last,
             body,
         } => {
-            put(out, b"for(")?;
-            show_declaration(out, declaration)?;
-            show_maybe(out, test)?;
-            put(out, b";")?;
-            show_maybe(out, last)?;
-            put(out, b")")?;
+            put(out, b"for(");
+            show_declaration(out, declaration);
+            show_maybe(out, test);
+            put(out, b";");
+            show_maybe(out, last);
+            put(out, b")");
             show_body(out, body, below)
         }
         Stmt::Switch {
@@ -367,8 +336,8 @@ fn show(out: &mut Vec<u8>, statement: &Stmt, levels: u32) -> Result<(), AllocErr
             value,
             body,
         } => {
-            put(out, b"switch ")?;
-            show_expression(out, value)?;
+            put(out, b"switch ");
+            show_expression(out, value);
             show_body(out, body, below)
         }
         Stmt::Case {
@@ -376,13 +345,13 @@ fn show(out: &mut Vec<u8>, statement: &Stmt, levels: u32) -> Result<(), AllocErr
             value,
             body,
         } => {
-            put(out, b"case ")?;
-            show_expression(out, value)?;
-            put(out, b":")?;
+            put(out, b"case ");
+            show_expression(out, value);
+            put(out, b":");
             show(out, body, below)
         }
         Stmt::Default { line: _, body } => {
-            put(out, b"default:")?;
+            put(out, b"default:");
             show(out, body, below)
         }
         Stmt::Label {
@@ -390,13 +359,13 @@ fn show(out: &mut Vec<u8>, statement: &Stmt, levels: u32) -> Result<(), AllocErr
             name,
             body,
         } => {
-            put(out, &name.bytes)?;
-            put(out, b":")?;
+            put(out, &name.bytes);
+            put(out, b":");
             show(out, body, below)
         }
         Stmt::Goto { line: _, name } => {
-            put(out, b"goto ")?;
-            put(out, &name.bytes)?;
+            put(out, b"goto ");
+            put(out, &name.bytes);
             put(out, b";")
         }
         Stmt::Break { line: _ } => put(out, b"break;"),
@@ -406,42 +375,42 @@ fn show(out: &mut Vec<u8>, statement: &Stmt, levels: u32) -> Result<(), AllocErr
 
 /// Writes the body of a loop or a `switch` in square brackets.
 #[cycle(showing)]
-fn show_body(out: &mut Vec<u8>, statement: &Stmt, levels: u32) -> Result<(), AllocError> {
-    put(out, b"[")?;
-    show(out, statement, levels)?;
+fn show_body(out: &mut Text, statement: &Stmt, levels: u32) {
+    put(out, b"[");
+    show(out, statement, levels);
     put(out, b"]")
 }
 
 /// Writes the declarations and definitions of a file.
-fn show_file(out: &mut Vec<u8>, file: &File) -> Result<(), AllocError> {
+fn show_file(out: &mut Text, file: &File) {
     for external in &file.externals {
         match external {
-            External::Declares(declaration) => show_declaration(out, declaration)?,
+            External::Declares(declaration) => show_declaration(out, declaration),
             External::Defines(definition) => {
-                show_specifiers(out, &definition.specifiers, 10)?;
-                put(out, b" ")?;
-                show_declarator(out, &definition.declarator, 10)?;
-                show(out, &definition.body, 10)?;
+                show_specifiers(out, &definition.specifiers, 10);
+                put(out, b" ");
+                show_declarator(out, &definition.declarator, 10);
+                show(out, &definition.body, 10);
             }
         }
     }
-    Ok(())
 }
 
 /// The tree of a text, written out, or the line that has none.
 fn shown(alloc: Global, text: &[u8]) -> Result<(Vec<u8>, u32), AllocError> {
-    let mut out = Vec::new(alloc);
+    let mut out = blank(alloc);
     let Ok(tokens) = lexed(alloc, text) else {
-        return Ok((out, 0));
+        return Ok((whole(out)?, 0));
     };
-    match parse(alloc, &tokens) {
+    let line = match parse(alloc, &tokens) {
         Ok(file) => {
-            show_file(&mut out, &file)?;
-            Ok((out, 0))
+            show_file(&mut out, &file);
+            0
         }
-        Err(ParseError::Syntax { line }) => Ok((out, line)),
-        Err(ParseError::Memory) => Err(AllocError),
-    }
+        Err(ParseError::Syntax { line }) => line,
+        Err(ParseError::Memory) => return Err(AllocError),
+    };
+    Ok((whole(out)?, line))
 }
 
 /// Bodies of `int main(void)`.
@@ -600,29 +569,31 @@ const HIDING: [(&[u8], &[u8]); 11] = [
     (b"{for(int T=1;T;T)T;T y;}", b"{for(int T=#;T;T)[T;]:T y;}"),
 ];
 
+/// What stands before texts, and the texts with their trees.
+const TREES: [(&[u8], &[(&[u8], &[u8])]); 3] = [
+    (b"", &DECLARATIONS),
+    (b"int main(void)", &BODIES),
+    (b"typedef int T;int main(void)", &HIDING),
+];
+
 /// A text, and behind it another.
 fn joined(alloc: Global, front: &[u8], back: &[u8]) -> Result<Vec<u8>, AllocError> {
-    let mut text = Vec::new(alloc);
-    put(&mut text, front)?;
-    put(&mut text, back)?;
-    Ok(text)
+    let mut text = blank(alloc);
+    put(&mut text, front);
+    put(&mut text, back);
+    whole(text)
 }
 
 #[test]
 fn trees(rt: HostRuntime) -> Result<(), Fail> {
     let alloc = rt.alloc();
-    for (text, expected) in DECLARATIONS {
-        assert_eq!(rt; shown(alloc, text)?.0.as_slice(), expected);
-    }
-    for (text, expected) in BODIES {
-        let text = joined(alloc, b"int main(void)", text)?;
-        let expected = joined(alloc, b"int main(void)", expected)?;
-        assert_eq!(rt; shown(alloc, &text)?.0.as_slice(), expected.as_slice());
-    }
-    for (text, expected) in HIDING {
-        let text = joined(alloc, b"typedef int T;int main(void)", text)?;
-        let expected = joined(alloc, b"typedef int T;int main(void)", expected)?;
-        assert_eq!(rt; shown(alloc, &text)?.0.as_slice(), expected.as_slice());
+    for (front, cases) in TREES {
+        for (text, expected) in cases {
+            let text = joined(alloc, front, text)?;
+            let expected = joined(alloc, front, expected)?;
+            let (found, _) = shown(alloc, &text)?;
+            assert_eq!(rt; found.as_slice(), expected.as_slice());
+        }
     }
     Ok(())
 }
@@ -701,17 +672,13 @@ fn nested(
     middle: &[u8],
     close: &[u8],
 ) -> Result<Vec<u8>, AllocError> {
-    let mut text = Vec::new(alloc);
-    put(&mut text, around.0)?;
-    for _ in 0..count {
-        put(&mut text, open)?;
-    }
-    put(&mut text, middle)?;
-    for _ in 0..count {
-        put(&mut text, close)?;
-    }
-    put(&mut text, around.1)?;
-    Ok(text)
+    let mut text = blank(alloc);
+    put(&mut text, around.0);
+    repeat(&mut text, count, open);
+    put(&mut text, middle);
+    repeat(&mut text, count, close);
+    put(&mut text, around.1);
+    whole(text)
 }
 
 const MAIN: (&[u8], &[u8]) = (b"int main(void){", b"}");
@@ -760,14 +727,10 @@ fn levels_of(alloc: Global, text: &[u8]) -> u32 {
 fn at_most_400_levels(rt: HostRuntime) -> Result<(), Fail> {
     let alloc = rt.alloc();
     for (most, next, around, open, middle, close) in NESTINGS {
-        assert_eq!(rt;
-            levels_of(alloc, &nested(alloc, most, around, open, middle, close)?),
-            400
-        );
-        assert_eq!(rt;
-            levels_of(alloc, &nested(alloc, next, around, open, middle, close)?),
-            0
-        );
+        for (count, levels) in [(most, 400), (next, 0)] {
+            let text = nested(alloc, count, around, open, middle, close)?;
+            assert_eq!(rt; levels_of(alloc, &text), levels);
+        }
     }
     Ok(())
 }

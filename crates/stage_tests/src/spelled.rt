@@ -13,12 +13,44 @@ pub fn lexed(alloc: Global, text: &[u8]) -> Result<Tokens, LexError> {
     }
 }
 
-/// Writes a text.
-pub fn put(out: &mut Vec<u8>, text: &[u8]) -> Result<(), AllocError> {
-    for byte in text {
-        out.push(*byte)?;
+/// A text that is written. Where memory runs out, it is cut.
+#[derive(Drop)]
+pub struct Text {
+    bytes: Vec<u8>,
+    cut: bool,
+}
+
+/// An empty text.
+pub fn blank(alloc: Global) -> Text {
+    Text {
+        bytes: Vec::new(alloc),
+        cut: false,
     }
-    Ok(())
+}
+
+/// The whole text.
+pub fn whole(text: Text) -> Result<Vec<u8>, AllocError> {
+    let Text { bytes, cut } = text;
+    if cut {
+        return Err(AllocError);
+    }
+    Ok(bytes)
+}
+
+/// Writes a text.
+pub fn put(out: &mut Text, text: &[u8]) {
+    for byte in text {
+        if out.bytes.push(*byte).is_err() {
+            out.cut = true;
+        }
+    }
+}
+
+/// Writes a text so many times.
+pub fn repeat(out: &mut Text, count: u32, text: &[u8]) {
+    for _ in 0..count {
+        put(out, text);
+    }
 }
 
 fn word_text(word: TypeWord) -> &'static [u8] {
@@ -35,7 +67,7 @@ fn word_text(word: TypeWord) -> &'static [u8] {
 }
 
 /// Writes a specifier of a type, the name of a typedef with a colon before it.
-pub fn show_type(out: &mut Vec<u8>, part: &TypeSpecifier) -> Result<(), AllocError> {
+pub fn show_type(out: &mut Text, part: &TypeSpecifier) {
     match part {
         TypeSpecifier::Qualifier { line: _, qualifier } => match qualifier {
             Qualifier::Const => put(out, b"const"),
@@ -49,14 +81,14 @@ pub fn show_type(out: &mut Vec<u8>, part: &TypeSpecifier) -> Result<(), AllocErr
             name,
         } => {
             match kind {
-                TagKind::Struct => put(out, b"struct ")?,
-                TagKind::Union => put(out, b"union ")?,
-                TagKind::Enum => put(out, b"enum ")?,
+                TagKind::Struct => put(out, b"struct "),
+                TagKind::Union => put(out, b"union "),
+                TagKind::Enum => put(out, b"enum "),
             }
             put(out, &name.bytes)
         }
         TypeSpecifier::Named { line: _, name } => {
-            put(out, b":")?;
+            put(out, b":");
             put(out, &name.bytes)
         }
     }

@@ -5,7 +5,7 @@ pub struct Id {
 }
 
 /// An operation on two words of one width that gives a word of that width.
-#[derive(Clone, Copy, Debug, PartialEq, Eq)]
+#[derive(Clone, Copy, PartialEq, Eq)]
 pub enum BinaryOperator {
     /// The sum modulo 2 ^ width (C11 6.5.6p5).
     Add,
@@ -32,7 +32,7 @@ pub enum BinaryOperator {
 }
 
 /// A shift (C11 6.5.7). Where the count is at least the width, the value is 0.
-#[derive(Clone, Copy, Debug, PartialEq, Eq)]
+#[derive(Clone, Copy, PartialEq, Eq)]
 pub enum ShiftKind {
     /// The bits moved up, zeros coming in (C11 6.5.7p4).
     Left,
@@ -44,7 +44,7 @@ pub enum ShiftKind {
 }
 
 /// A test of two words of one width.
-#[derive(Clone, Copy, Debug, PartialEq, Eq)]
+#[derive(Clone, Copy, PartialEq, Eq)]
 pub enum Comparison {
     /// Whether they are equal (C11 6.5.9p3).
     Equal,
@@ -55,7 +55,7 @@ pub enum Comparison {
 }
 
 /// A test of whether a result on signed numbers is in the range of the operands' width (C11 6.5p5).
-#[derive(Clone, Copy, Debug, PartialEq, Eq)]
+#[derive(Clone, Copy, PartialEq, Eq)]
 pub enum FitsTest {
     /// Whether the sum is in range.
     Sum,
@@ -70,7 +70,7 @@ pub enum FitsTest {
 
 /// A word by its operation on earlier nodes. Widths are from 1 to 64; a truth value is a word of
 /// width 1, which is 1 for true.
-#[derive(Clone, Copy, Debug, PartialEq, Eq)]
+#[derive(Clone, Copy, PartialEq, Eq)]
 pub enum Node {
     /// These bits, below 2 ^ width, at this width.
     Constant(u64, u32),

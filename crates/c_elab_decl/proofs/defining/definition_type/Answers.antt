@@ -4,11 +4,11 @@ use Rattle.c_types.specs.Types.{Completed, Records}
 use Rattle.c_scope.specs.declared.meaning.Meaning.{Meaning}
 use Rattle.c_scope.specs.Scopes.{FunctionType, view_named, view_function_type}
 use Rattle.c_scope.specs.Faults.{Fault, Gives, on_line}
-use Rattle.c_elab_type.specs.Regions.{earlier}
-use Rattle.c_elab_type.specs.Derivations.{Parameter, derivation, full_line, view_deriveds, view_derivation, view_parameters, view_made}
+use Rattle.c_elab_base.specs.Regions.{earlier}
+use Rattle.c_elab_base.specs.Derivations.{Parameter, derivation, full_line, view_deriveds, view_derivation, view_parameters, view_made}
 use Rattle.c_elab_object.specs.Functions.{function_node, definition_node}
 use Rattle.c_elab_object.specs.Listed.{in_file}
-use Rattle.c_elab_decl.specs.DefinitionSteps.{parameters_in}
+use Rattle.c_elab_flow.specs.Held.{parameters_in}
 use Rattle.c_elab_decl.specs.Files.{made_by, definition_type}
 use Rattle.c_elab_decl.proofs.Definitions.{node_behind}
 use Rattle.c_elab_decl.proofs.defining.definition_type.Goals.{in-Lengths, in-Callable}

@@ -6,10 +6,11 @@ use Rattle.c_tree.specs.declared.declaration.Parameter.{Parameter as ParameterTr
 use Rattle.c_tree.specs.Declarations.{Parameters, full_end, view_full_suffix, parameters_of}
 use Rattle.c_tree.proofs.DeclarationViews.{view_takes}
 use Rattle.c_scope.specs.Faults.{Fault, Gives}
-use Rattle.c_elab_type.specs.declared.derivations.Parameter.{Parameter as CodeParameter}
-use Rattle.c_elab_type.specs.Derivations.{view_parameters}
-use Rattle.c_elab_type.specs.Specifiers.{Passed, are_several, inner_region, typed_parameters}
-use Rattle.c_elab_decl.specs.Files.{one_function}
+use Rattle.c_elab_base.specs.declared.derivations.Parameter.{Parameter as CodeParameter}
+use Rattle.c_elab_base.specs.Derivations.{view_parameters}
+use Rattle.c_elab_base.specs.Specifiers.{Passed, are_several, inner_region}
+use Rattle.c_elab_type.specs.Specifiers.{typed_parameters}
+use Rattle.c_elab_flow.specs.Files.{one_function}
 use Rattle.c_elab_type.proofs.Ending.{names_given}
 use Rattle.c_elab_decl.proofs.defining.suffix_parameters.Goals as goal
 

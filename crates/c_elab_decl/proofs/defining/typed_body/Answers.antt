@@ -1,4 +1,4 @@
-use Rattle.std.proofs.Common.{◌≡◌, ℕ, Bool, List, [], true, false, inl, inr, refl, Ok, sym, ap, ap₂, ◌∙◌}
+use Rattle.std.proofs.Common.{◌≡◌, ℕ, Bool, List, [], true, false, inl, inr, refl, Ok, sym, subst, ap, ap₂, ◌∙◌}
 use Rattle.std.proofs.lemmas.Result.{err_from_is_err_and}
 use Rattle.c_tree.specs.declared.statement.Stmt.{Stmt}
 use Rattle.c_tree.specs.declared.statement.Stmt as stmts
@@ -8,14 +8,13 @@ use Rattle.c_tree.specs.Statements.{items_of as trees}
 use Rattle.c_tree.proofs.StatementViews.{view_block as view_tree_block}
 use Rattle.core_tree.specs.Trees.{view_statement, items_of}
 use Rattle.core_tree.specs.Trees as cores
-use Rattle.core_tree.proofs.Views.{view_block}
-use Rattle.c_scope.specs.Faults.{◌>>=◌}
+use Rattle.c_scope.specs.Faults.{◌>>=◌, Gives}
 use Rattle.c_scope.specs.Scopes.{Scoped}
 use Rattle.c_elab_type.specs.Declarators.{Typed}
-use Rattle.c_elab_decl.specs.Jumps.{labels_in}
-use Rattle.c_elab_decl.specs.Statements.{typed_items}
+use Rattle.c_elab_flow.specs.Jumps.{labels_in}
+use Rattle.c_elab_decl.specs.Statements.{TypedStatement, typed_items}
 use Rattle.c_elab_decl.specs.Files.{typed_body_of}
-use Rattle.c_elab_type.proofs.Steps.{fails_on, gives_err}
+use Rattle.c_elab_base.proofs.Steps.{fails_on, gives_err}
 use Rattle.c_elab_decl.proofs.defining.typed_body.Goals as goal
 
 pub returns-in_ok-items-in-Block-clause-gives : goal.returns-in_ok-items-in-Block-clause-gives
@@ -27,9 +26,9 @@ returns-in_ok-items-in-Block-clause-gives c =
     let run : List (List ℕ) → List Item → Typed = λ ls xs. typed_items (record { labels = ls; breaks = false; continues = false }) false c.args.outer [] s (trees xs) in
     let labels = c.requires.labels ∙ ap labels_in here in
     let given : run (labels_in (block i.line (trees i.items.items))) i.items.items ≡ Ok (items_of v.items, c.typed_items.new.scope) = sym (ap₂ run labels c.deref.ensures.value) ∙ c.in_ok-items-in-Block.ensures.gives in
-    ap (typed_body_of c.args.outer s) here
-    ∙ ap (λ (r : Typed). r >>= λ x. Ok (cores.block x.0, x.1)) given
-    ∙ ap (λ (x : cores.Statement). Ok (x, c.typed_items.new.scope)) (sym (view_block v))
+    let u = c.typed_items.new.scope in
+    subst (λ (r : TypedStatement). Gives (λ k. (view_statement k.value, u)) c.block_of.result r)
+    (sym (ap (typed_body_of c.args.outer s) here ∙ ap (λ (r : Typed). r >>= λ x. Ok (cores.block x.0, x.1)) given)) (c.block_of.ensures u)
 
 pub returns-in_err-items-in-Block-clause-gives : goal.returns-in_err-items-in-Block-clause-gives
 returns-in_err-items-in-Block-clause-gives c =
@@ -60,6 +59,5 @@ pub returns-in-If-clause-gives : goal.returns-in-If-clause-gives
 returns-in-If-clause-gives c =
     let s = c.args.scope.now in
     let other : is_block c.args.body.now ≡ false = elim c.in-If.is [ inl w ↦ ap is_block w.3 | inr x0 ↦ elim x0 [ inl w ↦ ap is_block w.4 | inr x1 ↦ elim x1 [ inl w ↦ ap is_block w.1 | inr x2 ↦ elim x2 [ inl w ↦ ap is_block w.1 | inr x3 ↦ elim x3 [ inl w ↦ ap is_block w.2 | inr x4 ↦ elim x4 [ inl w ↦ ap is_block w.1 | inr x5 ↦ elim x5 [ inl w ↦ ap is_block w.3 | inr x6 ↦ elim x6 [ inl w ↦ ap is_block w.3 | inr x7 ↦ elim x7 [ inl w ↦ ap is_block w.5 | inr x8 ↦ elim x8 [ inl w ↦ ap is_block w.5 | inr x9 ↦ elim x9 [ inl w ↦ ap is_block w.3 | inr x10 ↦ elim x10 [ inl w ↦ ap is_block w.3 | inr x11 ↦ elim x11 [ inl w ↦ ap is_block w.2 | inr x12 ↦ elim x12 [ inl w ↦ ap is_block w.3 | inr x13 ↦ elim x13 [ inl w ↦ ap is_block w.2 | inr x14 ↦ elim x14 [ inl w ↦ ap is_block w.1 | inr x15 ↦ ap is_block x15.1 ] ] ] ] ] ] ] ] ] ] ] ] ] ] ] ] in
-    no_block c.args.outer s c.args.body.now other
-    ∙ ap (λ (is : cores.Items). Ok (cores.block is, s)) (sym (ap items_of c.new.ensures.items))
-    ∙ ap (λ (x : cores.Statement). Ok (x, s)) (sym (view_block c.new.result))
+    subst (λ (r : TypedStatement). Gives (λ k. (view_statement k.value, s)) c.block_of-in-If.result r)
+    (sym (no_block c.args.outer s c.args.body.now other ∙ ap (λ (is : cores.Items). Ok (cores.block is, s)) (sym (ap items_of c.new.ensures.items)))) (c.block_of-in-If.ensures s)

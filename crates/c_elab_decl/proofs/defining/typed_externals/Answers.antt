@@ -5,9 +5,11 @@ use Rattle.c_tree.specs.declared.statement.External.{External}
 use Rattle.c_tree.specs.Statements.{externals_of}
 use Rattle.c_scope.specs.Scopes.{Scoped}
 use Rattle.c_scope.specs.Faults.{Fails}
-use Rattle.c_elab_decl.specs.Files.{Definition, typed_externals}
-use Rattle.c_elab_decl.specs.DefinitionSteps.{TypedDefinitions, definitions_first, view_definitions}
-use Rattle.c_elab_type.proofs.Steps.{fails_on, gives_err}
+use Rattle.c_elab_flow.specs.Files.{Definition}
+use Rattle.c_elab_decl.specs.Files.{typed_externals}
+use Rattle.c_elab_flow.specs.Held.{view_definitions}
+use Rattle.c_elab_decl.specs.DefinitionSteps.{TypedDefinitions, definitions_first}
+use Rattle.c_elab_base.proofs.Steps.{fails_on, gives_err}
 use Rattle.c_elab_decl.proofs.StatementFronts.{externals_at}
 use Rattle.c_elab_decl.proofs.defining.typed_externals.Goals as goal
 

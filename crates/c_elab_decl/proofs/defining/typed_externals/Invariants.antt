@@ -1,7 +1,8 @@
 use Rattle.std.proofs.Common.{◌≡◌, [], drop}
 use Rattle.c_tree.specs.Statements.{externals_of}
 use Rattle.c_elab_decl.specs.Files.{typed_externals}
-use Rattle.c_elab_decl.specs.DefinitionSteps.{definitions_first, view_definitions}
+use Rattle.c_elab_flow.specs.Held.{view_definitions}
+use Rattle.c_elab_decl.specs.DefinitionSteps.{definitions_first}
 use Rattle.c_elab_decl.proofs.defining.typed_externals.Given as goal
 
 abbrev pub invariant-loop-external : goal.invariant-loop-external

@@ -1,8 +1,9 @@
 use Rattle.std.proofs.Common.{◌≡◌, ◌≤◌, ℕ, List, [], length, drop}
 use Rattle.c_tree.specs.Statements.{items_of as trees}
 use Rattle.c_elab_type.specs.Steps.{items_first}
-use Rattle.c_elab_decl.specs.Lookahead.{Looks}
-use Rattle.c_elab_decl.specs.Statements.{view_around, typed_items}
+use Rattle.c_elab_flow.specs.Lookahead.{Looks}
+use Rattle.c_elab_flow.specs.Nodes.{view_around}
+use Rattle.c_elab_decl.specs.Statements.{typed_items}
 use Rattle.c_elab_decl.proofs.stating.+statement.Given as goal
 
 abbrev pub invariant-typed_items-loop-item : goal.invariant-typed_items-loop-item

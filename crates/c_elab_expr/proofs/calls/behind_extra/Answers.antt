@@ -1,7 +1,9 @@
 use Rattle.std.proofs.Common.{◌≡◌, List, [], ◌∷◌, ◌++◌, map, ap, sym, ◌∙◌}
 use Rattle.std.proofs.lemmas.List.{map-append}
+use Rattle.std.specs.Prelude.{Box}
+use Rattle.std.specs.Global.{Global}
 use Rattle.core_tree.specs.declared.expression.CoreExpr.{CoreExpr}
-use Rattle.core_tree.specs.Trees.{Expression, view}
+use Rattle.core_tree.specs.Trees.{Expression, boxed}
 use Rattle.c_elab_expr.specs.Operands.{view_operand, behind_extra}
 use Rattle.c_elab_expr.proofs.Passing.{behind_last}
 use Rattle.c_elab_expr.proofs.calls.behind_extra.Goals as goal
@@ -13,9 +15,9 @@ extra-preserved c =
     let rest = c.pop.new.self.items in
     let e = c.in-Some.value in
     let x = view_operand c.extra.whole in
-    let more : map view c.extra.extra.items ≡ map view rest ++ view e ∷ [] =
-    ap (λ (es : List CoreExpr). map view es) c.in-Some.ensures.items ∙ map-append view rest (e ∷ []) in
-    ap (behind_extra done line (map view rest)) c.in_ok-whole.ensures
-    ∙ sym (behind_last done line (map view rest) (view e) x)
+    let more : map boxed c.extra.extra.items ≡ map boxed rest ++ boxed e ∷ [] =
+    ap (λ (es : List (Box CoreExpr Global)). map boxed es) c.in-Some.ensures.items ∙ map-append boxed rest (e ∷ []) in
+    ap (behind_extra done line (map boxed rest)) c.in_ok-whole.ensures
+    ∙ sym (behind_last done line (map boxed rest) (boxed e) x)
     ∙ sym (ap (λ (es : List Expression). behind_extra done line es x) more)
     ∙ c.extra.invariant

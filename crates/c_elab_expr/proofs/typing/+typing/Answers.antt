@@ -1,8 +1,8 @@
-use Rattle.std.proofs.Common.{◌≡◌, ◌+◌, ℕ, Bool, Option, List, [], ◌∷◌, ◌++◌, drop, map, Result, Ok, Err, ap, sym, subst, refl, ◌∙◌, arith}
+use Rattle.std.proofs.Common.{false, ◌≡◌, ◌+◌, ℕ, Bool, Option, List, [], ◌∷◌, ◌++◌, drop, map, Result, Ok, Err, ap, sym, subst, refl, ◌∙◌, arith}
 use Rattle.std.proofs.lemmas.List.{map-append, append-nil, drop_all}
 use Rattle.std.proofs.lemmas.Result.{err_from_is_err_and}
 use Rattle.c_tree.specs.declared.expr.Expr.{Expr}
-use Rattle.c_tree.specs.Tree.{Tree, first_line}
+use Rattle.c_tree.specs.Tree.{Tree, Trees, first_line}
 use Rattle.c_tree.specs.Tree.{view as tree, views_of as trees}
 use Rattle.c_tree.specs.declared.expr.TypeName.{TypeName}
 use Rattle.c_tree.specs.declared.expr.Declarator.{Declarator}
@@ -13,14 +13,13 @@ use Rattle.c_tree.proofs.Views.{view_call, view_cast, view_sizeof_type, view_ins
 use Rattle.c_types.specs.Types.{Records}
 use Rattle.c_types.specs.Types.{view as type_view}
 use Rattle.c_elab_expr.specs.declared.operands.CoreOperand.{CoreOperand}
-use Rattle.c_elab_expr.specs.Operands.{Operand, view_operand, cast_operand}
+use Rattle.c_elab_expr.specs.Operands.{Operand, view_operand, cast_operand, binary_operand, choice_operand, assign_operand}
 use Rattle.c_scope.specs.Scopes.{Scoped}
-use Rattle.c_scope.specs.Faults.{Fault, Gives, GivesNode, on_line, ◌>>=◌}
-use Rattle.c_elab_expr.specs.Typing.{Adds, is_used, called, callee, typed, typed_arguments, operand_by, operand, lengths, suffix_lengths, behind}
-use Rattle.c_elab_expr.proofs.Arguments.{fails_on, front, argument_fails, argument_typed, call_fails, call_typed}
-use Rattle.c_scope.specs.Types.{type_size}
+use Rattle.c_scope.specs.Faults.{Fault, Gives, ◌>>=◌}
+use Rattle.c_elab_expr.specs.Typing.{Adds, node_on, node_on_both, comma_of, size_of_named, call_of, is_wanted, callee, typed, typed_arguments, operand_by, operand, lengths, suffix_lengths, behind}
+use Rattle.c_elab_expr.proofs.Arguments.{fails_on, front, argument_fails, argument_typed, call_typed}
 use Rattle.c_elab_expr.proofs.Parts.{suffix_more, suffix_fails, inside_adds}
-use Rattle.c_elab_expr.proofs.Casts.{named_type, cast_name_fails, cast_fails, cast_typed, size_name_fails, size_fails, size_typed}
+use Rattle.c_elab_expr.proofs.Casts.{named_type, cast_name_fails, cast_typed}
 use Rattle.c_elab_expr.proofs.typing.+typing.Goals as goal
 
 pub typed_arguments-returns-in_err-argument : goal.typed_arguments-returns-in_err-argument
@@ -62,38 +61,23 @@ typed_arguments-returns t c =
     let none : drop c.loop-expr.expr-index c.args.exprs.now ≡ [] = drop_all c.loop-expr.expr-index c.args.exprs.now (omega arith) in
     sym c.loop-expr.invariant ∙ ap (λ (es : List Expr). front xs (typed_arguments scope (trees es))) none ∙ ap Ok (append-nil xs)
 
-pub typed_expr-returns-in_err-arguments-in-Call : goal.typed_expr-returns-in_err-arguments-in-Call
-typed_expr-returns-in_err-arguments-in-Call t c =
-    let p = err_from_is_err_and c.from_residual-in_err-arguments-in-Call.result c.from_residual-in_err-arguments-in-Call.ensures.1 in
+pub typed_expr-returns-in_ok-callee-in-Call : goal.typed_expr-returns-in_ok-callee-in-Call
+typed_expr-returns-in_ok-callee-in-Call t c =
     let scope = c.args.scope.now in
+    let w = c.args.wanted in
     let f = tree c.in-Call.function.value in
     let args = trees c.in-Call.arguments.items in
     let shape = ap tree c.in-Call.is ∙ view_call c.in-Call.function c.in-Call.arguments in
     let same_f = ap tree c.deref-in-Call.ensures in
     let same_args = ap trees c.deref-in-Call-2.ensures.value in
     let m = c.in_ok-callee-in-Call.callee in
+    let typing = typed_arguments scope (trees c.deref-in-Call-2.result.now) in
     let means : callee scope f (operand scope f) ≡ Ok m = ap (λ (x : Tree). callee scope x (operand scope x)) (sym same_f) ∙ c.in_ok-callee-in-Call.ensures in
-    rw (p.1, p.2) (fails_on c.in_err-arguments-in-Call.field-0.0 (typed_arguments scope (trees c.deref-in-Call-2.result.now)) (typed scope c.args.wanted (tree c.args.expr.now))
-    (λ bad e. ap (typed scope c.args.wanted) shape ∙ call_fails scope f args c.args.wanted m bad means (ap (typed_arguments scope) (sym same_args) ∙ e))
-    c.in_err-arguments-in-Call.ensures)
-
-pub typed_expr-returns-in_ok-arguments-in-Call : goal.typed_expr-returns-in_ok-arguments-in-Call
-typed_expr-returns-in_ok-arguments-in-Call t c =
-    let scope = c.args.scope.now in
-    let f = tree c.in-Call.function.value in
-    let args = trees c.in-Call.arguments.items in
-    let shape = ap tree c.in-Call.is ∙ view_call c.in-Call.function c.in-Call.arguments in
-    let same_f = ap tree c.deref-in-Call.ensures in
-    let same_args = ap trees c.deref-in-Call-2.ensures.value in
-    let m = c.in_ok-callee-in-Call.callee in
-    let xs = map view_operand c.in_ok-arguments-in-Call.arguments.items in
-    let means : callee scope f (operand scope f) ≡ Ok m = ap (λ (x : Tree). callee scope x (operand scope x)) (sym same_f) ∙ c.in_ok-callee-in-Call.ensures in
-    let typing : typed_arguments scope args ≡ Ok xs = ap (typed_arguments scope) (sym same_args) ∙ c.in_ok-arguments-in-Call.ensures in
-    let used : c.is_used-used.result ≡ is_used f c.args.wanted = c.is_used-used.ensures ∙ ap (λ (e : Expr). is_used (tree e) c.args.wanted) c.deref-in-Call-3.ensures in
-    let node = called scope c.is_used-used.result m xs in
-    let line : on_line (first_line (tree c.deref-in-Call-4.result.now)) node ≡ on_line (first_line f) node = ap (λ (e : Expr). on_line (first_line (tree e)) node) c.deref-in-Call-4.ensures in
-    let same : on_line (first_line (tree c.deref-in-Call-4.result.now)) node ≡ typed scope c.args.wanted (tree c.args.expr.now) = line ∙ ap (λ (b : Bool). on_line (first_line f) (called scope b m xs)) used ∙ sym (ap (typed scope c.args.wanted) shape ∙ call_typed scope f args c.args.wanted m xs means typing) in
-    subst (λ (r : Result Operand Fault). Gives view_operand c.placed-in-Call.result r) same (c.placed-in-Call.ensures node c.called.ensures)
+    let same : call_of scope (tree c.deref-in-Call-3.result.now) w m typing ≡ typed scope w (tree c.args.expr.now) =
+    ap (λ (e : Expr). call_of scope (tree e) w m typing) c.deref-in-Call-3.ensures
+    ∙ ap (λ (xs : Trees). call_of scope f w m (typed_arguments scope xs)) same_args
+    ∙ sym (ap (typed scope w) shape ∙ call_typed scope f args w m means) in
+    subst (λ (r : Result Operand Fault). Gives view_operand c.call_at.result r) same (c.call_at.ensures typing c.typed_arguments-arguments.ensures)
 
 -- ---- measures
 
@@ -103,8 +87,8 @@ typed_arguments-used_expr-requires t c =
     let e = ap (λ (e : Expr). depth (tree e)) c.expr-item.is in
     (omega (arith, below, e), tt)
 
-pub typed_expr-typed_arguments-requires : goal.typed_expr-typed_arguments-requires
-typed_expr-typed_arguments-requires t c =
+pub typed_expr-typed_arguments-arguments-requires : goal.typed_expr-typed_arguments-arguments-requires
+typed_expr-typed_arguments-arguments-requires t c =
     let e = ap (λ (e : Expr). depth (tree e)) c.in-Call.is ∙ ap depth (view_call c.in-Call.function c.in-Call.arguments) in
     let same = ap (λ (es : List Expr). depth_of (trees es)) c.deref-in-Call-2.ensures.value in
     (omega (arith, e, same), tt)
@@ -185,7 +169,7 @@ add_lengths-returns-in_ok-add_lengths-in-Inside t c =
 
 pub typed_expr-returns-in_err-type_-in-Cast : goal.typed_expr-returns-in_err-type_-in-Cast
 typed_expr-returns-in_err-type_-in-Cast t c =
-    let p = err_from_is_err_and c.from_residual-in_err-type_-in-Cast.result c.from_residual-in_err-type_-in-Cast.ensures.1 in
+    let p = err_from_is_err_and c.from_residual.result c.from_residual.ensures.1 in
     let s = c.args.scope.now in
     let name = c.in-Cast.type_name.value in
     let shape = ap tree c.in-Cast.is ∙ view_cast c.in-Cast.line c.in-Cast.type_name c.in-Cast.operand in
@@ -194,71 +178,100 @@ typed_expr-returns-in_err-type_-in-Cast t c =
     (λ f bad. ap (typed s c.args.wanted) shape ∙ cast_name_fails s c.args.wanted c.in-Cast.line (map view_type_part name.specifiers.items) (view_declarator name.declarator) (tree c.in-Cast.operand.value) f (sym same ∙ bad))
     c.in_err-type_-in-Cast.ensures)
 
-pub typed_expr-returns-in_err-core-in-Cast : goal.typed_expr-returns-in_err-core-in-Cast
-typed_expr-returns-in_err-core-in-Cast t c =
-    let p = err_from_is_err_and c.from_residual-in_err-core-in-Cast.result c.from_residual-in_err-core-in-Cast.ensures.1 in
+pub typed_expr-returns-in_ok-type_-in-Cast : goal.typed_expr-returns-in_ok-type_-in-Cast
+typed_expr-returns-in_ok-type_-in-Cast t c =
     let s = c.args.scope.now in
+    let line = c.in-Cast.line in
     let name = c.in-Cast.type_name.value in
-    let shape = ap tree c.in-Cast.is ∙ view_cast c.in-Cast.line c.in-Cast.type_name c.in-Cast.operand in
+    let shape = ap tree c.in-Cast.is ∙ view_cast line c.in-Cast.type_name c.in-Cast.operand in
     let same = ap (named_type s) c.deref-in-Cast.ensures in
-    let other = ap (λ (e : Expr). operand_by s c.is_wanted.result (tree e)) c.deref-in-Cast-2.ensures ∙ ap (λ (w : Bool). operand_by s w (tree c.in-Cast.operand.value)) c.is_wanted.ensures in
-    rw (p.1, p.2) (fails_on c.in_err-core-in-Cast.field-0.0 (operand_by s c.is_wanted.result (tree c.deref-in-Cast-2.result.now)) (typed s c.args.wanted (tree c.args.expr.now))
-    (λ f bad. ap (typed s c.args.wanted) shape ∙ cast_fails s c.args.wanted c.in-Cast.line (map view_type_part name.specifiers.items) (view_declarator name.declarator) (tree c.in-Cast.operand.value) (type_view c.in_ok-type_-in-Cast.type_) f
-    (sym same ∙ c.in_ok-type_-in-Cast.ensures) (sym other ∙ bad))
-    c.in_err-core-in-Cast.ensures)
-
-pub typed_expr-returns-in_ok-core-in-Cast : goal.typed_expr-returns-in_ok-core-in-Cast
-typed_expr-returns-in_ok-core-in-Cast t c =
-    let s = c.args.scope.now in
-    let name = c.in-Cast.type_name.value in
-    let shape = ap tree c.in-Cast.is ∙ view_cast c.in-Cast.line c.in-Cast.type_name c.in-Cast.operand in
-    let same = ap (named_type s) c.deref-in-Cast.ensures in
-    let other = ap (λ (e : Expr). operand_by s c.is_wanted.result (tree e)) c.deref-in-Cast-2.ensures ∙ ap (λ (w : Bool). operand_by s w (tree c.in-Cast.operand.value)) c.is_wanted.ensures in
     let u = type_view c.in_ok-type_-in-Cast.type_ in
-    let x = view_operand c.in_ok-core-in-Cast.core in
-    let node = cast_operand s.records.done c.in-Cast.line u x in
-    let made : GivesNode view_operand c.cast_operand.result node =
-    subst (λ (r : Records). GivesNode view_operand c.cast_operand.result (cast_operand r.done c.in-Cast.line u x)) c.layouts.ensures c.cast_operand.ensures in
-    let whole : on_line c.in-Cast.line node ≡ typed s c.args.wanted (tree c.args.expr.now) =
-    sym (ap (typed s c.args.wanted) shape ∙ cast_typed s c.args.wanted c.in-Cast.line (map view_type_part name.specifiers.items) (view_declarator name.declarator) (tree c.in-Cast.operand.value) u x
-    (sym same ∙ c.in_ok-type_-in-Cast.ensures) (sym other ∙ c.in_ok-core-in-Cast.ensures)) in
-    subst (λ (r : Result Operand Fault). Gives view_operand c.placed_at-in-Cast.result r) whole (c.placed_at-in-Cast.ensures node made)
+    let typing = operand_by s c.is_wanted.result (tree c.deref-in-Cast-2.result.now) in
+    let other : typing ≡ operand_by s (is_wanted u) (tree c.in-Cast.operand.value) =
+    ap (λ (e : Expr). operand_by s c.is_wanted.result (tree e)) c.deref-in-Cast-2.ensures ∙ ap (λ (w : Bool). operand_by s w (tree c.in-Cast.operand.value)) c.is_wanted.ensures in
+    let whole : node_on line (cast_operand c.layouts.result.now.done line u) typing ≡ typed s c.args.wanted (tree c.args.expr.now) =
+    ap (λ (r : Records). node_on line (cast_operand r.done line u) typing) c.layouts.ensures
+    ∙ ap (node_on line (cast_operand s.records.done line u)) other
+    ∙ sym (ap (typed s c.args.wanted) shape
+    ∙ cast_typed s c.args.wanted line (map view_type_part name.specifiers.items) (view_declarator name.declarator) (tree c.in-Cast.operand.value) u (sym same ∙ c.in_ok-type_-in-Cast.ensures)) in
+    subst (λ (r : Result Operand Fault). Gives view_operand c.cast_at.result r) whole (c.cast_at.ensures typing c.used_by-core.ensures)
 
-pub typed_expr-returns-in_err-type_-in-SizeofType : goal.typed_expr-returns-in_err-type_-in-SizeofType
-typed_expr-returns-in_err-type_-in-SizeofType t c =
-    let p = err_from_is_err_and c.from_residual-in_err-type_-in-SizeofType.result c.from_residual-in_err-type_-in-SizeofType.ensures.1 in
+pub typed_expr-returns-in-SizeofType : goal.typed_expr-returns-in-SizeofType
+typed_expr-returns-in-SizeofType t c =
     let s = c.args.scope.now in
+    let line = c.in-SizeofType.line in
     let name = c.in-SizeofType.type_name.value in
-    let shape = ap tree c.in-SizeofType.is ∙ view_sizeof_type c.in-SizeofType.line c.in-SizeofType.type_name in
+    let shape = ap tree c.in-SizeofType.is ∙ view_sizeof_type line c.in-SizeofType.type_name in
     let same = ap (named_type s) c.deref-in-SizeofType.ensures in
-    rw (p.1, p.2) (fails_on c.in_err-type_-in-SizeofType.field-0.0 (named_type s c.deref-in-SizeofType.result.now) (typed s c.args.wanted (tree c.args.expr.now))
-    (λ f bad. ap (typed s c.args.wanted) shape ∙ size_name_fails s c.args.wanted c.in-SizeofType.line (map view_type_part name.specifiers.items) (view_declarator name.declarator) f (sym same ∙ bad))
-    c.in_err-type_-in-SizeofType.ensures)
+    let typing = named_type s c.deref-in-SizeofType.result.now in
+    let whole : size_of_named line c.layouts-in-SizeofType.result.now.done typing ≡ typed s c.args.wanted (tree c.args.expr.now) =
+    ap (λ (r : Records). size_of_named line r.done typing) c.layouts-in-SizeofType.ensures
+    ∙ ap (size_of_named line s.records.done) same
+    ∙ sym (ap (typed s c.args.wanted) shape) in
+    subst (λ (r : Result Operand Fault). Gives view_operand c.size_of_type.result r) whole (c.size_of_type.ensures typing c.type_named-in-SizeofType.ensures)
 
-pub typed_expr-returns-in_err-size-in-SizeofType : goal.typed_expr-returns-in_err-size-in-SizeofType
-typed_expr-returns-in_err-size-in-SizeofType t c =
-    let p = err_from_is_err_and c.from_residual-in_err-size-in-SizeofType.result c.from_residual-in_err-size-in-SizeofType.ensures.1 in
-    let s = c.args.scope.now in
-    let name = c.in-SizeofType.type_name.value in
-    let shape = ap tree c.in-SizeofType.is ∙ view_sizeof_type c.in-SizeofType.line c.in-SizeofType.type_name in
-    let same = ap (named_type s) c.deref-in-SizeofType.ensures in
-    let u = type_view c.in_ok-type_-in-SizeofType.type_ in
-    let size = type_size s.records.done u in
-    let node : GivesNode (λ (n : ℕ). n) c.type_size.result size = subst (λ (r : Records). GivesNode (λ (n : ℕ). n) c.type_size.result (type_size r.done u)) c.layouts-in-SizeofType.ensures c.type_size.ensures.size in
-    rw (p.1, p.2) (fails_on c.in_err-size-in-SizeofType.field-0.0 (on_line c.in-SizeofType.line size) (typed s c.args.wanted (tree c.args.expr.now))
-    (λ f bad. ap (typed s c.args.wanted) shape ∙ size_fails s c.args.wanted c.in-SizeofType.line (map view_type_part name.specifiers.items) (view_declarator name.declarator) u f (sym same ∙ c.in_ok-type_-in-SizeofType.ensures) bad)
-    (c.in_err-size-in-SizeofType.ensures size node))
+-- ---- two operands
 
-pub typed_expr-returns-in_ok-size-in-SizeofType : goal.typed_expr-returns-in_ok-size-in-SizeofType
-typed_expr-returns-in_ok-size-in-SizeofType t c =
+pub typed_expr-returns-in-Binary : goal.typed_expr-returns-in-Binary
+typed_expr-returns-in-Binary t c =
     let s = c.args.scope.now in
-    let name = c.in-SizeofType.type_name.value in
-    let shape = ap tree c.in-SizeofType.is ∙ view_sizeof_type c.in-SizeofType.line c.in-SizeofType.type_name in
-    let same = ap (named_type s) c.deref-in-SizeofType.ensures in
-    let u = type_view c.in_ok-type_-in-SizeofType.type_ in
-    let size = type_size s.records.done u in
-    let node : GivesNode (λ (n : ℕ). n) c.type_size.result size = subst (λ (r : Records). GivesNode (λ (n : ℕ). n) c.type_size.result (type_size r.done u)) c.layouts-in-SizeofType.ensures c.type_size.ensures.size in
-    ap (typed s c.args.wanted) shape
-    ∙ size_typed s c.args.wanted c.in-SizeofType.line (map view_type_part name.specifiers.items) (view_declarator name.declarator) u c.in_ok-size-in-SizeofType.size
-    (sym same ∙ c.in_ok-type_-in-SizeofType.ensures) (c.in_ok-size-in-SizeofType.ensures size node)
-    ∙ ap Ok (sym c.sized.ensures)
+    let node = binary_operand c.in-Binary.line c.in-Binary.operator in
+    let x = operand s (tree c.deref-in-Binary.result.now) in
+    let y = operand s (tree c.deref-in-Binary-2.result.now) in
+    let left = c.in-Binary.left.value in
+    let whole : node_on_both (first_line (tree c.deref-in-Binary-3.result.now)) node x y ≡ typed s c.args.wanted (tree c.args.expr.now) =
+    ap (λ (e : Expr). node_on_both (first_line (tree e)) node x y) c.deref-in-Binary-3.ensures
+    ∙ ap (λ (e : Expr). node_on_both (first_line (tree left)) node (operand s (tree e)) y) c.deref-in-Binary.ensures
+    ∙ ap (λ (e : Expr). node_on_both (first_line (tree left)) node (operand s (tree left)) (operand s (tree e))) c.deref-in-Binary-2.ensures
+    ∙ sym (ap (λ (e : Expr). typed s c.args.wanted (tree e)) c.in-Binary.is) in
+    subst (λ (r : Result Operand Fault). Gives view_operand c.binary_at.result r) whole (c.binary_at.ensures x y c.used_both-operands.ensures)
+
+pub typed_expr-returns-in-Assign : goal.typed_expr-returns-in-Assign
+typed_expr-returns-in-Assign t c =
+    let s = c.args.scope.now in
+    let node = assign_operand s c.in-Assign.line c.in-Assign.operator in
+    let x = operand s (tree c.deref-in-Assign.result.now) in
+    let y = operand s (tree c.deref-in-Assign-2.result.now) in
+    let place = c.in-Assign.place.value in
+    let whole : node_on_both (first_line (tree c.deref-in-Assign-3.result.now)) node x y ≡ typed s c.args.wanted (tree c.args.expr.now) =
+    ap (λ (e : Expr). node_on_both (first_line (tree e)) node x y) c.deref-in-Assign-3.ensures
+    ∙ ap (λ (e : Expr). node_on_both (first_line (tree place)) node (operand s (tree e)) y) c.deref-in-Assign.ensures
+    ∙ ap (λ (e : Expr). node_on_both (first_line (tree place)) node (operand s (tree place)) (operand s (tree e))) c.deref-in-Assign-2.ensures
+    ∙ sym (ap (λ (e : Expr). typed s c.args.wanted (tree e)) c.in-Assign.is) in
+    subst (λ (r : Result Operand Fault). Gives view_operand c.assign_at.result r) whole (c.assign_at.ensures x y c.used_both-operands-in-Assign.ensures)
+
+pub typed_expr-returns-in-Comma : goal.typed_expr-returns-in-Comma
+typed_expr-returns-in-Comma t c =
+    let s = c.args.scope.now in
+    let w = c.args.wanted in
+    let done = s.records.done in
+    let line = c.in-Comma.line in
+    let x = operand_by s false (tree c.deref-in-Comma.result.now) in
+    let y = operand_by s w (tree c.deref-in-Comma-2.result.now) in
+    let left = c.in-Comma.left.value in
+    let whole : comma_of done line x y ≡ typed s w (tree c.args.expr.now) =
+    ap (λ (e : Expr). comma_of done line (operand_by s false (tree e)) y) c.deref-in-Comma.ensures
+    ∙ ap (λ (e : Expr). comma_of done line (operand_by s false (tree left)) (operand_by s w (tree e))) c.deref-in-Comma-2.ensures
+    ∙ sym (ap (λ (e : Expr). typed s w (tree e)) c.in-Comma.is) in
+    subst (λ (r : Result Operand Fault). Gives view_operand c.comma_at.result r) whole (c.comma_at.ensures x y c.used_both-operands-in-Comma.ensures)
+
+pub typed_expr-returns-in_ok-a-in-Choice : goal.typed_expr-returns-in_ok-a-in-Choice
+typed_expr-returns-in_ok-a-in-Choice t c =
+    let s = c.args.scope.now in
+    let w = c.args.wanted in
+    let test = c.in-Choice.test.value in
+    let yes = c.in-Choice.yes.value in
+    let no = c.in-Choice.no.value in
+    let line = c.in-Choice.line in
+    let a = view_operand c.in_ok-a-in-Choice.a in
+    let node = choice_operand s.records.done line a in
+    let y = operand_by s w (tree c.deref-in-Choice-2.result.now) in
+    let z = operand_by s w (tree c.deref-in-Choice-3.result.now) in
+    let tested : operand s (tree test) ≡ Ok a = sym (ap (λ (e : Expr). operand s (tree e)) c.deref-in-Choice.ensures) ∙ c.in_ok-a-in-Choice.ensures in
+    let whole : node_on_both (first_line (tree c.deref-in-Choice-4.result.now)) node y z ≡ typed s w (tree c.args.expr.now) =
+    ap (λ (e : Expr). node_on_both (first_line (tree e)) node y z) c.deref-in-Choice-4.ensures
+    ∙ ap (λ (e : Expr). node_on_both (first_line (tree test)) node (operand_by s w (tree e)) z) c.deref-in-Choice-2.ensures
+    ∙ ap (λ (e : Expr). node_on_both (first_line (tree test)) node (operand_by s w (tree yes)) (operand_by s w (tree e))) c.deref-in-Choice-3.ensures
+    ∙ sym (ap (λ (e : Expr). typed s w (tree e)) c.in-Choice.is
+    ∙ ap (λ (r : Result Operand Fault). r >>= λ x. node_on_both (first_line (tree test)) (choice_operand s.records.done line x) (operand_by s w (tree yes)) (operand_by s w (tree no))) tested) in
+    subst (λ (r : Result Operand Fault). Gives view_operand c.choice_at.result r) whole (c.choice_at.ensures y z c.used_both-operands-in-Choice.ensures)

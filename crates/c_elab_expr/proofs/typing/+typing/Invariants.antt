@@ -1,4 +1,4 @@
-use Rattle.std.proofs.Common.{◌≡◌, ◌+◌, ◌*◌, drop, map}
+use Rattle.std.proofs.Common.{◌≡◌, ◌+◌, ◌*◌, max, drop, map}
 use Rattle.c_tree.specs.Tree.{view as tree, views_of as trees}
 use Rattle.c_tree.specs.Tree.{view_declarator, view_suffix, no_suffix, suffixes_of, depth, depth_of, declared_depth, suffixes_depth}
 use Rattle.c_elab_expr.specs.Operands.{view_operand}
@@ -45,6 +45,9 @@ decreases-type_named l = 9 * declared_depth (view_declarator l.name.now.declarat
 
 abbrev pub decreases-used_expr : goal.decreases-used_expr
 decreases-used_expr l = 9 * depth (tree l.expr.now) + 2
+
+abbrev pub decreases-used_both : goal.decreases-used_both
+decreases-used_both l = 9 * max (depth (tree l.left.now)) (depth (tree l.right.now)) + 2
 
 abbrev pub decreases-used_by : goal.decreases-used_by
 decreases-used_by l = 9 * depth (tree l.expr.now) + 1

@@ -1,5 +1,5 @@
 use Rattle.std.proofs.Common.{◌≡◌, drop}
-use Rattle.c_elab_type.specs.Derivations.{view_parameters, have_names}
+use Rattle.c_elab_base.specs.Derivations.{view_parameters, have_names}
 use Rattle.c_elab_object.proofs.callables.have_names.Given as goal
 
 abbrev pub invariant-loop-parameter : goal.invariant-loop-parameter

@@ -4,7 +4,7 @@ use Rattle.c_tree.specs.Declarations.{view_full, view_initializer}
 use Rattle.c_types.specs.Types.{CType, view as type_view}
 use Rattle.c_scope.specs.Scopes.{view_named}
 use Rattle.c_elab_type.specs.Initializers.{view_value}
-use Rattle.c_elab_type.specs.Declarators.{is_open}
+use Rattle.c_elab_base.specs.Declarators.{is_open}
 use Rattle.c_elab_object.proofs.ObjectSteps.{typed_as}
 use Rattle.c_elab_object.proofs.lasting.typed_object.Goals as goal
 

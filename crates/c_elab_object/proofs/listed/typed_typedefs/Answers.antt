@@ -4,12 +4,12 @@ use Rattle.std.proofs.lemmas.List.{drop_all}
 use Rattle.c_tree.specs.declared.declaration.InitDeclarator.{InitDeclarator}
 use Rattle.c_tree.specs.Declarations.{view_full, declarators_of, view_initializer}
 use Rattle.c_scope.specs.Scopes.{Environment, view_named}
-use Rattle.c_elab_type.specs.declared.derivations.Derived.{Derived as CodeDerived}
-use Rattle.c_elab_type.specs.Derivations.{view_deriveds, view_derivation, derivation}
+use Rattle.c_elab_base.specs.declared.derivations.Derived.{Derived as CodeDerived}
+use Rattle.c_elab_base.specs.Derivations.{view_deriveds, view_derivation, derivation}
 use Rattle.c_elab_type.specs.Specifiers.{typed_full}
 use Rattle.c_elab_object.specs.Listed.{typedef_by, typed_typedefs}
-use Rattle.c_elab_type.proofs.Lists.{declarators_at}
-use Rattle.c_elab_type.proofs.Steps.{fails_on, gives_err}
+use Rattle.c_elab_base.proofs.Lists.{declarators_at}
+use Rattle.c_elab_base.proofs.Steps.{fails_on, gives_err}
 use Rattle.c_elab_object.proofs.Listing.{typedefs_more, typedefs_full_fail, typedefs_by_fail}
 use Rattle.c_elab_object.proofs.listed.typed_typedefs.Goals as goal
 

@@ -4,8 +4,8 @@ use Rattle.std.proofs.lemmas.List.{drop_all}
 use Rattle.c_tree.specs.declared.declaration.InitDeclarator.{InitDeclarator}
 use Rattle.c_tree.specs.Declarations.{view_full, declarators_of, view_initializer}
 use Rattle.c_scope.specs.Scopes.{Environment, view_named}
-use Rattle.c_elab_type.specs.declared.derivations.Derived.{Derived as CodeDerived}
-use Rattle.c_elab_type.specs.Derivations.{view_deriveds, view_derivation, derivation}
+use Rattle.c_elab_base.specs.declared.derivations.Derived.{Derived as CodeDerived}
+use Rattle.c_elab_base.specs.Derivations.{view_deriveds, view_derivation, derivation}
 use Rattle.c_scope.specs.Faults.{Fails}
 use Rattle.c_tree.specs.Declarations.{Declarators}
 use Rattle.c_elab_type.specs.Declarators.{Typed}
@@ -13,8 +13,8 @@ use Rattle.c_elab_type.specs.Specifiers.{typed_full}
 use Rattle.c_elab_type.specs.Steps.{items_first}
 use Rattle.c_elab_object.specs.Listed.{typed_variables}
 use Rattle.c_elab_type.proofs.Fronts.{behind_fails, fault_step, memory_step}
-use Rattle.c_elab_type.proofs.Lists.{declarators_at}
-use Rattle.c_elab_type.proofs.Steps.{fails_on}
+use Rattle.c_elab_base.proofs.Lists.{declarators_at}
+use Rattle.c_elab_base.proofs.Steps.{fails_on}
 use Rattle.c_elab_object.proofs.Listing.{variables_more, variables_full_fail}
 use Rattle.c_elab_object.proofs.listed.typed_variables.Goals as goal
 

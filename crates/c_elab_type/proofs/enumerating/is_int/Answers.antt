@@ -1,6 +1,6 @@
 use Rattle.std.proofs.Common.{◌≡◌, w64, to_z, of_z}
 use Rattle.std.proofs.lemmas.Int.{to_z-of_z}
-use Rattle.c_elab_type.proofs.Comparing.{not_above, not_below}
+use Rattle.c_elab_base.proofs.Comparing.{not_above, not_below}
 use Rattle.c_elab_type.proofs.enumerating.is_int.Goals as goal
 
 pub returns-then-number-geminus2147483648 : goal.returns-then-number-geminus2147483648

@@ -6,7 +6,7 @@ use Rattle.c_tree.specs.Declarations.{view_enumerator}
 use Rattle.c_scope.specs.Scopes.{Scoped}
 use Rattle.c_scope.specs.Faults.{◌>>=◌, Fault}
 use Rattle.c_elab_type.specs.Enumerations.{typed_enumerator, typed_enumerators}
-use Rattle.c_elab_type.proofs.Steps.{fails_on, gives_err, list_at}
+use Rattle.c_elab_base.proofs.Steps.{fails_on, gives_err, list_at}
 use Rattle.c_elab_type.proofs.enumerating.typed_enumerators.Goals as goal
 
 pub typed_enumerator-requires : goal.typed_enumerator-requires

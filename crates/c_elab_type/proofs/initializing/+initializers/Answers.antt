@@ -8,9 +8,10 @@ use Rattle.c_tree.proofs.Deepest.{deepest_within, of_initializer, initials_deepe
 use Rattle.c_types.specs.Types.{Records, view as type_view}
 use Rattle.c_scope.specs.Faults.{◌>>=◌, Fault, Gives}
 use Rattle.c_elab_type.specs.declared.items.Made.{Made as CodeMade}
-use Rattle.c_elab_type.specs.Initializers.{Made, view_made, slot, slot_type, braced, typed_initial, typed_initials}
-use Rattle.c_elab_type.proofs.Lists.{initials_at}
-use Rattle.c_elab_type.proofs.Steps.{fails_on, gives_err}
+use Rattle.c_elab_base.specs.Slots.{slot, slot_type}
+use Rattle.c_elab_type.specs.Initializers.{Made, view_made, braced, typed_initial, typed_initials}
+use Rattle.c_elab_base.proofs.Lists.{initials_at}
+use Rattle.c_elab_base.proofs.Steps.{fails_on, gives_err}
 use Rattle.c_elab_type.proofs.Values.{views, items_first, none_first, item_more, item_fails, one_longer}
 use Rattle.c_elab_type.proofs.initializing.+initializers.Goals as goal
 
@@ -24,9 +25,9 @@ typed_initial-returns-in_err-items-in-List t c =
     let e = c.in_err-items-in-List.field-0.0 in
     let whole = typed_initial lasting s u (view_initializer c.args.initializer.now) in
     let shape = ap (λ (i : Initializer). typed_initial lasting s u (view_initializer i)) c.in-List.is ∙ ap (typed_initial lasting s u) (view_braces line c.in-List.items)
-    ∙ ap (λ (is : List Initializer). typed_initials lasting s u 0 (initials_of is) >>= λ xs. braced line s.records u xs) (sym c.deref.ensures.value) in
+    ∙ ap (λ (is : List Initializer). typed_initials lasting s u 0 (initials_of is) >>= λ xs. braced line s.records u xs) (sym c.deref-in-List.ensures.value) in
     gives_err _ _ p.0 e whole p.1 p.2
-    (fails_on e (typed_initials lasting s u 0 (initials_of c.deref.result.now)) whole (λ f bad. shape ∙ ap (λ (r : Result (List Made) Fault). r >>= λ xs. braced line s.records u xs) bad)
+    (fails_on e (typed_initials lasting s u 0 (initials_of c.deref-in-List.result.now)) whole (λ f bad. shape ∙ ap (λ (r : Result (List Made) Fault). r >>= λ xs. braced line s.records u xs) bad)
     c.in_err-items-in-List.ensures)
 
 pub typed_initial-returns-in_ok-items-in-List : goal.typed_initial-returns-in_ok-items-in-List
@@ -38,7 +39,7 @@ typed_initial-returns-in_ok-items-in-List t c =
     let whole = typed_initial lasting s u (view_initializer c.args.initializer.now) in
     let shape : whole ≡ braced line c.layouts.result.now u (views c.in_ok-items-in-List.items.items) =
     ap (λ (i : Initializer). typed_initial lasting s u (view_initializer i)) c.in-List.is ∙ ap (typed_initial lasting s u) (view_braces line c.in-List.items)
-    ∙ ap (λ (is : List Initializer). typed_initials lasting s u 0 (initials_of is) >>= λ xs. braced line s.records u xs) (sym c.deref.ensures.value)
+    ∙ ap (λ (is : List Initializer). typed_initials lasting s u 0 (initials_of is) >>= λ xs. braced line s.records u xs) (sym c.deref-in-List.ensures.value)
     ∙ ap (λ (r : Result (List Made) Fault). r >>= λ xs. braced line s.records u xs) c.in_ok-items-in-List.ensures
     ∙ ap (λ (rs : Records). braced line rs u (views c.in_ok-items-in-List.items.items)) (sym c.layouts.ensures) in
     subst (λ (r : Result Made Fault). Gives view_made c.braced.result r) (sym shape) c.braced.ensures
@@ -105,7 +106,7 @@ typed_initials-returns t c =
 pub typed_initial-typed_initials-requires : goal.typed_initial-typed_initials-requires
 typed_initial-typed_initials-requires t c =
     let e = ap (λ (i : Initializer). initial_depth (view_initializer i)) c.in-List.is ∙ ap initial_depth (view_braces c.in-List.line c.in-List.items) in
-    let same = ap (λ (is : List Initializer). initials_depth (initials_of is)) c.deref.ensures.value in
+    let same = ap (λ (is : List Initializer). initials_depth (initials_of is)) c.deref-in-List.ensures.value in
     omega (arith, e, same)
 
 pub typed_initials-typed_item-requires : goal.typed_initials-typed_item-requires

@@ -3,7 +3,7 @@ use Rattle.c_tree.specs.declared.declaration.Initializer.{Initializer}
 use Rattle.c_tree.specs.Declarations.{view_initializer}
 use Rattle.c_tree.proofs.DeclarationViews.{view_braces}
 use Rattle.c_elab_type.specs.Initializers.{elements_said}
-use Rattle.c_elab_type.proofs.Lists.{counted}
+use Rattle.c_elab_type.proofs.Values.{counted}
 use Rattle.c_elab_type.proofs.initializing.elements_said.Goals as goal
 
 pub returns-in-List : goal.returns-in-List

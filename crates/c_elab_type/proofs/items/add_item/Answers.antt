@@ -1,6 +1,7 @@
 use Rattle.std.proofs.Common.{◌≡◌, ℕ, Option, None, Err, OnOk, refl, subst}
 use Rattle.c_types.specs.Types.{CType, view as type_view}
-use Rattle.c_elab_type.specs.Initializers.{view_made, view_found, slot, item_node}
+use Rattle.c_elab_base.specs.Slots.{slot}
+use Rattle.c_elab_type.specs.Initializers.{view_made, view_found, item_node}
 use Rattle.c_elab_type.proofs.items.add_item.Goals as goal
 
 pub returns-in-None : goal.returns-in-None

@@ -5,17 +5,18 @@ use Rattle.c_tree.specs.Tree.{view_name}
 use Rattle.c_tree.specs.Declarations.{view_part, parts_of, parts_line, members, no_member, members_of, name_of, full_has_name, FullSuffixes, full_end, full_parameters, no_parameter, view_full, fulls_of, view_full_suffix, full_suffixes_of, parameters_of, view_parameter as view_parameter_tree}
 use Rattle.c_tree.proofs.DeclarationViews.{view_record, view_unnamed, view_named as view_named_full, view_inside, view_takes}
 use Rattle.c_scope.specs.Faults.{Fault, Gives, on_line, ◌>>=◌}
-use Rattle.c_elab_type.specs.Specifiers.{Parted, Fields, typed_record, typed_part, typed_members, is_none, has_untagged, said_before, with_field, fields_behind, called_in_front, ended, view_parted, Passed, are_several, inner_region, with_member, typed_fields, typed_full, typed_suffixes, typed_parameters, typed_parts, view_typed}
-use Rattle.c_elab_type.specs.declared.derivations.Derived.{Derived as CodeDerived}
-use Rattle.c_elab_type.specs.Derivations.{Derived, derivation, view_deriveds, view_parameters}
+use Rattle.c_elab_base.specs.Specifiers.{Parted, Fields, is_none, has_untagged, said_before, with_field, fields_behind, called_in_front, ended, view_parted, Passed, are_several, inner_region, with_member, view_typed}
+use Rattle.c_elab_type.specs.Specifiers.{typed_record, typed_part, typed_members, typed_fields, typed_full, typed_suffixes, typed_parameters, typed_parts}
+use Rattle.c_elab_base.specs.declared.derivations.Derived.{Derived as CodeDerived}
+use Rattle.c_elab_base.specs.Derivations.{Derived, derivation, view_deriveds, view_parameters}
 use Rattle.std.proofs.lemmas.Result.{err_from_is_err_and}
 use Rattle.std.proofs.lemmas.List.{drop_all, append-nil}
 use Rattle.c_tree.specs.declared.declaration.FullDeclarator.{FullDeclarator}
 use Rattle.c_tree.specs.declared.declaration.DeclaratorSuffix.{DeclaratorSuffix}
 use Rattle.c_tree.specs.declared.declaration.Parameter.{Parameter as ParameterTree}
 use Rattle.c_scope.specs.Scopes.{Environment, Scoped, are_there, view_named}
-use Rattle.c_elab_type.specs.Regions.{earlier}
-use Rattle.c_elab_type.specs.declared.regions.Region.{Region}
+use Rattle.c_elab_base.specs.Regions.{earlier}
+use Rattle.c_elab_base.specs.declared.regions.Region.{Region}
 use Rattle.std.specs.Prelude.{◌&&◌, is_some, nat_lt, Vec}
 use Rattle.std.specs.Global.{Global}
 use Rattle.c_types.specs.Types.{CType, view as type_view}
@@ -23,11 +24,11 @@ use Rattle.c_scope.specs.declared.members.Field.{Field as CodeField}
 use Rattle.c_scope.specs.Members.{Field}
 use Rattle.c_scope.specs.Types.{Said, specified_type}
 use Rattle.c_scope.proofs.Variables.{and}
-use Rattle.c_elab_type.specs.declared.derivations.Parameter.{Parameter as CodeParameter}
+use Rattle.c_elab_base.specs.declared.derivations.Parameter.{Parameter as CodeParameter}
 use Rattle.c_elab_type.specs.Steps.{suffixes_first}
 use Rattle.c_elab_type.proofs.specifying.+specifiers.Goals.{typed_line-then-alone+then-has_untagged+in_ok-copied+in_ok-add_field, typed_line-else-alone, typed_line-else-alone-via-then-alone+else-has_untagged, typed_line-else-alone-via-else-alone}
 use Rattle.c_elab_type.proofs.specifying.+specifiers.Goals as goal
-use Rattle.c_elab_type.proofs.Steps.{fails_on, fails_bind, fails_along, gives_err}
+use Rattle.c_elab_base.proofs.Steps.{fails_on, fails_bind, fails_along, gives_err}
 use Rattle.c_elab_type.proofs.Suffixes.{fulls_at, suffixes_at, parameters_at, field_more, field_fails, full_fails, joined, derives_both, derives_as, derives_fault, derives_one, suffix_fails, first_fails, parameter_more, parameter_fails, line_parts_fail, line_type_fails, line_is, none_declared, with_it, without_it, several_are, parameter_sized}
 use Rattle.c_elab_type.proofs.Ending.{names_within, variables_within, names_there, suffix_ends, names_now, variables_now}
 
@@ -206,7 +207,7 @@ add_suffixes-returns-clause-gives t c =
 pub typed_suffix-end_parameters-requires-clause-within : goal.typed_suffix-end_parameters-requires-clause-within
 typed_suffix-end_parameters-requires-clause-within t c =
     let s = c.args.scope.now in
-    let ps = parameters_of c.deref.result.now in
+    let ps = parameters_of c.deref-in-Parameters.result.now in
     let p : Passed = record { parameters = view_parameters c.in_ok-parameters-in-Parameters.parameters.items; scope = c.typed_parameters.new.scope } in
     let within = names_within s (are_several ps) ps p c.in_ok-parameters-in-Parameters.ensures.gives in
     let at = c.len-outer.ensures in
@@ -215,7 +216,7 @@ typed_suffix-end_parameters-requires-clause-within t c =
 pub typed_suffix-end_parameters-requires-clause-variables : goal.typed_suffix-end_parameters-requires-clause-variables
 typed_suffix-end_parameters-requires-clause-variables t c =
     let s = c.args.scope.now in
-    let ps = parameters_of c.deref.result.now in
+    let ps = parameters_of c.deref-in-Parameters.result.now in
     let p : Passed = record { parameters = view_parameters c.in_ok-parameters-in-Parameters.parameters.items; scope = c.typed_parameters.new.scope } in
     let within = variables_within s (are_several ps) ps p c.in_ok-parameters-in-Parameters.ensures.gives in
     let few = c.variable_count-variables.ensures in
@@ -225,7 +226,7 @@ pub typed_suffix-end_parameters-requires-clause-there : goal.typed_suffix-end_pa
 typed_suffix-end_parameters-requires-clause-there t c =
     let s = c.args.scope.now in
     let u = c.typed_parameters.new.scope in
-    let ps = parameters_of c.deref.result.now in
+    let ps = parameters_of c.deref-in-Parameters.result.now in
     let p : Passed = record { parameters = view_parameters c.in_ok-parameters-in-Parameters.parameters.items; scope = u } in
     ap₂ (λ (m n : ℕ). are_there m (length u.objects) (length u.types) (length u.records.declared) (drop (length u.bindings - n) u.bindings)) c.variable_count-variables.ensures c.len-outer.ensures
     ∙ names_there s (are_several ps) ps p c.in_ok-parameters-in-Parameters.ensures.gives c.prove_there.ensures.there
@@ -234,22 +235,22 @@ pub typed_suffix-returns-in_ok-parameters-in-Parameters-clause-gives : goal.type
 typed_suffix-returns-in_ok-parameters-in-Parameters-clause-gives t c =
     let s = c.args.scope.now in
     let u = c.typed_parameters.new.scope in
-    let ps = parameters_of c.deref.result.now in
+    let ps = parameters_of c.deref-in-Parameters.result.now in
     let made = view_parameters c.in_ok-parameters-in-Parameters.parameters.items in
     let shape = ap (λ (x : DeclaratorSuffix). view_full_suffix x full_end) c.in-Parameters.is ∙ view_takes c.in-Parameters.line c.in-Parameters.parameters c.in-Parameters.variadic full_end in
     ap (typed_suffixes s) shape
-    ∙ ap (λ (xs : List ParameterTree). typed_suffixes s (full_parameters c.in-Parameters.line (parameters_of xs) c.in-Parameters.variadic full_end)) (sym c.deref.ensures.value)
+    ∙ ap (λ (xs : List ParameterTree). typed_suffixes s (full_parameters c.in-Parameters.line (parameters_of xs) c.in-Parameters.variadic full_end)) (sym c.deref-in-Parameters.ensures.value)
     ∙ suffix_ends s u c.end_parameters.new.self c.in-Parameters.line c.len-outer.result c.variable_count-variables.result ps c.in-Parameters.variadic made c.len-outer.ensures c.variable_count-variables.ensures
     c.in_ok-parameters-in-Parameters.ensures.gives c.end_parameters.ensures
 
 pub typed_suffix-returns-in_ok-parameters-in-Parameters-clause-names : goal.typed_suffix-returns-in_ok-parameters-in-Parameters-clause-names
 typed_suffix-returns-in_ok-parameters-in-Parameters-clause-names t c =
-    names_now c.args.scope.now c.typed_parameters.new.scope c.end_parameters.new.self c.in-Parameters.line c.len-outer.result c.variable_count-variables.result (parameters_of c.deref.result.now) c.in-Parameters.variadic
+    names_now c.args.scope.now c.typed_parameters.new.scope c.end_parameters.new.self c.in-Parameters.line c.len-outer.result c.variable_count-variables.result (parameters_of c.deref-in-Parameters.result.now) c.in-Parameters.variadic
     (view_parameters c.in_ok-parameters-in-Parameters.parameters.items) c.len-outer.ensures c.variable_count-variables.ensures c.in_ok-parameters-in-Parameters.ensures.gives c.end_parameters.ensures
 
 pub typed_suffix-returns-in_ok-parameters-in-Parameters-clause-variables : goal.typed_suffix-returns-in_ok-parameters-in-Parameters-clause-variables
 typed_suffix-returns-in_ok-parameters-in-Parameters-clause-variables t c =
-    variables_now c.args.scope.now c.typed_parameters.new.scope c.end_parameters.new.self c.in-Parameters.line c.len-outer.result c.variable_count-variables.result (parameters_of c.deref.result.now) c.in-Parameters.variadic
+    variables_now c.args.scope.now c.typed_parameters.new.scope c.end_parameters.new.self c.in-Parameters.line c.len-outer.result c.variable_count-variables.result (parameters_of c.deref-in-Parameters.result.now) c.in-Parameters.variadic
     (view_parameters c.in_ok-parameters-in-Parameters.parameters.items) c.len-outer.ensures c.variable_count-variables.ensures c.in_ok-parameters-in-Parameters.ensures.gives c.end_parameters.ensures
 
 -- ---- parameters from left to right
@@ -335,13 +336,13 @@ typed_suffix-returns-in_err-parameters-in-Parameters-clause-gives t c =
     let p = err_from_is_err_and c.from_residual-in_err-parameters-in-Parameters.result c.from_residual-in_err-parameters-in-Parameters.ensures.1 in
     let s = c.args.scope.now in
     let e = c.in_err-parameters-in-Parameters.field-0.0 in
-    let ps = parameters_of c.deref.result.now in
+    let ps = parameters_of c.deref-in-Parameters.result.now in
     let first : Passed = record { parameters = []; scope = s } in
     let typing = typed_parameters (inner_region s) (are_several ps) first ps in
     let whole = typed_suffixes s (view_full_suffix c.args.suffix.now full_end) in
     let shape = ap (λ (x : DeclaratorSuffix). view_full_suffix x full_end) c.in-Parameters.is ∙ view_takes c.in-Parameters.line c.in-Parameters.parameters c.in-Parameters.variadic full_end in
     let here : whole ≡ typed_suffixes s (full_parameters c.in-Parameters.line ps c.in-Parameters.variadic full_end) =
-    ap (typed_suffixes s) shape ∙ ap (λ (xs : List ParameterTree). typed_suffixes s (full_parameters c.in-Parameters.line (parameters_of xs) c.in-Parameters.variadic full_end)) (sym c.deref.ensures.value) in
+    ap (typed_suffixes s) shape ∙ ap (λ (xs : List ParameterTree). typed_suffixes s (full_parameters c.in-Parameters.line (parameters_of xs) c.in-Parameters.variadic full_end)) (sym c.deref-in-Parameters.ensures.value) in
     gives_err _ _ p.0 e whole p.1 p.2
     (fails_on e typing whole
     (λ f bad. here ∙ ap (λ (r : Result Passed Fault). r >>= λ q. called_in_front q.parameters c.in-Parameters.variadic (typed_suffixes (ended s q.scope) full_end)) bad)

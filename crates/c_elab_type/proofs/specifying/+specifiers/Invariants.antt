@@ -1,8 +1,9 @@
 use Rattle.std.proofs.Common.{◌≡◌, ◌≤◌, [], length, drop}
 use Rattle.c_tree.specs.Declarations.{parts_of, members_of, fulls_of, full_suffixes_of, parameters_of}
 use Rattle.c_scope.specs.Scopes.{view_named}
-use Rattle.c_elab_type.specs.Derivations.{view_parameters, view_deriveds}
-use Rattle.c_elab_type.specs.Specifiers.{typed_parts, typed_members, typed_fields, typed_suffixes, typed_parameters, view_parted, view_typed}
+use Rattle.c_elab_base.specs.Derivations.{view_parameters, view_deriveds}
+use Rattle.c_elab_base.specs.Specifiers.{view_parted, view_typed}
+use Rattle.c_elab_type.specs.Specifiers.{typed_parts, typed_members, typed_fields, typed_suffixes, typed_parameters}
 use Rattle.c_elab_type.specs.Steps.{suffixes_first}
 use Rattle.c_elab_type.proofs.specifying.+specifiers.Given as goal
 

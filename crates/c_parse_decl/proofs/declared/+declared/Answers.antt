@@ -1,6 +1,4 @@
-use Rattle.std.proofs.Common.{◌≡◌, ◌+◌, List, ap, sym, ◌∙◌, arith}
-use Rattle.std.proofs.lemmas.List.{take_all}
-use Rattle.c_tree.specs.Names.{Scope}
+use Rattle.std.proofs.Common.{List, ap, sym, ◌∙◌, arith}
 use Rattle.c_tree.specs.declared.declaration.Specifier.{Specifier}
 use Rattle.c_tree.specs.declared.declaration.MemberDeclaration.{MemberDeclaration}
 use Rattle.c_tree.specs.Declarations.{view_part, parts_of, members_of, part_depth, parts_depth, members_depth, with_part, with_parts, with_members}

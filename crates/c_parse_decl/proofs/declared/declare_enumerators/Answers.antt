@@ -1,7 +1,6 @@
-use Rattle.std.proofs.Common.{◌≡◌, ◌∷◌, List, ℕ, false, map, ap, ◌∙◌, arith}
-use Rattle.std.proofs.lemmas.List.{take_all}
+use Rattle.std.proofs.Common.{◌∷◌, List, ℕ, false, ap, ◌∙◌, arith}
 use Rattle.c_tree.specs.declared.declaration.Enumerator.{Enumerator}
-use Rattle.c_tree.specs.Declarations.{view_enumerator, with_enumerators}
+use Rattle.c_tree.specs.Declarations.{view_enumerator}
 use Rattle.c_parse_decl.proofs.DeclaredNames.{enumerators_more}
 use Rattle.c_parse_decl.proofs.declared.declare_enumerators.Goals as goal
 

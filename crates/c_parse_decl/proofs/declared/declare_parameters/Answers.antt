@@ -1,7 +1,5 @@
-use Rattle.std.proofs.Common.{◌≡◌, List, ap, ◌∙◌, arith}
-use Rattle.std.proofs.lemmas.List.{take_all}
+use Rattle.std.proofs.Common.{ap, ◌∙◌, arith}
 use Rattle.c_tree.specs.declared.declaration.Parameter.{Parameter}
-use Rattle.c_tree.specs.Declarations.{parameters_of, with_parameters}
 use Rattle.c_parse_decl.proofs.DeclaredNames.{with_parameter, parameters_more}
 use Rattle.c_parse_decl.proofs.declared.declare_parameters.Goals as goal
 

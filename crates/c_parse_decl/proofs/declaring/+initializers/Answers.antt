@@ -1,13 +1,12 @@
-use Rattle.std.proofs.Common.{◌≡◌, ◌≤◌, ◌+◌, ◌-◌, ◌++◌, ℕ, suc, List, [], ◌∷◌, length, true, false, refl, ap, arith}
+use Rattle.std.proofs.Common.{◌≡◌, ◌+◌, ◌-◌, suc, length, false, refl, arith}
 use Rattle.std.proofs.lemmas.Result.{err_from_is_err_and}
 use Rattle.c_tree.specs.Tree.{view}
 use Rattle.c_tree.specs.Declarations.{no_initial, view_initializer}
-use Rattle.c_parse_expr.specs.Reading.{reader}
 use Rattle.c_parse_expr.proofs.Loops.{fails_on}
 use Rattle.c_parse_decl.specs.Reading.{next_at, initial_at, initials_list, initials_at}
 use Rattle.c_parse_decl.proofs.Lists.{fails, goes}
 use Rattle.c_parse_decl.proofs.Shorter.{reader_shorter}
-use Rattle.c_parse_decl.proofs.Loops.{not_shut, initials_begin, initials_close, value_made, value_fails, braces_fail, braces_made}
+use Rattle.c_parse_decl.proofs.Loops.{not_shut, initials_begin, initials_close, value_made, braces_fail, braces_made}
 use Rattle.c_parse_decl.proofs.declaring.+initializers.Goals as goal
 
 pub initial-returns-in_default-clause-exact : goal.initial-returns-in_default-clause-exact
@@ -17,7 +16,7 @@ initial-returns-in_default-clause-exact t c =
 
 pub initial-returns-in_default-clause-shorter : goal.initial-returns-in_default-clause-shorter
 initial-returns-in_default-clause-shorter t c =
-    reader_shorter c.args.bytes.now c.args.names.now c.args.levels 2 c.args.tokens.now (view c.in_ok-found.found.tree, c.in_ok-found.found.rest.now) (omega arith) c.in_ok-found.ensures.exact
+    reader_shorter c.args.bytes.now c.args.names.now c.args.levels 2 c.args.tokens.now (view c.in_ok-found.found.tree.value, c.in_ok-found.found.rest.now) (omega arith) c.in_ok-found.ensures.exact
 
 pub initial-returns-in_err-items-clause-exact : goal.initial-returns-in_err-items-clause-exact
 initial-returns-in_err-items-clause-exact t c =

@@ -1,4 +1,4 @@
-use Rattle.std.proofs.Common.{◌≡◌, ◌<◌, ◌≤◌, ◌+◌, ◌*◌, ℕ, length}
+use Rattle.std.proofs.Common.{◌<◌, ◌≤◌, ◌+◌, ◌*◌, ℕ, length}
 use Rattle.c_tree.specs.Declarations.{view_initializer}
 use Rattle.c_parse_decl.specs.Reading.{initials_list, initials_at, initial_at}
 use Rattle.c_parse_decl.proofs.Lists.{Left}

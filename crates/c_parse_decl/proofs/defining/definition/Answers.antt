@@ -1,6 +1,10 @@
-use Rattle.std.proofs.Common.{◌≡◌, ◌∙◌, ap, sym}
-use Rattle.c_tree.specs.Declarations.{view_full, parts_of, nearest, is_function, with_parameters_of}
-use Rattle.c_parse_decl.proofs.Loops.{defined, not_defined, body_extends, fits_marked, left_marked}
+use Rattle.std.proofs.Common.{◌∙◌, ap, sym}
+use Rattle.c_tree.specs.Declarations.{view_full, parts_of, nearest}
+use Rattle.c_tree.specs.declared.statement.Definition.{Definition}
+use Rattle.c_tree.specs.Statements.{view_statement}
+use Rattle.c_parse_decl.specs.Reading.{read_as}
+use Rattle.c_parse_decl.specs.Standing.{defining}
+use Rattle.c_parse_decl.proofs.Loops.{defined, body_extends, fits_marked, left_marked}
 use Rattle.c_parse_decl.proofs.defining.definition.Goals as goal
 
 pub leave-requires : goal.leave-requires
@@ -16,3 +20,4 @@ returns-clause-names c =
 pub returns-clause-exact : goal.returns-clause-exact
 returns-clause-exact c =
     defined c.args.bytes.now c.args.names.now c.declare_body.new.names (parts_of c.args.specifiers.items) (view_full c.args.declarator) c.args.line c.args.tokens.now _ _ c.is_function.result c.if-not-is_function.false c.is_function.ensures c.in_ok-declare_body.ensures c.in_ok-body.ensures.exact
+    ∙ ap (λ (d : Definition). read_as (defining (parts_of d.specifiers.items) (view_full d.declarator) (view_statement d.body.value)) c.in_ok-body.rest.now) (sym c.in_ok-definition.ensures.ok)

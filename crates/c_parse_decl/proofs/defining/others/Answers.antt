@@ -1,4 +1,3 @@
-use Rattle.std.proofs.Common.{◌≡◌}
 use Rattle.c_parse_decl.proofs.Loops.{others_made, others_names}
 use Rattle.c_parse_decl.proofs.defining.others.Goals as goal
 

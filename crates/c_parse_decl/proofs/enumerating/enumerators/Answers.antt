@@ -1,9 +1,9 @@
-use Rattle.std.proofs.Common.{◌≡◌, ◌+◌, ◌++◌, ℕ, List, [], ◌∷◌, length, map, Bool, refl, true, false, ap, sym, ◌∙◌, arith}
+use Rattle.std.proofs.Common.{◌≡◌, ◌+◌, ℕ, List, [], ◌∷◌, length, map, false, ap, sym, ◌∙◌, arith}
 use Rattle.std.proofs.lemmas.Result.{err_from_is_err_and}
 use Rattle.c_tree.specs.declared.declaration.Enumerator.{Enumerator}
 use Rattle.c_tree.specs.Declarations.{view_enumerator, with_enumerators}
 use Rattle.c_tree.specs.Names.{Scope}
-use Rattle.c_parse_decl.specs.Reading.{State, next_at, enumerator_at, enumerators_list, enumerators_at}
+use Rattle.c_parse_decl.specs.Reading.{next_at, enumerator_at, enumerators_list, enumerators_at}
 use Rattle.c_parse_expr.proofs.Loops.{fails_on}
 use Rattle.c_parse_decl.proofs.Lists.{fails, goes}
 use Rattle.c_parse_decl.proofs.Loops.{not_shut, enumerators_begin, enumerators_close, enumerators_push}

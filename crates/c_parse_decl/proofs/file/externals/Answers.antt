@@ -1,4 +1,3 @@
-use Rattle.std.proofs.Common.{sym}
 use Rattle.c_tree.specs.Names.{built_in_names}
 use Rattle.c_tree.specs.Statements.{externals_of}
 use Rattle.c_parse_decl.proofs.Outers.{no_file, none_here, one_more, more_names, whole_file, empty_by, some_left}

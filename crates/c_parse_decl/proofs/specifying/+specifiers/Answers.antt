@@ -1,22 +1,21 @@
-use Rattle.std.proofs.Common.{◌≡◌, ◌<◌, ◌+◌, ◌++◌, ℕ, List, [], ◌∷◌, length, true, false, Some, None, refl, ap, sym, ◌∙◌, arith}
+use Rattle.std.proofs.Common.{◌<◌, ◌+◌, List, length, false, Some, None, refl, ap, sym, ◌∙◌, arith}
 use Rattle.std.proofs.lemmas.Result.{err_from_is_err_and}
-use Rattle.c_lexer.specs.declared.token.Mark.TheVariants as marks
+use Rattle.c_token.specs.declared.token.Mark.TheVariants as marks
 use Rattle.c_tree.specs.declared.declaration.MemberDeclaration.{MemberDeclaration}
 use Rattle.c_tree.specs.declared.declaration.Specifier.{Specifier}
-use Rattle.c_lexer.specs.declared.token.Token.{Token}
+use Rattle.c_token.specs.declared.token.Token.{Token}
 use Rattle.c_tree.specs.Names.{Scope}
 use Rattle.c_tree.proofs.DeclarationViews.{view_record}
 use Rattle.c_parse_decl.specs.declared.table.Start.{Start}
-use Rattle.c_tree.specs.Declarations.{no_member, no_full, Full, view_full, fulls_of, full_suffixes_of, view_part, parts_of, members_of, with_part, with_parts, with_members, have_typedef}
+use Rattle.c_tree.specs.Declarations.{no_member, no_full, view_full, view_part, parts_of, members_of, with_part, with_parts, with_members, have_typedef}
 use Rattle.c_parse_expr.proofs.Loops.{fails_on}
-use Rattle.c_parse_decl.specs.Reading.{Read, start_at, part_from, parts_list, parts_at, next_at, fulls_list, fulls_at, member_at, members_list, members_at, full_from, opening_at, one_from, suffixes_list, suffixes_at, parameter_at, parameters_list, parameters_at, body_at, full_at}
+use Rattle.c_parse_decl.specs.Reading.{start_at, part_from, parts_list, parts_at, next_at, fulls_list, fulls_at, member_at, members_list, members_at, full_from, opening_at, one_from, suffixes_list, suffixes_at, parameter_at, parameters_list, parameters_at, body_at, full_at}
 use Rattle.c_parse_decl.specs.declared.slices.Heart.{Heart}
 use Rattle.c_parse_decl.specs.declared.slices.Opening.{Opening}
 use Rattle.c_parse_decl.specs.Pieces.{suffix_of, parameter_of}
 use Rattle.c_parse_decl.proofs.Shorter.{full_shorter, parts_shorter}
-use Rattle.c_tree.proofs.DeclarationViews.{view_unnamed, view_named, view_inside}
-use Rattle.c_parse_decl.proofs.Lists.{fails, goes, bind_gives}
-use Rattle.c_parse_decl.proofs.Loops.{not_ended, parts_begin, parts_go, parts_close, parts_push, part_reads, part_state, record_made, typedef_push, member_of, members_begin, members_close, members_push, fulls_begin, fulls_close, suffixes_begin, suffixes_go, suffixes_close, suffix_reads, parameters_begin, parameters_close, parameters_go, lasted, given_made, inside_made, unnamed_made, named_made, some_known, parameters_extend, pair, extends_here, mark_fits, left_behind}
+use Rattle.c_parse_decl.proofs.Lists.{fails, goes}
+use Rattle.c_parse_decl.proofs.Loops.{not_ended, parts_begin, parts_go, parts_close, parts_push, part_reads, part_state, record_made, typedef_push, member_of, members_begin, members_close, members_push, fulls_begin, fulls_close, suffixes_begin, suffixes_go, suffixes_close, suffix_reads, parameters_begin, parameters_close, parameters_go, given_made, inside_made, unnamed_made, named_made, some_known, parameters_extend, pair, extends_here}
 use Rattle.c_parse_decl.proofs.specifying.+specifiers.Goals as goal
 
 pub members-members-init : goal.members-members-init

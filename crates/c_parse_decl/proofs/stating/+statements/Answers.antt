@@ -1,18 +1,20 @@
 use Rattle.std.proofs.Common.{◌+◌, length, ◌∙◌, arith}
 use Rattle.c_tree.specs.Declarations.{parts_of, declarators_of}
+use Rattle.std.specs.Prelude.{Result, Ok, Err, IfOk}
+use Rattle.c_parse_expr.specs.declared.fault.Refused.{Refused}
 use Rattle.std.proofs.lemmas.Result.{err_from_is_err_and}
-use Rattle.c_lexer.specs.declared.token.Mark.TheVariants as marks
+use Rattle.c_token.specs.declared.token.Mark.TheVariants as marks
 use Rattle.c_tree.specs.Statements.{done}
 use Rattle.c_parse_expr.proofs.Loops.{fails_on}
 use Rattle.c_parse_decl.specs.Reading.{item_at, items_list, items_at, statement_at}
 use Rattle.c_parse_decl.specs.Pieces.{piece_of}
 use Rattle.c_parse_decl.proofs.Lists.{fails, goes}
-use Rattle.c_parse_decl.proofs.Loops.{not_ended, items_begin, items_close, block_made, extends_here, extends_on, mark_fits, left_behind, declaration_extends, fits_marked, left_marked}
+use Rattle.c_parse_decl.proofs.Loops.{not_ended, items_begin, items_close, block_made, extends_here, extends_on, declaration_extends, fits_marked, left_marked}
 use Rattle.c_parse_decl.proofs.stating.+statements.Goals as goal
 
 pub block-returns-clause-exact : goal.block-returns-clause-exact
 block-returns-clause-exact t c =
-    block_made c.args.bytes.now c.args.levels (statement_at c.args.bytes.now c.args.levels) c.args.names.now c.args.line c.args.tokens.now c.in_ok-items.rest.now c.in_ok-items.items c.in_ok-items.ensures.exact
+    rw (block_made c.args.bytes.now c.args.levels (statement_at c.args.bytes.now c.args.levels) c.args.names.now c.args.line c.args.tokens.now c.in_ok-items.rest.now c.in_ok-items.items c.in_ok-items.ensures.exact) c.made.ensures.exact
 
 pub items-items-init : goal.items-items-init
 items-items-init t c = record {
@@ -52,14 +54,19 @@ items-items-preserved t c =
       names = extends_on c.args.names.now c.items.names c.item.new.names c.in_ok-next.next c.items.invariant.names c.in_ok-next.ensures.names;
     }
 
+-- what holds anyway holds of what a call returned
+always : {T : Type 0} (r : Result T Refused) (P : Type 0) → P → IfOk r (λ _. P)
+always (Ok x) P p = p
+always (Err e) P p = tt
+
 pub declared_for-leave-requires : goal.declared_for-leave-requires
 declared_for-leave-requires t c =
-    let d = c.in_ok-declaration.declaration in
+    let d = c.in_ok-declaration.declaration.value in
     let e = declaration_extends c.args.names.now c.header.new.names (parts_of d.specifiers.items) (declarators_of d.declarators.items) (c.in_ok-found.ensures.names ∙ c.in_ok-declaration.ensures.names) in
     fits_marked c.args.names.now c.header.new.names c.mark-mark.result c.mark-mark.ensures e
 
 pub declared_for-returns-clause-names : goal.declared_for-returns-clause-names
 declared_for-returns-clause-names t c =
-    let d = c.in_ok-declaration.declaration in
+    let d = c.in_ok-declaration.declaration.value in
     let e = declaration_extends c.args.names.now c.header.new.names (parts_of d.specifiers.items) (declarators_of d.declarators.items) (c.in_ok-found.ensures.names ∙ c.in_ok-declaration.ensures.names) in
-    left_marked c.args.names.now c.header.new.names c.leave.new.self c.mark-mark.result c.mark-mark.ensures e c.leave.ensures
+    always c.made.result _ (left_marked c.args.names.now c.header.new.names c.leave.new.self c.mark-mark.result c.mark-mark.ensures e c.leave.ensures)

@@ -1,4 +1,4 @@
-use Rattle.std.proofs.Common.{◌≡◌, ◌<◌, ◌≤◌, ◌+◌, ◌*◌, ℕ, length}
+use Rattle.std.proofs.Common.{◌<◌, ◌≤◌, ◌+◌, ◌*◌, ℕ, length}
 use Rattle.c_parse_decl.specs.Reading.{items_list, items_at, statement_at}
 use Rattle.c_parse_decl.specs.Pieces.{piece_of}
 use Rattle.c_parse_decl.proofs.Lists.{Left}

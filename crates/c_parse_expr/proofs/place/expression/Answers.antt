@@ -1,5 +1,5 @@
 use Rattle.std.proofs.Common.{List, length, drop, Some, None, ap, sym, ◌∙◌}
-use Rattle.c_lexer.specs.declared.token.Token.{Token}
+use Rattle.c_token.specs.declared.token.Token.{Token}
 use Rattle.c_tree.specs.Tree.{view}
 use Rattle.c_parse_expr.specs.Standing.{number_of}
 use Rattle.c_parse_expr.specs.Reading.{reader}
@@ -12,9 +12,9 @@ pub returns-in-Ok-clause-found : goal.returns-in-Ok-clause-found
 returns-in-Ok-clause-found c =
     let bytes = c.args.tokens.now.bytes.items in
     let items = c.args.tokens.now.tokens.items in
-    place_found bytes c.args.names.now items c.args.at c.len.result c.args.level (view c.in-Ok.found.tree) c.in-Ok.found.rest.now
+    place_found bytes c.args.names.now items c.args.at c.len.result c.args.level (view c.in-Ok.found.tree.value) c.in-Ok.found.rest.now
     (ap (λ (xs : List Token). length xs) (sym c.deref.ensures.value) ∙ c.deref.ensures.len ∙ sym c.len.ensures)
-    (same_reading bytes c.deref-2.result.now c.args.names.now items c.deref.result.now c.split_at.result.1.now c.args.at (number_of c.args.level) c.number.result (Some (view c.in-Ok.found.tree, c.in-Ok.found.rest.now))
+    (same_reading bytes c.deref-2.result.now c.args.names.now items c.deref.result.now c.split_at.result.1.now c.args.at (number_of c.args.level) c.number.result (Some (view c.in-Ok.found.tree.value, c.in-Ok.found.rest.now))
     c.deref-2.ensures.value c.deref.ensures.value c.split_at.ensures.back c.number.ensures c.in-Ok.ensures.exact)
 
 pub returns-in-Err-Syntax-clause-none : goal.returns-in-Err-Syntax-clause-none

@@ -1,15 +1,15 @@
-use Rattle.std.proofs.Common.{map, ◌≡◌, ◌<◌, ◌+◌, ◌-◌, ◌++◌, List, [], ◌∷◌, length, Some, None, ap, sym, ◌∙◌, arith}
+use Rattle.std.proofs.Common.{map, ◌≡◌, ◌<◌, ◌+◌, ◌-◌, ◌++◌, List, [], ◌∷◌, length, ap, sym, ◌∙◌, arith}
 use Rattle.std.proofs.lemmas.Result.{err_from_is_err_and}
 use Rattle.c_tree.specs.declared.expr.Expr.{Expr}
 use Rattle.c_tree.specs.declared.expr.ArraySuffix.{ArraySuffix}
 use Rattle.c_tree.specs.Tree.{view, views_of, depth_of, suffixes_of, suffixes_depth}
 use Rattle.c_tree.proofs.Views.{suffix_push}
-use Rattle.c_parse_expr.specs.Reading.{reader, declared_at, suffixed, arguments_at, begins_type, bracketed, bracket_at, bound_at, pair_of, suffixes_at}
+use Rattle.c_parse_expr.specs.Reading.{reader, suffixed, arguments_at, bracketed, bracket_at, bound_at, pair_of, suffixes_at}
 use Rattle.c_parse_expr.specs.Many.{many_at}
 use Rattle.c_parse_expr.proofs.Within.{has_depth}
-use Rattle.c_parse_expr.proofs.Loops.{fails_on, first_closes, first_fails, first_goes, closes, neither, next_fails, one_more, depth_push, reader_begins, stops, too_deep, suffix_fails, goes_up, call_made, call_depth}
+use Rattle.c_parse_expr.proofs.Loops.{fails_on, first_closes, first_fails, first_goes, closes, neither, next_fails, one_more, depth_push, reader_begins, stops, too_deep, suffix_fails, goes_up}
 use Rattle.c_parse_expr.proofs.Rows as rows
-use Rattle.c_parse_expr.proofs.Made.{cast_made, cast_depth, sizeof_made, sizeof_depth, inside_made, inside_depth, suffixes_made, suffixes_fail}
+use Rattle.c_parse_expr.proofs.Made.{suffixes_made, suffixes_fail}
 use Rattle.c_parse_expr.proofs.reading.+reading.Goals as goal
 
 pub arguments-returns-in-Some-clause-exact : goal.arguments-returns-in-Some-clause-exact
@@ -24,7 +24,7 @@ arguments-returns-in_err-first-clause-exact t c =
 
 pub arguments-items-init : goal.arguments-items-init
 arguments-items-init t c =
-    let items : c.push.new.self.items ≡ c.in_ok-first.first.tree ∷ [] = c.in_ok-push.ensures.items ∙ ap (λ (xs : List Expr). xs ++ c.in_ok-first.first.tree ∷ []) c.new-items.ensures.items in
+    let items : c.put_argument.new.items.items ≡ c.in_ok-first.first.tree.value ∷ [] = c.in_ok-put_argument.ensures ∙ ap (λ (xs : List Expr). xs ++ c.in_ok-first.first.tree.value ∷ []) c.new-items.ensures.items in
     let deep = ap (λ (xs : List Expr). depth_of (views_of xs)) items in
     record {
       height = omega (arith, deep, c.in_ok-first.ensures.height);
@@ -33,7 +33,7 @@ arguments-items-init t c =
       exact = (
         length c.args.tokens.now + 1,
         omega (arith, c.in_ok-first.ensures.shorter),
-        first_goes (reader c.args.bytes.now c.args.names.now c.args.levels) c.args.tokens.now c.in_ok-first.first.rest.now c.in_ok-first.first.tree c.push.new.self.items c.in_default.ensures.value c.in_ok-first.ensures.exact items,
+        first_goes (reader c.args.bytes.now c.args.names.now c.args.levels) c.args.tokens.now c.in_ok-first.first.rest.now c.in_ok-first.first.tree.value c.put_argument.new.items.items c.in_default.ensures.value c.in_ok-first.ensures.exact items,
       );
     }
 
@@ -60,19 +60,19 @@ pub arguments-items-preserved : goal.arguments-items-preserved
 arguments-items-preserved t c =
     let sub = reader c.args.bytes.now c.args.names.now c.args.levels in
     let e = c.items.invariant.exact in
-    let items = c.in_ok-push-2.ensures.items in
-    let deep = ap (λ (xs : List Expr). depth_of (views_of xs)) items ∙ depth_push c.items.items.items c.in_ok-next.next.tree in
+    let items = c.in_ok-put_argument-2.ensures in
+    let deep = ap (λ (xs : List Expr). depth_of (views_of xs)) items ∙ depth_push c.items.items.items c.in_ok-next.next.tree.value in
     record {
       height = omega (arith, deep, c.in_ok-next.ensures.height, c.items.invariant.height, c.larger-height.ensures);
       low = omega (arith, c.in_ok-next.ensures.low, c.items.invariant.low, c.larger-height.ensures);
       shorter = omega (arith, c.in_ok-next.ensures.shorter, c.items.invariant.shorter, c.in-Some-behind_mark-2.ensures.shorter);
-      exact = one_more e.0 sub c.items.items.items c.push-in-items.new.self.items c.in_ok-next.next.tree c.items.rest.now c.in-Some-behind_mark-2.behind.now c.in_ok-next.next.rest.now (arguments_at sub c.args.tokens.now)
+      exact = one_more e.0 sub c.items.items.items c.put_argument-in-items.new.items.items c.in_ok-next.next.tree.value c.items.rest.now c.in-Some-behind_mark-2.behind.now c.in_ok-next.next.rest.now (arguments_at sub c.args.tokens.now)
           e.1 (omega (arith, c.in_ok-next.ensures.shorter, c.in-Some-behind_mark-2.ensures.shorter)) c.in_default-behind_mark.ensures.value c.in-Some-behind_mark-2.ensures.value e.2 c.in_ok-next.ensures.exact items;
     }
 
 pub read-suffixes-init : goal.read-suffixes-init
 read-suffixes-init t c =
-    let one = has_depth (view c.in_ok-found.found.tree) in
+    let one = has_depth (view c.in_ok-found.found.tree.value) in
     record {
       height = c.in_ok-found.ensures.height;
       low = omega (arith, c.in_ok-found.ensures.low);
@@ -81,16 +81,16 @@ read-suffixes-init t c =
       exact = (
         c.args.levels,
         omega (arith, c.in_ok-found.ensures.height),
-        reader_begins c.args.bytes.now c.args.names.now (c.args.levels - 1) c.args.levels c.args.level c.level_of.result c.args.tokens.now c.in_ok-found.found.rest.now (view c.in_ok-found.found.tree) (omega arith) c.level_of.ensures (omega arith) c.in_ok-found.ensures.exact,
+        reader_begins c.args.bytes.now c.args.names.now (c.args.levels - 1) c.args.levels c.args.level c.level_found.result c.args.tokens.now c.in_ok-found.found.rest.now (view c.in_ok-found.found.tree.value) (omega arith) c.level_found.ensures (omega arith) c.in_ok-found.ensures.exact,
       );
     }
 
 pub read-returns-then-found-levels-clause-exact : goal.read-returns-then-found-levels-clause-exact
 read-returns-then-found-levels-clause-exact t c =
     let e = c.suffixes.invariant.exact in
-    too_deep c.args.bytes.now e.0 c.args.levels c.args.level c.level_of-in-suffixes.result c.suffixes.found.height (reader c.args.bytes.now c.args.names.now (c.args.levels - 1)) (view c.suffixes.found.tree) c.suffixes.found.rest.now
+    too_deep c.args.bytes.now e.0 c.args.levels c.args.level c.level_found-in-suffixes.result c.suffixes.found.height (reader c.args.bytes.now c.args.names.now (c.args.levels - 1)) (view c.suffixes.found.tree.value) c.suffixes.found.rest.now
     (c.in-Some.suffix, c.in-Some.line, c.in-Some.rest.now) (reader c.args.bytes.now c.args.names.now c.args.levels c.args.level c.args.tokens.now)
-    e.1 c.suffixes.invariant.low c.suffixes.invariant.height c.if-found-levels.true c.level_of-in-suffixes.ensures c.in-Some.ensures.value e.2
+    e.1 c.suffixes.invariant.low c.suffixes.invariant.height c.if-found-levels.true c.level_found-in-suffixes.ensures c.in-Some.ensures.value e.2
 
 pub read-returns-in_err-found-2-clause-exact : goal.read-returns-in_err-found-2-clause-exact
 read-returns-in_err-found-2-clause-exact t c =
@@ -98,10 +98,10 @@ read-returns-in_err-found-2-clause-exact t c =
     let sub = reader c.args.bytes.now c.args.names.now (c.args.levels - 1) in
     let e = c.suffixes.invariant.exact in
     let all = reader c.args.bytes.now c.args.names.now c.args.levels c.args.level c.args.tokens.now in
-    rw (p.1, p.2) (fails_on c.in_err-found-2.field-0.0 (suffixed c.args.bytes.now sub c.in-Some.suffix c.in-Some.line (view c.suffixes.found.tree) c.in-Some.rest.now) all
-    (suffix_fails c.args.bytes.now e.0 c.args.levels c.args.level c.level_of-in-suffixes.result c.suffixes.found.height sub (view c.suffixes.found.tree) c.suffixes.found.rest.now
+    rw (p.1, p.2) (fails_on c.in_err-found-2.field-0.0 (suffixed c.args.bytes.now sub c.in-Some.suffix c.in-Some.line (view c.suffixes.found.tree.value) c.in-Some.rest.now) all
+    (suffix_fails c.args.bytes.now e.0 c.args.levels c.args.level c.level_found-in-suffixes.result c.suffixes.found.height sub (view c.suffixes.found.tree.value) c.suffixes.found.rest.now
     (c.in-Some.suffix, c.in-Some.line, c.in-Some.rest.now) all
-    e.1 c.suffixes.invariant.height c.if-found-levels.false c.level_of-in-suffixes.ensures c.in-Some.ensures.value e.2)
+    e.1 c.suffixes.invariant.height c.if-found-levels.false c.level_found-in-suffixes.ensures c.in-Some.ensures.value e.2)
     c.in_err-found-2.ensures.exact)
 
 pub read-suffixes-preserved : goal.read-suffixes-preserved
@@ -112,26 +112,16 @@ read-suffixes-preserved t c =
       low = omega (arith, c.in_ok-found-2.ensures.low, c.suffixes.invariant.some);
       some = c.suffixes.invariant.some;
       shorter = omega (arith, c.in_ok-found-2.ensures.shorter, c.in-Some.ensures.shorter, c.suffixes.invariant.shorter);
-      exact = goes_up c.args.bytes.now e.0 c.args.levels c.args.level c.level_of-in-suffixes.result c.suffixes.found.height c.in_ok-found-2.found.height (reader c.args.bytes.now c.args.names.now (c.args.levels - 1)) (view c.suffixes.found.tree) (view c.in_ok-found-2.found.tree) c.suffixes.found.rest.now c.in_ok-found-2.found.rest.now
+      exact = goes_up c.args.bytes.now e.0 c.args.levels c.args.level c.level_found-in-suffixes.result c.suffixes.found.height c.in_ok-found-2.found.height (reader c.args.bytes.now c.args.names.now (c.args.levels - 1)) (view c.suffixes.found.tree.value) (view c.in_ok-found-2.found.tree.value) c.suffixes.found.rest.now c.in_ok-found-2.found.rest.now
           (c.in-Some.suffix, c.in-Some.line, c.in-Some.rest.now) (reader c.args.bytes.now c.args.names.now c.args.levels c.args.level c.args.tokens.now)
-          e.1 c.suffixes.invariant.height c.if-found-levels.false c.in_ok-found-2.ensures.higher c.level_of-in-suffixes.ensures c.in-Some.ensures.value e.2 c.in_ok-found-2.ensures.exact;
+          e.1 c.suffixes.invariant.height c.if-found-levels.false c.in_ok-found-2.ensures.higher c.level_found-in-suffixes.ensures c.in-Some.ensures.value e.2 c.in_ok-found-2.ensures.exact;
     }
 
 pub read-returns-clause-exact : goal.read-returns-clause-exact
 read-returns-clause-exact t c =
     let e = c.suffixes.invariant.exact in
-    stops c.args.bytes.now e.0 c.args.levels c.args.level c.level_of-in-suffixes.result c.suffixes.found.height (reader c.args.bytes.now c.args.names.now (c.args.levels - 1)) (view c.suffixes.found.tree) c.suffixes.found.rest.now (reader c.args.bytes.now c.args.names.now c.args.levels c.args.level c.args.tokens.now)
-    e.1 c.suffixes.invariant.low c.level_of-in-suffixes.ensures c.in_default.ensures.value e.2
-
-pub suffix_behind-returns-in_ok-function-in-Arguments-clause-exact : goal.suffix_behind-returns-in_ok-function-in-Arguments-clause-exact
-suffix_behind-returns-in_ok-function-in-Arguments-clause-exact t c =
-    call_made c.args.bytes.now (reader c.args.bytes.now c.args.names.now c.args.levels) c.args.suffix c.args.line c.args.left c.args.tokens.now c.in_ok-arguments-in-Arguments.arguments.rest.now c.in_ok-function-in-Arguments.function c.in_ok-arguments-in-Arguments.arguments.items
-    c.in-Arguments.is c.in_ok-function-in-Arguments.ensures.ok c.in_ok-arguments-in-Arguments.ensures.exact
-
-pub suffix_behind-returns-in_ok-function-in-Arguments-clause-height : goal.suffix_behind-returns-in_ok-function-in-Arguments-clause-height
-suffix_behind-returns-in_ok-function-in-Arguments-clause-height t c =
-    call_depth c.args.height c.in_ok-arguments-in-Arguments.arguments.height c.larger-height-in-Arguments.result c.args.left c.in_ok-function-in-Arguments.function c.in_ok-arguments-in-Arguments.arguments.items
-    c.larger-height-in-Arguments.ensures c.requires.height c.in_ok-arguments-in-Arguments.ensures.height c.in_ok-function-in-Arguments.ensures.ok
+    stops c.args.bytes.now e.0 c.args.levels c.args.level c.level_found-in-suffixes.result c.suffixes.found.height (reader c.args.bytes.now c.args.names.now (c.args.levels - 1)) (view c.suffixes.found.tree.value) c.suffixes.found.rest.now (reader c.args.bytes.now c.args.names.now c.args.levels c.args.level c.args.tokens.now)
+    e.1 c.suffixes.invariant.low c.level_found-in-suffixes.ensures c.in_default.ensures.value e.2
 
 pub array_suffixes-returns-in_err-found-clause-exact : goal.array_suffixes-returns-in_err-found-clause-exact
 array_suffixes-returns-in_err-found-clause-exact t c =
@@ -167,34 +157,3 @@ array_suffixes-returns-clause-exact t c =
     let e = c.suffixes.invariant.exact in
     suffixes_made sub c.args.tokens.now c.suffixes.rest.now c.suffixes.suffixes.items
     (rows.stops (bracket_at sub) e.0 tt (map pair_of c.suffixes.suffixes.items) c.suffixes.rest.now all e.1 (ap (bracketed sub) (sym c.in_default.ensures.value)) e.2)
-
-pub group_behind-returns-then-begins_type-clause-exact : goal.group_behind-returns-then-begins_type-clause-exact
-group_behind-returns-then-begins_type-clause-exact t c =
-    cast_made c.args.bytes.now c.args.names.now (reader c.args.bytes.now c.args.names.now c.args.levels) (declared_at c.args.bytes.now c.args.names.now c.args.levels) c.args.line c.args.tokens.now c.in_ok-found.found.rest.now c.in_ok-value.value.rest.now
-    c.in_ok-type_name.type_name c.in_ok-operand.operand c.in_ok-found.found.type_name c.in_ok-value.value.tree
-    (sym c.begins_type.ensures ∙ c.if-begins_type.true) c.in_ok-type_name.ensures.ok c.in_ok-operand.ensures.ok c.in_ok-found.ensures.exact c.in_ok-value.ensures.exact
-
-pub group_behind-returns-then-begins_type-clause-height : goal.group_behind-returns-then-begins_type-clause-height
-group_behind-returns-then-begins_type-clause-height t c =
-    cast_depth c.args.line c.in_ok-found.found.height c.in_ok-value.value.height c.larger-height.result c.in_ok-type_name.type_name c.in_ok-operand.operand c.in_ok-found.found.type_name c.in_ok-value.value.tree
-    c.larger-height.ensures c.in_ok-found.ensures.height c.in_ok-value.ensures.height c.in_ok-type_name.ensures.ok c.in_ok-operand.ensures.ok
-
-pub inside-returns-clause-exact : goal.inside-returns-clause-exact
-inside-returns-clause-exact t c =
-    inside_made (reader c.args.bytes.now c.args.names.now c.args.levels) (declared_at c.args.bytes.now c.args.names.now c.args.levels) c.args.named c.args.line c.in_ok-found.found.height c.args.tokens.now c.in_ok-found.found.rest.now c.in-Some.rest.now c.in_ok-behind.behind.rest.now
-    c.in_ok-found.found.declarator c.in_ok-inner.inner (suffixes_of c.in_ok-behind.behind.suffixes.items)
-    c.in_ok-found.ensures.exact c.in-Some.ensures.value c.in_ok-found.ensures.height (omega (arith, c.if-found-eq0.false)) c.in_ok-behind.ensures.exact c.in_ok-inner.ensures.ok
-
-pub inside-returns-clause-height : goal.inside-returns-clause-height
-inside-returns-clause-height t c =
-    inside_depth c.args.line c.in_ok-found.found.height c.in_ok-behind.behind.height c.larger-height.result c.in_ok-found.found.declarator c.in_ok-inner.inner (suffixes_of c.in_ok-behind.behind.suffixes.items)
-    c.larger-height.ensures c.in_ok-found.ensures.height c.in_ok-behind.ensures.height c.in_ok-inner.ensures.ok
-
-pub sizeof_behind-returns-in_ok-type_name-in-Some-clause-exact : goal.sizeof_behind-returns-in_ok-type_name-in-Some-clause-exact
-sizeof_behind-returns-in_ok-type_name-in-Some-clause-exact t c =
-    sizeof_made c.args.bytes.now c.args.names.now (reader c.args.bytes.now c.args.names.now c.args.levels) (declared_at c.args.bytes.now c.args.names.now c.args.levels) c.args.line c.args.tokens.now c.in-Some.rest.now c.in_ok-found-in-Some.found.rest.now
-    c.in_ok-type_name-in-Some.type_name c.in_ok-found-in-Some.found.type_name c.in-Some.ensures.value c.in_ok-type_name-in-Some.ensures.ok c.in_ok-found-in-Some.ensures.exact
-
-pub sizeof_behind-returns-in_ok-type_name-in-Some-clause-height : goal.sizeof_behind-returns-in_ok-type_name-in-Some-clause-height
-sizeof_behind-returns-in_ok-type_name-in-Some-clause-height t c =
-    sizeof_depth c.args.line c.in_ok-found-in-Some.found.height c.in_ok-type_name-in-Some.type_name c.in_ok-found-in-Some.found.type_name c.in_ok-found-in-Some.ensures.height c.in_ok-type_name-in-Some.ensures.ok

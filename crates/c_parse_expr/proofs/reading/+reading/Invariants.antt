@@ -1,4 +1,4 @@
-use Rattle.std.proofs.Common.{◌≡◌, ◌≤◌, ◌<◌, ◌+◌, ◌-◌, ◌*◌, ℕ, length, map, Option}
+use Rattle.std.proofs.Common.{◌≡◌, ◌≤◌, ◌<◌, ◌+◌, ◌-◌, ◌*◌, ℕ, length, map}
 use Rattle.c_tree.specs.Tree.{view, views_of, suffixes_of, depth, depth_of, suffixes_depth}
 use Rattle.c_parse_expr.specs.Many.{many_at}
 use Rattle.c_parse_expr.specs.Reading.{reader, climb, rest_at, arguments_at, bracket_at, pair_of}
@@ -17,6 +17,9 @@ decreases-prefix_behind l = 8 * l.levels + 6
 
 abbrev pub decreases-suffix_behind : goal.decreases-suffix_behind
 decreases-suffix_behind l = 8 * l.levels + 6
+
+abbrev pub decreases-choice_behind : goal.decreases-choice_behind
+decreases-choice_behind l = 8 * l.levels + 5
 
 abbrev pub decreases-group_behind : goal.decreases-group_behind
 decreases-group_behind l = 8 * l.levels + 5
@@ -50,11 +53,11 @@ decreases-arguments l = 8 * l.levels + 1
 
 abbrev pub invariant-read-suffixes : goal.invariant-read-suffixes
 invariant-read-suffixes l = record {
-  height : l.found.height ≡ depth (view l.found.tree);
+  height : l.found.height ≡ depth (view l.found.tree.value);
   low : l.found.height ≤ l.levels;
   some : 0 < l.levels;
   shorter : length l.found.rest.now ≤ length l.tokens;
-  exact : (m : ℕ) × (l.levels < m + l.found.height) × (climb l.bytes m (reader l.bytes l.names (l.levels - 1)) l.levels l.level (view l.found.tree) l.found.rest.now ≡ reader l.bytes l.names l.levels l.level l.tokens);
+  exact : (m : ℕ) × (l.levels < m + l.found.height) × (climb l.bytes m (reader l.bytes l.names (l.levels - 1)) l.levels l.level (view l.found.tree.value) l.found.rest.now ≡ reader l.bytes l.names l.levels l.level l.tokens);
 }
 
 abbrev pub decreases-read-suffixes : goal.decreases-read-suffixes

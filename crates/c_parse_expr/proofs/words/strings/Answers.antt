@@ -1,10 +1,9 @@
-use Rattle.std.proofs.Common.{◌≡◌, [], ◌∷◌, ◌++◌, ℕ, List, map, Option, Some, None, ap, sym, ◌∙◌, arith}
-use Rattle.c_lexer.specs.Kinds.{text_of}
-use Rattle.c_lexer.specs.declared.token.Token.{Token}
+use Rattle.std.proofs.Common.{◌≡◌, [], ◌∷◌, ◌++◌, ℕ, List, map, Some, ap, sym, ◌∙◌, arith}
+use Rattle.c_token.specs.Spelling.{text_of}
+use Rattle.c_token.specs.declared.token.Token.{Token}
 use Rattle.c_tree.specs.declared.expr.Name.{Name}
 use Rattle.c_tree.specs.Tree.{view_name}
-use Rattle.c_parse_expr.specs.Many.{◌>>=◌}
-use Rattle.c_parse_expr.specs.Reading.{string, quoted, string_at, strings_at, strings_behind}
+use Rattle.c_parse_expr.specs.Reading.{quoted, string_at, strings_at, strings_behind}
 use Rattle.c_parse_expr.proofs.Rows.{fronted, stops, pushed, front_first}
 use Rattle.c_parse_expr.proofs.words.strings.Goals as goal
 

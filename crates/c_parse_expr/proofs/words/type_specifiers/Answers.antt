@@ -1,9 +1,6 @@
-use Rattle.std.proofs.Common.{◌≡◌, ◌<◌, Bool, List, length, map, Option, Some, None, ap, sym, subst, ◌∙◌, arith}
+use Rattle.std.proofs.Common.{◌≡◌, ◌<◌, length, map, Some, ap, subst, ◌∙◌, arith}
 use Rattle.std.specs.Prelude.{IfSome, option_map}
-use Rattle.std.specs.Borrow.{Bor}
 use Rattle.std.proofs.lemmas.Result.{err_from_is_err_and}
-use Rattle.c_lexer.specs.declared.token.Token.{Token}
-use Rattle.c_tree.specs.declared.specifier.TypeSpecifier.{TypeSpecifier}
 use Rattle.c_tree.specs.Tree.{view_type_part}
 use Rattle.c_parse_expr.specs.Reading.{type_part_at, type_parts_at}
 use Rattle.c_parse_expr.proofs.Loops.{fails_on}

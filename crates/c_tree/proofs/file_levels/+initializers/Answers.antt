@@ -8,20 +8,20 @@ use Rattle.c_tree.proofs.file_levels.+initializers.Goals as goal
 pub initial_depth-initials_depth-requires : goal.initial_depth-initials_depth-requires
 initial_depth-initials_depth-requires t c =
     let e = ap (λ (i : Initializer). initial_depth (view_initializer i)) c.in-List.is ∙ ap initial_depth (view_braces c.in-List.line c.in-List.items) in
-    let same = ap (λ (is : List Initializer). initials_depth (initials_of is)) c.deref.ensures.value in
+    let same = ap (λ (is : List Initializer). initials_depth (initials_of is)) c.deref-in-List.ensures.value in
     let small : initial_depth (view_initializer c.args.initializer.now) < 4294967296 = c.requires in
     (omega (arith, e, same), omega (arith, e, same))
 
 pub initial_depth-overflow_add-result : goal.initial_depth-overflow_add-result
 initial_depth-overflow_add-result t c =
     let e = ap (λ (i : Initializer). initial_depth (view_initializer i)) c.in-List.is ∙ ap initial_depth (view_braces c.in-List.line c.in-List.items) in
-    let same = ap (λ (is : List Initializer). initials_depth (initials_of is)) c.deref.ensures.value in
+    let same = ap (λ (is : List Initializer). initials_depth (initials_of is)) c.deref-in-List.ensures.value in
     omega (arith, e, same)
 
 pub initial_depth-returns-in-List : goal.initial_depth-returns-in-List
 initial_depth-returns-in-List t c =
     let e = ap (λ (i : Initializer). initial_depth (view_initializer i)) c.in-List.is ∙ ap initial_depth (view_braces c.in-List.line c.in-List.items) in
-    let same = ap (λ (is : List Initializer). initials_depth (initials_of is)) c.deref.ensures.value in
+    let same = ap (λ (is : List Initializer). initials_depth (initials_of is)) c.deref-in-List.ensures.value in
     omega (arith, e, same)
 
 pub initials_depth-initial_depth-requires : goal.initials_depth-initial_depth-requires

@@ -126,14 +126,14 @@ parameters_depth-loop-parameter-preserved t c =
 pub full_suffix_depth-parameters_depth-requires : goal.full_suffix_depth-parameters_depth-requires
 full_suffix_depth-parameters_depth-requires t c =
     let e = ap (λ (s : DeclaratorSuffix). of_suffix s) c.in-Parameters.is ∙ ap full_suffixes_depth (view_takes c.in-Parameters.line c.in-Parameters.parameters c.in-Parameters.variadic full_end) in
-    let same = ap (λ (ps : List Parameter). parameters_depth (parameters_of ps)) c.deref.ensures.value in
+    let same = ap (λ (ps : List Parameter). parameters_depth (parameters_of ps)) c.deref-in-Parameters.ensures.value in
     let small : full_suffixes_depth (view_full_suffix c.args.suffix.now full_end) < 4294967296 = c.requires in
     (omega (arith, e, same), omega (arith, e, same))
 
 pub full_suffix_depth-returns-in-Parameters : goal.full_suffix_depth-returns-in-Parameters
 full_suffix_depth-returns-in-Parameters t c =
     let e = ap (λ (s : DeclaratorSuffix). of_suffix s) c.in-Parameters.is ∙ ap full_suffixes_depth (view_takes c.in-Parameters.line c.in-Parameters.parameters c.in-Parameters.variadic full_end) in
-    let same = ap (λ (ps : List Parameter). parameters_depth (parameters_of ps)) c.deref.ensures.value in
+    let same = ap (λ (ps : List Parameter). parameters_depth (parameters_of ps)) c.deref-in-Parameters.ensures.value in
     omega (arith, e, same)
 
 pub full_depth-full_suffixes_depth-requires : goal.full_depth-full_suffixes_depth-requires

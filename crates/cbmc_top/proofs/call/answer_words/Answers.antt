@@ -2,7 +2,8 @@ use Rattle.std.proofs.Common.{◌≡◌, ℕ, List, [], Option, None, IfOk, map,
 use Rattle.std.specs.Prelude.{string_bytes}
 use Rattle.outside.specs.Count.{Rose}
 use Rattle.cbmc_top.specs.Command.{command_of}
-use Rattle.cbmc_top.specs.Answers.{usage, Reported}
+use Rattle.run_search.specs.Answers.{usage}
+use Rattle.cbmc_top.specs.Answers.{Reported}
 use Rattle.cbmc_top.specs.declared.call.Report.{Report}
 use Rattle.cbmc_top.proofs.Answering.{answered_usage, reported}
 use Rattle.cbmc_top.proofs.call.answer_words.Goals as goal

@@ -2,8 +2,8 @@ use Rattle.std.proofs.Common.{◌≡◌, ℕ, List, Some, true, map, subst, sym,
 use Rattle.std.specs.Prelude.{string_bytes}
 use Rattle.core_tree.specs.Trees.{CoreFile, view_core}
 use Rattle.cbmc_top.specs.Answers.{name_in}
-use Rattle.cbmc_top.specs.Identifiers.{is_identifier}
-use Rattle.cbmc_top.specs.Verdicts.{entry_of, row_of}
+use Rattle.report.specs.Identifiers.{is_identifier}
+use Rattle.report.specs.Failing.{entry_of, row_of}
 use Rattle.cbmc_top.proofs.Describing.{named, same_identifier, is_failure}
 use Rattle.cbmc_top.proofs.failing.described.Goals as goal
 

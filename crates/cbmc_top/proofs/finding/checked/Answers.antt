@@ -1,7 +1,8 @@
 use Rattle.std.proofs.Common.{None, subst}
 use Rattle.core_tree.specs.Trees.{view_core}
-use Rattle.cbmc_top.specs.Answers.{successful, failed, used_up}
-use Rattle.cbmc_top.specs.Verdicts.{failure_of, IsSearched}
+use Rattle.run_search.specs.Answers.{successful, failed, used_up}
+use Rattle.report.specs.Failing.{failure_of}
+use Rattle.run_search.specs.Searches.{IsSearched}
 use Rattle.cbmc_top.proofs.Stages.{accepted_decides}
 use Rattle.cbmc_top.proofs.finding.checked.Goals as goal
 

@@ -1,5 +1,5 @@
 use Rattle.std.proofs.Common.{◌≡◌, drop}
-use Rattle.cbmc_top.specs.FileNames.{all_name_bytes}
+use Rattle.report.specs.FileNames.{all_name_bytes}
 use Rattle.cbmc_top.proofs.options.has_no_control.Given as goal
 
 abbrev pub invariant-loop-byte : goal.invariant-loop-byte

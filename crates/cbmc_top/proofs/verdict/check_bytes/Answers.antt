@@ -1,5 +1,6 @@
 use Rattle.std.proofs.Common.{subst, refl}
-use Rattle.cbmc_top.specs.Answers.{successful, used_up, Decides}
+use Rattle.run_search.specs.Answers.{successful, used_up}
+use Rattle.cbmc_top.specs.Answers.{Decides}
 use Rattle.cbmc_top.specs.declared.finding.Finding.{Finding}
 use Rattle.cbmc_top.specs.Verdicts.{answer_of, IsTraced}
 use Rattle.cbmc_top.proofs.Stages.{told}

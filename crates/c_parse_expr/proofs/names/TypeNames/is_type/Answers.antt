@@ -1,4 +1,4 @@
-use Rattle.std.proofs.Common.{Bool, Option, sym, ap, ◌∙◌}
+use Rattle.std.proofs.Common.{Bool, Option, ap, ◌∙◌}
 use Rattle.c_tree.specs.Names.{Scope}
 use Rattle.c_parse_expr.specs.Flags.{flag_in}
 use Rattle.c_parse_expr.proofs.NewestFlags.{flag_or, type_by_flag}

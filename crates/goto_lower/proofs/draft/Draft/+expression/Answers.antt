@@ -1,8 +1,8 @@
-use Rattle.std.proofs.Common.{rules, ◌≡◌, ℕ, ◌+◌, ap, sym, ◌∙◌, arith}
+use Rattle.std.proofs.Common.{rules, ◌≡◌, ℕ, ◌+◌, ap, subst, sym, ◌∙◌, arith}
 use Rattle.std.proofs.lemmas.Result.{IfOk-weaker}
 use Rattle.core_tree.specs.Trees.{call, view, Structure, view_structure, parts_of, arguments_of}
 use Rattle.core_tree.proofs.Views.{view_list, view_call, view_give}
-use Rattle.goto_lower.specs.Drafts.{after_structure, after_parts, after_text, after_arguments, after_passed}
+use Rattle.goto_lower.specs.Drafts.{Lowers, after_structure, after_parts, after_text, after_arguments, after_passed}
 use Rattle.goto_lower.specs.Lowering.{argument_count}
 use Rattle.goto_lower.proofs.Drafting.{ok_both, ok_maps, lowers_and, lowers_or, lowers_choice}
 use Rattle.goto_lower.proofs.DraftingStructures.{lowers_discarded, lowers_member, number_adds, structure_adds, follow_adds, list_adds, string_adds, choose_adds}
@@ -43,19 +43,21 @@ member-returns t c =
 pub list_part-returns-in_ok-x-in-Number : goal.list_part-returns-in_ok-x-in-Number
 list_part-returns-in_ok-x-in-Number t c =
     rw c.in-Number.is (λ rest. ok_maps _ _ _ (λ same.
-    number_adds c.args.into c.args.at c.args.self.now c.expression.new.self c.push.new.self (view c.in-Number.value) c.in_ok-x-in-Number.x c.args.line c.in-Number.offset c.in_ok-offset-in-Number.offset c.size.result rest
-    c.in_ok-x-in-Number.ensures c.in_ok-offset-in-Number.ensures c.size.ensures.is same) c.push.ensures)
+    number_adds c.args.into c.args.at c.args.self.now c.expression.new.self c.push.new.self (view c.in-Number.value.value) c.in_ok-x-in-Number.x c.args.line c.in-Number.offset c.in_ok-offset-in-Number.offset c.size.result rest
+    (subst (λ e. Lowers c.args.self.now c.expression.new.self (view e) c.in_ok-x-in-Number.x) c.deref.ensures c.in_ok-x-in-Number.ensures) c.in_ok-offset-in-Number.ensures c.size.ensures.is same) c.push.ensures)
 
 pub list_part-returns-in_ok-offset-in-Structure : goal.list_part-returns-in_ok-offset-in-Structure
 list_part-returns-in_ok-offset-in-Structure t c =
     rw c.in-Structure.is (λ rest. ok_maps _ _ _ (λ same.
-    structure_adds c.args.into c.args.at c.args.self.now c.structure.new.self (view_structure c.in-Structure.value) c.args.line c.in-Structure.offset c.in_ok-offset-in-Structure.offset rest c.in_ok-offset-in-Structure.ensures same) c.structure.ensures)
+    structure_adds c.args.into c.args.at c.args.self.now c.structure.new.self (view_structure c.in-Structure.value.value) c.args.line c.in-Structure.offset c.in_ok-offset-in-Structure.offset rest c.in_ok-offset-in-Structure.ensures
+    (same ∙ ap (λ a. after_structure c.args.self.now (view_structure a) c.args.into c.in_ok-offset-in-Structure.offset) c.deref-in-Structure.ensures)) c.structure.ensures)
 
 pub structure-returns-in_ok-_left-in-Comma : goal.structure-returns-in_ok-_left-in-Comma
 structure-returns-in_ok-_left-in-Comma t c =
     rw c.in-Comma.is (ok_maps _ _ _ (λ same.
-    follow_adds c.args.into c.args.at c.args.self.now c.expression-in-Comma.new.self c.structure-in-Comma.new.self (view c.in-Comma.left) c.in_ok-_left-in-Comma._left (view_structure c.in-Comma.right.value) c.in-Comma.line c.in_ok-_left-in-Comma.ensures
-    (same ∙ ap (λ a. after_structure c.expression-in-Comma.new.self (view_structure a) c.args.into c.args.at) c.deref-in-Comma.ensures))
+    follow_adds c.args.into c.args.at c.args.self.now c.expression-in-Comma.new.self c.structure-in-Comma.new.self (view c.in-Comma.left.value) c.in_ok-_left-in-Comma._left (view_structure c.in-Comma.right.value) c.in-Comma.line
+    (subst (λ e. Lowers c.args.self.now c.expression-in-Comma.new.self (view e) c.in_ok-_left-in-Comma._left) c.deref-in-Comma.ensures c.in_ok-_left-in-Comma.ensures)
+    (same ∙ ap (λ a. after_structure c.expression-in-Comma.new.self (view_structure a) c.args.into c.args.at) c.deref-in-Comma-2.ensures))
     c.structure-in-Comma.ensures)
 
 pub structure-returns-in_ok-clear-in-List : goal.structure-returns-in_ok-clear-in-List
@@ -78,7 +80,7 @@ structure-returns-in_ok-register-in-String t c =
 pub structure-returns-in_ok-structure-in-Choice-2 : goal.structure-returns-in_ok-structure-in-Choice-2
 structure-returns-in_ok-structure-in-Choice-2 t c =
     let h = choose_adds c.args.into c.args.at c.args.self.now c.expression.new.self c.reserve.new.self c.structure.new.self c.reserve-in-Choice.new.self c.land.new.self c.structure-in-Choice.new.self c.land-in-Choice.new.self
-    (view c.in-Choice.test) (view_structure c.deref.result.now) (view_structure c.deref-in-Choice.result.now) c.in_ok-test-in-Choice.test c.in_ok-skip-in-Choice.skip c.in_ok-over-in-Choice.over c.in-Choice.line _ _
+    (view c.deref.result.now) (view_structure c.deref-in-Choice.result.now) (view_structure c.deref-in-Choice-2.result.now) c.in_ok-test-in-Choice.test c.in_ok-skip-in-Choice.skip c.in_ok-over-in-Choice.over c.in-Choice.line _ _
     c.in_ok-test-in-Choice.ensures c.in_ok-skip-in-Choice.ensures.code c.in_ok-skip-in-Choice.ensures.place c.in_ok-structure-in-Choice.ensures c.in_ok-over-in-Choice.ensures.code c.in_ok-over-in-Choice.ensures.place
     c.land.ensures c.in_ok-structure-in-Choice-2.ensures c.land-in-Choice.ensures in
     search (rules, h)
@@ -86,11 +88,13 @@ structure-returns-in_ok-structure-in-Choice-2 t c =
 pub argument-returns-in_ok-x-in-Number : goal.argument-returns-in_ok-x-in-Number
 argument-returns-in_ok-x-in-Number t c =
     rw c.in-Number.is (λ rest. ok_maps _ _ _ (λ same.
-    number_argument_adds c.args.self.now c.expression.new.self c.push.new.self (view c.in-Number.value) c.in_ok-x-in-Number.x c.args.block c.size.result rest c.in_ok-x-in-Number.ensures c.size.ensures.is same) c.push.ensures)
+    number_argument_adds c.args.self.now c.expression.new.self c.push.new.self (view c.in-Number.value.value) c.in_ok-x-in-Number.x c.args.block c.size.result rest
+    (subst (λ e. Lowers c.args.self.now c.expression.new.self (view e) c.in_ok-x-in-Number.x) c.deref.ensures c.in_ok-x-in-Number.ensures) c.size.ensures.is same) c.push.ensures)
 
 pub argument-returns-in-Structure : goal.argument-returns-in-Structure
 argument-returns-in-Structure t c =
-    rw c.in-Structure.is (λ rest. ok_maps _ _ _ (λ same. structure_argument_adds c.args.self.now c.structure.new.self (view_structure c.in-Structure.value) c.args.block rest same) c.structure.ensures)
+    rw c.in-Structure.is (λ rest. ok_maps _ _ _ (λ same. structure_argument_adds c.args.self.now c.structure.new.self (view_structure c.in-Structure.value.value) c.args.block rest
+    (same ∙ ap (λ a. after_structure c.args.self.now (view_structure a) c.args.block 0) c.deref-in-Structure.ensures)) c.structure.ensures)
 
 pub call-returns : goal.call-returns
 call-returns t c =

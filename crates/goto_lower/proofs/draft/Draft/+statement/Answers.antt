@@ -1,13 +1,14 @@
-use Rattle.std.proofs.Common.{rules, ◌≡◌, ◌+◌, ◌-◌, Some, refl, ap, sym, ◌∙◌, arith}
+use Rattle.std.proofs.Common.{rules, ◌≡◌, ◌+◌, ◌-◌, Some, refl, ap, subst, sym, ◌∙◌, arith}
 use Rattle.std.specs.Prelude.{reverse, option_map}
-use Rattle.core_tree.specs.Trees.{block, switch, view, view_structure, view_statement, items_of}
+use Rattle.core_tree.specs.Trees.{block, switch, view, boxed, view_structure, view_statement, items_of}
 use Rattle.core_tree.proofs.Views.{view_block}
 use Rattle.c_profile.proofs.Switches.{view_switch}
+use Rattle.c_interp.specs.Meaning.{number_type}
 use Rattle.goto_prog.specs.Nodes.{plain, nodes_of, node_count}
 use Rattle.goto_prog.specs.declared.code.Operation.TheVariants as operations
-use Rattle.goto_lower.specs.Lowering.{at_line, top, code, plains, to_place, test_code, initial_code}
-use Rattle.goto_lower.specs.Registers.{structure_types}
-use Rattle.goto_lower.specs.Drafts.{next}
+use Rattle.goto_lower.specs.Lowering.{at_line, top, code, plains, to_place, test_code, initial_code, initial_store}
+use Rattle.goto_lower.specs.Registers.{types, structure_types}
+use Rattle.goto_lower.specs.Drafts.{Drafted, added, next, typed}
 use Rattle.goto_lower.proofs.Drafting.{ok_maps}
 use Rattle.goto_lower.proofs.Making.{reversed_count}
 use Rattle.goto_lower.proofs.Flushing.{flushed_draft, flushed_code}
@@ -58,9 +59,9 @@ pub for_loop-returns : goal.for_loop-returns
 for_loop-returns t c =
     let d = c.args.self.now in
     let x = c.args.exits in
-    let first = option_map view c.args.first.now in
-    let test = option_map view c.args.test.now in
-    let last = option_map view c.args.last.now in
+    let first = option_map boxed c.args.first.now in
+    let test = option_map boxed c.args.test.now in
+    let last = option_map boxed c.args.last.now in
     let rest = nodes_of (reverse c.args.made.now.items) in
     let r2 = nodes_of (reverse c.evaluate_part.new.made.items) in
     let behind : c.in_ok-behind.behind ≡ x.base + node_count rest = omega (arith, c.in_ok-behind.ensures, c.len.ensures, reversed_count c.args.made.now.items) in
@@ -77,29 +78,33 @@ for_loop-returns t c =
 pub item-returns-in-Initialize : goal.item-returns-in-Initialize
 item-returns-in-Initialize t c =
     let l = c.in-Initialize in
+    let d = c.args.self.now in
     rw l.is (λ first rest others h. ok_two c.initialize_number.result _ _ _ (λ same put.
-    within_initializes first rest c.args.exits others c.args.self.now (nodes_of (reverse c.args.made.now.items)) c.args.cases.now h c.initialize_number.new.self (nodes_of (reverse c.initialize_number.new.made.items)) l.line l.variable l.drawn (view l.value) same put)
+    within_initializes first rest c.args.exits others c.args.self.now (nodes_of (reverse c.args.made.now.items)) c.args.cases.now h c.initialize_number.new.self (nodes_of (reverse c.initialize_number.new.made.items)) l.line l.variable l.drawn (view l.value.value)
+    (same ∙ ap (λ e. typed c.args.self.now (types (view e))) c.deref.ensures)
+    (put ∙ ap (λ e. plains (code d.frame (view e) (next d)) (plain (initial_store d.frame d.variables l.line l.variable (number_type (view e)) (next d + top (view e))) (nodes_of (reverse c.args.made.now.items)))) c.deref.ensures))
     c.initialize_number.ensures.draft c.initialize_number.ensures.code)
 
 pub item-returns-in_ok-initialize_structure-in-InitializeStructure : goal.item-returns-in_ok-initialize_structure-in-InitializeStructure
 item-returns-in_ok-initialize_structure-in-InitializeStructure t c =
     let l = c.in-InitializeStructure in
     let d = c.args.self.now in
-    let a = view_structure l.value in
+    let a = view_structure l.value.value in
     let rest = nodes_of (reverse c.args.made.now.items) in
     let xs = initial_code d.frame d.variables l.line l.variable a (next d) in
-    let added = c.in_ok-initialize_structure-in-InitializeStructure.ensures in
+    let more = c.in_ok-initialize_structure-in-InitializeStructure.ensures ∙ ap (λ b. added d (initial_code d.frame d.variables l.line l.variable (view_structure b) (next d)) (structure_types (view_structure b))) c.deref-in-InitializeStructure.ensures in
     rw l.is (λ first others_behind others h. ok_two c.flush.result _ _ _ (λ last put.
     within_structure first others_behind c.args.exits others d rest c.args.cases.now h c.flush.new.self (nodes_of (reverse c.flush.new.made.items)) l.line l.variable l.drawn a
-    (flushed_draft d c.initialize_structure.new.self c.flush.new.self xs (structure_types a) c.requires added last)
-    (flushed_code d c.initialize_structure.new.self xs (structure_types a) rest (nodes_of (reverse c.flush.new.made.items)) c.requires added put))
+    (flushed_draft d c.initialize_structure.new.self c.flush.new.self xs (structure_types a) c.requires more last)
+    (flushed_code d c.initialize_structure.new.self xs (structure_types a) rest (nodes_of (reverse c.flush.new.made.items)) c.requires more put))
     c.flush.ensures.draft c.flush.ensures.code)
 
 pub item-returns-in-Statement : goal.item-returns-in-Statement
 item-returns-in-Statement t c =
     let l = c.in-Statement in
     rw l.is (λ first rest others h. ok_maps c.statement.result _ _ (λ k.
-    within_does first rest c.args.exits others c.args.self.now (nodes_of (reverse c.args.made.now.items)) c.args.cases.now h c.statement.new.self (nodes_of (reverse c.statement.new.made.items)) (view_statement l.statement) k)
+    within_does first rest c.args.exits others c.args.self.now (nodes_of (reverse c.args.made.now.items)) c.args.cases.now h c.statement.new.self (nodes_of (reverse c.statement.new.made.items)) (view_statement l.statement.value)
+    (subst (λ s. Drafted c.args.self.now c.statement.new.self (nodes_of (reverse c.args.made.now.items)) (nodes_of (reverse c.statement.new.made.items)) c.args.exits (view_statement s)) c.deref-in-Statement.ensures k))
     c.statement.ensures)
 
 pub item-returns-in_ok-place-in-Label : goal.item-returns-in_ok-place-in-Label
@@ -136,7 +141,7 @@ statement-returns-in_ok-statement-in-If t c =
     let count : c.saturating_sub-count.result ≡ node_count n1 - node_count rest =
     omega (arith, c.saturating_sub-count.ensures, c.len.ensures, c.len-before.ensures, reversed_count c.args.made.now.items, reversed_count c.statement.new.made.items) in
     let h = ok_two c.test.result _ _ _ (λ draft put.
-    drafted_if c.args.self.now c.statement.new.self c.test.new.self c.args.exits (view c.in-If.test) (view_statement c.deref-in-If.result.now) c.in-If.line c.saturating_sub-count.result rest n1 (nodes_of (reverse c.test.new.made.items))
+    drafted_if c.args.self.now c.statement.new.self c.test.new.self c.args.exits (view c.deref-in-If-2.result.now) (view_statement c.deref-in-If.result.now) c.in-If.line c.saturating_sub-count.result rest n1 (nodes_of (reverse c.test.new.made.items))
     c.in_ok-statement-in-If.ensures count draft put)
     c.test.ensures.draft c.test.ensures.code in
     search (rules, h)
@@ -144,7 +149,7 @@ statement-returns-in_ok-statement-in-If t c =
 pub statement-returns-in-Switch : goal.statement-returns-in-Switch
 statement-returns-in-Switch t c =
     let l = c.in-Switch in
-    drafted_same _ _ _ _ _ _ _ _ (ap (λ xs. switch l.line (view l.value) (items_of xs)) c.deref-in-Switch.ensures.value ∙ sym (ap view_statement l.is ∙ view_switch l.line l.value l.items)) c.switch.ensures
+    drafted_same _ _ _ _ _ _ _ _ ((λ i. switch l.line (view (c.deref-in-Switch.ensures i)) (items_of (c.deref-in-Switch-2.ensures.value i))) ∙ sym (ap view_statement l.is ∙ view_switch l.line l.value l.items)) c.switch.ensures
 
 pub switch-returns : goal.switch-returns
 switch-returns t c =

@@ -1,0 +1,92 @@
+-- What suffixes derive from behind the last on, and lines of declarators.
+use Rattle.std.proofs.Common.{◌≡◌, ◌+◌, ◌*◌, ◌<◌, ℕ, zero, suc, Bool, true, false, List, [], ◌∷◌, length, get_or, drop, Result, Err, refl, ap, sym, subst, ◌∙◌, arith}
+use Rattle.std.specs.Prelude.{◌==◌, ◌&&◌, if◌then◌else◌}
+use Rattle.c_tree.specs.declared.declaration.DeclaratorSuffix.{DeclaratorSuffix, Bounded, Open, Empty, Void, Parameters'}
+use Rattle.c_tree.specs.Declarations.{Parts, FullSuffixes, full_unnamed, view_full_suffix, full_suffixes_of, parts_line}
+use Rattle.c_types.specs.declared.types.Ty.{Ty}
+use Rattle.c_types.specs.Types.{CType, Completed, views}
+use Rattle.c_types.specs.Types as ctypes
+use Rattle.c_types.specs.Layouts.{layout_of, record_layout, is_completed, is_complete, size_of}
+use Rattle.c_scope.specs.declared.fault.Broken.{Broken}
+use Rattle.c_scope.specs.declared.fault.Broken.TheVariants as broken
+use Rattle.c_scope.specs.Faults.{◌>>=◌, Breaks, GivesNode}
+use Rattle.c_elab_base.specs.declared.derivations.Derived.{Derived as CodeDerived}
+use Rattle.c_elab_base.specs.Declarators.{same_ctype, same_types}
+use Rattle.c_elab_base.specs.Derivations.{Shape, Derived, counted, called, array_shape, function_shape, derived, view_derived, view_deriveds, suffixes_line, parameter_line}
+use Rattle.c_elab_base.proofs.Lists.{more_than_none}
+use Rattle.c_elab_base.proofs.Steps.{list_at}
+
+-- ---- faults
+
+one_fails : (done : List Completed) (constant : Bool) (base : Shape) (d : Derived) (ds : List Derived) (rule : ℕ) → derived done constant base ds ≡ Err rule → derived done constant base (d ∷ ds) ≡ Err rule
+one_fails done constant base (counted k) ds rule h = ap (λ (r : Result Shape ℕ). r >>= λ t. array_shape done k t) h
+one_fails done constant base (called ps ellipsis) ds rule h = ap (λ (r : Result Shape ℕ). r >>= λ t. function_shape constant ps ellipsis t) h
+
+-- a fault behind the first suffixes is one of the whole
+pub derived_fails : (done : List Completed) (constant : Bool) (base : Shape) (n : ℕ) (ds : List CodeDerived) (rule : ℕ) → derived done constant base (view_deriveds (drop n ds)) ≡ Err rule
+    → derived done constant base (view_deriveds ds) ≡ Err rule
+derived_fails done constant base zero ds rule h = h
+derived_fails done constant base (suc n) [] rule h = h
+derived_fails done constant base (suc n) (d ∷ ds) rule h = one_fails done constant base (view_derived d) (view_deriveds ds) rule (derived_fails done constant base n ds rule h)
+
+pub breaks_on : {Y Z : Type 0} (e : Broken) (r : Result Y ℕ) (s : Result Z ℕ) → ((rule : ℕ) → r ≡ Err rule → s ≡ Err rule) → Breaks e r → Breaks e s
+breaks_on broken.Memory r s h g = tt
+breaks_on (broken.Rule rule) r s h g = h rule g
+
+pub node_err : {X Y : Type 0} (view : X → Y) (r : Result X Broken) (e f : Broken) (whole : Result Y ℕ) → r ≡ Err e → e ≡ f → Breaks f whole → GivesNode view r whole
+node_err {X} view r e f whole p q h = subst (λ (x : Result X Broken). GivesNode view x whole) (sym (p ∙ ap Err q)) h
+
+pub shape_fails : (done : List Completed) (constant : Bool) (base : Shape) (ds : List CodeDerived) (n : ℕ) (d : CodeDerived) (e : Broken) → n < length ds → d ≡ get_or ds n d
+    → Breaks e (derived done constant base (view_derived d ∷ view_deriveds (drop (n + 1) ds))) → Breaks e (derived done constant base (view_deriveds ds))
+shape_fails done constant base ds n d e h is bad =
+    breaks_on e (derived done constant base (view_derived d ∷ view_deriveds (drop (n + 1) ds))) (derived done constant base (view_deriveds ds))
+    (λ rule g. derived_fails done constant base n ds rule (ap (derived done constant base) (list_at view_derived ds n d h is) ∙ g)) bad
+
+-- ---- types of parameters
+
+and_false : (b : Bool) → (b && false) ≡ false
+and_false true = refl
+and_false false = refl
+
+pub other_count : (ts us : List Ty) → (length ts ≡ length us → ⊥) → same_types (views ts) (views us) ≡ false
+other_count [] [] h = absurd (h refl)
+other_count [] (u ∷ us) h = refl
+other_count (t ∷ ts) [] h = refl
+other_count (t ∷ ts) (u ∷ us) h = ap (λ (b : Bool). same_ctype (ctypes.view t) (ctypes.view u) && b) (other_count ts us (λ e. h (ap suc e))) ∙ and_false (same_ctype (ctypes.view t) (ctypes.view u))
+
+-- ---- lines
+
+pub empty_line : (parts : Parts) (xs : List DeclaratorSuffix) → (length xs == 0) ≡ true → parameter_line parts (full_unnamed (full_suffixes_of xs)) ≡ parts_line parts
+empty_line parts [] h = refl
+empty_line parts (x ∷ xs) h = let no : false ≡ true = sym (more_than_none (length xs)) ∙ h in let none : ⊥ = cc in absurd none
+
+one_line : (parts : Parts) (x : DeclaratorSuffix) (rest : FullSuffixes) → parameter_line parts (full_unnamed (view_full_suffix x rest)) ≡ suffixes_line (view_full_suffix x rest)
+one_line parts (Bounded line e) rest = refl
+one_line parts (Open line) rest = refl
+one_line parts (Empty line) rest = refl
+one_line parts (Void line) rest = refl
+one_line parts (Parameters' line shape ps variadic) rest = refl
+
+pub suffix_line : (parts : Parts) (xs : List DeclaratorSuffix) → (length xs == 0) ≡ false → parameter_line parts (full_unnamed (full_suffixes_of xs)) ≡ suffixes_line (full_suffixes_of xs)
+suffix_line parts [] h = let none : ⊥ = cc in absurd none
+suffix_line parts (x ∷ xs) h = one_line parts x (full_suffixes_of xs)
+
+-- ---- sizes
+
+none_completed : (done : List Completed) (p : ℕ) → is_completed done p ≡ false → (record_layout done p).size ≡ 0
+none_completed [] p h = refl
+none_completed (c ∷ done) p h = by (none_completed done p) (c.place == p) h where
+  by : (is_completed done p ≡ false → (record_layout done p).size ≡ 0) → (b : Bool) → (if b then true else is_completed done p) ≡ false
+      → (if b then layout_of (record_layout done) c.kind c.members else record_layout done p).size ≡ 0
+  by rest true g = let none : ⊥ = cc in absurd none
+  by rest false g = rest g
+
+times_none : (k n : ℕ) → n ≡ 0 → k * n ≡ 0
+times_none k n h = rw h (omega arith)
+
+-- what is incomplete has no bytes
+pub incomplete_size : (done : List Completed) (t : CType) → is_complete done t ≡ false → size_of done t ≡ 0
+incomplete_size done ctypes.void h = refl
+incomplete_size done (ctypes.integer t) h = let none : ⊥ = cc in absurd none
+incomplete_size done (ctypes.aggregate p) h = none_completed done p h
+incomplete_size done (ctypes.array e k) h = times_none k (size_of done e) (incomplete_size done e h)

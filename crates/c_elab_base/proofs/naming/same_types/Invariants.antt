@@ -1,0 +1,13 @@
+use Rattle.std.proofs.Common.{◌≡◌, ◌≤◌, ◌-◌, length, drop}
+use Rattle.c_types.specs.Types.{views}
+use Rattle.c_elab_base.specs.Declarators.{same_types}
+use Rattle.c_elab_base.proofs.naming.same_types.Given as goal
+
+abbrev pub invariant-loop-at : goal.invariant-loop-at
+invariant-loop-at l = record {
+  within : l.at ≤ length l.a;
+  alike : same_types (views (drop l.at l.a)) (views (drop l.at l.b)) ≡ same_types (views l.a) (views l.b);
+}
+
+abbrev pub decreases-loop-at : goal.decreases-loop-at
+decreases-loop-at l = length l.a - l.at

@@ -1,0 +1,7 @@
+pub mod Names
+pub mod Regions
+pub mod Derivations
+pub mod Slots
+pub mod Declarators
+pub mod Tags
+pub mod Specifiers

@@ -1,7 +1,0 @@
-use Rattle.std.proofs.Common.{◌≡◌, map, take}
-use Rattle.c_types.specs.Types.{view}
-use Rattle.c_elab_type.specs.Derivations.{parameter_types, view_parameters}
-use Rattle.c_elab_type.proofs.derivations.parameter_types.Given as goal
-
-abbrev pub invariant-loop-parameter : goal.invariant-loop-parameter
-invariant-loop-parameter l = map view l.types.items ≡ parameter_types (view_parameters (take l.parameter-index l.parameters))

@@ -1,6 +1,0 @@
-use Rattle.std.proofs.Common.{sym}
-use Rattle.c_elab_type.proofs.Deriving.{other_count}
-use Rattle.c_elab_type.proofs.naming.same_types.Goals as goal
-
-pub returns-then-a-b : goal.returns-then-a-b
-returns-then-a-b c = sym (other_count c.args.a.now c.args.b.now c.if-a-b.true)

@@ -1,5 +1,0 @@
-use Rattle.c_lexer.proofs.Spellings.{keyword_back}
-use Rattle.c_lexer.proofs.token.each_keyword_is_spelled.Goals as goal
-
-pub returns : goal.returns
-returns c = keyword_back

@@ -1,5 +1,0 @@
-use Rattle.c_lexer.proofs.Spellings.{mark_back}
-use Rattle.c_lexer.proofs.token.each_mark_is_spelled.Goals as goal
-
-pub returns : goal.returns
-returns c = mark_back

@@ -1,9 +1,0 @@
-use Rattle.std.proofs.Common.{subst}
-use Rattle.core_tree.specs.Trees.{CoreFile, view_core}
-use Rattle.c_interp.specs.Source.{first_objects}
-use Rattle.mem_seq.specs.Accesses.{AreObjects}
-use Rattle.cbmc_top.proofs.FirstStores.{file_holds}
-use Rattle.cbmc_top.proofs.searching.prove_objects.Goals as goal
-
-pub returns : goal.returns
-returns c = subst (λ (core : CoreFile). AreObjects (first_objects (view_core core).objects)) c.core.ensures.is (file_holds (view_core c.core.result.now) c.objects-objects.ensures.typed)

@@ -1,0 +1,4 @@
+pub mod Identifiers
+pub mod FileNames
+pub mod Report
+pub mod Failing

@@ -1,0 +1,15 @@
+use Rattle.std.proofs.Common.{◌∙◌}
+use Rattle.core_tree.specs.Trees.{view_core}
+use Rattle.run_search.proofs.FirstStores.{storable}
+use Rattle.run_search.proofs.StartsNone.{none_start}
+use Rattle.run_search.proofs.searching.unrolled_code.Goals as goal
+
+pub returns-in-Ok-clause-same : goal.returns-in-Ok-clause-same
+returns-in-Ok-clause-same c =
+    let none = none_start (view_core c.args.file.now) c.in_ok-lowered.lowered c.in_ok-checked.checked c.in_ok-lowered.ensures.code c.in_ok-checked.ensures.code in
+    let limits = c.args.bounds.now in
+    (c.in-Ok.ensures.same none).behaves ∙ (c.in_ok-checked.ensures.same limits).behaves ∙ (c.in_ok-lowered.ensures.same limits).behaves
+
+pub returns-in-Ok-clause-store : goal.returns-in-Ok-clause-store
+returns-in-Ok-clause-store c =
+    c.in-Ok.ensures.store ∙ c.in_ok-checked.ensures.store ∙ c.in_ok-lowered.ensures.store (storable (view_core c.args.file.now) c.args.bounds.now c.in-Ok.ensures.within)

@@ -1,0 +1,14 @@
+-- What the checker may answer.
+use Rattle.core_tree.specs.Ranges.{Cause}
+use Rattle.core_tree.specs.declared.refusal.Limit.{Limit}
+use Rattle.report.specs.Report.{Failure}
+use Rattle.run_search.specs.declared.used.Used.{Used}
+
+pub data Answer : Type 0 where
+  usage : Answer
+  read_fault : Answer
+  limited : Limit → Answer
+  refused : Cause → Answer
+  successful : Used → Answer
+  failed : Failure → Answer
+  used_up : Used → Answer

@@ -1,0 +1,5 @@
+pub mod Executions
+pub mod Clauses
+pub mod Answers
+pub mod Stops
+pub mod Searches

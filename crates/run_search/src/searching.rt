@@ -1,0 +1,154 @@
+//! From a program to what its runs do.
+
+ghost use Rattle.std.specs.Prelude.{◌≡◌, ◌≤◌, None, IfOk, IfErr};
+ghost use Rattle.actions.specs.Behaviour.{Thread};
+ghost use Rattle.word_dag.specs.Meaning.{width};
+ghost use Rattle.word_dag.specs.Growth.{Within};
+ghost use Rattle.core_tree.specs.Trees.{view_core};
+ghost use Rattle.c_interp.specs.Source.{source_thread, first_objects};
+ghost use Rattle.interleave.specs.World.{first_world};
+ghost use Rattle.goto_prog.specs.Flat.{plain_thread};
+ghost use Rattle.goto_unwind.specs.Counts.{passed};
+ghost use Rattle.guarded_ssa.specs.Forms.{IsForm};
+ghost use Rattle.mem_seq.specs.Accesses.{AreObjects};
+ghost use Rattle.mem_seq.specs.Formulas.{IsFormula, FormulaIn};
+ghost use Rattle.run_search.specs.Stops.{StopsWith, IsPassed};
+ghost use Rattle.run_search.specs.Searches.{IsSolved, IsSearched};
+
+use crate::stop::Stop;
+use crate::used::Used;
+use bit_blast::{blast, lift};
+use c_interp::safe_at_all;
+use c_profile::Admitted;
+use cdcl_core::{Answer, solve};
+use core_tree::Bounds;
+use goto_checks::insert;
+use goto_lower::lower;
+use goto_prog::Unrolled;
+use goto_unwind::{UnwindError, passed_limit, unwind};
+use guarded_ssa::threads;
+use interleave::Trace;
+use mem_seq::{Formula, Sets, sequential};
+use refutation_check::Checker;
+use sat_form::no_model;
+use std::alloc::{AllocError, Global};
+use trace_build::build;
+use word_dag::{Dag, Id, Valuation};
+
+/// What a search for values that make a goal true came to.
+#[derive(Drop)]
+enum Solved {
+    /// These values do.
+    Values(Valuation),
+    /// None do: the clauses of the goal, and a refutation of them.
+    Refuted(Used),
+    /// The clauses of the goal, and a log that has used up the budget.
+    Budget(Used),
+}
+
+/// What a search of a program's runs came to.
+#[derive(Drop)]
+pub enum Searched {
+    /// No run within the bounds breaks a check: the clauses of the program, and a refutation of them.
+    Refuted(Used),
+    /// A run that breaks a check.
+    Broken(Trace),
+    /// The clauses of the program, and a log that has used up the budget.
+    Budget(Used),
+}
+
+// Each object of a file has as many first bytes as its size says.
+fn prove_objects(file: &Admitted)
+    ensures { AreObjects (first_objects (view_core file.now).objects) }
+{
+    let _objects = file.core().objects();
+}
+
+/// The code of a program with explicit checks and without loops and calls, or the count that passes its limit.
+fn unrolled_code(alloc: Global, file: &Admitted, bounds: &Bounds) -> Result<Unrolled, Stop>
+    ensures counts { IfOk result (λ u. passed (view_core file.now) bounds.now ≡ None) }
+    ensures same { IfOk result (λ u. (plain_thread u).behaves ≡ (source_thread (view_core file.now) bounds.now).behaves) }
+    ensures store { IfOk result (λ u. u.store ≡ first_objects (view_core file.now).objects) }
+    ensures objects { IfOk result (λ u. AreObjects u.store) }
+    ensures stop { IfErr result (λ s. StopsWith s (IsPassed bounds.now (view_core file.now))) }
+{
+    prove_objects(file);
+    if let Some(limit) = passed_limit(alloc, file, bounds)? {
+        return Err(Stop::Limited(limit));
+    }
+    let lowered = lower(alloc, file)?;
+    let checked = insert(alloc, lowered)?;
+    match unwind(alloc, file, &checked, bounds) {
+        Ok(unrolled) => Ok(unrolled),
+        Err(UnwindError::Limit(limit)) => Err(Stop::Limited(limit)),
+        Err(UnwindError::Memory) => Err(Stop::Memory),
+    }
+}
+
+/// The formula of the runs of unrolled code that break a check.
+fn formula_of(alloc: Global, dag: &mut Dag, unrolled: &Unrolled) -> Result<Formula, AllocError>
+    ensures within { IfOk result (λ f. FormulaIn dag.new f) }
+    ensures form { IfOk result (λ f. (t : Thread) → (plain_thread unrolled.now).behaves ≡ t.behaves → IsForm t.behaves dag.new f.form.events) }
+    ensures formula { IfOk result (λ f. (t : Thread) → AreObjects unrolled.now.store → (plain_thread unrolled.now).behaves ≡ t.behaves → IsFormula (first_world t unrolled.now.store) dag.new f) }
+{
+    let forms = threads(alloc, unrolled, dag)?;
+    sequential(alloc, dag, &forms[0], &Sets {})
+}
+
+/// Values of the variables that make a goal true, if there are any. A refutation counts only once its checker accepted it,
+/// whose memory is taken before the search, so that no want of memory comes in between.
+fn values_for(alloc: Global, dag: &Dag, goal: Id, budget: u32) -> Result<Solved, AllocError>
+    requires there { Within dag.now goal }
+    requires bit { width dag.now goal ≡ 1 }
+    requires budget { 1 ≤ budget }
+    ensures { IfOk result (IsSolved dag.now goal budget) }
+{
+    no_model();
+    let blasted = blast(alloc, dag, goal)?;
+    // A clause that is learned has no variable twice.
+    let variables = blasted.cnf.variables();
+    let mut checker = Checker::new(alloc, variables, variables as usize)?;
+    let answer = solve(alloc, &blasted.cnf, budget as u64)?;
+    match answer {
+        Answer::Sat(model) => Ok(Solved::Values(lift(alloc, &blasted, &model)?)),
+        Answer::Unsat(log) => {
+            if !checker.check(&blasted.cnf, &log) {
+                unreachable!()
+            }
+            let form = blasted.cnf;
+            Ok(Solved::Refuted(Used { form, log }))
+        }
+        Answer::Spent(log) => {
+            let form = blasted.cnf;
+            Ok(Solved::Budget(Used { form, log }))
+        }
+    }
+}
+
+/// A run of the program within the bounds that breaks a check, or a refutation, if one of the two is found within the
+/// budget; or the count that passes its limit.
+pub fn search(
+    alloc: Global,
+    file: &Admitted,
+    bounds: &Bounds,
+    budget: u32,
+) -> Result<Searched, Stop>
+    requires { 1 ≤ budget }
+    ensures counts { IfOk result (λ _. passed (view_core file.now) bounds.now ≡ None) }
+    ensures found { IfOk result (IsSearched bounds.now budget (view_core file.now)) }
+    ensures stop { IfErr result (λ s. StopsWith s (IsPassed bounds.now (view_core file.now))) }
+{
+    safe_at_all();
+    let unrolled = unrolled_code(alloc, file, bounds)?;
+    let mut dag = Dag::new(alloc);
+    let formula = formula_of(alloc, &mut dag, &unrolled)?;
+    let solved = values_for(alloc, &dag, formula.goal, budget)?;
+    match solved {
+        Solved::Refuted(used) => Ok(Searched::Refuted(used)),
+        Solved::Values(values) => {
+            let trace = build(alloc, file, bounds, &dag, &formula, &values)?;
+            Ok(Searched::Broken(trace))
+        }
+        Solved::Budget(used) => Ok(Searched::Budget(used)),
+    }
+}
