@@ -1,0 +1,1 @@
+struct P{int x;struct{short y;unsigned char z;};};int main(void){struct P p;p.x=1;p.y=-2;p.z=300;assert(p.x==1&&p.y==-2&&p.z==44);p.y+=p.z++;return p.y==42&&p.z==45?0:1/0;}

@@ -1,0 +1,2 @@
+int main(void){int a[3];
+return a+1;}

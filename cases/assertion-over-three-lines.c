@@ -1,0 +1,3 @@
+int main(void){assert(3
+==
+4);return 0;}

@@ -1,0 +1,1 @@
+int main(void){__CPROVER_assume(0);assert(0);return 0;}

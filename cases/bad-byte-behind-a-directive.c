@@ -1,0 +1,4 @@
+int x
+
+#define A
+@

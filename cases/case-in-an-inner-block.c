@@ -1,0 +1,2 @@
+int main(void){switch(1){{
+case 1:;}}}

@@ -1,0 +1,2 @@
+int main(void){
+1=2;return x;}

@@ -1,0 +1,3 @@
+int x
+
+#define A

@@ -1,0 +1,5 @@
+int main(void){
+int d=nondet_int();
+return 7
+/
+d;}

@@ -1,0 +1,1 @@
+int main(void){int nondet_int=1;return nondet_int;}

@@ -1,0 +1,1 @@
+int main(void){struct{char a,b,c;}s;assert(!(s.a==1&&s.b==2&&s.c==3));return 0;}

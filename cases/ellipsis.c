@@ -1,0 +1,2 @@
+int
+f(int,...);int main(void){return 0;}

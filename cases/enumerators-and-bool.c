@@ -1,0 +1,1 @@
+enum{A=3,B};int main(void){_Bool b=B;signed char c=(char)200;assert(b==1&&c==-56);return A-3;}

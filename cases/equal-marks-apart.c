@@ -1,0 +1,1 @@
+int main(void){int x=1;assert(x= =1);return 0;}

@@ -1,0 +1,2 @@
+int x;
+float y;

@@ -1,0 +1,1 @@
+int main(void){{int x=1;assert(x);}int x=2;assert(x==2);}

@@ -1,0 +1,1 @@
+int main(void){int x=1;goto c;a:;b:;x=0;c:;return 1/x;}

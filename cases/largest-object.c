@@ -1,0 +1,1 @@
+int main(void){char a[65536];return sizeof a==65536?0:1/0;}

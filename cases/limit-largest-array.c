@@ -1,0 +1,1 @@
+int main(void){char a[2147483647];return 0;}

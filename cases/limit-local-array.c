@@ -1,0 +1,1 @@
+int main(void){char a[65537];return 0;}

@@ -1,0 +1,1 @@
+static char a[65537];int main(void){return 0;}

@@ -1,0 +1,1 @@
+int main(void){long x=5000000000;return x/5000000000==1?0:1/0;}

@@ -1,0 +1,3 @@
+int f(void);int main(void){
+switch(1){{case 1:;}}
+f;}

@@ -1,0 +1,1 @@
+int d;int main(void){if(d<2){d++;int x=(main)();assert(x==0);}}

@@ -1,0 +1,2 @@
+char
+main(void){return 0;}

@@ -1,0 +1,2 @@
+int main(void){struct{int a;}s;
+return s.b;}

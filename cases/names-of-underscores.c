@@ -1,0 +1,1 @@
+int main(void){int _=0;int __=_;assert(__!=1);assert(_==0);return _;}

@@ -1,0 +1,1 @@
+int main(void){unsigned char x=nondet_uchar();assert(!(x*x==49&&100/x==14));return 0;}

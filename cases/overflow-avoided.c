@@ -1,0 +1,1 @@
+int main(void){int x=nondet_int();__CPROVER_assume(x>=0);if(x==2147483647)x=0;else x=x+1;assert(x>=0);return x;}

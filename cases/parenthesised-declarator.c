@@ -1,0 +1,1 @@
+int main(void){unsigned char (c)=200;c=c+100;assert(c==44);return 0;}

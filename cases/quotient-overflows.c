@@ -1,0 +1,1 @@
+int main(void){int d=nondet_int();__CPROVER_assume(d==-1);return (-2147483647-1)/d;}

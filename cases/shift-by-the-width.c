@@ -1,0 +1,1 @@
+int main(void){int n=nondet_int();__CPROVER_assume(n>30&&n<33);return 1>>n;}

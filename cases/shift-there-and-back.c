@@ -1,0 +1,1 @@
+int main(void){unsigned n=nondet_uint();__CPROVER_assume(n<32);assert((1u<<n)>>n==1u);return 0;}

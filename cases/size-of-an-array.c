@@ -1,0 +1,1 @@
+int main(void){int a[3];return sizeof a==12&&sizeof(int[3])==12?0:1/0;}

@@ -1,0 +1,1 @@
+int a[1][2][3][4][5];int main(void){return sizeof a==480?0:1/0;}

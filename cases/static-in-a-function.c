@@ -1,0 +1,1 @@
+int main(void){static int x=6;x++;assert(x==7);return 0;}

@@ -1,0 +1,1 @@
+int x;int main(void){x=nondet_int();assert(x!=7);return 0;}

@@ -1,0 +1,1 @@
+struct s{int a;char b;}x={3,4};int main(void){struct s y=x;x.a=5;assert(y.a==3&&x.a==5&&x.b==4);return 0;}

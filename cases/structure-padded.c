@@ -1,0 +1,1 @@
+struct S{char a;long b;short c;};int main(void){assert(sizeof(struct S)==24);return 0;}

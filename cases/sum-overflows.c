@@ -1,0 +1,1 @@
+int main(void){int x=nondet_int();if(x>0)x=x+1;return 0;}

@@ -1,0 +1,1 @@
+typedef int T;int main(void){T x=1;{int T=2;x=x*T;}assert(x==2);return 0;}

@@ -1,0 +1,1 @@
+int main(void){union{int i;unsigned short h;}u;u.i=-2;assert(u.h==65534);return 0;}

@@ -1,0 +1,1 @@
+int main(void){union{unsigned u;_Bool b;}u;u.u=2;assert(u.b==1);u.u=256;assert(u.b==0);return 0;}
