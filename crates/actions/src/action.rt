@@ -1,3 +1,5 @@
+//! What a thread does with what it shares with others, and what it is answered.
+
 ghost use Rattle.std.specs.Prelude.{◌≡◌, ◌≤◌};
 
 use crate::bytes::Bytes;
@@ -24,6 +26,7 @@ impl Model for DrawBits {
 }
 
 impl DrawBits {
+    /// So many bits, from 1 to 64.
     pub fn new(bits: u32) -> DrawBits
         requires positive { 1 ≤ bits }
         requires at_most_64 { bits ≤ 64 }
@@ -32,6 +35,7 @@ impl DrawBits {
         DrawBits { bits }
     }
 
+    /// How many bits, from 1 to 64.
     pub fn bits(self) -> u32
         ensures value { result ≡ self }
         ensures positive { 1 ≤ result }

@@ -1,3 +1,5 @@
+//! Lists of bytes as clauses see them.
+
 ghost use Rattle.std.specs.Prelude.{◌≡◌, ◌+◌, ◌≤◌, true, length, take, drop, IfOk};
 ghost use Rattle.actions.specs.ByteList.{are_bytes, mutex_number, put_at};
 
@@ -43,13 +45,14 @@ impl Bytes {
         self.items
     }
 
+    /// The bytes.
     pub fn as_slice(&self) -> &[u8]
         ensures { result.now ≡ self.now }
     {
         self.items.as_slice()
     }
 
-    // A copy of the n bytes from the offset `at` on.
+    /// A copy of the n bytes from the offset `at` on.
     pub(crate) fn part(&self, alloc: Global, at: usize, n: usize) -> Result<Bytes, AllocError>
         requires { at + n ≤ length self.now }
         ensures value { IfOk result (λ bytes. bytes ≡ take n (drop at self.now)) }
@@ -60,7 +63,7 @@ impl Bytes {
         Ok(Bytes { items })
     }
 
-    // The number in the 4 bytes from the offset `at` on, the lowest byte first.
+    /// The number in the 4 bytes from the offset `at` on, the lowest byte first.
     pub(crate) fn number(&self, at: usize) -> u32
         requires { at + 4 ≤ length self.now }
         ensures { result ≡ mutex_number (take 4 (drop at self.now)) }
@@ -68,7 +71,7 @@ impl Bytes {
         number_of(&self.items[at..at + 4])
     }
 
-    // Puts bytes in the place of as many from the offset `at` on.
+    /// Puts bytes in the place of as many from the offset `at` on.
     pub(crate) fn put(&mut self, at: usize, new: &[u8])
         requires { at + length new.now ≤ length self.old }
         ensures value { self.new ≡ put_at at new.now self.old }

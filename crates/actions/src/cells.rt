@@ -1,3 +1,5 @@
+//! The cells of an object: a byte each, and how often it was written.
+
 ghost use Rattle.std.specs.Prelude.{◌≡◌};
 ghost use Rattle.actions.specs.Access.{is_one_cell, is_mixed};
 
@@ -51,13 +53,14 @@ impl Cells {
         self.items
     }
 
+    /// The cells, in order.
     pub fn as_slice(&self) -> &[Cell]
         ensures { result.now ≡ self.now }
     {
         self.items.as_slice()
     }
 
-    // There are cells, and none of them is the n bytes from the offset `at` on.
+    /// There are cells, and none of them is the n bytes from the offset `at` on.
     pub(crate) fn is_mixed(&self, at: u32, n: usize) -> bool
         ensures { result ≡ is_mixed self.now at n }
     {

@@ -1,3 +1,5 @@
+//! What the table of actions keeps, as functions that do nothing.
+
 ghost use Rattle.actions.specs.LocalRun.{SameBehaviours};
 ghost use Rattle.actions.specs.Memory.{WritesAlone};
 ghost use Rattle.actions.specs.Row.{LooksAlone};

@@ -1,3 +1,5 @@
+//! The machine of a thread: what it does next, and what it does after an answer.
+
 ghost use Rattle.std.specs.Prelude.{◌≡◌, true, [], IfOk, OnOk, OnErr};
 ghost use Rattle.actions.specs.Behaviour.{Thread, IsThread, started, answered, accepts};
 

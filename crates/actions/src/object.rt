@@ -1,3 +1,5 @@
+//! An object of the store: its kind, its size, and what it holds.
+
 ghost use Rattle.std.specs.Prelude.{◌≡◌, ◌+◌, ◌≤◌, Some, true, length, IfOk};
 ghost use Rattle.actions.specs.ByteList.{are_bytes, mutex_number};
 ghost use Rattle.actions.specs.Access.{break_at, size_in};
@@ -53,7 +55,7 @@ impl Clone for Object {
 }
 
 impl Object {
-    // The first class that an access of n bytes from the offset `at` on breaks.
+    /// The first class that an access of n bytes from the offset `at` on breaks.
     pub(crate) fn break_at(&self, writes: bool, at: u32, n: usize) -> Option<Class>
         ensures { result ≡ break_at writes at n (state_of (Some self.now)) }
     {
@@ -96,7 +98,7 @@ impl Object {
         self.bytes.put(at as usize, new);
     }
 
-    // The number in the 4 bytes from the offset `at` on, the lowest byte first.
+    /// The number in the 4 bytes from the offset `at` on, the lowest byte first.
     pub(crate) fn number(&self, at: u32) -> u32
         requires { at + 4 ≤ (self.now).size }
         ensures { result ≡ mutex_number (bytes_in at 4 (Some self.now)) }

@@ -1,3 +1,5 @@
+//! The store: the objects of a run by their numbers, and their lifetimes.
+
 ghost use Rattle.std.specs.Prelude.{◌≡◌, ◌↔◌, [], true, IsTrue, IsSome, length, IfOk, IfErr, OnOk, OnErr};
 ghost use Rattle.actions.specs.ByteList.{are_bytes};
 ghost use Rattle.actions.specs.Pointer as pointer;

@@ -1,3 +1,5 @@
+//! The bits of a node, as literals.
+
 #![tactic(auto, using(gate_arith::proofs::Steps::steps))]
 
 ghost use Rattle.std.specs.Prelude.{◌≡◌, ℕ, ◌+◌, ◌^◌, ◌<◌, ◌≤◌, true, Bool, [], ◌∷◌, ◌++◌, IfOk, OnOk, length, replicate, if◌then◌else◌};
@@ -54,7 +56,7 @@ fn padded(alloc: Global, a: &[Lit], width: u32, fill: Lit) -> Result<Lits, Alloc
     Ok(Lits::new(literals))
 }
 
-// The literals of a constant.
+/// The literals of a constant.
 pub fn constant(
     alloc: Global,
     cnf: &mut Cnf,
@@ -72,7 +74,7 @@ pub fn constant(
     Ok(literals)
 }
 
-// The literals of the same unsigned number at this width.
+/// The literals of the same unsigned number at this width.
 pub fn zero_extended(
     alloc: Global,
     cnf: &mut Cnf,
@@ -91,7 +93,7 @@ pub fn zero_extended(
     Ok(literals)
 }
 
-// The literals of the same signed number at this width.
+/// The literals of the same signed number at this width.
 pub fn sign_extended(alloc: Global, a: &[Lit], width: u32) -> Result<Lits, AllocError>
     requires positive { 1 ≤ length a.now }
     requires wider { length a.now ≤ width }
@@ -101,7 +103,7 @@ pub fn sign_extended(alloc: Global, a: &[Lit], width: u32) -> Result<Lits, Alloc
     Ok(literals)
 }
 
-// The literals from `low` on, as many as `width` says.
+/// The literals from `low` on, as many as `width` says.
 pub fn cut(alloc: Global, a: &[Lit], low: u32, width: u32) -> Result<Lits, AllocError>
     requires { low + width ≤ length a.now }
     ensures { IfOk result (λ r. (form : Form) → IsWithin form.variables a.now → IsNumber form width r (λ x. low_bits width (logical_shift (value_of a.now x) low))) }
@@ -111,7 +113,7 @@ pub fn cut(alloc: Global, a: &[Lit], low: u32, width: u32) -> Result<Lits, Alloc
     Ok(Lits::new(Vec::from_slice(alloc, &a[first..last])?))
 }
 
-// The literals of the first word above those of the second.
+/// The literals of the first word above those of the second.
 pub fn join(alloc: Global, high: &[Lit], low: &[Lit]) -> Result<Lits, AllocError>
     requires { length high.now + length low.now ≤ 64 }
     ensures { IfOk result (λ r. (form : Form) → IsWithin form.variables high.now → IsWithin form.variables low.now → IsNumber form (length high.now + length low.now) r (λ x. joined (length low.now) (value_of high.now x) (value_of low.now x))) }

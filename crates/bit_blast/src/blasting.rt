@@ -1,3 +1,5 @@
+//! The clauses of a goal and of all nodes that it rests on.
+
 ghost use Rattle.std.specs.Prelude.{◌≡◌, ℕ, Bool, true, IsTrue, length, IfOk};
 ghost use Rattle.sat_form.specs.Satisfaction.{AreWithin, Satisfies};
 ghost use Rattle.word_dag.specs.Meaning.{width, value};

@@ -1,3 +1,5 @@
+//! The clauses of one node.
+
 #![tactic(auto, using(gate_arith::proofs::Steps::steps))]
 
 ghost use Rattle.std.specs.Prelude.{◌≡◌, ℕ, ◌<◌, ◌≤◌, true, Bool, IsTrue, IfOk, length};
@@ -33,7 +35,7 @@ fn read<'a>(lists: &'a LitLists, cnf: &Cnf, id: Id) -> &'a [Lit]
     lists.get(id.index)
 }
 
-// The literals of a node over those of the nodes before it and of the variables of the graph.
+/// The literals of a node over those of the nodes before it and of the variables of the graph.
 pub fn node_literals(
     alloc: Global,
     cnf: &mut Cnf,

@@ -1,3 +1,5 @@
+//! From an assignment of the clauses' variables back to values of the goal's variables.
+
 ghost use Rattle.std.specs.Prelude.{◌≡◌, ℕ, ◌^◌, ◌<◌, ◌≤◌, Bool, List, IfOk, length};
 ghost use Rattle.sat_form.specs.Satisfaction.{Satisfies, assignment_of};
 ghost use Rattle.sat_form.specs.Numbers.{value_of};

@@ -1,3 +1,5 @@
+//! Lists of literals for each node.
+
 ghost use Rattle.std.specs.Prelude.{◌≡◌, ◌≤◌, [], ◌∷◌, ◌++◌, length, OnOk, OnErr};
 ghost use Rattle.bit_blast.specs.Numbers.{literals_at};
 

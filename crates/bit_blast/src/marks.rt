@@ -1,3 +1,5 @@
+//! Which nodes a goal rests on.
+
 ghost use Rattle.std.specs.Prelude.{◌≡◌, ◌<◌, length, IfOk};
 ghost use Rattle.std.specs.List.{AllByRecursion};
 ghost use Rattle.word_dag.specs.Growth.{Within};
@@ -35,7 +37,7 @@ fn mark_operands(marks: &mut Vec<bool>, node: Node)
     }
 }
 
-// A mark for each node, set where the goal leads to it.
+/// A mark for each node, set where the goal leads to it.
 pub fn marks_of(alloc: Global, dag: &Dag, goal: Id) -> Result<Vec<bool>, AllocError>
     requires { Within dag.now goal }
     ensures { IfOk result (λ marks. AreMarks dag.now goal.index marks.items) }

@@ -1,3 +1,5 @@
+//! The clauses of an operation on words.
+
 #![tactic(auto, using(gate_arith::proofs::Steps::steps))]
 
 ghost use Rattle.std.specs.Prelude.{◌≡◌, ◌<◌, ◌≤◌, [], ◌∷◌, IfOk, length, if◌then◌else◌};
@@ -15,7 +17,7 @@ use sat_form::{Cnf, Lit};
 use std::alloc::{AllocError, Global};
 use word_dag::{BinaryOperator, Comparison, FitsTest, ShiftKind};
 
-// The literals of an operation on two words of one width.
+/// The literals of an operation on two words of one width.
 pub fn binary(
     alloc: Global,
     cnf: &mut Cnf,
@@ -45,7 +47,7 @@ pub fn binary(
     }
 }
 
-// The literals of a shift.
+/// The literals of a shift.
 pub fn shift(
     alloc: Global,
     cnf: &mut Cnf,
@@ -75,7 +77,7 @@ fn bit(alloc: Global, literal: Lit) -> Result<Lits, AllocError>
     Ok(Lits::new(Vec::from_slice(alloc, &[literal])?))
 }
 
-// The literal of a comparison, as a word of width 1.
+/// The literal of a comparison, as a word of width 1.
 pub fn compare(
     alloc: Global,
     cnf: &mut Cnf,
@@ -99,7 +101,7 @@ pub fn compare(
     bit(alloc, literal)
 }
 
-// The literal of a test of range, as a word of width 1.
+/// The literal of a test of range, as a word of width 1.
 pub fn result_fits(
     alloc: Global,
     cnf: &mut Cnf,
@@ -124,7 +126,7 @@ pub fn result_fits(
     bit(alloc, literal)
 }
 
-// The literals of a choice by a word of width 1.
+/// The literals of a choice by a word of width 1.
 pub fn choose(
     alloc: Global,
     cnf: &mut Cnf,

@@ -1,3 +1,5 @@
+//! Which variables of the clauses stand for the bits of a variable.
+
 ghost use Rattle.std.specs.Prelude.{◌≡◌, ◌+◌, ◌<◌, ◌≤◌, ◌==◌, ℕ, max, if◌then◌else◌, slice_index, length, IfOk, OnOk};
 ghost use Rattle.sat_form.specs.Satisfaction.{AreWithin};
 ghost use Rattle.bit_blast.specs.Numbers.{literals_at};
@@ -33,7 +35,7 @@ fn widen(widths: &mut Vec<u32>, variable: u32, width: u32) -> Result<(), AllocEr
     Ok(())
 }
 
-// The width of the widest node of each variable, by the variable's number.
+/// The width of the widest node of each variable, by the variable's number.
 pub fn variable_widths(alloc: Global, nodes: &[Node]) -> Result<Vec<u32>, AllocError>
     ensures { IfOk result (λ widths. (k : ℕ) → slice_index widths.items k ≡ variable_width nodes.now k) }
 {
@@ -58,7 +60,7 @@ fn fresh_literals(alloc: Global, cnf: &mut Cnf, width: u32) -> Result<Lits, Allo
     Ok(Lits::new(literals))
 }
 
-// Literals of new variables for each width, in order.
+/// Literals of new variables for each width, in order.
 pub fn fresh_lists(alloc: Global, cnf: &mut Cnf, widths: &[u32]) -> Result<LitLists, AllocError>
     requires { (k : ℕ) → slice_index widths.now k ≤ 64 }
     ensures consecutive { IfOk result (λ lists. AreConsecutive cnf.old.variables lists cnf.new.variables) }

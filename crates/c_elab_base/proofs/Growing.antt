@@ -20,7 +20,7 @@ use Rattle.core_tree.specs.Typed.{are_small, size_of as bytes_of, Sizes, Signatu
 use Rattle.c_scope.specs.declared.meaning.Meaning.{Meaning}
 use Rattle.c_scope.specs.declared.meaning.Meaning.TheVariants.{Object, Typedef}
 use Rattle.c_scope.specs.Members.{Members}
-use Rattle.c_scope.specs.Scopes.{Environment, binding, Named, Lasting, Linked, FunctionType, Callable, Scoped, with_callable, are_there, is_known, are_known, are_complete, sizes, object_at, lasting_size}
+use Rattle.c_scope.specs.Scopes.{Environment, binding, Named, ObjectEntry, Linked, FunctionType, Callable, Scoped, with_callable, are_there, is_known, are_known, are_complete, sizes, object_at, object_entry_size}
 use Rattle.c_scope.proofs.Variables.{both, and, are_there_wider, complete_more, sizes_more, complete_later, variables_later}
 use Rattle.c_elab_base.specs.Declarators.{with_function_type, with_typedef, with_variable}
 use Rattle.c_elab_base.specs.Specifiers.{ended}
@@ -372,8 +372,8 @@ record_settles s kind =
     }
 
 -- an object is no smaller where another struct or union is completed
-lasting_later : (done : List Completed) (c : Completed) (o : Lasting) → is_completed done c.place ≡ false → lasting_size done o ≤ lasting_size (c ∷ done) o
-lasting_later done c o before = by o.unknown_length (is_complete done o.named.type) refl where
+object_entry_later : (done : List Completed) (c : Completed) (o : ObjectEntry) → is_completed done c.place ≡ false → object_entry_size done o ≤ object_entry_size (c ∷ done) o
+object_entry_later done c o before = by o.unknown_length (is_complete done o.named.type) refl where
   size_if : List Completed → Bool → Bool → ℕ
   size_if done unknown complete = if unknown || not complete then 0 else size_of done o.named.type
 
@@ -385,10 +385,10 @@ lasting_later done c o before = by o.unknown_length (is_complete done o.named.ty
       let size = same.size in
       rw (complete_later done c o.named.type e) (omega (arith, size))
 
-objects_later : (done : List Completed) (c : Completed) (objects : List Lasting) → is_completed done c.place ≡ false
-    → Under (map (lasting_size done) objects) (map (lasting_size (c ∷ done)) objects)
+objects_later : (done : List Completed) (c : Completed) (objects : List ObjectEntry) → is_completed done c.place ≡ false
+    → Under (map (object_entry_size done) objects) (map (object_entry_size (c ∷ done)) objects)
 objects_later done c [] before = tt
-objects_later done c (o ∷ objects) before = (lasting_later done c o before, objects_later done c objects before)
+objects_later done c (o ∷ objects) before = (object_entry_later done c o before, objects_later done c objects before)
 
 -- one that wasn't complete is completed
 pub completed_settles : (s : Scoped) (p : ℕ) (kind : RecordKind) (ts : List CType) (ms : List Members) → is_completed s.records.done p ≡ false → layouts.are_complete s.records.done ts ≡ true
@@ -497,10 +497,10 @@ variable_follows s name n complete sized =
 -- ---- objects that live as long as the program
 
 -- one more
-pub object_settles : (s : Scoped) (o : Lasting) (linked : List Linked) → Settles s (record s { objects = s.objects ++ o ∷ []; linked = linked })
+pub object_settles : (s : Scoped) (o : ObjectEntry) (linked : List Linked) → Settles s (record s { objects = s.objects ++ o ∷ []; linked = linked })
 object_settles s o linked =
     let long = length-append s.objects (o ∷ []) in
-    let size = lasting_size s.records.done in
+    let size = object_entry_size s.records.done in
     record {
       follows = record {
         names = inner_refl s.bindings;
@@ -528,12 +528,12 @@ object_settles s o linked =
       same = refl;
     }
 
-set_under : (size : Lasting → ℕ) (objects : List Lasting) (i : ℕ) (o p : Lasting) → slice_get objects i ≡ Some o → size o ≤ size p → Under (map size objects) (map size (slice_set objects i p))
+set_under : (size : ObjectEntry → ℕ) (objects : List ObjectEntry) (i : ℕ) (o p : ObjectEntry) → slice_get objects i ≡ Some o → size o ≤ size p → Under (map size objects) (map size (slice_set objects i p))
 set_under size [] i o p h le = tt
 set_under size (q ∷ objects) zero o p h le = let same : q ≡ o = same_Some q o h in (rw same le, under_refl (map size objects))
 set_under size (q ∷ objects) (suc i) o p h le = (omega arith, set_under size objects i o p h le)
 
-pub object_set : (s : Scoped) (i : ℕ) (o p : Lasting) → slice_get s.objects i ≡ Some o → lasting_size s.records.done o ≤ lasting_size s.records.done p
+pub object_set : (s : Scoped) (i : ℕ) (o p : ObjectEntry) → slice_get s.objects i ≡ Some o → object_entry_size s.records.done o ≤ object_entry_size s.records.done p
     → Settles s (record s { objects = slice_set s.objects i p })
 object_set s i o p h le =
     let long = length-set s.objects i p in
@@ -542,7 +542,7 @@ object_set s i o p h le =
         names = inner_refl s.bindings;
         variables = omega arith;
         objects = omega (arith, long);
-        sizes = λ g. record { variables = grows_refl (sizes s); objects = set_under (lasting_size s.records.done) s.objects i o p h le; functions = signed_refl (own_sizes s).functions; gives = refl };
+        sizes = λ g. record { variables = grows_refl (sizes s); objects = set_under (object_entry_size s.records.done) s.objects i o p h le; functions = signed_refl (own_sizes s).functions; gives = refl };
         types = omega arith;
         records = omega arith;
         calls = goes_refl s.functions s.flow s.records.done;
@@ -560,7 +560,7 @@ object_set s i o p h le =
     }
 
 -- where an object is found
-pub object_get : (s : Scoped) (k : ℕ) (o : Lasting) → object_at s k ≡ Some o → slice_get s.objects (k - 1) ≡ Some o
+pub object_get : (s : Scoped) (k : ℕ) (o : ObjectEntry) → object_at s k ≡ Some o → slice_get s.objects (k - 1) ≡ Some o
 object_get s k o h = by (k == 0) h where
   by : (b : Bool) → (if b then None else slice_get s.objects (k - 1)) ≡ Some o → slice_get s.objects (k - 1) ≡ Some o
   by true e = let none : ⊥ = cc in absurd none
@@ -571,7 +571,7 @@ above_zero zero h = let none : ⊥ = cc in absurd none
 above_zero (suc k) h = omega arith
 
 -- the number of an object that is there
-pub object_known : (s : Scoped) (k : ℕ) (o : Lasting) → object_at s k ≡ Some o → is_known s (Object k) ≡ true
+pub object_known : (s : Scoped) (k : ℕ) (o : ObjectEntry) → object_at s k ≡ Some o → is_known s (Object k) ≡ true
 object_known s k o h = by (k == 0) refl h where
   by : (b : Bool) → (k == 0) ≡ b → (if b then None else slice_get s.objects (k - 1)) ≡ Some o → is_known s (Object k) ≡ true
   by true is e = let none : ⊥ = cc in absurd none
@@ -581,7 +581,7 @@ object_known s k o h = by (k == 0) refl h where
       and (nat_le 1 k) (nat_le k (length s.objects)) (le-leb 1 k low) (le-leb k (length s.objects) (omega (arith, low, within)))
 
 -- the next object is there behind it
-pub next_known : (s : Scoped) (o : Lasting) → (nat_le 1 (length s.objects + 1) && nat_le (length s.objects + 1) (length (s.objects ++ o ∷ []))) ≡ true
+pub next_known : (s : Scoped) (o : ObjectEntry) → (nat_le 1 (length s.objects + 1) && nat_le (length s.objects + 1) (length (s.objects ++ o ∷ []))) ≡ true
 next_known s o =
     let long = length-append s.objects (o ∷ []) in
     and _ _ (le-leb 1 (length s.objects + 1) (omega arith)) (le-leb (length s.objects + 1) (length (s.objects ++ o ∷ [])) (omega (arith, long)))

@@ -103,10 +103,10 @@ is_open [] = false
 is_open (None ∷ ls) = true
 is_open (Some n ∷ ls) = false
 
-abbrev pub said_lengths : ℕ → List (Option ℕ) → List (Option ℕ)
-said_lengths n [] = []
-said_lengths n (None ∷ ls) = Some n ∷ ls
-said_lengths n (Some k ∷ ls) = Some k ∷ ls
+abbrev pub stated_lengths : ℕ → List (Option ℕ) → List (Option ℕ)
+stated_lengths n [] = []
+stated_lengths n (None ∷ ls) = Some n ∷ ls
+stated_lengths n (Some k ∷ ls) = Some k ∷ ls
 
 -- rule 3: an object has a complete type (C11 6.7p7)
 abbrev pub complete_type : List Completed → CType → Result CType ℕ

@@ -11,8 +11,8 @@ use Rattle.c_scope.specs.declared.members.Field.{Field as CodeField}
 use Rattle.c_scope.specs.Members.{Field, view_fields}
 use Rattle.c_scope.specs.Scopes.{Named, Scoped}
 use Rattle.c_scope.specs.Faults.{◌>>=◌, Fault, on_line}
-use Rattle.c_scope.specs.declared.specifying.Specified.{Specified}
-use Rattle.c_scope.specs.Types.{Said, view_said, nothing_said, with_type, with_part, specified_type, array_of}
+use Rattle.c_scope.specs.declared.specifiers.Specified.{Specified}
+use Rattle.c_scope.specs.Types.{Said, view_specified, nothing_specified, with_type, with_part, specified_type, array_of}
 use Rattle.c_elab_base.specs.declared.regions.Region.{Region}
 use Rattle.c_elab_base.specs.declared.regions.Role.{Role}
 use Rattle.c_elab_base.specs.declared.regions.Role.TheVariants as roles
@@ -90,19 +90,19 @@ names_behind anonymous inner names = if anonymous then inner else names
 
 -- what specifiers say so far, the names of the members around them, and the scope
 pub record Parted : Type 0 where
-  pub said : Said
+  pub specified : Said
   pub names : List (List ℕ)
   pub scope : Scoped
 
 -- a type that is named by a tag or braces
 abbrev pub with_named : Parted → Result Named ℕ × Scoped → Parted
-with_named p x = record p { said = with_type p.said x.0; scope = x.1 }
+with_named p x = record p { specified = with_type p.specified x.0; scope = x.1 }
 
 abbrev pub with_type_part : Parted → TypePart → Parted
-with_type_part p (qualified line q) = record p { said = with_part p.scope p.said (qualified line q) }
-with_type_part p (word line w) = record p { said = with_part p.scope p.said (word line w) }
+with_type_part p (qualified line q) = record p { specified = with_part p.scope p.specified (qualified line q) }
+with_type_part p (word line w) = record p { specified = with_part p.scope p.specified (word line w) }
 with_type_part p (tagged line kind name) = with_named p (tag_named p.scope kind name)
-with_type_part p (typedef_name line name) = record p { said = with_part p.scope p.said (typedef_name line name) }
+with_type_part p (typedef_name line name) = record p { specified = with_part p.scope p.specified (typedef_name line name) }
 
 -- the members in braces
 abbrev pub fields_within : Bool → List (List ℕ) → Scoped → Fields
@@ -121,7 +121,7 @@ with_members p o kind fields = do
 
 -- before the specifiers of members
 abbrev pub said_before : Fields → Parted
-said_before f = record { said = nothing_said; names = f.names; scope = f.scope }
+said_before f = record { specified = nothing_specified; names = f.names; scope = f.scope }
 
 -- behind them, with the type that they say
 abbrev pub fields_behind : Fields → Parts → Fulls → Parted → Named → Fields
@@ -193,13 +193,13 @@ abbrev pub inner_region : Scoped → Region
 inner_region s = record { outer = length s.bindings; is_file = false }
 
 abbrev pub parted : List (List ℕ) → Scoped → Parted
-parted names s = record { said = nothing_said; names = names; scope = s }
+parted names s = record { specified = nothing_specified; names = names; scope = s }
 
 -- the type that specifiers say, and the scope behind them
 abbrev pub named_parts : Parts → Result Parted Fault → Result (Named × Scoped) Fault
 named_parts parts specifiers = do
   p ← specifiers
-  n ← on_line (parts_line parts) (specified_type p.said)
+  n ← on_line (parts_line parts) (specified_type p.specified)
   Ok (n, p.scope)
 
 -- an array's suffix in front of others
@@ -213,12 +213,12 @@ called_in_front ps ellipsis rest = rest >>= λ x. Ok (called ps ellipsis ∷ x.0
 
 -- what its storage word makes of its declarators: outside of functions each object lives as long as the program
 abbrev pub role_of : Bool → List StorageClass → Role
-role_of is_file [] = if is_file then roles.Lasting else roles.Automatic
+role_of is_file [] = if is_file then roles.Static else roles.Automatic
 role_of is_file (storage_classes.Typedef ∷ rest) = roles.Typedef
 role_of is_file (storage_classes.Extern ∷ rest) = roles.Extern
-role_of is_file (storage_classes.Static ∷ rest) = roles.Lasting
-role_of is_file (storage_classes.Auto ∷ rest) = if is_file then roles.Lasting else roles.Automatic
-role_of is_file (storage_classes.Register ∷ rest) = if is_file then roles.Lasting else roles.Automatic
+role_of is_file (storage_classes.Static ∷ rest) = roles.Static
+role_of is_file (storage_classes.Auto ∷ rest) = if is_file then roles.Static else roles.Automatic
+role_of is_file (storage_classes.Register ∷ rest) = if is_file then roles.Static else roles.Automatic
 
 -- a tag alone, without declarators
 abbrev pub lone_part : Part → Option (TagKind × List ℕ)
@@ -244,7 +244,7 @@ with_lone r s (Some tag) = forward_tag s tag.0 tag.1 (earlier_tag r s tag.1)
 -- ---- what code holds
 
 abbrev pub view_parted : Specified → List (List ℕ) → Scoped → Parted
-view_parted said names s = record { said = view_said said; names = names; scope = s }
+view_parted specified names s = record { specified = view_specified specified; names = names; scope = s }
 
 abbrev pub view_typed : List CodeField → List (List ℕ) → Scoped → Fields
 view_typed fields names s = record { fields = view_fields fields; names = names; scope = s }

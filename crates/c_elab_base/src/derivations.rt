@@ -51,29 +51,14 @@ fn part_line(specifier: &Specifier) -> u32
     ensures { result ≡ part_line (view_part specifier.now) }
 {
     match specifier {
-        Specifier::Type(TypeSpecifier::Qualifier { line, qualifier: _ }) => *line,
-        Specifier::Type(TypeSpecifier::Word { line, word: _ }) => *line,
-        Specifier::Type(
-            TypeSpecifier::Tagged {
-                line,
-                kind: _,
-                name: _,
-            },
-        ) => *line,
-        Specifier::Type(TypeSpecifier::Named { line, name: _ }) => *line,
-        Specifier::Storage { line, class: _ } => *line,
-        Specifier::Function { line, specifier: _ } => *line,
-        Specifier::Record {
-            line,
-            kind: _,
-            tag: _,
-            members: _,
-        } => *line,
-        Specifier::Enumeration {
-            line,
-            tag: _,
-            enumerators: _,
-        } => *line,
+        Specifier::Type(TypeSpecifier::Qualifier { line, .. }) => *line,
+        Specifier::Type(TypeSpecifier::Word { line, .. }) => *line,
+        Specifier::Type(TypeSpecifier::Tagged { line, .. }) => *line,
+        Specifier::Type(TypeSpecifier::Named { line, .. }) => *line,
+        Specifier::Storage { line, .. } => *line,
+        Specifier::Function { line, .. } => *line,
+        Specifier::Record { line, .. } => *line,
+        Specifier::Enumeration { line, .. } => *line,
     }
 }
 
@@ -92,18 +77,11 @@ fn suffixes_line(suffixes: &[DeclaratorSuffix]) -> u32
 {
     match suffixes {
         [] => 0,
-        [DeclaratorSuffix::Bounded { line, bound: _ }, ..] => *line,
+        [DeclaratorSuffix::Bounded { line, .. }, ..] => *line,
         [DeclaratorSuffix::Open { line }, ..] => *line,
         [DeclaratorSuffix::Empty { line }, ..] => *line,
         [DeclaratorSuffix::Void { line }, ..] => *line,
-        [
-            DeclaratorSuffix::Parameters {
-                line,
-                parameters: _,
-                variadic: _,
-            },
-            ..
-        ] => *line,
+        [DeclaratorSuffix::Parameters { line, .. }, ..] => *line,
     }
 }
 
@@ -113,16 +91,8 @@ pub fn full_line(declarator: &FullDeclarator) -> u32
 {
     match declarator {
         FullDeclarator::Unnamed { suffixes } => suffixes_line(suffixes),
-        FullDeclarator::Named {
-            line,
-            name: _,
-            suffixes: _,
-        } => *line,
-        FullDeclarator::Inside {
-            line,
-            inner: _,
-            suffixes: _,
-        } => *line,
+        FullDeclarator::Named { line, .. } => *line,
+        FullDeclarator::Inside { line, .. } => *line,
     }
 }
 
@@ -131,17 +101,9 @@ pub fn name_line(declarator: &FullDeclarator) -> u32
     ensures { result ≡ name_line (view_full declarator.now) }
 {
     match declarator {
-        FullDeclarator::Unnamed { suffixes: _ } => 0,
-        FullDeclarator::Named {
-            line,
-            name: _,
-            suffixes: _,
-        } => *line,
-        FullDeclarator::Inside {
-            line: _,
-            inner,
-            suffixes: _,
-        } => name_line(inner),
+        FullDeclarator::Unnamed { .. } => 0,
+        FullDeclarator::Named { line, .. } => *line,
+        FullDeclarator::Inside { inner, .. } => name_line(inner),
     }
 }
 
@@ -161,6 +123,7 @@ pub fn parameter_line(specifiers: &[Specifier], declarator: &FullDeclarator) -> 
     }
 }
 
+/// Whether a type is `void` (C11 6.2.5p19).
 pub fn is_void(type_: &Ty) -> bool
     ensures { result ≡ is_void (view type_.now) }
 {
@@ -168,10 +131,7 @@ pub fn is_void(type_: &Ty) -> bool
         Ty::Void => true,
         Ty::Integer(_) => false,
         Ty::Record(_) => false,
-        Ty::Array {
-            element: _,
-            length: _,
-        } => false,
+        Ty::Array { .. } => false,
     }
 }
 
@@ -182,10 +142,7 @@ fn is_array(type_: &Ty) -> bool
         Ty::Void => false,
         Ty::Integer(_) => false,
         Ty::Record(_) => false,
-        Ty::Array {
-            element: _,
-            length: _,
-        } => true,
+        Ty::Array { .. } => true,
     }
 }
 
@@ -272,7 +229,7 @@ fn array_shape(
         Shape::Object { type_ } => Ok(Shape::Object {
             type_: one_array(alloc, type_, length, layouts)?,
         }),
-        Shape::Function { type_: _ } => Err(Broken::Rule { rule: 3 }),
+        Shape::Function { .. } => Err(Broken::Rule { rule: 3 }),
     }
 }
 
@@ -299,7 +256,7 @@ fn function_shape(
                 },
             })
         }
-        Shape::Function { type_: _ } => Err(Broken::Rule { rule: 6 }),
+        Shape::Function { .. } => Err(Broken::Rule { rule: 6 }),
     }
 }
 
@@ -345,7 +302,7 @@ fn function_in(shape: Result<Shape, Broken>) -> Result<FunctionType, Broken>
     ensures { (r : Result SpecShape ℕ) → GivesNode view_shape shape r → GivesNode view_function_type result (function_made r) }
 {
     match shape? {
-        Shape::Object { type_: _ } => Err(Broken::Rule { rule: 3 }),
+        Shape::Object { .. } => Err(Broken::Rule { rule: 3 }),
         Shape::Function { type_ } => Ok(type_),
     }
 }
@@ -361,10 +318,7 @@ fn plain_lengths(
     for suffix in suffixes {
         match suffix {
             Derived::Counted { length } => lengths.push(*length)?,
-            Derived::Called {
-                parameters: _,
-                ellipsis: _,
-            } => return Ok(None),
+            Derived::Called { .. } => return Ok(None),
         }
     }
     Ok(Some(lengths))

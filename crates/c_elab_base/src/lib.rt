@@ -24,7 +24,7 @@ pub use naming::{
 };
 pub use regions::{Region, Role, built_in_function, earlier, is_built_in_function};
 pub use sizes::{
-    Object, complete_type, declare, declare_parameter, is_open, say_lengths, sized_type,
+    Object, complete_type, declare, declare_parameter, is_open, sized_type, state_lengths,
 };
 pub use slots::{object_bytes, slot};
 pub use tagging::{Braces, closed, enumeration_closed, kind_of, opened, reopened};

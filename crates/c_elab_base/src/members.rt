@@ -51,7 +51,7 @@ fn member_type(
     }
 }
 
-// One more member.
+/// One more member.
 pub fn add_field(
     fields: &mut Vec<Field>,
     name: Option<Vec<u8>>,
@@ -68,7 +68,7 @@ pub fn add_field(
     Ok(())
 }
 
-// A member whose declarator has these suffixes.
+/// A member whose declarator has these suffixes.
 pub fn with_member(
     alloc: Global,
     base: &QualifiedType,
@@ -92,26 +92,14 @@ fn is_untagged(specifier: &Specifier) -> bool
 {
     match specifier {
         Specifier::Type(_) => false,
-        Specifier::Storage { line: _, class: _ } => false,
-        Specifier::Function {
-            line: _,
-            specifier: _,
-        } => false,
-        Specifier::Record {
-            line: _,
-            kind: _,
-            tag,
-            members: _,
-        } => tag.is_none(),
-        Specifier::Enumeration {
-            line: _,
-            tag: _,
-            enumerators: _,
-        } => false,
+        Specifier::Storage { .. } => false,
+        Specifier::Function { .. } => false,
+        Specifier::Record { tag, .. } => tag.is_none(),
+        Specifier::Enumeration { .. } => false,
     }
 }
 
-// Whether a struct or union without a tag is among the specifiers.
+/// Whether a struct or union without a tag is among the specifiers.
 pub fn has_untagged(specifiers: &[Specifier]) -> bool
     ensures { result ≡ has_untagged (parts_of specifiers.now) }
 {
@@ -123,37 +111,33 @@ pub fn has_untagged(specifiers: &[Specifier]) -> bool
     false
 }
 
+/// Whether a member has neither a name nor a tag, so that its own members are those of what it
+/// stands in (C11 6.7.2.1p13).
 pub fn is_anonymous(alone: bool, tag: &Option<Name>) -> bool
     ensures { result ≡ is_anonymous alone (option_map view_name tag.now) }
 {
     alone && tag.is_none()
 }
 
+/// Adds what a part of specifiers says to what the others said (C11 6.7.2).
 pub fn typed_type_part(
     alloc: Global,
     part: &TypeSpecifier,
-    said: &mut Specified,
+    specified: &mut Specified,
     scope: &mut Scope,
 ) -> Result<(), AllocError>
-    ensures said { (names : List (List ℕ)) → OnOk result (view_parted said.new names scope.new ≡ with_type_part (view_parted said.old names scope.old) (view_type_part part.now)) }
+    ensures specified { (names : List (List ℕ)) → OnOk result (view_parted specified.new names scope.new ≡ with_type_part (view_parted specified.old names scope.old) (view_type_part part.now)) }
     ensures within { OnOk result (length scope.old.bindings ≤ length scope.new.bindings) }
     ensures grows { OnOk result (length scope.old.records.declared ≤ length scope.new.records.declared) }
 {
     match part {
-        TypeSpecifier::Qualifier {
-            line: _,
-            qualifier: _,
-        } => said.add_part(part, scope),
-        TypeSpecifier::Word { line: _, word: _ } => said.add_part(part, scope),
-        TypeSpecifier::Tagged {
-            line: _,
-            kind,
-            name,
-        } => {
+        TypeSpecifier::Qualifier { .. } => specified.add_part(part, scope),
+        TypeSpecifier::Word { .. } => specified.add_part(part, scope),
+        TypeSpecifier::Tagged { kind, name, .. } => {
             let named = tag_named(alloc, *kind, &name.bytes, scope)?;
-            said.add_type(named)
+            specified.add_type(named)
         }
-        TypeSpecifier::Named { line: _, name: _ } => said.add_part(part, scope),
+        TypeSpecifier::Named { .. } => specified.add_part(part, scope),
     }
 }
 
@@ -173,7 +157,7 @@ fn array_parameter(
     let element = array_of(alloc, base, &lengths[1..], layouts)?;
     match complete_type(element, layouts, 0) {
         Ok(_) => Err(Broken::Rule { rule: 7 }),
-        Err(TypingError::Typing { line: _, rule }) => Err(Broken::Rule { rule }),
+        Err(TypingError::Typing { rule, .. }) => Err(Broken::Rule { rule }),
         Err(TypingError::Memory) => Err(Broken::Memory),
     }
 }
@@ -210,7 +194,7 @@ fn parameter_made(
     }
 }
 
-// The type of a parameter whose declarator has these suffixes.
+/// The type of a parameter whose declarator has these suffixes.
 pub fn parameter_type(
     alloc: Global,
     base: &QualifiedType,
@@ -237,21 +221,13 @@ fn has_name(declarator: &FullDeclarator) -> bool
     ensures { result ≡ full_has_name (view_full declarator.now) }
 {
     match declarator {
-        FullDeclarator::Unnamed { suffixes: _ } => false,
-        FullDeclarator::Named {
-            line: _,
-            name: _,
-            suffixes: _,
-        } => true,
-        FullDeclarator::Inside {
-            line: _,
-            inner,
-            suffixes: _,
-        } => has_name(inner),
+        FullDeclarator::Unnamed { .. } => false,
+        FullDeclarator::Named { .. } => true,
+        FullDeclarator::Inside { inner, .. } => has_name(inner),
     }
 }
 
-// One more parameter of this type.
+/// One more parameter of this type.
 pub fn add_parameter(
     alloc: Global,
     declarator: &FullDeclarator,
@@ -279,6 +255,7 @@ pub fn add_parameter(
     Ok(())
 }
 
+/// What declarators declare, by the storage word before them (C11 6.7.1).
 pub fn role_of(is_file: bool, storage: &[StorageClass]) -> Role
     ensures { result ≡ role_of is_file storage.now }
 {
@@ -286,7 +263,7 @@ pub fn role_of(is_file: bool, storage: &[StorageClass]) -> Role
         [] => default_role(is_file),
         [StorageClass::Typedef, ..] => Role::Typedef,
         [StorageClass::Extern, ..] => Role::Extern,
-        [StorageClass::Static, ..] => Role::Lasting,
+        [StorageClass::Static, ..] => Role::Static,
         [StorageClass::Auto, ..] => default_role(is_file),
         [StorageClass::Register, ..] => default_role(is_file),
     }
@@ -296,7 +273,7 @@ fn default_role(is_file: bool) -> Role
     ensures { result ≡ role_of is_file [] }
 {
     if is_file {
-        Role::Lasting
+        Role::Static
     } else {
         Role::Automatic
     }
@@ -306,18 +283,12 @@ fn lone_part(specifier: &Specifier) -> Option<(TagKind, &Name)>
     ensures { option_map (λ x. (x.0, view_name x.1.now)) result ≡ lone_part (view_part specifier.now) }
 {
     match specifier {
-        Specifier::Type(
-            TypeSpecifier::Tagged {
-                line: _,
-                kind,
-                name,
-            },
-        ) => Some((*kind, name)),
+        Specifier::Type(TypeSpecifier::Tagged { kind, name, .. }) => Some((*kind, name)),
         _ => None,
     }
 }
 
-// A tag alone, without declarators.
+/// A tag alone, without declarators.
 pub fn lone_tag<'a>(
     specifiers: &'a [Specifier],
     declarators: &[InitDeclarator],
@@ -331,7 +302,7 @@ pub fn lone_tag<'a>(
     }
 }
 
-// `struct tag;` declares the tag in this scope.
+/// `struct tag;` declares the tag in this scope.
 pub fn with_lone(
     alloc: Global,
     lone: Option<(TagKind, &Name)>,

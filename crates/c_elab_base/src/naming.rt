@@ -24,17 +24,9 @@ pub fn name_of(declarator: &FullDeclarator) -> &[u8]
     ensures { result.now ≡ name_of (view_full declarator.now) }
 {
     match declarator {
-        FullDeclarator::Unnamed { suffixes: _ } => &[],
-        FullDeclarator::Named {
-            line: _,
-            name,
-            suffixes: _,
-        } => &name.bytes,
-        FullDeclarator::Inside {
-            line: _,
-            inner,
-            suffixes: _,
-        } => name_of(inner),
+        FullDeclarator::Unnamed { .. } => &[],
+        FullDeclarator::Named { name, .. } => &name.bytes,
+        FullDeclarator::Inside { inner, .. } => name_of(inner),
     }
 }
 
@@ -73,7 +65,7 @@ fn is_typedef_of(named: &QualifiedType, meaning: Meaning, scope: &Scope) -> bool
     }
 }
 
-// The type that a typedef names, by what its name is declared as already.
+/// The type that a typedef names, by what its name is declared as already.
 pub fn typedef_node(
     made: Result<Ty, TypingError>,
     constant: bool,
@@ -97,9 +89,7 @@ pub fn typedef_node(
                     Err(TypingError::Typing { line, rule: 2 })
                 }
             }
-            Err(TypingError::Typing { line: _, rule: _ }) => {
-                Err(TypingError::Typing { line, rule: 2 })
-            }
+            Err(TypingError::Typing { .. }) => { Err(TypingError::Typing { line, rule: 2 }) }
             Err(TypingError::Memory) => Err(TypingError::Memory),
         },
     }
@@ -188,7 +178,7 @@ fn is_typedef_of_function(type_: &FunctionType, meaning: Meaning, scope: &Scope)
     }
 }
 
-// The function type that a typedef names, by what its name is declared as already.
+/// The function type that a typedef names, by what its name is declared as already.
 pub fn function_typedef_node(
     made: Result<FunctionType, u32>,
     earlier: Option<Meaning>,

@@ -21,7 +21,7 @@ pub enum Role {
     /// Objects that live as long as the program, which are defined here or elsewhere.
     Extern,
     /// Objects that live as long as the program, which are defined here.
-    Lasting,
+    Static,
     /// Variables of a function.
     Automatic,
 }
@@ -31,14 +31,14 @@ pub fn is_built_in_function(meaning: Meaning) -> bool
     ensures { result ≡ is_built_in_function meaning }
 {
     match meaning {
-        Meaning::Assert | Meaning::Assume | Meaning::Draw { type_: _ } => true,
-        Meaning::Variable { variable: _ }
-        | Meaning::Object { object: _ }
+        Meaning::Assert | Meaning::Assume | Meaning::Draw { .. } => true,
+        Meaning::Variable { .. }
+        | Meaning::Object { .. }
         | Meaning::Incomplete
-        | Meaning::Function { function: _ }
-        | Meaning::Typedef { number: _ }
-        | Meaning::Enumerator { bits: _ }
-        | Meaning::Record { place: _ }
+        | Meaning::Function { .. }
+        | Meaning::Typedef { .. }
+        | Meaning::Enumerator { .. }
+        | Meaning::Record { .. }
         | Meaning::Enumeration => false,
     }
 }

@@ -4,7 +4,7 @@ ghost use Rattle.c_types.specs.Types.{view as type_view};
 ghost use Rattle.c_scope.specs.Scopes.{view_named};
 ghost use Rattle.c_scope.specs.Types.{type_size};
 ghost use Rattle.c_scope.specs.Faults.{Gives, IsTyping, on_line};
-ghost use Rattle.c_elab_base.specs.Declarators.{with_variable, is_open, said_lengths, complete_type, sized_type, of_type};
+ghost use Rattle.c_elab_base.specs.Declarators.{with_variable, is_open, stated_lengths, complete_type, sized_type, of_type};
 
 use c_scope::{Broken, QualifiedType, Scope, TypingError, type_size};
 use c_types::{Layouts, Ty, is_complete};
@@ -20,8 +20,9 @@ pub fn is_open(lengths: &[Option<u64>]) -> bool
     !lengths.is_empty() && lengths[0].is_none()
 }
 
-pub fn say_lengths(length: u64, lengths: &mut Vec<Option<u64>>)
-    ensures { lengths.new.items ≡ said_lengths length lengths.old.items }
+/// Writes the lengths that are still to be said into suffixes, in order.
+pub fn state_lengths(length: u64, lengths: &mut Vec<Option<u64>>)
+    ensures { lengths.new.items ≡ stated_lengths length lengths.old.items }
 {
     if is_open(lengths) {
         lengths[0] = Some(length);
@@ -60,7 +61,7 @@ pub struct Object {
     pub counted: bool,
 }
 
-// Declares a variable of this type.
+/// Declares a variable of this type.
 pub fn declare(
     alloc: Global,
     base: &QualifiedType,

@@ -27,6 +27,7 @@ pub struct Braces {
     pub clashes: bool,
 }
 
+/// Whether this is a struct or a union.
 pub fn kind_of(kind: c_tree::RecordKind) -> RecordKind
     ensures { result ≡ kind_of kind }
 {

@@ -19,7 +19,7 @@ use Rattle.core_tree.specs.Typed.{Sizes, Signature, are_small, have_small, is_ty
 use Rattle.c_scope.specs.declared.meaning.Meaning.{Meaning}
 use Rattle.c_scope.specs.declared.meaning.Meaning.TheVariants.{Function}
 use Rattle.c_scope.specs.declared.fault.TypingError.{TypingError}
-use Rattle.c_scope.specs.Scopes.{Environment, binding, Named, Linked, FunctionType, Callable, FunctionTable, Lasting, Scoped, is_there, are_there, first_scope, with_defined, sizes, sizes_of, lasting_size, passed_as, given_by, linked_to}
+use Rattle.c_scope.specs.Scopes.{Environment, binding, Named, Linked, FunctionType, Callable, FunctionTable, ObjectEntry, Scoped, is_there, are_there, first_scope, with_defined, sizes, sizes_of, object_entry_size, passed_as, given_by, linked_to}
 use Rattle.c_scope.specs.Faults.{◌>>=◌, Fault, Gives, on_line}
 use Rattle.c_elab_expr.specs.Operands.{given_size}
 use Rattle.std.specs.Prelude.{OnOk}
@@ -33,7 +33,7 @@ use Rattle.c_elab_base.specs.Specifiers.{Passed, are_several, inner_region, part
 use Rattle.c_elab_type.specs.Specifiers.{typed_parts, typed_full, typed_parameters, typed_specifiers}
 use Rattle.c_elab_object.specs.Functions.{is_function_again, function_again, is_own_function, is_own_built_in, is_built_in_type, function_node, first_callable, callable_again, changed_callable, declared_callable, definition_node}
 use Rattle.c_elab_object.specs.Functions as functions
-use Rattle.c_elab_object.specs.Listed.{typed_others, in_file, typed_outside}
+use Rattle.c_elab_object.specs.DeclaratorLists.{typed_others, in_file, typed_outside}
 use Rattle.c_elab_flow.specs.Jumps.{labels_in}
 use Rattle.c_elab_flow.specs.Nodes.{Around}
 use Rattle.c_elab_decl.specs.Statements.{typed_items}
@@ -662,9 +662,9 @@ small_bodies : (s : Scoped) (fs : List Procedure) (xs : List Definition) → All
 small_bodies s fs [] d g = g
 small_bodies s fs (x ∷ xs) d g = small_bodies s (with_body fs x (slice_get fs x.number)) xs d.1 (small_body fs x (slice_get fs x.number) d.0.small g)
 
-static_sizes : (older : List Completed) (objects : List Lasting) → sizes_of_objects (map (static_of older) objects) ≡ map (lasting_size older) objects
+static_sizes : (older : List Completed) (objects : List ObjectEntry) → sizes_of_objects (map (static_of older) objects) ≡ map (object_entry_size older) objects
 static_sizes older [] = refl
-static_sizes older (o ∷ objects) = ap (λ (ns : List ℕ). lasting_size older o ∷ ns) (static_sizes older objects)
+static_sizes older (o ∷ objects) = ap (λ (ns : List ℕ). object_entry_size older o ∷ ns) (static_sizes older objects)
 
 -- the functions of a file, as they are among its objects and functions
 typed_in : (file : TypedFile) (fs : List Procedure) → are_typed_among (sizes_of_objects file.objects) (map signature file.functions) fs ≡ list_all (is_typed_function file) fs
@@ -678,7 +678,7 @@ functions_typed ds xs s objects e is =
     let fs = map (procedure_of done) s.functions.all in
     let file : TypedFile = record { functions = with_bodies fs xs; objects = objects } in
     let d = externals_done (with_definitions first_scope ds) ds (noted_empty first_scope ds) (noted_there first_scope ds there_first) (xs, s) e in
-    let sizes_are : map (lasting_size done) s.objects ≡ sizes_of_objects objects = sym (ap sizes_of_objects is ∙ static_sizes done s.objects) in
+    let sizes_are : map (object_entry_size done) s.objects ≡ sizes_of_objects objects = sym (ap sizes_of_objects is ∙ static_sizes done s.objects) in
     let under : Under (own_sizes s).objects (sizes_of_objects objects) = subst (Under (own_sizes s).objects) sizes_are (under_refl (own_sizes s).objects) in
     sym (typed_in file (with_bodies fs xs))
     ∙ ap (λ (signs : List Signature). are_typed_among (sizes_of_objects objects) signs (with_bodies fs xs)) (bodies_signatures fs xs)

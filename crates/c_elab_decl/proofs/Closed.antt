@@ -9,7 +9,7 @@ use Rattle.c_scope.specs.declared.meaning.Meaning.{Meaning}
 use Rattle.c_scope.specs.declared.meaning.Meaning.TheVariants.{Variable, Object, Incomplete, Assert, Assume, Draw, Function, Typedef, Enumerator, Record, Enumeration}
 use Rattle.c_scope.specs.Scopes.{FunctionType, Callable, Scoped, meaning_of}
 use Rattle.c_scope.specs.Faults.{◌>>=◌, Fault, on_line}
-use Rattle.c_scope.specs.Types.{Said, nothing_said, with_part, with_parts, specified_type, array_of, declared_line, parts_line}
+use Rattle.c_scope.specs.Types.{Said, nothing_specified, with_part, with_parts, specified_type, array_of, declared_line, parts_line}
 use Rattle.c_elab_expr.specs.Strings.{strings_of}
 use Rattle.c_elab_expr.specs.Operands.{Operand, value, object, structure, OperandNode, used, function_node, name_node, member_node, assign_operand, arguments_in, extra_arguments, given_size, given_operand, behind_extra, function_call, drawn_or_called, callable_call, call_node}
 use Rattle.c_elab_expr.specs.Typing.{bare_line, used_on, callee, is_used, called, is_wanted, type_name, operand_size, bound, typed, typed_arguments, lengths, suffix_lengths, operand_by}
@@ -143,8 +143,8 @@ module _ (s : Scoped) where
 
   type_name_keeps : (ps : List TypePart) (d : Declared) (r q : Result (List (Option ℕ)) Fault) → Keeps r q → Keeps (type_name s ps d r) (type_name (closed_scope s) ps d q)
   type_name_keeps ps d r q h =
-      keep_bind (on_line (parts_line ps) (specified_type (with_parts s nothing_said ps))) (on_line (parts_line ps) (specified_type (with_parts (closed_scope s) nothing_said ps))) _ _
-      (keep_equal _ _ (ap (λ (x : Said). on_line (parts_line ps) (specified_type x)) (sym (parts_same nothing_said ps)))) (λ t.
+      keep_bind (on_line (parts_line ps) (specified_type (with_parts s nothing_specified ps))) (on_line (parts_line ps) (specified_type (with_parts (closed_scope s) nothing_specified ps))) _ _
+      (keep_equal _ _ (ap (λ (x : Said). on_line (parts_line ps) (specified_type x)) (sym (parts_same nothing_specified ps)))) (λ t.
       keep_bind r q _ _ h (λ ns. keep_same (on_line (declared_line d) (array_of s.records.done t.type ns))))
 
   used_keeps : (line : ℕ) (r q : Result Operand Fault) → Keeps r q → Keeps (used_on line r) (used_on line q)

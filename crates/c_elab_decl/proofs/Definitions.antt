@@ -15,7 +15,7 @@ use Rattle.c_elab_base.specs.Derivations.{Derived, full_line, derivation}
 use Rattle.c_elab_base.specs.Specifiers.{Passed, parted, named_parts}
 use Rattle.c_elab_type.specs.Specifiers.{typed_parts}
 use Rattle.c_elab_object.specs.Functions.{declared_callable}
-use Rattle.c_elab_object.specs.Listed.{in_file, typed_outside}
+use Rattle.c_elab_object.specs.DeclaratorLists.{in_file, typed_outside}
 use Rattle.c_elab_flow.specs.Jumps.{labels_in}
 use Rattle.c_elab_flow.specs.Files.{own_parameters, Definition, with_bodies, procedure_of, static_of}
 use Rattle.c_elab_decl.specs.Files.{made_by, own_suffixes, definition_type, names_within, within_body, own_number, typed_body_of, outside, typed_definition, typed_externals, with_definitions, elaborated}

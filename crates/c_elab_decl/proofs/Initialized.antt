@@ -301,34 +301,34 @@ texts : (parts : List (List ℕ)) → list_all (λ b. nat_lt b 256) (bytes_of pa
 texts [] = refl
 texts (part ∷ parts) = all_in_both (text_bytes (string_bytes part)) (bytes_of parts) (one_text (string_bytes part)) (texts parts)
 
-single_fine : (lasting : Bool) (s : Scoped) (t : CType) (e : Tree) (o : Option (ℕ × List (List ℕ))) → There s → Holds (FineMade s t) (single_as lasting s e o)
-single_fine lasting s t e None there =
+single_fine : (object_entry : Bool) (s : Scoped) (t : CType) (e : Tree) (o : Option (ℕ × List (List ℕ))) → There s → Holds (FineMade s t) (single_as object_entry s e o)
+single_fine object_entry s t e None there =
     bind (FineOperand s) (FineMade s t) (operand s e) _ (fine s true e there) (λ x good.
-    bind (λ (u : Unit {0}). Unit {0}) (FineMade s t) (on_line (first_line e) (constant_node lasting x)) _ (λ u is. tt) (λ u _.
+    bind (λ (u : Unit {0}). Unit {0}) (FineMade s t) (on_line (first_line e) (constant_node object_entry x)) _ (λ u is. tt) (λ u _.
     given (FineMade s t) (single x) good))
-single_fine lasting s t e (Some literal) there = given (FineMade s t) (text literal.0 (bytes_of literal.1)) (texts literal.1)
+single_fine object_entry s t e (Some literal) there = given (FineMade s t) (text literal.0 (bytes_of literal.1)) (texts literal.1)
 
 mutual
-  pub initial_fine : (lasting : Bool) (s : Scoped) (t : CType) (i : Initial) → There s → May s.records.done t → Holds (FineMade s t) (typed_initial lasting s t i)
-  initial_fine lasting s t (initial e) there o = single_fine lasting s t e (literal_of e) there
-  initial_fine lasting s t (braces line items) there o =
-      bind (ItemsFine s t 0) (FineMade s t) (typed_initials lasting s t 0 items) _ (initials_fine lasting s t 0 items there o) (λ xs good. braced_fine s t line xs there o good)
+  pub initial_fine : (object_entry : Bool) (s : Scoped) (t : CType) (i : Initial) → There s → May s.records.done t → Holds (FineMade s t) (typed_initial object_entry s t i)
+  initial_fine object_entry s t (initial e) there o = single_fine object_entry s t e (literal_of e) there
+  initial_fine object_entry s t (braces line items) there o =
+      bind (ItemsFine s t 0) (FineMade s t) (typed_initials object_entry s t 0 items) _ (initials_fine object_entry s t 0 items there o) (λ xs good. braced_fine s t line xs there o good)
 
-  initials_fine : (lasting : Bool) (s : Scoped) (t : CType) (i : ℕ) (is : Initials) → There s → May s.records.done t → Holds (ItemsFine s t i) (typed_initials lasting s t i is)
-  initials_fine lasting s t i no_initial there o = given (ItemsFine s t i) [] tt
-  initials_fine lasting s t i (initials first rest) there o =
-      bind (FineMade s (slot_type (slot s.records t i))) (ItemsFine s t i) (typed_initial lasting s (slot_type (slot s.records t i)) first) _
-      (initial_fine lasting s (slot_type (slot s.records t i)) first there (slot_may s t i there o)) (λ x good.
-      bind (ItemsFine s t (suc i)) (ItemsFine s t i) (typed_initials lasting s t (suc i) rest) _ (initials_fine lasting s t (suc i) rest there o) (λ xs fines.
+  initials_fine : (object_entry : Bool) (s : Scoped) (t : CType) (i : ℕ) (is : Initials) → There s → May s.records.done t → Holds (ItemsFine s t i) (typed_initials object_entry s t i is)
+  initials_fine object_entry s t i no_initial there o = given (ItemsFine s t i) [] tt
+  initials_fine object_entry s t i (initials first rest) there o =
+      bind (FineMade s (slot_type (slot s.records t i))) (ItemsFine s t i) (typed_initial object_entry s (slot_type (slot s.records t i)) first) _
+      (initial_fine object_entry s (slot_type (slot s.records t i)) first there (slot_may s t i there o)) (λ x good.
+      bind (ItemsFine s t (suc i)) (ItemsFine s t i) (typed_initials object_entry s t (suc i) rest) _ (initials_fine object_entry s t (suc i) rest there o) (λ xs fines.
       given (ItemsFine s t i) (x ∷ xs) (good, fines)))
 
 abbrev pub FineOption : Scoped → CType → Option Value → Type 0
 FineOption s t None = Unit {0}
 FineOption s t (Some v) = FineValue s t v
 
-pub option_fine : (lasting : Bool) (line : ℕ) (s : Scoped) (t : CType) (o : Option Initial) → There s → IsObject s.records.done t → Holds (FineOption s t) (initializer_of lasting line s t o)
-option_fine lasting line s t None there is = given (FineOption s t) None tt
-option_fine lasting line s t (Some i) there is =
-    bind (FineMade s t) (FineOption s t) (typed_initial lasting s t i) _ (initial_fine lasting s t i there (may s.records.done t is)) (λ x good.
+pub option_fine : (object_entry : Bool) (line : ℕ) (s : Scoped) (t : CType) (o : Option Initial) → There s → IsObject s.records.done t → Holds (FineOption s t) (initializer_of object_entry line s t o)
+option_fine object_entry line s t None there is = given (FineOption s t) None tt
+option_fine object_entry line s t (Some i) there is =
+    bind (FineMade s t) (FineOption s t) (typed_initial object_entry s t i) _ (initial_fine object_entry s t i there (may s.records.done t is)) (λ x good.
     bind (FineValue s t) (FineOption s t) (on_line line (value_node s.records.done t x)) _ (on_same_line (FineValue s t) line _ (value_fine s t x there is good)) (λ v fit.
     given (FineOption s t) (Some v) fit))

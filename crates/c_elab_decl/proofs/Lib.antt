@@ -3,7 +3,7 @@ pub mod Objects
 pub mod Initialized
 pub mod WellTyped
 pub mod Bodies
-pub mod Standing
+pub mod Enclosed
 pub mod Definitions
 pub mod StatementFronts
 pub mod Chains

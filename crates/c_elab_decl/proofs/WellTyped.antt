@@ -44,7 +44,7 @@ use Rattle.c_elab_base.specs.Declarators.{is_open, sized_type, variable_node, of
 use Rattle.c_elab_type.specs.Declarators.{Typed, in_front, declared_item, given_lengths, variable_type, typed_variable}
 use Rattle.c_elab_type.specs.Specifiers.{Specification, typed_full, typed_specifiers}
 use Rattle.c_elab_object.specs.Functions.{typed_function}
-use Rattle.c_elab_object.specs.Listed.{variable_by, typed_variables, typed_others, typed_by, typed_declaration}
+use Rattle.c_elab_object.specs.DeclaratorLists.{variable_by, typed_variables, typed_others, typed_by, typed_declaration}
 use Rattle.c_elab_flow.specs.Jumps.{label_number, jumps_in, is_passed}
 use Rattle.c_elab_flow.specs.Nodes.{Around, in_loop, in_switch, with_loop, with_label, with_switch, part_ignored, part_tested, test_node, return_node, return_nothing_node, promoted_type, switch_type, switch_value, has_value, case_in, case_of_switch, case_node, default_node, with_cases, label_node, jump_node}
 use Rattle.c_elab_decl.specs.Statements.{in_block, switch_ended, TypedStatement, TypedFront, as_block, own_block, as_items, switch_of, typed_rest, typed_statement, typed_front, typed_items}
@@ -217,7 +217,7 @@ by_done : (r : Region) (x : Specification) (role : Role) (passed : Bool) (ds : D
     → Holds (ItemsDone x.scope) (typed_by r x role passed ds behind)
 by_done r x roles.Typedef passed ds behind h = others_done r x roles.Typedef ds behind h
 by_done r x roles.Extern passed ds behind h = others_done r x roles.Extern ds behind h
-by_done r x roles.Lasting passed ds behind h = others_done r x roles.Lasting ds behind h
+by_done r x roles.Static passed ds behind h = others_done r x roles.Static ds behind h
 by_done r x roles.Automatic passed ds behind h = variables_done r x.scope x.type passed ds behind h
 
 pub declaration_done : (r : Region) (s : Scoped) (passed : Bool) (parts : Parts) (ds : Declarators) (behind : Scoped → Typed) → ((t : Scoped) → Holds (ItemsDone t) (behind t))

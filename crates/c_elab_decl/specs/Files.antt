@@ -12,7 +12,7 @@ use Rattle.c_elab_base.specs.Derivations.{Derived, called, Derivation, lengths, 
 use Rattle.c_elab_base.specs.Specifiers.{parted, named_parts, inner_region, are_several, Passed}
 use Rattle.c_elab_type.specs.Specifiers.{typed_parts, typed_full, typed_parameters}
 use Rattle.c_elab_object.specs.Functions.{function_node, definition_node, declared_callable}
-use Rattle.c_elab_object.specs.Listed.{in_file, typed_outside}
+use Rattle.c_elab_object.specs.DeclaratorLists.{in_file, typed_outside}
 use Rattle.c_elab_flow.specs.Jumps.{labels_in}
 use Rattle.c_elab_decl.specs.Statements.{TypedStatement, typed_items}
 use Rattle.c_elab_flow.specs.Files.{Definition, with_bodies, procedure_of, static_of, own_parameters}

@@ -10,7 +10,7 @@ use Rattle.c_elab_expr.specs.Operands.{Operand, number, dropped}
 use Rattle.c_elab_expr.specs.Typing.{operand_by, operand}
 use Rattle.c_elab_base.specs.declared.regions.Region.{Region}
 use Rattle.c_elab_type.specs.Declarators.{Typed, in_front}
-use Rattle.c_elab_object.specs.Listed.{typed_declaration}
+use Rattle.c_elab_object.specs.DeclaratorLists.{typed_declaration}
 use Rattle.c_elab_flow.specs.Jumps.{jumps_in, is_passed}
 use Rattle.c_elab_flow.specs.Nodes.{with_label, jump_node, return_nothing_node, label_node, part_ignored, in_loop, in_switch, part_tested, with_cases, return_node, with_loop, switch_type, switch_value, case_node, default_node, with_switch, Around, test_node}
 

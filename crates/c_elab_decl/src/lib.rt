@@ -1,7 +1,7 @@
 //! The typing of statements, definitions and files (C11 6.8, 6.9): the one typed file, or the broken rule.
 #![tactic(auto)]
 
-mod defining;
-mod stating;
+mod external_definitions;
+mod statements;
 
-pub use defining::elaborate;
+pub use external_definitions::elaborate;

@@ -38,10 +38,10 @@ use Rattle.c_scope.specs.declared.meaning.Meaning.TheVariants.{Variable, Object,
 use Rattle.c_elab_expr.specs.declared.operands.Home.{Home}
 use Rattle.c_elab_expr.specs.declared.operands.Home.TheVariants as homes
 use Rattle.c_scope.specs.Members.{found, members_in, part_at}
-use Rattle.c_scope.specs.Scopes.{Named, Lasting, Callable, Scoped, meaning_of, sizes_of, object_at, is_incomplete, lasting_size, passed_as, given_by, signature_of, all_sizes}
+use Rattle.c_scope.specs.Scopes.{Named, ObjectEntry, Callable, Scoped, meaning_of, sizes_of, object_at, is_incomplete, object_entry_size, passed_as, given_by, signature_of, all_sizes}
 use Rattle.c_scope.specs.Faults.{◌>>=◌, required, Fault, on_line}
 use Rattle.c_elab_expr.specs.Nodes.{Node, integer_of, integer, as_type, place_of, target_of, constant_type, constant_node, character_node, size_node, discarded, cast_node, sign_node, not_node, step_node, unary_node, postfix_node, left_type, right_type, arithmetic_node, compare_node, logical_node, binary_node, chosen, choice_node, assign_node, operator_of, update_node, assignment_node}
-use Rattle.c_elab_expr.specs.Operands.{Operand, value, object, structure, number_place, held_value, put_value, is_home, computed, valued, number, same_record, record_value, dropped, is_array, used, place_operand, variable_node, lasting_node, function_node, name_node, part_operand, member_node, operand_bytes, cast_record, cast_operand, unary_operand, postfix_operand, binary_operand, choice_record, choice_value, choice_operand, assign_record, assign_value, assign_operand, comma_operand, one_integer, no_arguments, argument_in, arguments_in, extra_arguments, given_size, given_operand, behind_extra, function_call, drawn_or_called, callable_call, assertion_call, assumption_call, call_node, is_typed_operand}
+use Rattle.c_elab_expr.specs.Operands.{Operand, value, object, structure, number_place, held_value, put_value, is_home, computed, valued, number, same_record, record_value, dropped, is_array, used, place_operand, variable_node, object_entry_node, function_node, name_node, part_operand, member_node, operand_bytes, cast_record, cast_operand, unary_operand, postfix_operand, binary_operand, choice_record, choice_value, choice_operand, assign_record, assign_value, assign_operand, comma_operand, one_integer, no_arguments, argument_in, arguments_in, extra_arguments, given_size, given_operand, behind_extra, function_call, drawn_or_called, callable_call, assertion_call, assumption_call, call_node, is_typed_operand}
 use Rattle.c_scope.specs.Types.{type_size}
 use Rattle.c_elab_expr.specs.Strings.{strings_of, strings_length}
 use Rattle.c_elab_expr.specs.Typing.{bare_line, sized, used_on, callee, is_used, called, is_wanted, type_name, operand_size, typed, typed_arguments, operand_by, lengths}
@@ -394,36 +394,36 @@ module _ (scope : Scoped) where
   variable_fits line v (Some n) e = given Fits _ (place_fits line (homes.Variable v) 0 n.type n.constant (variable_within scope.records.done scope.variables v n e))
 
   -- a whole object, whose type is complete
-  object_whole : (done : List Completed) (objects : List Lasting) (i : ℕ) (o : Lasting) → slice_get objects i ≡ Some o → is_incomplete done o ≡ false
-      → is_within (map (lasting_size done) objects) i 0 (size_of done o.named.type) ≡ true
+  object_whole : (done : List Completed) (objects : List ObjectEntry) (i : ℕ) (o : ObjectEntry) → slice_get objects i ≡ Some o → is_incomplete done o ≡ false
+      → is_within (map (object_entry_size done) objects) i 0 (size_of done o.named.type) ≡ true
   object_whole done [] i o e c = let no : ⊥ = cc in absurd no
   object_whole done (m ∷ ms) zero o e c =
       let same : m ≡ o = cc in
-      let long = ap (lasting_size done) same ∙ ap (λ (b : Bool). if b then 0 else size_of done o.named.type) c in
-      and _ _ (lt-ltb 0 (suc (length (map (lasting_size done) ms))) (omega arith)) (le-leb (0 + size_of done o.named.type) (lasting_size done m) (omega (arith, long)))
+      let long = ap (object_entry_size done) same ∙ ap (λ (b : Bool). if b then 0 else size_of done o.named.type) c in
+      and _ _ (lt-ltb 0 (suc (length (map (object_entry_size done) ms))) (omega arith)) (le-leb (0 + size_of done o.named.type) (object_entry_size done m) (omega (arith, long)))
   object_whole done (m ∷ ms) (suc i) o e c =
       let rest = object_whole done ms i o e c in
-      let parts = both (nat_lt i (length (map (lasting_size done) ms))) (nat_le (0 + size_of done o.named.type) (slice_index (map (lasting_size done) ms) i)) rest in
-      let below = ltb-true i (length (map (lasting_size done) ms)) parts.0 in
-      and _ _ (lt-ltb (suc i) (suc (length (map (lasting_size done) ms))) (omega (arith, below))) parts.1
+      let parts = both (nat_lt i (length (map (object_entry_size done) ms))) (nat_le (0 + size_of done o.named.type) (slice_index (map (object_entry_size done) ms) i)) rest in
+      let below = ltb-true i (length (map (object_entry_size done) ms)) parts.0 in
+      and _ _ (lt-ltb (suc i) (suc (length (map (object_entry_size done) ms))) (omega (arith, below))) parts.1
 
   positive : (k : ℕ) → (k == 0) ≡ false → nat_le 1 k ≡ true
   positive zero e = let no : ⊥ = cc in absurd no
   positive (suc k) e = le-leb 1 (suc k) (omega arith)
 
-  object_by : (k : ℕ) (o : Lasting) (none : Bool) → (k == 0) ≡ none → (if none then None else slice_get scope.objects (k - 1)) ≡ Some o → is_incomplete scope.records.done o ≡ false
+  object_by : (k : ℕ) (o : ObjectEntry) (none : Bool) → (k == 0) ≡ none → (if none then None else slice_get scope.objects (k - 1)) ≡ Some o → is_incomplete scope.records.done o ≡ false
       → is_home (all_sizes scope) (homes.Object k) 0 (size_of scope.records.done o.named.type) ≡ true
   object_by k o true e found c = let no : ⊥ = cc in absurd no
   object_by k o false e found c = and _ _ (positive k e) (object_whole scope.records.done scope.objects (k - 1) o found c)
 
-  lasting_by : (line k : ℕ) (o : Lasting) (b : Bool) → object_at scope k ≡ Some o → is_incomplete scope.records.done o ≡ b
+  object_entry_by : (line k : ℕ) (o : ObjectEntry) (b : Bool) → object_at scope k ≡ Some o → is_incomplete scope.records.done o ≡ b
       → Holds {E = ℕ} Fits (if b then Err 3 else Ok (place_operand line (homes.Object k) 0 o.named.type o.named.constant))
-  lasting_by line k o true e c = refused Fits 3
-  lasting_by line k o false e c = given Fits _ (place_fits line (homes.Object k) 0 o.named.type o.named.constant (object_by k o (k == 0) refl e c))
+  object_entry_by line k o true e c = refused Fits 3
+  object_entry_by line k o false e c = given Fits _ (place_fits line (homes.Object k) 0 o.named.type o.named.constant (object_by k o (k == 0) refl e c))
 
-  lasting_fits : (line k : ℕ) (o : Option Lasting) → object_at scope k ≡ o → Holds Fits (lasting_node scope.records.done line k o)
-  lasting_fits line k None e = refused Fits 1
-  lasting_fits line k (Some o) e = lasting_by line k o (is_incomplete scope.records.done o) e refl
+  object_entry_fits : (line k : ℕ) (o : Option ObjectEntry) → object_at scope k ≡ o → Holds Fits (object_entry_node scope.records.done line k o)
+  object_entry_fits line k None e = refused Fits 1
+  object_entry_fits line k (Some o) e = object_entry_by line k o (is_incomplete scope.records.done o) e refl
 
   -- a function that is there
   function_there : (fs : List Callable) (f : ℕ) (c : Callable) → slice_get fs f ≡ Some c → nat_lt f (length (map (signature_of scope.records.done) fs)) ≡ true
@@ -440,7 +440,7 @@ module _ (scope : Scoped) where
   name_fits : (line : ℕ) (o : Option Meaning) → Holds Fits (name_node scope line o)
   name_fits line None = refused Fits 1
   name_fits line (Some (Variable v)) = variable_fits line v (slice_get scope.variables v) refl
-  name_fits line (Some (Object k)) = lasting_fits line k (object_at scope k) refl
+  name_fits line (Some (Object k)) = object_entry_fits line k (object_at scope k) refl
   name_fits line (Some Incomplete) = refused Fits 3
   name_fits line (Some Assert) = refused Fits 7
   name_fits line (Some Assume) = refused Fits 7

@@ -94,5 +94,5 @@ abbrev pub is_negative : TypedNumber → Bool
 is_negative n = compared comparisons.Less n.type n.bits 0
 
 -- how many elements a bound says: a negative one is as little one as 0
-abbrev pub length_said : TypedNumber → ℕ
-length_said n = if is_negative n then 0 else n.bits
+abbrev pub stated_length : TypedNumber → ℕ
+stated_length n = if is_negative n then 0 else n.bits

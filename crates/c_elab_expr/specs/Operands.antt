@@ -23,7 +23,7 @@ use Rattle.c_elab_expr.specs.declared.operands.Home.TheVariants as homes
 use Rattle.c_elab_expr.specs.declared.operands.CoreOperand.{CoreOperand}
 use Rattle.c_elab_expr.specs.declared.operands.CoreOperand.TheVariants as codes
 use Rattle.c_scope.specs.Members.{found, members_in, part_at}
-use Rattle.c_scope.specs.Scopes.{Named, Lasting, FunctionType, Callable, Scoped, object_at, is_incomplete, all_sizes}
+use Rattle.c_scope.specs.Scopes.{Named, ObjectEntry, FunctionType, Callable, Scoped, object_at, is_incomplete, all_sizes}
 use Rattle.c_scope.specs.Types.{type_size}
 use Rattle.c_elab_expr.specs.Constants.{constant_of}
 use Rattle.c_scope.specs.Faults.{◌>>=◌, required}
@@ -134,9 +134,9 @@ variable_node line v None = Err 1
 variable_node line v (Some n) = Ok (place_operand line (homes.Variable v) 0 n.type n.constant)
 
 -- rule 3: an object whose type is incomplete here is no operand
-abbrev pub lasting_node : List Completed → ℕ → ℕ → Option Lasting → OperandNode
-lasting_node done line k None = Err 1
-lasting_node done line k (Some o) = if is_incomplete done o then Err 3 else Ok (place_operand line (homes.Object k) 0 o.named.type o.named.constant)
+abbrev pub object_entry_node : List Completed → ℕ → ℕ → Option ObjectEntry → OperandNode
+object_entry_node done line k None = Err 1
+object_entry_node done line k (Some o) = if is_incomplete done o then Err 3 else Ok (place_operand line (homes.Object k) 0 o.named.type o.named.constant)
 
 -- the name of a function, which has no value where it isn't called
 abbrev pub function_node : ℕ → ℕ → Option Callable → OperandNode
@@ -148,7 +148,7 @@ function_node line f (Some c) = computed (Ok (cores.function_name line f))
 abbrev pub name_node : Scoped → ℕ → Option Meaning → OperandNode
 name_node s line None = Err 1
 name_node s line (Some (Variable v)) = variable_node line v (slice_get s.variables v)
-name_node s line (Some (Object k)) = lasting_node s.records.done line k (object_at s k)
+name_node s line (Some (Object k)) = object_entry_node s.records.done line k (object_at s k)
 name_node s line (Some Incomplete) = Err 3
 name_node s line (Some Assert) = Err 7
 name_node s line (Some Assume) = Err 7

@@ -8,8 +8,8 @@ use Rattle.c_scope.specs.declared.fault.TypingError.{TypingError}
 use Rattle.c_types.specs.Types.{CType, Completed}
 use Rattle.c_types.specs.Types as ctypes
 use Rattle.c_scope.specs.Scopes.{Scoped, meaning_of}
-use Rattle.c_scope.specs.Types.{nothing_said, with_parts, specified_type, parts_line, declared_line, array_of, type_size}
-use Rattle.c_elab_expr.specs.Constants.{length_said}
+use Rattle.c_scope.specs.Types.{nothing_specified, with_parts, specified_type, parts_line, declared_line, array_of, type_size}
+use Rattle.c_elab_expr.specs.Constants.{stated_length}
 use Rattle.c_elab_expr.specs.Strings.{strings_of, strings_length}
 use Rattle.c_scope.specs.Faults.{◌>>=◌, required, Fault, fault, on_line, Fails}
 use Rattle.c_elab_expr.specs.Nodes.{constant_node, character_node, size_node}
@@ -77,7 +77,7 @@ is_wanted (ctypes.array element n) = true
 -- The type of a type name, whose specifiers are a node and whose declarator, with these typed bounds, is the next.
 abbrev pub type_name : Scoped → List TypePart → Declared → Result (List (Option ℕ)) Fault → Result CType Fault
 type_name s parts d bounds = do
-  t ← on_line (parts_line parts) (specified_type (with_parts s nothing_said parts))
+  t ← on_line (parts_line parts) (specified_type (with_parts s nothing_specified parts))
   ns ← bounds
   on_line (declared_line d) (array_of s.records.done t.type ns)
 
@@ -101,7 +101,7 @@ abbrev pub bound : ℕ → Result Operand Fault → Result ℕ Fault
 bound line typed_bound = do
   x ← typed_bound
   n ← on_line line (required 13 (constant_in x))
-  Ok (length_said n)
+  Ok (stated_length n)
 
 abbrev mutual
   -- an expression, also as the operand of `sizeof`, whose value is wanted or not

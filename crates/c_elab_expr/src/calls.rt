@@ -10,7 +10,8 @@ ghost use Rattle.c_scope.specs.Faults.{GivesNode};
 ghost use Rattle.c_elab_expr.specs.Typing.{called};
 
 use crate::nodes::{as_type, in_box, structure_in_box};
-use crate::operands::{CoreOperand, bytes_of, comma_operand, computed, made, number, record_value};
+use crate::operands::{CoreOperand, bytes_of, computed, made, number, record_value};
+use crate::operators::comma_operand;
 use c_scope::{Broken, FunctionType, Meaning, Scope, type_size};
 use c_types::{IntegerType, Layouts, Ty, ValueType};
 use core_tree::{CoreArgument, CoreExpr, CoreStructure};
@@ -68,10 +69,7 @@ fn argument_in(
             Ok(CoreArgument::Structure { value })
         }
         Ty::Void => Err(Broken::Rule { rule: 8 }),
-        Ty::Array {
-            element: _,
-            length: _,
-        } => Err(Broken::Rule { rule: 8 }),
+        Ty::Array { .. } => Err(Broken::Rule { rule: 8 }),
     }
 }
 
@@ -195,10 +193,9 @@ fn given_operand(
             arguments,
         ),
         Ty::Record(_) => given_structure(alloc, line, function, wanted, type_, arguments, layouts),
-        Ty::Array {
-            element: _,
-            length: _,
-        } => given_structure(alloc, line, function, wanted, type_, arguments, layouts),
+        Ty::Array { .. } => given_structure(
+            alloc, line, function, wanted, type_, arguments, layouts,
+        ),
     }
 }
 
@@ -317,12 +314,12 @@ fn call_node(
         Meaning::Function { function } => {
             callable_call(alloc, line, function, wanted, arguments, scope)
         }
-        Meaning::Variable { variable: _ }
-        | Meaning::Object { object: _ }
+        Meaning::Variable { .. }
+        | Meaning::Object { .. }
         | Meaning::Incomplete
-        | Meaning::Typedef { number: _ }
-        | Meaning::Enumerator { bits: _ }
-        | Meaning::Record { place: _ }
+        | Meaning::Typedef { .. }
+        | Meaning::Enumerator { .. }
+        | Meaning::Record { .. }
         | Meaning::Enumeration => Err(Broken::Rule { rule: 10 }),
     }
 }

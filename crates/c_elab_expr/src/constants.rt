@@ -4,7 +4,7 @@ ghost use Rattle.std.specs.Prelude.{◌≡◌, ◌==◌, option_map};
 ghost use Rattle.core_tree.specs.Trees.{view};
 ghost use Rattle.core_tree.specs.Typed.{is_shift};
 ghost use Rattle.c_values.specs.Numbers.{are_operands_of, same_width};
-ghost use Rattle.c_elab_expr.specs.Constants.{is_constant_form, truth, signed, operated, related, connected, value_of, constant_of, is_negative, length_said};
+ghost use Rattle.c_elab_expr.specs.Constants.{is_constant_form, truth, signed, operated, related, connected, value_of, constant_of, is_negative, stated_length};
 
 use crate::nodes::{is_shift, low_bits};
 use c_types::IntegerType;
@@ -15,97 +15,30 @@ fn is_constant_form(expr: &CoreExpr) -> bool
     ensures { result ≡ is_constant_form (view expr.now) }
 {
     match expr {
-        CoreExpr::Constant {
-            line: _,
-            type_: _,
-            bits: _,
-        } => true,
-        CoreExpr::Read { place: _ } => false,
-        CoreExpr::Convert { to: _, operand } => is_constant_form(operand),
-        CoreExpr::Sign {
-            line: _,
-            operator: _,
-            operand,
-        } => is_constant_form(operand),
-        CoreExpr::IsZero { line: _, operand } => is_constant_form(operand),
-        CoreExpr::Arithmetic {
-            line: _,
-            operator: _,
-            left,
-            right,
-        } => is_constant_form(left) && is_constant_form(right),
-        CoreExpr::Compare {
-            line: _,
-            operator: _,
-            left,
-            right,
-        } => is_constant_form(left) && is_constant_form(right),
-        CoreExpr::Logical {
-            line: _,
-            operator: _,
-            left,
-            right,
-        } => is_constant_form(left) && is_constant_form(right),
-        CoreExpr::Choice {
-            line: _,
-            test,
-            yes,
-            no,
-        } => is_constant_form(test) && is_constant_form(yes) && is_constant_form(no),
-        CoreExpr::Assign {
-            line: _,
-            place: _,
-            value: _,
-        } => false,
-        CoreExpr::Update {
-            line: _,
-            place: _,
-            operator: _,
-            type_: _,
-            value: _,
-        } => false,
-        CoreExpr::Step {
-            line: _,
-            place: _,
-            operator: _,
-            before: _,
-        } => false,
-        CoreExpr::Comma {
-            line: _,
-            left,
-            right,
-        } => is_constant_form(left) && is_constant_form(right),
-        CoreExpr::Assertion {
-            line: _,
-            condition: _,
-        } => false,
-        CoreExpr::Assumption {
-            line: _,
-            condition: _,
-        } => false,
-        CoreExpr::Draw { line: _, type_: _ } => false,
-        CoreExpr::Member {
-            line: _,
-            type_: _,
-            offset: _,
-            value: _,
-        } => false,
-        CoreExpr::Discard {
-            line: _,
-            operand: _,
-        } => false,
-        CoreExpr::DiscardStructure { value: _ } => false,
-        CoreExpr::Call {
-            line: _,
-            function: _,
-            used: _,
-            type_: _,
-            arguments: _,
-        } => false,
-        CoreExpr::FunctionName {
-            line: _,
-            function: _,
-        } => false,
+        CoreExpr::Constant { .. } => true,
+        CoreExpr::Read { .. } => false,
+        CoreExpr::Convert { operand, .. } => is_constant_form(operand),
+        CoreExpr::Sign { operand, .. } => is_constant_form(operand),
+        CoreExpr::IsZero { operand, .. } => is_constant_form(operand),
+        CoreExpr::Arithmetic { left, right, .. } => is_constant_form(left)
+            && is_constant_form(right),
+        CoreExpr::Compare { left, right, .. } => is_constant_form(left) && is_constant_form(right),
+        CoreExpr::Logical { left, right, .. } => is_constant_form(left) && is_constant_form(right),
+        CoreExpr::Choice { test, yes, no, .. } => is_constant_form(test)
+            && is_constant_form(yes)
+            && is_constant_form(no),
+        CoreExpr::Assign { .. } => false,
+        CoreExpr::Update { .. } => false,
+        CoreExpr::Step { .. } => false,
+        CoreExpr::Comma { left, right, .. } => is_constant_form(left) && is_constant_form(right),
+        CoreExpr::Assertion { .. } => false,
+        CoreExpr::Assumption { .. } => false,
+        CoreExpr::Draw { .. } => false,
+        CoreExpr::Member { .. } => false,
+        CoreExpr::Discard { .. } => false,
+        CoreExpr::DiscardStructure { .. } => false,
+        CoreExpr::Call { .. } => false,
+        CoreExpr::FunctionName { .. } => false,
     }
 }
 
@@ -184,63 +117,57 @@ fn value_of(expr: &CoreExpr) -> Option<Number>
     ensures { result ≡ value_of (view expr.now) }
 {
     match expr {
-        CoreExpr::Constant {
-            line: _,
-            type_,
-            bits,
-        } => Some(Number::new(*type_, low_bits(*bits, type_.width()))),
-        CoreExpr::Read { place: _ } => None,
+        CoreExpr::Constant { type_, bits, .. } => Some(Number::new(
+            *type_,
+            low_bits(*bits, type_.width()),
+        )),
+        CoreExpr::Read { .. } => None,
         CoreExpr::Convert { to, operand } => {
             let number = value_of(operand)?;
             Some(number.converted(*to))
         }
         CoreExpr::Sign {
-            line: _,
             operator,
             operand,
+            ..
         } => {
             let number = value_of(operand)?;
             signed(*operator, number)
         }
-        CoreExpr::IsZero { line: _, operand } => {
+        CoreExpr::IsZero { operand, .. } => {
             let number = value_of(operand)?;
             Some(truth(!number.is_true()))
         }
         CoreExpr::Arithmetic {
-            line: _,
             operator,
             left,
             right,
+            ..
         } => {
             let left = value_of(left)?;
             let right = value_of(right)?;
             operated(*operator, left, right)
         }
         CoreExpr::Compare {
-            line: _,
             operator,
             left,
             right,
+            ..
         } => {
             let left = value_of(left)?;
             let right = value_of(right)?;
             related(*operator, left, right)
         }
         CoreExpr::Logical {
-            line: _,
             operator,
             left,
             right,
+            ..
         } => {
             let left = value_of(left)?;
             connected(*operator, left, value_of(right))
         }
-        CoreExpr::Choice {
-            line: _,
-            test,
-            yes,
-            no,
-        } => {
+        CoreExpr::Choice { test, yes, no, .. } => {
             let test = value_of(test)?;
             if test.is_true() {
                 value_of(yes)
@@ -248,60 +175,18 @@ fn value_of(expr: &CoreExpr) -> Option<Number>
                 value_of(no)
             }
         }
-        CoreExpr::Assign {
-            line: _,
-            place: _,
-            value: _,
-        } => None,
-        CoreExpr::Update {
-            line: _,
-            place: _,
-            operator: _,
-            type_: _,
-            value: _,
-        } => None,
-        CoreExpr::Step {
-            line: _,
-            place: _,
-            operator: _,
-            before: _,
-        } => None,
-        CoreExpr::Comma {
-            line: _,
-            left: _,
-            right: _,
-        } => None,
-        CoreExpr::Assertion {
-            line: _,
-            condition: _,
-        } => None,
-        CoreExpr::Assumption {
-            line: _,
-            condition: _,
-        } => None,
-        CoreExpr::Draw { line: _, type_: _ } => None,
-        CoreExpr::Member {
-            line: _,
-            type_: _,
-            offset: _,
-            value: _,
-        } => None,
-        CoreExpr::Discard {
-            line: _,
-            operand: _,
-        } => None,
-        CoreExpr::DiscardStructure { value: _ } => None,
-        CoreExpr::Call {
-            line: _,
-            function: _,
-            used: _,
-            type_: _,
-            arguments: _,
-        } => None,
-        CoreExpr::FunctionName {
-            line: _,
-            function: _,
-        } => None,
+        CoreExpr::Assign { .. } => None,
+        CoreExpr::Update { .. } => None,
+        CoreExpr::Step { .. } => None,
+        CoreExpr::Comma { .. } => None,
+        CoreExpr::Assertion { .. } => None,
+        CoreExpr::Assumption { .. } => None,
+        CoreExpr::Draw { .. } => None,
+        CoreExpr::Member { .. } => None,
+        CoreExpr::Discard { .. } => None,
+        CoreExpr::DiscardStructure { .. } => None,
+        CoreExpr::Call { .. } => None,
+        CoreExpr::FunctionName { .. } => None,
     }
 }
 
@@ -318,8 +203,8 @@ pub fn constant_of(expr: &CoreExpr) -> Option<Number>
 }
 
 /// How many elements a bound says, 0 where it is negative.
-pub fn length_said(bound: Number) -> u64
-    ensures { result ≡ length_said bound }
+pub fn stated_length(bound: Number) -> u64
+    ensures { result ≡ stated_length bound }
 {
     if compare(Comparison::Less, bound, Number::new(bound.type_of(), 0)) {
         0

@@ -5,11 +5,12 @@ mod calls;
 mod constants;
 mod nodes;
 mod operands;
+mod operators;
 mod strings;
 mod texts;
 mod typing;
 
-pub use constants::{constant_of, length_said};
+pub use constants::{constant_of, stated_length};
 pub use nodes::{as_type, in_box, structure_in_box};
 pub use operands::{CoreOperand, Home, constant_in, dropped, number, record_value, same_record};
 pub use strings::prove_string_length;

@@ -13,7 +13,7 @@ use c_tree::{BinaryOp, StepOp, UnaryOp};
 use c_types::{IntegerType, Ty, ValueType, common, promote};
 use core_tree::{
     ArithmeticOperator, Comparison, CoreExpr, CoreStructure, LogicalOperator, Place, SignOperator,
-    StepOperator, type_of,
+    StepOperator, place_type, type_of,
 };
 use std::alloc::{AllocError, Global};
 
@@ -100,7 +100,7 @@ fn constant_type(type_: ConstantType) -> IntegerType
     }
 }
 
-// The last bits of a number.
+/// The last bits of a number.
 pub fn low_bits(value: u64, width: u32) -> u64
     requires { width ≤ 64 }
     ensures { result ≡ value % 2 ^ width }
@@ -112,6 +112,7 @@ pub fn low_bits(value: u64, width: u32) -> u64
     }
 }
 
+/// The node of an integer constant: its value in its type (C11 6.4.4.1).
 pub fn constant_node(line: u32, constant: &Constant) -> CoreExpr
     ensures { view result ≡ constant_node line constant.now }
 {
@@ -120,6 +121,7 @@ pub fn constant_node(line: u32, constant: &Constant) -> CoreExpr
     CoreExpr::Constant { line, type_, bits }
 }
 
+/// The node of a character constant: an `int` (C11 6.4.4.4p10).
 pub fn character_node(line: u32, bits: u32) -> CoreExpr
     ensures { view result ≡ character_node line bits }
 {
@@ -187,10 +189,7 @@ pub fn cast_node(
             Ok(in_box(alloc, converted)?)
         }
         Ty::Record(_) => Err(Broken::Rule { rule: 7 }),
-        Ty::Array {
-            element: _,
-            length: _,
-        } => Err(Broken::Rule { rule: 7 }),
+        Ty::Array { .. } => Err(Broken::Rule { rule: 7 }),
     }
 }
 
@@ -240,6 +239,7 @@ fn step_node(
     Ok(in_box(alloc, step)?)
 }
 
+/// The node of a unary operator on its operand's value, or the rule that this breaks (C11 6.5.3).
 pub fn unary_node(
     alloc: Global,
     constant: bool,
@@ -273,6 +273,7 @@ pub fn unary_node(
     }
 }
 
+/// The node of `++` or `--` behind its operand (C11 6.5.2.4).
 pub fn postfix_node(
     alloc: Global,
     constant: bool,
@@ -288,6 +289,7 @@ pub fn postfix_node(
     }
 }
 
+/// Whether an operator shifts: its operands are promoted each by itself (C11 6.5.7p3).
 pub fn is_shift(operator: ArithmeticOperator) -> bool
     ensures { result ≡ is_shift operator }
 {
@@ -388,6 +390,7 @@ fn logical_node(
     Ok(in_box(alloc, logical)?)
 }
 
+/// The node of a binary operator on two numbers (C11 6.5.5 to 6.5.14).
 pub fn binary_node(
     alloc: Global,
     line: u32,
@@ -480,6 +483,7 @@ fn chosen(
     Ok(in_box(alloc, choice)?)
 }
 
+/// The node of `?:` on numbers, of their common type (C11 6.5.15p5).
 pub fn choice_node(
     alloc: Global,
     line: u32,
@@ -491,25 +495,6 @@ pub fn choice_node(
 {
     let _type = integer(&test, 7)?;
     chosen(alloc, line, test, yes, no)
-}
-
-fn place_type(place: &Place) -> IntegerType
-    ensures { result ≡ place_type place.now }
-{
-    match place {
-        Place::Variable {
-            line: _,
-            type_,
-            variable: _,
-            offset: _,
-        }
-        | Place::Object {
-            line: _,
-            type_,
-            object: _,
-            offset: _,
-        } => *type_,
-    }
 }
 
 fn assign_node(
@@ -579,6 +564,7 @@ fn update_node(
     Ok(in_box(alloc, update)?)
 }
 
+/// The node of an assignment to a place, plain or with an operator (C11 6.5.16).
 pub fn assignment_node(
     alloc: Global,
     constant: bool,

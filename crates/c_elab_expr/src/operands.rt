@@ -1,20 +1,16 @@
 //! What an operator makes of typed operands, or the lowest rule that they break.
 
-ghost use Rattle.std.specs.Prelude.{◌≡◌, ℕ, true, false, slice_get, option_map, IfOk, IsErr, Result};
+ghost use Rattle.std.specs.Prelude.{◌≡◌, ℕ, true, false, slice_get, IfOk, IsErr, Result};
 ghost use Rattle.c_types.specs.Types.{view as type_view};
 ghost use Rattle.c_types.specs.Layouts.{is_complete, is_sized, size_of};
-ghost use Rattle.core_tree.specs.Trees.{Expression, follow, view, boxed, view_structure};
-ghost use Rattle.c_scope.specs.Scopes.{view_named, object_at};
+ghost use Rattle.core_tree.specs.Trees.{Expression, view, boxed, view_structure};
+ghost use Rattle.c_scope.specs.Scopes.{object_at};
 ghost use Rattle.c_scope.specs.Faults.{required, GivesNode};
-ghost use Rattle.c_elab_expr.specs.Operands.{value as number_operand, structure, view_operand, computed, valued, number, same_record, record_value, dropped, is_array, used, number_place, held_value, put_value, place_operand, variable_node, lasting_node, function_node, name_node, part_operand, member_node, operand_bytes, constant_in, cast_record, cast_operand, unary_operand, postfix_operand, binary_operand, choice_record, choice_value, choice_operand, assign_value, assign_record, assign_nothing, assign_operand, comma_operand};
+ghost use Rattle.c_elab_expr.specs.Operands.{value as number_operand, view_operand, computed, valued, number, same_record, record_value, dropped, is_array, used, number_place, held_value, put_value, place_operand, variable_node, object_entry_node, function_node, name_node, part_operand, member_node, operand_bytes, constant_in};
 
 use crate::constants::constant_of;
-use crate::nodes::{
-    assignment_node, binary_node, cast_node, character_node, choice_node, in_box, integer,
-    postfix_node, structure_in_box, unary_node, value_size,
-};
+use crate::nodes::{character_node, in_box, integer, structure_in_box, value_size};
 use c_scope::{Broken, Meaning, Scope, is_incomplete, part_at, type_size};
-use c_tree::{BinaryOp, StepOp, UnaryOp};
 use c_types::{IntegerType, Layouts, Ty, is_sized, size_of};
 use c_values::Number;
 use core_tree::{CoreExpr, CoreStructure, Place, type_of};
@@ -82,15 +78,9 @@ pub fn valued(operand: CoreOperand, rule: u32) -> Result<Box<CoreExpr>, Broken>
     ensures { GivesNode boxed result (valued rule (view_operand operand)) }
 {
     match operand {
-        CoreOperand::Value { value, constant: _ } => Ok(value),
-        CoreOperand::Object {
-            line: _,
-            home: _,
-            offset: _,
-            type_: _,
-            constant: _,
-        } => Err(Broken::Rule { rule }),
-        CoreOperand::Structure { type_: _, value: _ } => Err(Broken::Rule { rule }),
+        CoreOperand::Value { value, .. } => Ok(value),
+        CoreOperand::Object { .. } => Err(Broken::Rule { rule }),
+        CoreOperand::Structure { .. } => Err(Broken::Rule { rule }),
     }
 }
 
@@ -167,7 +157,7 @@ fn held_value(home: Home, line: u32, offset: u32, size: u32) -> CoreStructure
 }
 
 // Bytes that take the place of those from an offset on.
-fn put_value(
+pub fn put_value(
     alloc: Global,
     home: Home,
     line: u32,
@@ -199,7 +189,7 @@ fn put_value(
 }
 
 // The value of an object.
-fn read_object(
+pub fn read_object(
     alloc: Global,
     line: u32,
     home: Home,
@@ -224,16 +214,13 @@ pub fn record_value(
     ensures { GivesNode (λ a. view_structure a.value) result (required rule (record_value layouts.now.done (type_view type_.now) (view_operand operand))) }
 {
     match operand {
-        CoreOperand::Value {
-            value: _,
-            constant: _,
-        } => Err(Broken::Rule { rule }),
+        CoreOperand::Value { .. } => Err(Broken::Rule { rule }),
         CoreOperand::Object {
             line,
             home,
             offset,
             type_: other,
-            constant: _,
+            ..
         } => {
             if same_record(type_, &other) {
                 Ok(read_object(alloc, line, home, offset, &other, layouts)?)
@@ -263,18 +250,18 @@ pub fn dropped(
     ensures { IfOk result (λ e. view e.value ≡ dropped layouts.now.done (view_operand operand)) }
 {
     match operand {
-        CoreOperand::Value { value, constant: _ } => Ok(value),
+        CoreOperand::Value { value, .. } => Ok(value),
         CoreOperand::Object {
             line,
             home,
             offset,
             type_,
-            constant: _,
+            ..
         } => {
             let value = read_object(alloc, line, home, offset, &type_, layouts)?;
             in_box(alloc, CoreExpr::DiscardStructure { value })
         }
-        CoreOperand::Structure { type_: _, value } => {
+        CoreOperand::Structure { value, .. } => {
             in_box(alloc, CoreExpr::DiscardStructure { value })
         }
     }
@@ -287,10 +274,7 @@ fn is_array(type_: &Ty) -> bool
         Ty::Void => false,
         Ty::Integer(_) => false,
         Ty::Record(_) => false,
-        Ty::Array {
-            element: _,
-            length: _,
-        } => true,
+        Ty::Array { .. } => true,
     }
 }
 
@@ -375,17 +359,22 @@ fn variable_node(
 }
 
 // An object that lives as long as the program. One whose type is incomplete here is no operand.
-fn lasting_node(alloc: Global, line: u32, object: u32, scope: &Scope) -> Result<CoreOperand, Broken>
-    ensures { GivesNode view_operand result (lasting_node scope.now.records.done line object (object_at scope.now object)) }
+fn object_entry_node(
+    alloc: Global,
+    line: u32,
+    object: u32,
+    scope: &Scope,
+) -> Result<CoreOperand, Broken>
+    ensures { GivesNode view_operand result (object_entry_node scope.now.records.done line object (object_at scope.now object)) }
 {
     match scope.object(object) {
-        Some(lasting) => {
-            if is_incomplete(lasting, scope.layouts()) {
+        Some(object_entry) => {
+            if is_incomplete(object_entry, scope.layouts()) {
                 return Err(Broken::Rule { rule: 3 });
             }
-            let type_ = lasting.named.type_.copied()?;
+            let type_ = object_entry.named.type_.copied()?;
             let home = Home::Object { object };
-            Ok(place_operand(alloc, line, home, 0, type_, lasting.named.constant)?)
+            Ok(place_operand(alloc, line, home, 0, type_, object_entry.named.constant)?)
         }
         None => Err(Broken::Rule { rule: 1 }),
     }
@@ -418,15 +407,15 @@ pub fn name_node(
     match meaning {
         None => Err(Broken::Rule { rule: 1 }),
         Some(Meaning::Variable { variable }) => variable_node(alloc, line, variable, scope),
-        Some(Meaning::Object { object }) => lasting_node(alloc, line, object, scope),
+        Some(Meaning::Object { object }) => object_entry_node(alloc, line, object, scope),
         Some(Meaning::Incomplete) => Err(Broken::Rule { rule: 3 }),
         Some(Meaning::Assert) => Err(Broken::Rule { rule: 7 }),
         Some(Meaning::Assume) => Err(Broken::Rule { rule: 7 }),
-        Some(Meaning::Draw { type_: _ }) => Err(Broken::Rule { rule: 7 }),
+        Some(Meaning::Draw { .. }) => Err(Broken::Rule { rule: 7 }),
         Some(Meaning::Function { function }) => function_node(alloc, line, function, scope),
-        Some(Meaning::Typedef { number: _ }) => Err(Broken::Rule { rule: 7 }),
+        Some(Meaning::Typedef { .. }) => Err(Broken::Rule { rule: 7 }),
         Some(Meaning::Enumerator { bits }) => Ok(made(alloc, character_node(line, bits))?),
-        Some(Meaning::Record { place: _ }) => Err(Broken::Rule { rule: 7 }),
+        Some(Meaning::Record { .. }) => Err(Broken::Rule { rule: 7 }),
         Some(Meaning::Enumeration) => Err(Broken::Rule { rule: 7 }),
     }
 }
@@ -479,16 +468,13 @@ pub fn member_node(
     ensures { GivesNode view_operand result (member_node scope.now line (view_operand operand) name.now) }
 {
     match operand {
-        CoreOperand::Value {
-            value: _,
-            constant: _,
-        } => Err(Broken::Rule { rule: 11 }),
+        CoreOperand::Value { .. } => Err(Broken::Rule { rule: 11 }),
         CoreOperand::Object {
-            line: _,
             home,
             offset,
             type_,
             constant,
+            ..
         } => match scope.way(&type_, name) {
             Some(way) => {
                 let (at, part) = part_at(alloc, offset, &type_, &way.path, scope.layouts())?;
@@ -512,15 +498,9 @@ pub fn operand_bytes(operand: &CoreOperand, layouts: &Layouts) -> Result<u64, Br
     ensures { GivesNode (λ n. n) result (operand_bytes layouts.now.done (view_operand operand.now)) }
 {
     match operand {
-        CoreOperand::Value { value, constant: _ } => value_size(type_of(value)),
-        CoreOperand::Object {
-            line: _,
-            home: _,
-            offset: _,
-            type_,
-            constant: _,
-        } => type_size(type_, layouts),
-        CoreOperand::Structure { type_, value: _ } => type_size(type_, layouts),
+        CoreOperand::Value { value, .. } => value_size(type_of(value)),
+        CoreOperand::Object { type_, .. } => type_size(type_, layouts),
+        CoreOperand::Structure { type_, .. } => type_size(type_, layouts),
     }
 }
 
@@ -529,346 +509,8 @@ pub fn constant_in(operand: &CoreOperand) -> Option<Number>
     ensures { result ≡ constant_in (view_operand operand.now) }
 {
     match operand {
-        CoreOperand::Value { value, constant: _ } => constant_of(value),
-        CoreOperand::Object {
-            line: _,
-            home: _,
-            offset: _,
-            type_: _,
-            constant: _,
-        } => None,
-        CoreOperand::Structure { type_: _, value: _ } => None,
-    }
-}
-
-// An operand of struct, union or array type that is cast to a type.
-fn cast_record(
-    alloc: Global,
-    type_: &Ty,
-    operand: CoreOperand,
-    layouts: &Layouts,
-) -> Result<CoreOperand, Broken>
-    ensures { GivesNode view_operand result (cast_record layouts.now.done (type_view type_.now) (view_operand operand)) }
-{
-    match type_ {
-        Ty::Void => Ok(CoreOperand::Value {
-            value: dropped(alloc, operand, layouts)?,
-            constant: false,
-        }),
-        Ty::Integer(_) => Err(Broken::Rule { rule: 7 }),
-        Ty::Record(_) => Err(Broken::Rule { rule: 7 }),
-        Ty::Array {
-            element: _,
-            length: _,
-        } => Err(Broken::Rule { rule: 7 }),
-    }
-}
-
-/// An operand that is cast to a type.
-pub fn cast_operand(
-    alloc: Global,
-    line: u32,
-    type_: &Ty,
-    operand: CoreOperand,
-    layouts: &Layouts,
-) -> Result<CoreOperand, Broken>
-    ensures { GivesNode view_operand result (cast_operand layouts.now.done line (type_view type_.now) (view_operand operand)) }
-{
-    match operand {
-        CoreOperand::Value { value, constant: _ } => {
-            computed(cast_node(alloc, line, type_, value))
-        }
-        record => cast_record(alloc, type_, record, layouts),
-    }
-}
-
-pub fn unary_operand(
-    alloc: Global,
-    line: u32,
-    operator: UnaryOp,
-    operand: CoreOperand,
-) -> Result<CoreOperand, Broken>
-    ensures { GivesNode view_operand result (unary_operand line operator (view_operand operand)) }
-{
-    match operand {
-        CoreOperand::Value { value, constant } => {
-            computed(unary_node(alloc, constant, line, operator, value))
-        }
-        CoreOperand::Object {
-            line: _,
-            home: _,
-            offset: _,
-            type_: _,
-            constant: _,
-        } => Err(Broken::Rule { rule: 7 }),
-        CoreOperand::Structure { type_: _, value: _ } => Err(Broken::Rule { rule: 7 }),
-    }
-}
-
-pub fn postfix_operand(
-    alloc: Global,
-    line: u32,
-    operator: StepOp,
-    operand: &CoreOperand,
-) -> Result<CoreOperand, Broken>
-    ensures { GivesNode view_operand result (postfix_operand line operator (view_operand operand.now)) }
-{
-    match operand {
-        CoreOperand::Value { value, constant } => {
-            computed(postfix_node(alloc, *constant, line, operator, value))
-        }
-        CoreOperand::Object {
-            line: _,
-            home: _,
-            offset: _,
-            type_: _,
-            constant: _,
-        } => Err(Broken::Rule { rule: 7 }),
-        CoreOperand::Structure { type_: _, value: _ } => Err(Broken::Rule { rule: 7 }),
-    }
-}
-
-pub fn binary_operand(
-    alloc: Global,
-    line: u32,
-    operator: BinaryOp,
-    left: CoreOperand,
-    right: CoreOperand,
-) -> Result<CoreOperand, Broken>
-    ensures { GivesNode view_operand result (binary_operand line operator (view_operand left) (view_operand right)) }
-{
-    let left = valued(left, 7)?;
-    let right = valued(right, 7)?;
-    computed(binary_node(alloc, line, operator, left, right))
-}
-
-// A choice with a value of this struct, union or array type.
-fn choice_record(
-    alloc: Global,
-    line: u32,
-    test: CoreOperand,
-    type_: Ty,
-    yes: Box<CoreStructure>,
-    no: CoreOperand,
-    layouts: &Layouts,
-) -> Result<CoreOperand, Broken>
-    ensures { GivesNode view_operand result (choice_record layouts.now.done line (view_operand test) (type_view type_) (view_structure yes.value) (view_operand no)) }
-{
-    let test = number(test, 7)?;
-    let no = record_value(alloc, &type_, no, layouts, 7)?;
-    let choice = CoreStructure::Choice {
-        line,
-        test,
-        yes,
-        no,
-    };
-    Ok(CoreOperand::Structure {
-        type_,
-        value: structure_in_box(alloc, choice)?,
-    })
-}
-
-// A choice with a value of integer type or void.
-fn choice_value(
-    alloc: Global,
-    line: u32,
-    test: CoreOperand,
-    yes: Box<CoreExpr>,
-    no: CoreOperand,
-) -> Result<CoreOperand, Broken>
-    ensures { GivesNode view_operand result (choice_value line (view_operand test) (view yes.value) (view_operand no)) }
-{
-    match no {
-        CoreOperand::Value {
-            value: no,
-            constant: _,
-        } => {
-            let test = valued(test, 7)?;
-            computed(choice_node(alloc, line, test, yes, no))
-        }
-        CoreOperand::Object {
-            line: _,
-            home: _,
-            offset: _,
-            type_: _,
-            constant: _,
-        } => Err(Broken::Rule { rule: 7 }),
-        CoreOperand::Structure { type_: _, value: _ } => Err(Broken::Rule { rule: 7 }),
-    }
-}
-
-pub fn choice_operand(
-    alloc: Global,
-    line: u32,
-    test: CoreOperand,
-    yes: CoreOperand,
-    no: CoreOperand,
-    layouts: &Layouts,
-) -> Result<CoreOperand, Broken>
-    ensures { GivesNode view_operand result (choice_operand layouts.now.done line (view_operand test) (view_operand yes) (view_operand no)) }
-{
-    match yes {
-        CoreOperand::Value { value, constant: _ } => choice_value(alloc, line, test, value, no),
-        CoreOperand::Object {
-            line: at,
-            home,
-            offset,
-            type_,
-            constant: _,
-        } => {
-            let value = read_object(alloc, at, home, offset, &type_, layouts)?;
-            choice_record(alloc, line, test, type_, value, no, layouts)
-        }
-        CoreOperand::Structure { type_, value } => {
-            choice_record(alloc, line, test, type_, value, no, layouts)
-        }
-    }
-}
-
-// An assignment to a place of an integer type.
-fn assign_value(
-    alloc: Global,
-    constant: bool,
-    line: u32,
-    operator: Option<BinaryOp>,
-    place: &CoreExpr,
-    value: CoreOperand,
-) -> Result<CoreOperand, Broken>
-    ensures { GivesNode view_operand result (assign_value constant line operator (view place.now) (view_operand value)) }
-{
-    match value {
-        CoreOperand::Value { value, constant: _ } => computed(assignment_node(
-            alloc, constant, line, operator, place, value,
-        )),
-        CoreOperand::Object {
-            line: _,
-            home: _,
-            offset: _,
-            type_: _,
-            constant: _,
-        } => match operator {
-            None => Err(Broken::Rule { rule: 8 }),
-            Some(_) => Err(Broken::Rule { rule: 7 }),
-        },
-        CoreOperand::Structure { type_: _, value: _ } => match operator {
-            None => Err(Broken::Rule { rule: 8 }),
-            Some(_) => Err(Broken::Rule { rule: 7 }),
-        },
-    }
-}
-
-// An assignment to an object of this type, which is const or not.
-fn assign_record(
-    alloc: Global,
-    line: u32,
-    home: Home,
-    offset: u32,
-    type_: Ty,
-    constant: bool,
-    value: CoreOperand,
-    scope: &Scope,
-) -> Result<CoreOperand, Broken>
-    ensures { GivesNode view_operand result (assign_record scope.now line home offset (type_view type_) constant (view_operand value)) }
-{
-    let value = record_value(alloc, &type_, value, scope.layouts(), 8)?;
-    if constant || scope.is_constant_within(&type_) {
-        return Err(Broken::Rule { rule: 9 });
-    }
-    Ok(CoreOperand::Structure {
-        type_,
-        value: put_value(alloc, home, line, offset, value)?,
-    })
-}
-
-// An assignment to a value of this type, which is no place.
-fn assign_nothing(
-    alloc: Global,
-    type_: &Ty,
-    value: CoreOperand,
-    layouts: &Layouts,
-) -> Result<CoreOperand, Broken>
-    ensures { GivesNode view_operand result (assign_nothing layouts.now.done (type_view type_.now) (view_operand value)) }
-{
-    let _value = record_value(alloc, type_, value, layouts, 8)?;
-    Err(Broken::Rule { rule: 9 })
-}
-
-pub fn assign_operand(
-    alloc: Global,
-    line: u32,
-    operator: Option<BinaryOp>,
-    place: &CoreOperand,
-    value: CoreOperand,
-    scope: &Scope,
-) -> Result<CoreOperand, Broken>
-    ensures { GivesNode view_operand result (assign_operand scope.now line operator (view_operand place.now) (view_operand value)) }
-{
-    match place {
-        CoreOperand::Value {
-            value: place,
-            constant,
-        } => assign_value(alloc, *constant, line, operator, place, value),
-        CoreOperand::Object {
-            line: _,
-            home,
-            offset,
-            type_,
-            constant,
-        } => match operator {
-            None => {
-                let type_ = type_.copied()?;
-                assign_record(alloc, line, *home, *offset, type_, *constant, value, scope)
-            }
-            Some(_) => Err(Broken::Rule { rule: 7 }),
-        },
-        CoreOperand::Structure { type_, value: _ } => match operator {
-            None => assign_nothing(alloc, type_, value, scope.layouts()),
-            Some(_) => Err(Broken::Rule { rule: 7 }),
-        },
-    }
-}
-
-// A structure value behind another value that isn't used.
-fn behind(
-    alloc: Global,
-    line: u32,
-    left: Box<CoreExpr>,
-    type_: Ty,
-    right: Box<CoreStructure>,
-) -> Result<CoreOperand, AllocError>
-    ensures { IfOk result (λ x. view_operand x ≡ structure (type_view type_) (follow line (view left.value) (view_structure right.value))) }
-{
-    Ok(CoreOperand::Structure {
-        type_,
-        value: structure_in_box(alloc, CoreStructure::Comma { line, left, right })?,
-    })
-}
-
-pub fn comma_operand(
-    alloc: Global,
-    line: u32,
-    left: CoreOperand,
-    right: CoreOperand,
-    layouts: &Layouts,
-) -> Result<CoreOperand, AllocError>
-    ensures { IfOk result (λ x. view_operand x ≡ comma_operand layouts.now.done line (view_operand left) (view_operand right)) }
-{
-    let left = dropped(alloc, left, layouts)?;
-    match right {
-        CoreOperand::Value {
-            value: right,
-            constant: _,
-        } => made(alloc, CoreExpr::Comma { line, left, right }),
-        CoreOperand::Object {
-            line: at,
-            home,
-            offset,
-            type_,
-            constant: _,
-        } => {
-            let right = read_object(alloc, at, home, offset, &type_, layouts)?;
-            behind(alloc, line, left, type_, right)
-        }
-        CoreOperand::Structure { type_, value } => behind(alloc, line, left, type_, value),
+        CoreOperand::Value { value, .. } => constant_of(value),
+        CoreOperand::Object { .. } => None,
+        CoreOperand::Structure { .. } => None,
     }
 }

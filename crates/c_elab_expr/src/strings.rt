@@ -52,7 +52,7 @@ fn escape_length(text: &[u8]) -> usize
     if octal == 0 { 1 } else { octal }
 }
 
-// What a string's quotes enclose.
+/// What a string's quotes enclose.
 pub fn enclosed(text: &[u8]) -> &[u8]
     ensures { result.now ≡ enclosed text.now }
 {
@@ -111,8 +111,8 @@ pub fn strings_of(expr: &Expr) -> Option<&[Name]>
     ensures { option_map (λ parts. map view_name parts.now) result ≡ strings_of (tree expr.now) }
 {
     match expr {
-        Expr::Strings { line: _, parts } => Some(parts),
-        Expr::Parens { line: _, inner } => strings_of(inner),
+        Expr::Strings { parts, .. } => Some(parts),
+        Expr::Parens { inner, .. } => strings_of(inner),
         _ => None,
     }
 }

@@ -13,11 +13,14 @@ ghost use Rattle.c_scope.specs.Faults.{Gives, GivesNode, on_line, Fault};
 ghost use Rattle.c_elab_expr.specs.Typing.{Adds, bare_line, sized, used_on, node_on, both, node_on_both, comma_of, size_of_named, call_of, no_function, callee, called, is_main, is_used, bound, type_name, operand_size, is_wanted, typed, typed_arguments, operand_by, operand, lengths, suffix_lengths};
 
 use crate::calls::called;
-use crate::constants::length_said;
+use crate::constants::stated_length;
 use crate::nodes::{character_node, constant_node, size_node};
 use crate::operands::{
-    CoreOperand, assign_operand, binary_operand, cast_operand, choice_operand, comma_operand,
-    constant_in, made, member_node, name_node, operand_bytes, postfix_operand, unary_operand, used,
+    CoreOperand, constant_in, made, member_node, name_node, operand_bytes, used,
+};
+use crate::operators::{
+    assign_operand, binary_operand, cast_operand, choice_operand, comma_operand, postfix_operand,
+    unary_operand,
 };
 use crate::strings::{strings_length, strings_of};
 use c_scope::{
@@ -35,60 +38,22 @@ pub fn first_line(expr: &Expr) -> u32
     ensures { result ≡ first_line (tree expr.now) }
 {
     match expr {
-        Expr::Constant { line, constant: _ } => *line,
-        Expr::Character { line, value: _ } => *line,
-        Expr::Strings { line, parts: _ } => *line,
-        Expr::Name { line, name: _ } => *line,
-        Expr::Parens { line, inner: _ } => *line,
-        Expr::Unary {
-            line,
-            operator: _,
-            operand: _,
-        } => *line,
-        Expr::Cast {
-            line,
-            type_name: _,
-            operand: _,
-        } => *line,
-        Expr::SizeofExpr { line, operand: _ } => *line,
-        Expr::SizeofType { line, type_name: _ } => *line,
-        Expr::Step {
-            line: _,
-            operator: _,
-            operand,
-        } => first_line(operand),
-        Expr::Member {
-            line: _,
-            left,
-            name: _,
-        } => first_line(left),
-        Expr::Binary {
-            line: _,
-            operator: _,
-            left,
-            right: _,
-        } => first_line(left),
-        Expr::Choice {
-            line: _,
-            test,
-            yes: _,
-            no: _,
-        } => first_line(test),
-        Expr::Assign {
-            line: _,
-            operator: _,
-            place,
-            value: _,
-        } => first_line(place),
-        Expr::Comma {
-            line: _,
-            left,
-            right: _,
-        } => first_line(left),
-        Expr::Call {
-            function,
-            arguments: _,
-        } => first_line(function),
+        Expr::Constant { line, .. } => *line,
+        Expr::Character { line, .. } => *line,
+        Expr::Strings { line, .. } => *line,
+        Expr::Name { line, .. } => *line,
+        Expr::Parens { line, .. } => *line,
+        Expr::Unary { line, .. } => *line,
+        Expr::Cast { line, .. } => *line,
+        Expr::SizeofExpr { line, .. } => *line,
+        Expr::SizeofType { line, .. } => *line,
+        Expr::Step { operand, .. } => first_line(operand),
+        Expr::Member { left, .. } => first_line(left),
+        Expr::Binary { left, .. } => first_line(left),
+        Expr::Choice { test, .. } => first_line(test),
+        Expr::Assign { place, .. } => first_line(place),
+        Expr::Comma { left, .. } => first_line(left),
+        Expr::Call { function, .. } => first_line(function),
     }
 }
 
@@ -129,7 +94,7 @@ fn bare_line(expr: &Expr) -> u32
     ensures { result ≡ bare_line (tree expr.now) }
 {
     match expr {
-        Expr::Parens { line: _, inner } => bare_line(inner),
+        Expr::Parens { inner, .. } => bare_line(inner),
         _ => first_line(expr),
     }
 }
@@ -344,10 +309,7 @@ fn is_wanted(type_: &Ty) -> bool
         Ty::Void => false,
         Ty::Integer(_) => true,
         Ty::Record(_) => true,
-        Ty::Array {
-            element: _,
-            length: _,
-        } => true,
+        Ty::Array { .. } => true,
     }
 }
 
@@ -435,7 +397,7 @@ fn callee(
                 rule: 1,
             }),
         },
-        Expr::Parens { line: _, inner } => callee(alloc, inner, scope),
+        Expr::Parens { inner, .. } => callee(alloc, inner, scope),
         _ => no_function(used_expr(alloc, function, scope)),
     }
 }
@@ -445,8 +407,8 @@ fn is_main(function: &Expr) -> bool
     ensures { result ≡ is_main (tree function.now) }
 {
     match function {
-        Expr::Name { line: _, name } => name.bytes.as_slice() == b"main".as_slice(),
-        Expr::Parens { line: _, inner } => is_main(inner),
+        Expr::Name { name, .. } => name.bytes.as_slice() == b"main".as_slice(),
+        Expr::Parens { inner, .. } => is_main(inner),
         _ => false,
     }
 }
@@ -480,7 +442,7 @@ fn bound_of(typed: Result<CoreOperand, TypingError>, expr: &Expr) -> Result<u64,
 {
     let core = typed?;
     match constant_in(&core) {
-        Some(number) => Ok(length_said(number)),
+        Some(number) => Ok(stated_length(number)),
         None => Err(TypingError::Typing {
             line: first_line(expr),
             rule: 13,
@@ -506,14 +468,11 @@ fn add_suffix(
     ensures { Adds result found.old.items found.new.items (suffix_lengths scope.now (view_suffix suffix.now no_suffix)) }
 {
     match suffix {
-        ArraySuffix::Bounded {
-            line: _,
-            bound: expr,
-        } => {
+        ArraySuffix::Bounded { bound: expr, .. } => {
             let length = bound(alloc, expr, scope)?;
             found.push(Some(length))?;
         }
-        ArraySuffix::Open { line: _ } => found.push(None)?,
+        ArraySuffix::Open { .. } => found.push(None)?,
     }
     Ok(())
 }
@@ -544,10 +503,8 @@ fn add_lengths(
 {
     match &declarator.core {
         DeclaratorCore::Absent => add_suffixes(alloc, &declarator.suffixes, scope, found),
-        DeclaratorCore::Named { line: _, name: _ } => {
-            add_suffixes(alloc, &declarator.suffixes, scope, found)
-        }
-        DeclaratorCore::Inside { line: _, inner } => {
+        DeclaratorCore::Named { .. } => { add_suffixes(alloc, &declarator.suffixes, scope, found) }
+        DeclaratorCore::Inside { inner, .. } => {
             add_lengths(alloc, inner, scope, found)?;
             add_suffixes(alloc, &declarator.suffixes, scope, found)
         }
@@ -614,12 +571,12 @@ fn typed_expr(
     match expr {
         Expr::Constant { line, constant } => constant_at(alloc, *line, constant),
         Expr::Character { line, value } => character_at(alloc, *line, *value),
-        Expr::Strings { line, parts: _ } => Err(TypingError::Typing {
+        Expr::Strings { line, .. } => Err(TypingError::Typing {
             line: *line,
             rule: 7,
         }),
         Expr::Name { line, name } => name_at(alloc, *line, name, scope),
-        Expr::Parens { line: _, inner } => typed_expr(alloc, inner, wanted, scope),
+        Expr::Parens { inner, .. } => typed_expr(alloc, inner, wanted, scope),
         Expr::Unary {
             line,
             operator,

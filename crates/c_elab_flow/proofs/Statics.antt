@@ -8,21 +8,21 @@ use Rattle.c_types.specs.Types.{Completed}
 use Rattle.core_tree.specs.declared.functions.StaticObject.{StaticObject}
 use Rattle.core_tree.specs.Trees.{Static, view_static, view_statics}
 use Rattle.core_tree.specs.Typed.{is_static}
-use Rattle.c_scope.specs.declared.scope.Lasting.{Lasting}
-use Rattle.c_scope.specs.Scopes.{Lasting as Known, view_lasting}
+use Rattle.c_scope.specs.declared.scope.ObjectEntry.{ObjectEntry}
+use Rattle.c_scope.specs.Scopes.{ObjectEntry as Known, view_object_entry}
 use Rattle.c_scope.proofs.Variables.{both, and}
 use Rattle.c_elab_flow.specs.Files.{static_of}
 
-abbrev pub static_as : List Completed → Lasting → Static
-static_as done o = static_of done (view_lasting o)
+abbrev pub static_as : List Completed → ObjectEntry → Static
+static_as done o = static_of done (view_object_entry o)
 
 -- one object more
-pub one_taken : (done : List Completed) (all : List Static) (made now : List StaticObject) (left rest : List Lasting) (o : Lasting) (x : StaticObject) → left ≡ rest ++ o ∷ [] → now ≡ made ++ x ∷ []
+pub one_taken : (done : List Completed) (all : List Static) (made now : List StaticObject) (left rest : List ObjectEntry) (o : ObjectEntry) (x : StaticObject) → left ≡ rest ++ o ∷ [] → now ≡ made ++ x ∷ []
     → view_static x ≡ static_as done o → all ≡ view_statics made ++ map (static_as done) (reverse left) → all ≡ view_statics now ++ map (static_as done) (reverse rest)
 one_taken done all made now left rest o x taken pushed is h =
     let f = static_as done in
-    h ∙ ap (λ (ls : List Lasting). view_statics made ++ map f (reverse ls)) taken
-    ∙ ap (λ (ls : List Lasting). view_statics made ++ map f ls) (reverse-append rest (o ∷ []))
+    h ∙ ap (λ (ls : List ObjectEntry). view_statics made ++ map f (reverse ls)) taken
+    ∙ ap (λ (ls : List ObjectEntry). view_statics made ++ map f ls) (reverse-append rest (o ∷ []))
     ∙ sym (append_assoc (view_statics made) (f o ∷ []) (map f (reverse rest)))
     ∙ ap (λ (y : Static). (view_statics made ++ y ∷ []) ++ map f (reverse rest)) (sym is)
     ∙ ap (λ (ys : List Static). ys ++ map f (reverse rest)) (sym (ap view_statics pushed ∙ map-append view_static made (x ∷ [])))
@@ -31,19 +31,19 @@ empty : {A : Type 0} (xs : List A) → length xs ≡ 0 → xs ≡ []
 empty [] h = refl
 empty (x ∷ xs) h = let none : ⊥ = omega (arith, h) in absurd none
 
-views_of : (older : List Completed) (taken : List Lasting) → map (static_as older) taken ≡ map (static_of older) (map view_lasting taken)
+views_of : (older : List Completed) (taken : List ObjectEntry) → map (static_as older) taken ≡ map (static_of older) (map view_object_entry taken)
 views_of older [] = refl
 views_of older (o ∷ taken) = ap (λ (xs : List Static). static_as older o ∷ xs) (views_of older taken)
 
 -- all were taken
-pub none_left : (older : List Completed) (taken turned left : List Lasting) (made : List Static) (objects : List Known) → map view_lasting taken ≡ objects → turned ≡ reverse taken → length left ≡ 0
+pub none_left : (older : List Completed) (taken turned left : List ObjectEntry) (made : List Static) (objects : List Known) → map view_object_entry taken ≡ objects → turned ≡ reverse taken → length left ≡ 0
     → map (static_as older) (reverse turned) ≡ made ++ map (static_as older) (reverse left) → made ≡ map (static_of older) objects
 none_left older taken turned left made objects all turn none h =
     let f = static_as older in
     sym (append-nil made)
-    ∙ ap (λ (ls : List Lasting). made ++ map f (reverse ls)) (sym (empty left none))
+    ∙ ap (λ (ls : List ObjectEntry). made ++ map f (reverse ls)) (sym (empty left none))
     ∙ sym h
-    ∙ ap (λ (ls : List Lasting). map f (reverse ls)) turn
+    ∙ ap (λ (ls : List ObjectEntry). map f (reverse ls)) turn
     ∙ ap (map f) (reverse-reverse taken)
     ∙ views_of older taken
     ∙ ap (map (static_of older)) all

@@ -5,7 +5,7 @@ use Rattle.c_tree.specs.Statements.{Statement}
 use Rattle.c_types.specs.Types.{Completed}
 use Rattle.core_tree.specs.Trees.{Procedure, Static}
 use Rattle.core_tree.specs.Trees as cores
-use Rattle.c_scope.specs.Scopes.{Lasting, Callable, lasting_size, passed_as, given_by}
+use Rattle.c_scope.specs.Scopes.{ObjectEntry, Callable, object_entry_size, passed_as, given_by}
 
 -- ---- definitions of functions (C11 6.9.1)
 
@@ -66,15 +66,15 @@ abbrev pub with_bodies : List Procedure → List Definition → List Procedure
 with_bodies fs [] = fs
 with_bodies fs (x ∷ xs) = with_bodies (with_body fs x (slice_get fs x.number)) xs
 
-abbrev pub first_said : Option (List ℕ) → List ℕ
-first_said None = []
-first_said (Some said) = said
+abbrev pub given_bytes : Option (List ℕ) → List ℕ
+given_bytes None = []
+given_bytes (Some bytes) = bytes
 
 -- an object as it is at the start
-abbrev pub static_of : List Completed → Lasting → Static
+abbrev pub static_of : List Completed → ObjectEntry → Static
 static_of done o = record {
-  size = lasting_size done o;
+  size = object_entry_size done o;
   readonly = o.named.constant;
-  bytes = first_said o.bytes;
+  bytes = given_bytes o.bytes;
   undefined = if o.defined then None else Some o.line;
 }

@@ -5,12 +5,12 @@ ghost use Rattle.c_types.specs.Types.{views, view as type_view};
 ghost use Rattle.c_types.specs.Layouts.{size_of, most_bytes};
 ghost use Rattle.core_tree.specs.Trees.{view_function, view_functions, view_static, view_statics, view_statement as typed_view};
 ghost use Rattle.core_tree.specs.Typed.{is_static};
-ghost use Rattle.c_scope.specs.Scopes.{view_callable, view_lasting, lasting_size, passed_as, given_by};
-ghost use Rattle.c_elab_flow.specs.Files.{procedure_of, with_bodies, first_said, static_of};
+ghost use Rattle.c_scope.specs.Scopes.{view_callable, view_object_entry, object_entry_size, passed_as, given_by};
+ghost use Rattle.c_elab_flow.specs.Files.{procedure_of, with_bodies, given_bytes, static_of};
 ghost use Rattle.c_elab_flow.specs.Held.{view_definitions};
 
 use c_elab_base::object_bytes;
-use c_scope::{Callable, Lasting, Scope, is_incomplete};
+use c_scope::{Callable, ObjectEntry, Scope, is_incomplete};
 use c_types::{Layouts, MOST_BYTES, Ty};
 use core_tree::{CoreStatement, Function, Name, PassedType, StaticObject};
 use std::alloc::{AllocError, Global};
@@ -57,8 +57,8 @@ fn static_object(
 }
 
 // The bytes of an object whose type is complete, else 0.
-fn lasting_size(object: &Lasting, layouts: &Layouts) -> Result<u32, AllocError>
-    ensures { IfOk result (λ n. n ≡ lasting_size layouts.now.done (view_lasting object.now)) }
+fn object_entry_size(object: &ObjectEntry, layouts: &Layouts) -> Result<u32, AllocError>
+    ensures { IfOk result (λ n. n ≡ object_entry_size layouts.now.done (view_object_entry object.now)) }
 {
     if is_incomplete(object, layouts) {
         Ok(0)
@@ -68,8 +68,8 @@ fn lasting_size(object: &Lasting, layouts: &Layouts) -> Result<u32, AllocError>
 }
 
 // The bytes that an initializer says.
-fn first_said(alloc: Global, bytes: Option<Vec<u8>>) -> Vec<u8>
-    ensures { result.items ≡ first_said (option_map (λ v. v.items) bytes) }
+fn given_bytes(alloc: Global, bytes: Option<Vec<u8>>) -> Vec<u8>
+    ensures { result.items ≡ given_bytes (option_map (λ v. v.items) bytes) }
 {
     match bytes {
         Some(bytes) => bytes,
@@ -84,20 +84,24 @@ fn undefined_at(defined: bool, line: u32) -> Option<u32>
 }
 
 // An object as it is at the start.
-fn static_of(alloc: Global, object: Lasting, layouts: &Layouts) -> Result<StaticObject, AllocError>
-    ensures is { IfOk result (λ o. view_static o ≡ static_of layouts.now.done (view_lasting object)) }
+fn static_of(
+    alloc: Global,
+    object: ObjectEntry,
+    layouts: &Layouts,
+) -> Result<StaticObject, AllocError>
+    ensures is { IfOk result (λ o. view_static o ≡ static_of layouts.now.done (view_object_entry object)) }
     ensures fits { IfOk result (λ o. is_static (view_static o) ≡ true) }
 {
-    let size = lasting_size(&object, layouts)?;
+    let size = object_entry_size(&object, layouts)?;
     static_object(
         size,
         object.named.constant,
-        first_said(alloc, object.bytes),
+        given_bytes(alloc, object.bytes),
         undefined_at(object.defined, object.line),
     )
 }
 
-// The objects of the file, where no name is in scope.
+/// The objects of the file, where no name is in scope.
 pub fn static_objects(alloc: Global, scope: &mut Scope) -> Result<Vec<StaticObject>, AllocError>
     requires { scope.old.bindings ≡ [] }
     ensures are { IfOk result (λ v. view_statics v.items ≡ map (static_of scope.old.records.done) scope.old.objects) }
@@ -175,7 +179,7 @@ fn procedure_of(
     })
 }
 
-// The functions of a file as they are called, by number.
+/// The functions of a file as they are called, by number.
 pub fn procedures(alloc: Global, scope: &Scope) -> Result<Vec<Function>, AllocError>
     ensures { IfOk result (λ fs. view_functions fs.items ≡ map (procedure_of scope.now.records.done) scope.now.functions.all) }
 {
@@ -202,7 +206,7 @@ fn give_body(definition: Definition, function: &mut Function)
 
 fn discard(_definition: Definition) {}
 
-// Gives the functions their bodies, in the order of their definitions.
+/// Gives the functions their bodies, in the order of their definitions.
 pub fn give_bodies(mut definitions: Vec<Definition>, functions: &mut Vec<Function>)
     ensures { view_functions functions.new.items ≡ with_bodies (view_functions functions.old.items) (view_definitions definitions.items) }
 {

@@ -86,18 +86,12 @@ pub fn switch_type(operand: &CoreOperand) -> IntegerType
     ensures { result ≡ switch_type (view_operand operand.now) }
 {
     match operand {
-        CoreOperand::Value { value, constant: _ } => match type_of(value) {
+        CoreOperand::Value { value, .. } => match type_of(value) {
             ValueType::Integer(type_) => promote(type_),
             ValueType::Void => IntegerType::Int,
         },
-        CoreOperand::Object {
-            line: _,
-            home: _,
-            offset: _,
-            type_: _,
-            constant: _,
-        } => IntegerType::Int,
-        CoreOperand::Structure { type_: _, value: _ } => IntegerType::Int,
+        CoreOperand::Object { .. } => IntegerType::Int,
+        CoreOperand::Structure { .. } => IntegerType::Int,
     }
 }
 

@@ -109,71 +109,30 @@ pub fn add_labels(alloc: Global, statement: &Stmt, labels: &mut Labels) -> Resul
     ensures { OnOk result (labels.new ≡ labels.old ++ labels_in (view_statement statement.now)) }
 {
     match statement {
-        Stmt::Block { line: _, items } => add_labels_of(alloc, items, labels),
-        Stmt::If {
-            line: _,
-            test: _,
-            yes,
-        } => add_labels(alloc, yes, labels),
-        Stmt::IfElse {
-            line: _,
-            test: _,
-            yes,
-            no,
-        } => {
+        Stmt::Block { items, .. } => add_labels_of(alloc, items, labels),
+        Stmt::If { yes, .. } => add_labels(alloc, yes, labels),
+        Stmt::IfElse { yes, no, .. } => {
             add_labels(alloc, yes, labels)?;
             add_labels(alloc, no, labels)
         }
-        Stmt::Evaluate { expression: _ } => Ok(()),
-        Stmt::ReturnNothing { line: _ } => Ok(()),
-        Stmt::ReturnValue { line: _, value: _ } => Ok(()),
-        Stmt::Empty { line: _ } => Ok(()),
-        Stmt::While {
-            line: _,
-            test: _,
-            body,
-        } => add_labels(alloc, body, labels),
-        Stmt::Do {
-            line: _,
-            body,
-            test: _,
-        } => add_labels(alloc, body, labels),
-        Stmt::For {
-            line: _,
-            first: _,
-            test: _,
-            last: _,
-            body,
-        } => add_labels(alloc, body, labels),
-        Stmt::ForDeclared {
-            line: _,
-            declaration: _,
-            test: _,
-            last: _,
-            body,
-        } => add_labels(alloc, body, labels),
-        Stmt::Switch {
-            line: _,
-            value: _,
-            body,
-        } => add_labels(alloc, body, labels),
-        Stmt::Case {
-            line: _,
-            value: _,
-            body,
-        } => add_labels(alloc, body, labels),
-        Stmt::Default { line: _, body } => add_labels(alloc, body, labels),
-        Stmt::Label {
-            line: _,
-            name,
-            body,
-        } => {
+        Stmt::Evaluate { .. } => Ok(()),
+        Stmt::ReturnNothing { .. } => Ok(()),
+        Stmt::ReturnValue { .. } => Ok(()),
+        Stmt::Empty { .. } => Ok(()),
+        Stmt::While { body, .. } => add_labels(alloc, body, labels),
+        Stmt::Do { body, .. } => add_labels(alloc, body, labels),
+        Stmt::For { body, .. } => add_labels(alloc, body, labels),
+        Stmt::ForDeclared { body, .. } => add_labels(alloc, body, labels),
+        Stmt::Switch { body, .. } => add_labels(alloc, body, labels),
+        Stmt::Case { body, .. } => add_labels(alloc, body, labels),
+        Stmt::Default { body, .. } => add_labels(alloc, body, labels),
+        Stmt::Label { name, body, .. } => {
             labels.add(alloc, &name.bytes)?;
             add_labels(alloc, body, labels)
         }
-        Stmt::Goto { line: _, name: _ } => Ok(()),
-        Stmt::Break { line: _ } => Ok(()),
-        Stmt::Continue { line: _ } => Ok(()),
+        Stmt::Goto { .. } => Ok(()),
+        Stmt::Break { .. } => Ok(()),
+        Stmt::Continue { .. } => Ok(()),
     }
 }
 
@@ -210,25 +169,17 @@ fn note_item(
     ensures { OnOk result (Notes ahead.old switched (view_statement statement.now) number ahead.new) }
 {
     match statement {
-        Stmt::Label {
-            line: _,
-            name,
-            body,
-        } => {
+        Stmt::Label { name, body, .. } => {
             ahead.labels.insert(name.bytes.to_vec(alloc)?, number)?;
             note_item(alloc, body, number, switched, ahead)
         }
-        Stmt::Case {
-            line: _,
-            value: _,
-            body,
-        } => {
+        Stmt::Case { body, .. } => {
             if switched {
                 ahead.cases = number;
             }
             note_item(alloc, body, number, switched, ahead)
         }
-        Stmt::Default { line: _, body } => {
+        Stmt::Default { body, .. } => {
             if switched {
                 ahead.cases = number;
             }
@@ -285,68 +236,27 @@ impl Ahead {
         ensures { self.new ≡ with_jumps self.old (jumps_in (view_statement statement.now)) }
     {
         match statement {
-            Stmt::Block { line: _, items } => self.note_jumps_of(items),
-            Stmt::If {
-                line: _,
-                test: _,
-                yes,
-            } => self.note_jumps(yes),
-            Stmt::IfElse {
-                line: _,
-                test: _,
-                yes,
-                no,
-            } => {
+            Stmt::Block { items, .. } => self.note_jumps_of(items),
+            Stmt::If { yes, .. } => self.note_jumps(yes),
+            Stmt::IfElse { yes, no, .. } => {
                 self.note_jumps(yes);
                 self.note_jumps(no)
             }
-            Stmt::Evaluate { expression: _ } => {}
-            Stmt::ReturnNothing { line: _ } => {}
-            Stmt::ReturnValue { line: _, value: _ } => {}
-            Stmt::Empty { line: _ } => {}
-            Stmt::While {
-                line: _,
-                test: _,
-                body,
-            } => self.note_jumps(body),
-            Stmt::Do {
-                line: _,
-                body,
-                test: _,
-            } => self.note_jumps(body),
-            Stmt::For {
-                line: _,
-                first: _,
-                test: _,
-                last: _,
-                body,
-            } => self.note_jumps(body),
-            Stmt::ForDeclared {
-                line: _,
-                declaration: _,
-                test: _,
-                last: _,
-                body,
-            } => self.note_jumps(body),
-            Stmt::Switch {
-                line: _,
-                value: _,
-                body,
-            } => self.note_jumps(body),
-            Stmt::Case {
-                line: _,
-                value: _,
-                body,
-            } => self.note_jumps(body),
-            Stmt::Default { line: _, body } => self.note_jumps(body),
-            Stmt::Label {
-                line: _,
-                name: _,
-                body,
-            } => self.note_jumps(body),
-            Stmt::Goto { line: _, name } => self.jump(name),
-            Stmt::Break { line: _ } => {}
-            Stmt::Continue { line: _ } => {}
+            Stmt::Evaluate { .. } => {}
+            Stmt::ReturnNothing { .. } => {}
+            Stmt::ReturnValue { .. } => {}
+            Stmt::Empty { .. } => {}
+            Stmt::While { body, .. } => self.note_jumps(body),
+            Stmt::Do { body, .. } => self.note_jumps(body),
+            Stmt::For { body, .. } => self.note_jumps(body),
+            Stmt::ForDeclared { body, .. } => self.note_jumps(body),
+            Stmt::Switch { body, .. } => self.note_jumps(body),
+            Stmt::Case { body, .. } => self.note_jumps(body),
+            Stmt::Default { body, .. } => self.note_jumps(body),
+            Stmt::Label { body, .. } => self.note_jumps(body),
+            Stmt::Goto { name, .. } => self.jump(name),
+            Stmt::Break { .. } => {}
+            Stmt::Continue { .. } => {}
         }
     }
 

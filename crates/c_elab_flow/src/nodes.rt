@@ -27,6 +27,7 @@ pub struct Around<'a> {
     pub continues: bool,
 }
 
+/// What is around a loop's body: `break` and `continue` are its own.
 pub fn in_loop<'a>(around: Around<'a>) -> Around<'a>
     ensures { view_around result ≡ in_loop (view_around around.entry) }
 {
@@ -37,6 +38,7 @@ pub fn in_loop<'a>(around: Around<'a>) -> Around<'a>
     }
 }
 
+/// What is around a switch's body: `break` is its own.
 pub fn in_switch<'a>(around: Around<'a>) -> Around<'a>
     ensures { view_around result ≡ in_switch (view_around around.entry) }
 {
@@ -47,7 +49,7 @@ pub fn in_switch<'a>(around: Around<'a>) -> Around<'a>
     }
 }
 
-// Nothing, or an expression whose value isn't used.
+/// Nothing, or an expression whose value isn't used.
 pub fn part_ignored(
     alloc: Global,
     part: &Option<Box<Expr>>,
@@ -64,7 +66,7 @@ pub fn part_ignored(
     }
 }
 
-// Nothing, or the operand of a test.
+/// Nothing, or the operand of a test.
 pub fn part_tested(
     alloc: Global,
     part: &Option<Box<Expr>>,
@@ -109,13 +111,11 @@ fn return_value(
             let value = record_on(alloc, gives, value, scope.layouts(), line, 8)?;
             Ok(Box::new(alloc, CoreStatement::ReturnStructure { line, value })?)
         }
-        Ty::Array {
-            element: _,
-            length: _,
-        } => Err(TypingError::Typing { line, rule: 8 }),
+        Ty::Array { .. } => Err(TypingError::Typing { line, rule: 8 }),
     }
 }
 
+/// A `return` without a value, or the rule that it breaks (C11 6.8.6.4).
 pub fn return_nothing(
     alloc: Global,
     line: u32,
@@ -138,7 +138,7 @@ fn switch_value(alloc: Global, value: CoreOperand, line: u32) -> Result<Box<Core
     Ok(as_type(alloc, type_, value)?)
 }
 
-// A label with this number has a name that no label before it has.
+/// A label with this number has a name that no label before it has.
 pub fn label_on(name: &Name, number: u32, line: u32, around: Around) -> Result<(), TypingError>
     ensures { Gives (λ u. tt) result (on_line line (label_node (view_around around.entry).labels (view_name name.now) number)) }
 {
@@ -154,6 +154,7 @@ pub fn label_on(name: &Name, number: u32, line: u32, around: Around) -> Result<(
     }
 }
 
+/// A `goto`, or the rule that it breaks (C11 6.8.6.1).
 pub fn goto_on(
     alloc: Global,
     name: &Name,

@@ -12,16 +12,12 @@ fn is_name_alone(declarator: &FullDeclarator) -> bool
     ensures { result ≡ is_name_alone (view_full declarator.now) }
 {
     match declarator {
-        FullDeclarator::Unnamed { suffixes: _ } => false,
-        FullDeclarator::Named {
-            line: _,
-            name: _,
-            suffixes,
-        } => suffixes.is_empty(),
+        FullDeclarator::Unnamed { .. } => false,
+        FullDeclarator::Named { suffixes, .. } => suffixes.is_empty(),
         FullDeclarator::Inside {
-            line: _,
             inner,
             suffixes,
+            ..
         } => suffixes.is_empty() && is_name_alone(inner),
     }
 }
@@ -31,15 +27,11 @@ fn is_function(suffix: &DeclaratorSuffix) -> bool
     ensures { result ≡ is_some (one_function (view_full_suffix suffix.now full_end)) }
 {
     match suffix {
-        DeclaratorSuffix::Bounded { line: _, bound: _ } => false,
-        DeclaratorSuffix::Open { line: _ } => false,
-        DeclaratorSuffix::Empty { line: _ } => true,
-        DeclaratorSuffix::Void { line: _ } => true,
-        DeclaratorSuffix::Parameters {
-            line: _,
-            parameters: _,
-            variadic: _,
-        } => true,
+        DeclaratorSuffix::Bounded { .. } => false,
+        DeclaratorSuffix::Open { .. } => false,
+        DeclaratorSuffix::Empty { .. } => true,
+        DeclaratorSuffix::Void { .. } => true,
+        DeclaratorSuffix::Parameters { .. } => true,
     }
 }
 
@@ -54,20 +46,17 @@ fn one_function(suffixes: &[DeclaratorSuffix]) -> Option<&DeclaratorSuffix>
     }
 }
 
+/// The suffix with a function's own parameters, if a declarator is a function's.
 pub fn own_suffix(declarator: &FullDeclarator) -> Option<&DeclaratorSuffix>
     ensures { MatchOption result (own_parameters (view_full declarator.now) ≡ None) (λ x. IsOwn (own_parameters (view_full declarator.now)) x.now) }
 {
     match declarator {
-        FullDeclarator::Unnamed { suffixes: _ } => None,
-        FullDeclarator::Named {
-            line: _,
-            name: _,
-            suffixes,
-        } => one_function(suffixes),
+        FullDeclarator::Unnamed { .. } => None,
+        FullDeclarator::Named { suffixes, .. } => one_function(suffixes),
         FullDeclarator::Inside {
-            line: _,
             inner,
             suffixes,
+            ..
         } => {
             if suffixes.is_empty() {
                 own_suffix(inner)
@@ -80,20 +69,16 @@ pub fn own_suffix(declarator: &FullDeclarator) -> Option<&DeclaratorSuffix>
     }
 }
 
-// An ellipsis stands behind the parameters of a suffix.
+/// An ellipsis stands behind the parameters of a suffix.
 pub fn is_variadic(suffix: &DeclaratorSuffix) -> bool
     ensures { (own : Parameters × Bool) → one_function (view_full_suffix suffix.now full_end) ≡ Some own → result ≡ own.1 }
 {
     match suffix {
-        DeclaratorSuffix::Bounded { line: _, bound: _ } => false,
-        DeclaratorSuffix::Open { line: _ } => false,
-        DeclaratorSuffix::Empty { line: _ } => false,
-        DeclaratorSuffix::Void { line: _ } => false,
-        DeclaratorSuffix::Parameters {
-            line: _,
-            parameters: _,
-            variadic,
-        } => *variadic,
+        DeclaratorSuffix::Bounded { .. } => false,
+        DeclaratorSuffix::Open { .. } => false,
+        DeclaratorSuffix::Empty { .. } => false,
+        DeclaratorSuffix::Void { .. } => false,
+        DeclaratorSuffix::Parameters { variadic, .. } => *variadic,
     }
 }
 
@@ -102,15 +87,12 @@ fn called_parameters(suffix: &Derived) -> &[Parameter]
     ensures { view_parameters result.now ≡ called_parameters (view_derived suffix.now) }
 {
     match suffix {
-        Derived::Counted { length: _ } => &[],
-        Derived::Called {
-            parameters,
-            ellipsis: _,
-        } => parameters,
+        Derived::Counted { .. } => &[],
+        Derived::Called { parameters, .. } => parameters,
     }
 }
 
-// The parameters of suffixes that are a function's alone.
+/// The parameters of suffixes that are a function's alone.
 pub fn parameters_in(own: bool, suffixes: &[Derived]) -> &[Parameter]
     ensures { view_parameters result.now ≡ parameters_in own (view_deriveds suffixes.now) }
 {

@@ -8,7 +8,7 @@ use Rattle.c_elab_type.specs.Declarators.{Typed}
 use Rattle.c_elab_base.specs.Derivations.{Derived, Derivation, derivation}
 use Rattle.c_elab_base.specs.Specifiers.{Derivations}
 use Rattle.c_elab_type.specs.Specifiers.{typed_full}
-use Rattle.c_elab_object.specs.Listed.{typedef_by, typed_typedefs, object_by, typed_objects, variable_by, typed_variables}
+use Rattle.c_elab_object.specs.DeclaratorLists.{typedef_by, typed_typedefs, object_by, typed_objects, variable_by, typed_variables}
 
 -- ---- typedefs
 

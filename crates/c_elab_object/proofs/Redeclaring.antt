@@ -5,9 +5,9 @@ use Rattle.std.proofs.lemmas.List.{length-set}
 use Rattle.c_tree.specs.Declarations.{Full, name_of}
 use Rattle.c_types.specs.Layouts as layouts
 use Rattle.c_scope.specs.declared.meaning.Meaning.TheVariants.{Object}
-use Rattle.c_scope.specs.Scopes.{Lasting, FunctionType, Callable, Scoped, is_known, sizes, object_at, lasting_size}
+use Rattle.c_scope.specs.Scopes.{ObjectEntry, FunctionType, Callable, Scoped, is_known, sizes, object_at, object_entry_size}
 use Rattle.c_scope.proofs.Variables.{both, and}
-use Rattle.c_elab_object.specs.LastingObjects.{changed_by, changed_object}
+use Rattle.c_elab_object.specs.ObjectEntries.{changed_by, changed_object}
 use Rattle.c_elab_object.specs.Functions.{first_callable, callable_again, changed_callable, declared_callable}
 use Rattle.c_elab_base.proofs.Signatures.{own_sizes, signed_changed, goes_changed, called_changed}
 use Rattle.c_elab_base.proofs.Growing.{grows_refl, under_refl, inner_refl, There, SettlesIf, Settles, settles_refl, settles_where, object_set, object_get, object_known, function_settles}
@@ -15,17 +15,17 @@ use Rattle.c_elab_base.proofs.Growing.{grows_refl, under_refl, inner_refl, There
 -- ---- objects that live as long as the program
 
 -- one that is known better, and no smaller
-pub changed_settles : (s : Scoped) (k : ℕ) (f : Lasting → Lasting) → ((o : Lasting) → lasting_size s.records.done o ≤ lasting_size s.records.done (f o)) → Settles s (changed_object s k f)
+pub changed_settles : (s : Scoped) (k : ℕ) (f : ObjectEntry → ObjectEntry) → ((o : ObjectEntry) → object_entry_size s.records.done o ≤ object_entry_size s.records.done (f o)) → Settles s (changed_object s k f)
 changed_settles s k f le = by (object_at s k) refl where
-  by : (x : Option Lasting) → object_at s k ≡ x → Settles s (record s { objects = changed_by s.objects k f x })
+  by : (x : Option ObjectEntry) → object_at s k ≡ x → Settles s (record s { objects = changed_by s.objects k f x })
   by None e = settles_refl s
   by (Some o) e = object_set s (k - 1) o (f o) (object_get s k o e) (le o)
 
 -- also where one is known better
-pub changed_known : (s : Scoped) (k : ℕ) (f : Lasting → Lasting) (o : Lasting) → object_at s k ≡ Some o → is_known (changed_object s k f) (Object k) ≡ true
+pub changed_known : (s : Scoped) (k : ℕ) (f : ObjectEntry → ObjectEntry) (o : ObjectEntry) → object_at s k ≡ Some o → is_known (changed_object s k f) (Object k) ≡ true
 changed_known s k f o h =
     let before = both (nat_le 1 k) (nat_le k (length s.objects)) (object_known s k o h) in
-    let long : length (changed_by s.objects k f (object_at s k)) ≡ length s.objects = ap (λ (x : Option Lasting). length (changed_by s.objects k f x)) h ∙ length-set s.objects (k - 1) (f o) in
+    let long : length (changed_by s.objects k f (object_at s k)) ≡ length s.objects = ap (λ (x : Option ObjectEntry). length (changed_by s.objects k f x)) h ∙ length-set s.objects (k - 1) (f o) in
     and (nat_le 1 k) (nat_le k (length (changed_by s.objects k f (object_at s k)))) before.0 (ap (λ (n : ℕ). nat_le k n) long ∙ before.1)
 
 -- ---- functions

@@ -5,7 +5,7 @@ use Rattle.c_tree.specs.Declarations.{Initial, Full, Declarators, none_declared,
 use Rattle.c_types.specs.Types.{CType, Completed}
 use Rattle.c_scope.specs.declared.meaning.Meaning.{Meaning}
 use Rattle.c_scope.specs.declared.meaning.Meaning.TheVariants.{Variable, Incomplete, Object, Assert, Assume, Draw, Function, Typedef, Enumerator, Record, Enumeration}
-use Rattle.c_scope.specs.Scopes.{Named, FunctionType, Lasting, Scoped, object_at, linked_to, built_in, is_known, lasting_size, function_numbered}
+use Rattle.c_scope.specs.Scopes.{Named, FunctionType, ObjectEntry, Scoped, object_at, linked_to, built_in, is_known, object_entry_size, function_numbered}
 use Rattle.c_scope.specs.Faults.{on_line}
 use Rattle.c_elab_expr.proofs.WellTyped.{Holds, bind, given, refused, on_same_line}
 use Rattle.c_elab_base.specs.declared.regions.Region.{Region}
@@ -13,14 +13,14 @@ use Rattle.c_elab_base.specs.declared.regions.Role.{Role}
 use Rattle.c_elab_base.specs.declared.regions.Role.TheVariants as roles
 use Rattle.c_elab_base.specs.Regions.{is_built_in_function, built_in_only, built_in_function, earlier}
 use Rattle.c_elab_base.specs.Derivations.{Derived, Derivation, lengths, callable, derivation, full_line}
-use Rattle.c_elab_type.specs.Initializers.{Value, bytes_said, initializer_of, no_initializer}
+use Rattle.c_elab_type.specs.Initializers.{Value, initial_bytes, initializer_of, no_initializer}
 use Rattle.c_elab_base.specs.Declarators.{with_typedef, is_typedef_of_function, function_typedef_node, with_function_type, with_function_typedef, is_open}
 use Rattle.c_elab_type.specs.Declarators.{typed_typedef, typed_function_typedef}
 use Rattle.c_elab_type.specs.Specifiers.{typed_full, Specification}
-use Rattle.c_elab_object.specs.LastingObjects.{lasting_type, is_again, is_linked_to, linked_object, earlier_linked, may_again, lasting_again, lasting_node, declared_again, first_declared, with_object, changed_object, added_object, declared_object, initialized_object, may_define, counted_by, element_of, typed_object}
+use Rattle.c_elab_object.specs.ObjectEntries.{object_entry_type, is_again, is_linked_to, linked_object, earlier_linked, may_again, object_entry_again, object_entry_node, declared_again, first_declared, with_object, changed_object, added_object, declared_object, initialized_object, may_define, counted_by, element_of, typed_object}
 use Rattle.c_elab_object.specs.Functions.{is_own_function, is_function_again, function_again, is_own_built_in, is_built_in_type, function_node, declared_callable, with_meaning, declared_or_built_in, typed_function}
 use Rattle.c_elab_object.specs.Functions as functions
-use Rattle.c_elab_object.specs.Listed.{typedef_by, typed_typedefs, object_by, typed_objects, typed_others}
+use Rattle.c_elab_object.specs.DeclaratorLists.{typedef_by, typed_typedefs, object_by, typed_objects, typed_others}
 use Rattle.c_elab_base.proofs.Growing.{There, SettlesIf, Settles, settles_refl, settles_both, settles_where, settles_on, settles_trans, binding_settles, typedef_settles, object_settles, next_known, function_type_settles}
 use Rattle.c_elab_type.proofs.Settling.{trivially, weaken, Takes, DerivationFine, derivation_fine, SuffixesDone, full_settles}
 use Rattle.c_elab_object.proofs.Redeclaring.{changed_settles, changed_known, declared_callable_settles}
@@ -140,9 +140,9 @@ typedefs_settle r s base (declarator d i rest) =
 -- ---- objects
 
 -- an object is no smaller behind one more declarator of it
-again_larger : (done : List Completed) (o : Lasting) (x : CType × Bool) (defines : Bool) → lasting_size done o ≤ lasting_size done (declared_again o x defines)
+again_larger : (done : List Completed) (o : ObjectEntry) (x : CType × Bool) (defines : Bool) → object_entry_size done o ≤ object_entry_size done (declared_again o x defines)
 again_larger done o x defines = by o.unknown_length refl where
-  by : (u : Bool) → o.unknown_length ≡ u → lasting_size done o ≤ lasting_size done (declared_again o x defines)
+  by : (u : Bool) → o.unknown_length ≡ u → object_entry_size done o ≤ object_entry_size done (declared_again o x defines)
   by true e = rw e (omega arith)
   by false e = rw e (omega arith)
 
@@ -151,29 +151,29 @@ again_settles s k x defines = changed_settles s k (λ o. declared_again o x defi
 
 initialized_settles : (s : Scoped) (k : ℕ) (v : Option Value) → Settles s (initialized_object s k v)
 initialized_settles s k None = settles_refl s
-initialized_settles s k (Some v) = changed_settles s k (λ o. record o { bytes = Some (bytes_said v) }) (λ o. omega arith)
+initialized_settles s k (Some v) = changed_settles s k (λ o. record o { bytes = Some (initial_bytes v) }) (λ o. omega arith)
 
 -- its object is there where the name is linked to one
 abbrev pub IsLinked : Scoped → Option ℕ → Type 0
 IsLinked s None = Unit {0}
-IsLinked s (Some k) = (o : Lasting) × (object_at s k ≡ Some o)
+IsLinked s (Some k) = (o : ObjectEntry) × (object_at s k ≡ Some o)
 
-again_linked : (s : Scoped) (constant : Bool) (k : ℕ) (r : Result (CType × Bool) ℕ) (i : Option Initial) → Holds (λ x. IsLinked s (Some k)) (lasting_again s constant k r i)
+again_linked : (s : Scoped) (constant : Bool) (k : ℕ) (r : Result (CType × Bool) ℕ) (i : Option Initial) → Holds (λ x. IsLinked s (Some k)) (object_entry_again s constant k r i)
 again_linked s constant k (Err rule) i = refused _ 2
 again_linked s constant k (Ok x) i = by (object_at s k) refl where
-  node : (b : Bool) (o : Lasting) → object_at s k ≡ Some o → Holds {E = ℕ} (λ x. IsLinked s (Some k)) (if b then Ok x else Err 2)
+  node : (b : Bool) (o : ObjectEntry) → object_at s k ≡ Some o → Holds {E = ℕ} (λ x. IsLinked s (Some k)) (if b then Ok x else Err 2)
   node true o e = given (λ x. IsLinked s (Some k)) x (o, e)
   node false o e = refused _ 2
 
-  by : (a : Option Lasting) → object_at s k ≡ a → Holds {E = ℕ} (λ x. IsLinked s (Some k)) (if may_again a constant x i then Ok x else Err 2)
+  by : (a : Option ObjectEntry) → object_at s k ≡ a → Holds {E = ℕ} (λ x. IsLinked s (Some k)) (if may_again a constant x i then Ok x else Err 2)
   by None e = refused _ 2
   by (Some o) e = node (is_again o constant x i) o e
 
 pub node_linked : (s : Scoped) (constant : Bool) (m : Option Meaning) (linked : Option ℕ) (r : Result (CType × Bool) ℕ) (i : Option Initial)
-    → Holds (λ x. IsLinked s linked) (lasting_node s constant m linked r i)
+    → Holds (λ x. IsLinked s linked) (object_entry_node s constant m linked r i)
 node_linked s constant m None r i = λ x e. tt
 node_linked s constant m (Some k) r i = by (is_linked_to (Some k) m) where
-  by : (b : Bool) → Holds {E = ℕ} (λ x. IsLinked s (Some k)) (if b then lasting_again s constant k r i else Err 2)
+  by : (b : Bool) → Holds {E = ℕ} (λ x. IsLinked s (Some k)) (if b then object_entry_again s constant k r i else Err 2)
   by true = again_linked s constant k r i
   by false = refused _ 2
 
@@ -194,9 +194,9 @@ typed_object_settles r is_extern s base d i ls =
     let line = full_line d in
     let linked = linked_object r is_extern s name in
     let defines = not is_extern || is_some i in
-    let node = lasting_node s base.constant (earlier_linked r is_extern s name) linked (lasting_type s.records.done base.type is_extern i ls) i in
+    let node = object_entry_node s base.constant (earlier_linked r is_extern s name) linked (object_entry_type s.records.done base.type is_extern i ls) i in
     bind (λ x. IsLinked s linked) (Settles s) (on_line line node) _
-    (on_same_line (λ x. IsLinked s linked) line node (node_linked s base.constant (earlier_linked r is_extern s name) linked (lasting_type s.records.done base.type is_extern i ls) i)) (λ x there.
+    (on_same_line (λ x. IsLinked s linked) line node (node_linked s base.constant (earlier_linked r is_extern s name) linked (object_entry_type s.records.done base.type is_extern i ls) i)) (λ x there.
     bind (λ (u : Unit {0}). Unit {0}) (Settles s) (may_define line r is_extern i) _ (trivially _) (λ u _.
     let y = declared_object s (r.is_file || is_extern) base.constant name linked (counted_by (is_some i && is_open ls) x (element_of x.0)) defines line in
     let z = changed_object y.1 y.0 (λ o. declared_again o x defines) in
@@ -223,5 +223,5 @@ objects_settle r is_extern s base (declarator d i rest) =
 pub others_settle : (r : Region) (x : Specification) (role : Role) (ds : Declarators) → Holds (Settles x.scope) (typed_others r x role ds)
 others_settle r x roles.Typedef ds = typedefs_settle r x.scope x.type ds
 others_settle r x roles.Extern ds = objects_settle r true x.scope x.type ds
-others_settle r x roles.Lasting ds = objects_settle r false x.scope x.type ds
+others_settle r x roles.Static ds = objects_settle r false x.scope x.type ds
 others_settle r x roles.Automatic ds = objects_settle r false x.scope x.type ds

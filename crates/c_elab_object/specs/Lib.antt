@@ -1,4 +1,4 @@
-pub mod LastingObjects
+pub mod ObjectEntries
 pub mod Settled
 pub mod Functions
-pub mod Listed
+pub mod DeclaratorLists

@@ -75,13 +75,13 @@ fn is_built_in_type(meaning: Meaning, type_: &FunctionType) -> bool
     match meaning {
         Meaning::Assert | Meaning::Assume => is_statement_type(type_),
         Meaning::Draw { type_: integer } => is_draw_type(integer, type_),
-        Meaning::Variable { variable: _ }
-        | Meaning::Object { object: _ }
+        Meaning::Variable { .. }
+        | Meaning::Object { .. }
         | Meaning::Incomplete
-        | Meaning::Function { function: _ }
-        | Meaning::Typedef { number: _ }
-        | Meaning::Enumerator { bits: _ }
-        | Meaning::Record { place: _ }
+        | Meaning::Function { .. }
+        | Meaning::Typedef { .. }
+        | Meaning::Enumerator { .. }
+        | Meaning::Record { .. }
         | Meaning::Enumeration => false,
     }
 }

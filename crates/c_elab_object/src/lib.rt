@@ -2,8 +2,8 @@
 #![tactic(auto)]
 
 mod callables;
-mod lasting;
-mod listed;
+mod declarator_lists;
+mod object_entries;
 
 pub use callables::{declared_callable, definition_on, function_on};
-pub use listed::{declare, declare_outside};
+pub use declarator_lists::{declare, declare_outside};

@@ -17,7 +17,7 @@ use Rattle.c_scope.specs.declared.meaning.Meaning.TheVariants.{Enumerator, Recor
 use Rattle.c_scope.specs.Members.{Field, field_types}
 use Rattle.c_scope.specs.Scopes.{Named, FunctionType, FunctionTable, Scoped, tag_of, function_number}
 use Rattle.c_scope.specs.Faults.{◌>>=◌, Fault, on_line}
-use Rattle.c_scope.specs.Types.{nothing_said, specified_type, one_array, array_of}
+use Rattle.c_scope.specs.Types.{nothing_specified, specified_type, one_array, array_of}
 use Rattle.c_scope.proofs.Variables.{both, and}
 use Rattle.c_elab_expr.proofs.WellTyped.{Holds, bind, given, refused, on_same_line}
 use Rattle.c_elab_base.specs.declared.regions.Region.{Region}
@@ -439,7 +439,7 @@ field_settles base f d suffixes h =
 pub named_settles : (s : Scoped) (parts : Parts) (specifiers : Result Parted Fault) → Holds (λ p. Settles s p.scope) specifiers → Holds (λ x. Settles s x.1) (named_parts parts specifiers)
 named_settles s parts specifiers h =
     bind (λ p. Settles s p.scope) (λ x. Settles s x.1) specifiers _ h (λ p f.
-    bind (λ (n : Named). Unit {0}) (λ x. Settles s x.1) (on_line (parts_line parts) (specified_type p.said)) _ (trivially _) (λ n _. given (λ x. Settles s x.1) (n, p.scope) f))
+    bind (λ (n : Named). Unit {0}) (λ x. Settles s x.1) (on_line (parts_line parts) (specified_type p.specified)) _ (trivially _) (λ n _. given (λ x. Settles s x.1) (n, p.scope) f))
 
 mutual
   pub part_settles : (r : Region) (alone : Bool) (p : Parted) (x : Part) → Holds (λ q. Settles p.scope q.scope) (typed_part r alone p x)
@@ -463,7 +463,7 @@ mutual
   members_settle r f no_member = given (λ g. Settles f.scope g.scope) f (settles_refl f.scope)
   members_settle r f (members parts ds rest) =
       bind (λ p. Settles f.scope p.scope) (λ g. Settles f.scope g.scope) (typed_parts r (is_none ds) (said_before f) parts) _ (parts_settle r (is_none ds) (said_before f) parts) (λ p more.
-      bind (λ (n : Named). Unit {0}) (λ g. Settles f.scope g.scope) (on_line (parts_line parts) (specified_type p.said)) _ (trivially _) (λ n _.
+      bind (λ (n : Named). Unit {0}) (λ g. Settles f.scope g.scope) (on_line (parts_line parts) (specified_type p.specified)) _ (trivially _) (λ n _.
       let before = fields_behind f parts ds p n in
       let now : Settles f.scope before.scope = subst (Settles f.scope) (sym (anonymous_keeps (is_none ds && has_untagged parts) n (record { fields = f.fields; names = p.names; scope = p.scope }))) more in
       bind (λ g. Settles before.scope g.scope) (λ g. Settles f.scope g.scope) (typed_fields r n before ds) _ (fields_settle r n before ds) (λ g h.
@@ -512,7 +512,7 @@ mutual
 pub specifiers_settle : (r : Region) (s : Scoped) (parts : Parts) (ds : Declarators) → Holds (λ x. Settles s x.scope) (typed_specifiers r s parts ds)
 specifiers_settle r s parts ds =
     let t = with_lone r s (lone_tag parts ds) in
-    let p : Parted = record { said = nothing_said; names = []; scope = t } in
+    let p : Parted = record { specified = nothing_specified; names = []; scope = t } in
     bind (λ q. Settles t q.scope) (λ x. Settles s x.scope) (typed_parts r false p parts) _ (parts_settle r false p parts) (λ q f.
-    bind (λ (n : Named). Unit {0}) (λ x. Settles s x.scope) (on_line (parts_line parts) (specified_type q.said)) _ (trivially _) (λ n _.
+    bind (λ (n : Named). Unit {0}) (λ x. Settles s x.scope) (on_line (parts_line parts) (specified_type q.specified)) _ (trivially _) (λ n _.
     given (λ x. Settles s x.scope) _ (settles_trans s t q.scope (lone_settles r s (lone_tag parts ds)) f)))

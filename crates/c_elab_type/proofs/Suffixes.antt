@@ -158,15 +158,15 @@ module _ (r : Region) (f : Fields) (parts : Parts) (ds : Fulls) where
   behind_base p q = q >>= λ n. typed_fields r n (fields_behind f parts ds p n) ds >>= λ g. Ok g
 
   abbrev behind_said : Result Parted Fault → Result Fields Fault
-  behind_said q = q >>= λ p. behind_base p (on_line (parts_line parts) (specified_type p.said))
+  behind_said q = q >>= λ p. behind_base p (on_line (parts_line parts) (specified_type p.specified))
 
   pub line_parts_fail : (b : Fault) → typed_parts r (is_none ds) (said_before f) parts ≡ Err b → typed_members r f (members parts ds no_member) ≡ Err b
   line_parts_fail b e = ap behind_said e
 
-  pub line_type_fails : (p : Parted) (b : Fault) → typed_parts r (is_none ds) (said_before f) parts ≡ Ok p → on_line (parts_line parts) (specified_type p.said) ≡ Err b → typed_members r f (members parts ds no_member) ≡ Err b
+  pub line_type_fails : (p : Parted) (b : Fault) → typed_parts r (is_none ds) (said_before f) parts ≡ Ok p → on_line (parts_line parts) (specified_type p.specified) ≡ Err b → typed_members r f (members parts ds no_member) ≡ Err b
   line_type_fails p b e h = ap behind_said e ∙ ap (behind_base p) h
 
-  pub line_is : (p : Parted) (n : Named) → typed_parts r (is_none ds) (said_before f) parts ≡ Ok p → on_line (parts_line parts) (specified_type p.said) ≡ Ok n
+  pub line_is : (p : Parted) (n : Named) → typed_parts r (is_none ds) (said_before f) parts ≡ Ok p → on_line (parts_line parts) (specified_type p.specified) ≡ Ok n
       → typed_members r f (members parts ds no_member) ≡ typed_fields r n (fields_behind f parts ds p n) ds
   line_is p n e h = ap behind_said e ∙ ap (behind_base p) h ∙ no_more (typed_fields r n (fields_behind f parts ds p n) ds)
 

@@ -27,17 +27,17 @@ item_first xs x (Ok ys) = ap Ok (sym (append_assoc xs (x ∷ []) ys))
 item_first xs x (Err f) = refl
 
 -- one item more: it is the one with the number of those before it
-pub item_more : (lasting : Bool) (s : Scoped) (t : CType) (i : Initial) (rest : Initials) (x : CodeMade) (n : ℕ) (before now : List CodeMade)
-    → typed_initial lasting s (slot_type (slot s.records t n)) i ≡ Ok (view_made x) → now ≡ before ++ x ∷ []
-    → items_first (views before) (typed_initials lasting s t n (initials i rest)) ≡ items_first (views now) (typed_initials lasting s t (suc n) rest)
-item_more lasting s t i rest x n before now e items =
-    ap (λ (r : Result Made Fault). items_first (views before) (r >>= λ y. typed_initials lasting s t (suc n) rest >>= λ ys. Ok (y ∷ ys))) e
-    ∙ item_first (views before) (view_made x) (typed_initials lasting s t (suc n) rest)
-    ∙ ap (λ (xs : List Made). items_first xs (typed_initials lasting s t (suc n) rest)) (sym (ap views items ∙ map-append view_made before (x ∷ [])))
+pub item_more : (object_entry : Bool) (s : Scoped) (t : CType) (i : Initial) (rest : Initials) (x : CodeMade) (n : ℕ) (before now : List CodeMade)
+    → typed_initial object_entry s (slot_type (slot s.records t n)) i ≡ Ok (view_made x) → now ≡ before ++ x ∷ []
+    → items_first (views before) (typed_initials object_entry s t n (initials i rest)) ≡ items_first (views now) (typed_initials object_entry s t (suc n) rest)
+item_more object_entry s t i rest x n before now e items =
+    ap (λ (r : Result Made Fault). items_first (views before) (r >>= λ y. typed_initials object_entry s t (suc n) rest >>= λ ys. Ok (y ∷ ys))) e
+    ∙ item_first (views before) (view_made x) (typed_initials object_entry s t (suc n) rest)
+    ∙ ap (λ (xs : List Made). items_first xs (typed_initials object_entry s t (suc n) rest)) (sym (ap views items ∙ map-append view_made before (x ∷ [])))
 
-pub item_fails : (lasting : Bool) (s : Scoped) (t : CType) (i : Initial) (rest : Initials) (xs : List Made) (n : ℕ) (f : Fault) → typed_initial lasting s (slot_type (slot s.records t n)) i ≡ Err f
-    → items_first xs (typed_initials lasting s t n (initials i rest)) ≡ Err f
-item_fails lasting s t i rest xs n f e = ap (λ (r : Result Made Fault). items_first xs (r >>= λ y. typed_initials lasting s t (suc n) rest >>= λ ys. Ok (y ∷ ys))) e
+pub item_fails : (object_entry : Bool) (s : Scoped) (t : CType) (i : Initial) (rest : Initials) (xs : List Made) (n : ℕ) (f : Fault) → typed_initial object_entry s (slot_type (slot s.records t n)) i ≡ Err f
+    → items_first xs (typed_initials object_entry s t n (initials i rest)) ≡ Err f
+item_fails object_entry s t i rest xs n f e = ap (λ (r : Result Made Fault). items_first xs (r >>= λ y. typed_initials object_entry s t (suc n) rest >>= λ ys. Ok (y ∷ ys))) e
 
 pub one_longer : (before now : List CodeMade) (x : CodeMade) → now ≡ before ++ x ∷ [] → length now ≡ suc (length before)
 one_longer before now x e = let long = length-append before (x ∷ []) in let same = ap (λ (xs : List CodeMade). length xs) e in omega (arith, long, same)

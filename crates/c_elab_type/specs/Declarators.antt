@@ -11,8 +11,8 @@ use Rattle.c_scope.specs.Types.{array_of}
 use Rattle.c_elab_base.specs.declared.regions.Region.{Region}
 use Rattle.c_elab_base.specs.Regions.{earlier}
 use Rattle.c_elab_base.specs.Derivations.{full_line}
-use Rattle.c_elab_type.specs.Initializers.{Value, number_value, structure_value, initializer_of, no_initializer, elements_said}
-use Rattle.c_elab_base.specs.Declarators.{function_typedef_node, variable_node, typedef_node, with_function_typedef, is_open, said_lengths, within_initializer, of_type, with_typedef, with_variable}
+use Rattle.c_elab_type.specs.Initializers.{Value, number_value, structure_value, initializer_of, no_initializer, initial_elements}
+use Rattle.c_elab_base.specs.Declarators.{function_typedef_node, variable_node, typedef_node, with_function_typedef, is_open, stated_lengths, within_initializer, of_type, with_typedef, with_variable}
 
 -- its name's scope begins with its declarator (C11 6.2.1p7)
 abbrev pub typed_typedef : Region → Scoped → Named → Full → Option Initial → List (Option ℕ) → Result Scoped Fault
@@ -30,7 +30,7 @@ typed_function_typedef r s d i made = do
 -- it stands for as many elements as an initializer says (C11 6.7.9p22)
 abbrev pub given_lengths : Option Initial → List (Option ℕ) → List (Option ℕ)
 given_lengths None ls = ls
-given_lengths (Some i) ls = said_lengths (elements_said i) ls
+given_lengths (Some i) ls = stated_lengths (initial_elements i) ls
 
 -- the type of a variable
 abbrev pub variable_type : Region → Scoped → CType → Full → Option Initial → List (Option ℕ) → Result CType Fault

@@ -158,41 +158,41 @@ constant_node true x = if is_some (constant_in x) then Ok tt else Err 13
 
 -- it stands for itself, and any other expression is an operand
 abbrev pub single_on : ℕ → Bool → Operand → Result Made Fault
-single_on line lasting x = do
-  fit ← on_line line (constant_node lasting x)
+single_on line object_entry x = do
+  fit ← on_line line (constant_node object_entry x)
   Ok (single x)
 
 abbrev pub single_as : Bool → Scoped → Tree → Option (ℕ × List (List ℕ)) → Result Made Fault
-single_as lasting s e None = do
+single_as object_entry s e None = do
   x ← operand s e
-  single_on (first_line e) lasting x
-single_as lasting s e (Some literal) = Ok (text literal.0 (bytes_of literal.1))
+  single_on (first_line e) object_entry x
+single_as object_entry s e (Some literal) = Ok (text literal.0 (bytes_of literal.1))
 
 abbrev pub typed_single : Bool → Scoped → Tree → Result Made Fault
-typed_single lasting s e = single_as lasting s e (literal_of e)
+typed_single object_entry s e = single_as object_entry s e (literal_of e)
 
 -- Items are typed from left to right, and the braces around them are judged behind them.
 abbrev mutual
   -- an initializer of an object of this type, which lives as long as the program or doesn't
   pub typed_initial : Bool → Scoped → CType → Initial → Result Made Fault
-  typed_initial lasting s t (initial e) = typed_single lasting s e
-  typed_initial lasting s t (braces line items) = do
-    xs ← typed_initials lasting s t 0 items
+  typed_initial object_entry s t (initial e) = typed_single object_entry s e
+  typed_initial object_entry s t (braces line items) = do
+    xs ← typed_initials object_entry s t 0 items
     braced line s.records t xs
 
   -- the items of braces around an object of this type, from a number on
   pub typed_initials : Bool → Scoped → CType → ℕ → Initials → Result (List Made) Fault
-  typed_initials lasting s t i no_initial = Ok []
-  typed_initials lasting s t i (initials first rest) = do
-    x ← typed_initial lasting s (slot_type (slot s.records t i)) first
-    xs ← typed_initials lasting s t (suc i) rest
+  typed_initials object_entry s t i no_initial = Ok []
+  typed_initials object_entry s t i (initials first rest) = do
+    x ← typed_initial object_entry s (slot_type (slot s.records t i)) first
+    xs ← typed_initials object_entry s t (suc i) rest
     Ok (x ∷ xs)
 
 -- the value of a variable or object of this type, whose declarator begins on the line
 abbrev pub initializer_of : Bool → ℕ → Scoped → CType → Option Initial → Result (Option Value) Fault
-initializer_of lasting line s t None = Ok None
-initializer_of lasting line s t (Some i) = do
-  x ← typed_initial lasting s t i
+initializer_of object_entry line s t None = Ok None
+initializer_of object_entry line s t (Some i) = do
+  x ← typed_initial object_entry s t i
   v ← on_line line (value_node s.records.done t x)
   Ok (Some v)
 
@@ -223,18 +223,18 @@ abbrev mutual
   structure_bytes (follow line e a) = []
   structure_bytes (section line offset size a) = []
   structure_bytes (list line size ps) = parts_bytes ps []
-  structure_bytes (string line size said) = said
+  structure_bytes (string line size known) = known
   structure_bytes (give line f used size args) = []
 
   -- of parts, over the bytes so far
   pub parts_bytes : Parts → List ℕ → List ℕ
-  parts_bytes no_part said = said
-  parts_bytes (number_part offset e rest) said = parts_bytes rest (put_far offset (bytes_of_number (constant_of e)) said)
-  parts_bytes (structure_part offset a rest) said = parts_bytes rest (put_far offset (structure_bytes a) said)
+  parts_bytes no_part known = known
+  parts_bytes (number_part offset e rest) known = parts_bytes rest (put_far offset (bytes_of_number (constant_of e)) known)
+  parts_bytes (structure_part offset a rest) known = parts_bytes rest (put_far offset (structure_bytes a) known)
 
-abbrev pub bytes_said : Value → List ℕ
-bytes_said (number_value e) = bytes_of_number (constant_of e)
-bytes_said (structure_value a) = structure_bytes a
+abbrev pub initial_bytes : Value → List ℕ
+initial_bytes (number_value e) = bytes_of_number (constant_of e)
+initial_bytes (structure_value a) = structure_bytes a
 
 -- ---- how many elements an initializer says (C11 6.7.9p22)
 
@@ -247,9 +247,9 @@ abbrev pub literal_length : Option (ℕ × List (List ℕ)) → ℕ
 literal_length None = 1
 literal_length (Some literal) = suc (length (bytes_of literal.1))
 
-abbrev pub elements_said : Initial → ℕ
-elements_said (initial e) = literal_length (literal_of e)
-elements_said (braces line items) = count items
+abbrev pub initial_elements : Initial → ℕ
+initial_elements (initial e) = literal_length (literal_of e)
+initial_elements (braces line items) = count items
 
 -- ---- what code holds
 

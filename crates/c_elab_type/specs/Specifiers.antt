@@ -5,11 +5,11 @@ use Rattle.c_tree.specs.Tree.{Tree, first_line}
 use Rattle.c_tree.specs.Declarations.{Enumerated, Part, type_part, storage, function, structure, enumeration, Parts, no_part, part, Members, no_member, members, Full, full_unnamed, full_named, full_inside, Fulls, no_full, full, FullSuffixes, full_end, full_bounded, full_open, full_empty, full_void, full_parameters, Parameters, no_parameter, parameter, Declarators, parts_line}
 use Rattle.c_scope.specs.Scopes.{Named, Scoped, view_named}
 use Rattle.c_scope.specs.Faults.{◌>>=◌, Fault, on_line}
-use Rattle.c_scope.specs.Types.{nothing_said, with_storage, specified_type}
+use Rattle.c_scope.specs.Types.{nothing_specified, with_storage, specified_type}
 use Rattle.c_elab_expr.specs.Typing.{bound, operand}
 use Rattle.c_elab_base.specs.declared.regions.Region.{Region}
 use Rattle.c_elab_base.specs.declared.regions.Role.{Role}
-use Rattle.c_elab_type.specs.declared.specifying.Base.{Base}
+use Rattle.c_elab_type.specs.declared.specifiers.Base.{Base}
 use Rattle.c_elab_type.specs.Enumerations.{typed_enumerators}
 use Rattle.c_elab_base.specs.Tags.{kind_of, opened, enumeration_closed}
 use Rattle.c_elab_base.specs.Specifiers.{fields_out, Passed, lone_tag, with_type_part, fields_behind, named_parts, said_before, fields_within, Fields, ended, Derivations, parted, is_anonymous, counted_in_front, is_none, with_lone, with_named, inner_region, with_member, judged_parameter, role_of, Parted, are_several, with_members, called_in_front}
@@ -27,7 +27,7 @@ said_bound s e = bound (first_line e) (operand s e)
 abbrev mutual
   pub typed_part : Region → Bool → Parted → Part → Result Parted Fault
   typed_part r alone p (type_part t) = Ok (with_type_part p t)
-  typed_part r alone p (storage line class) = Ok (record p { said = with_storage p.said class })
+  typed_part r alone p (storage line class) = Ok (record p { specified = with_storage p.specified class })
   typed_part r alone p (function line w) = Ok p
   typed_part r alone p (structure line kind tag ms) =
       with_members p (opened r p.scope (kind_of kind) tag) (kind_of kind) (fields_out (is_anonymous alone tag) p.names
@@ -44,7 +44,7 @@ abbrev mutual
   typed_members r f no_member = Ok f
   typed_members r f (members parts ds rest) = do
     p ← typed_parts r (is_none ds) (said_before f) parts
-    n ← on_line (parts_line parts) (specified_type p.said)
+    n ← on_line (parts_line parts) (specified_type p.specified)
     g ← typed_fields r n (fields_behind f parts ds p n) ds
     typed_members r g rest
 
@@ -99,9 +99,9 @@ pub record Specification : Type 0 where
 
 abbrev pub typed_specifiers : Region → Scoped → Parts → Declarators → Result Specification Fault
 typed_specifiers r s parts ds = do
-  p ← typed_parts r false (record { said = nothing_said; names = []; scope = with_lone r s (lone_tag parts ds) }) parts
-  t ← on_line (parts_line parts) (specified_type p.said)
-  Ok (record { type = t; role = role_of r.is_file p.said.storage; scope = p.scope })
+  p ← typed_parts r false (record { specified = nothing_specified; names = []; scope = with_lone r s (lone_tag parts ds) }) parts
+  t ← on_line (parts_line parts) (specified_type p.specified)
+  Ok (record { type = t; role = role_of r.is_file p.specified.storage; scope = p.scope })
 
 abbrev pub view_specification : Base → Scoped → Specification
 view_specification b s = record { type = view_named b.named; role = b.role; scope = s }

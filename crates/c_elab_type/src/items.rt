@@ -68,8 +68,8 @@ fn scalar_value(alloc: Global, type_: IntegerType, made: Made) -> Result<Value, 
                 value: as_type(alloc, type_, value)?,
             })
         }
-        Made::Text { line: _, bytes: _ } => Err(Broken::Rule { rule: 8 }),
-        Made::Listed { value: _ } => Err(Broken::Rule { rule: 12 }),
+        Made::Text { .. } => Err(Broken::Rule { rule: 8 }),
+        Made::Listed { .. } => Err(Broken::Rule { rule: 12 }),
     }
 }
 
@@ -82,7 +82,7 @@ fn record_node(alloc: Global, type_: &Ty, made: Made, layouts: &Layouts) -> Resu
         Made::Single { operand } => Ok(Value::Structure {
             value: record_value(alloc, type_, operand, layouts, 12)?,
         }),
-        Made::Text { line: _, bytes: _ } => Err(Broken::Rule { rule: 12 }),
+        Made::Text { .. } => Err(Broken::Rule { rule: 12 }),
         Made::Listed { value } => Ok(Value::Structure { value }),
     }
 }
@@ -104,7 +104,7 @@ fn array_node(alloc: Global, element: &Ty, length: u32, made: Made) -> Result<Va
 {
     match made {
         Made::Nothing => Err(Broken::Rule { rule: 12 }),
-        Made::Single { operand: _ } => Err(Broken::Rule { rule: 12 }),
+        Made::Single { .. } => Err(Broken::Rule { rule: 12 }),
         Made::Text { line, bytes } => {
             if is_character(element) && bytes.len() <= length as usize {
                 let string = CoreStructure::String {
@@ -270,9 +270,6 @@ pub fn braced(
         Ty::Void => Ok(only(items)),
         Ty::Integer(_) => Ok(only(items)),
         Ty::Record(_) => list_made(alloc, line, type_, items, layouts),
-        Ty::Array {
-            element: _,
-            length: _,
-        } => list_made(alloc, line, type_, items, layouts),
+        Ty::Array { .. } => list_made(alloc, line, type_, items, layouts),
     }
 }

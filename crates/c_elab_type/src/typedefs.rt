@@ -7,7 +7,7 @@ ghost use Rattle.c_scope.specs.Faults.{Gives};
 ghost use Rattle.c_elab_base.specs.Declarators.{typedef_node, function_typedef_node};
 ghost use Rattle.c_elab_type.specs.Declarators.{typed_typedef, typed_function_typedef};
 
-use crate::initializing::no_initializer;
+use crate::initializers::no_initializer;
 use c_elab_base::{
     Region, earlier, full_line, function_typedef_node, is_too_long, name_of, typedef_node,
 };

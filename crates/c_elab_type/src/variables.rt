@@ -13,10 +13,10 @@ ghost use Rattle.c_elab_type.specs.Declarators.{Typed, given_lengths, variable_t
 ghost use Rattle.c_elab_type.specs.Initializers.{view_value, initializer_of};
 ghost use Rattle.c_elab_type.specs.Steps.{Step};
 
-use crate::initializing::{elements_said, initializer_of};
+use crate::initializers::{initial_elements, initializer_of};
 use crate::items::Value;
 use c_elab_base::{
-    Object, Region, declare, earlier, full_line, is_open, name_of, say_lengths, sized_type,
+    Object, Region, declare, earlier, full_line, is_open, name_of, sized_type, state_lengths,
 };
 use c_scope::{Meaning, QualifiedType, Scope, TypingError, array_type};
 use c_tree::{InitDeclarator, Initializer};
@@ -35,8 +35,8 @@ pub fn give_lengths(
     match initializer {
         None => Ok(()),
         Some(initializer) => {
-            let length = elements_said(alloc, initializer)?;
-            say_lengths(length, lengths);
+            let length = initial_elements(alloc, initializer)?;
+            state_lengths(length, lengths);
             Ok(())
         }
     }

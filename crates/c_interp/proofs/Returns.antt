@@ -2,9 +2,9 @@
 use Rattle.std.proofs.Common.{◌≡◌, ℕ, List, [], ◌∷◌, refl, ap, ◌∙◌}
 use Rattle.c_values.specs.Numbers.{TypedNumber}
 use Rattle.c_values.specs.Variables.{Variables}
-use Rattle.c_interp.specs.Items.{Active, back, Wanted, Handed, Item, resumes, gets, state}
-use Rattle.c_interp.specs.Steps.{returned}
-use Rattle.c_interp.specs.Tasks.{after_return}
+use Rattle.c_tasks.specs.Items.{Active, back, Wanted, Handed, Item, resumes, gets, state}
+use Rattle.c_tasks.specs.Steps.{returned}
+use Rattle.c_tasks.specs.Tasks.{after_return}
 
 module _ (how : Handed) (r : Active) (xs : List TypedNumber) (bs : List (List ℕ)) where
   from_end : (is : List Item) → returned how is r xs bs ≡ returned how (after_return is) r xs bs

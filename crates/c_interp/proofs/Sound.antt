@@ -2,12 +2,12 @@
 use Rattle.std.proofs.Common.{◌≡◌, ◌≤◌, ◌^◌, Option, Some, None, ap, arith}
 use Rattle.core_tree.specs.Trees.{Statement}
 use Rattle.actions.specs.declared.action.Answer.{Answer}
-use Rattle.c_interp.specs.declared.task.Change.{Change}
+use Rattle.c_tasks.specs.declared.task.Change.{Change}
 use Rattle.c_interp.specs.declared.thread.Thread.{Thread}
-use Rattle.c_interp.specs.Items.{State}
-use Rattle.c_interp.specs.Steps.{silent}
-use Rattle.c_interp.specs.Fits.{Fits}
-use Rattle.c_interp.specs.Tasks.{items_in, values_in, structures_in, behind, activations, Accepts, Answers}
+use Rattle.c_tasks.specs.Items.{State}
+use Rattle.c_tasks.specs.Steps.{silent}
+use Rattle.c_tasks.specs.Fits.{Fits}
+use Rattle.c_tasks.specs.Tasks.{items_in, values_in, structures_in, behind, activations, Accepts, Answers}
 use Rattle.c_interp.specs.View.{file_of, code_under, active_of, state_of, next_move, after_change, IsSound}
 use Rattle.c_interp.proofs.FitsKept.{fits_kept, fits_answered}
 use Rattle.c_interp.proofs.SizesKept.{sizes_kept}

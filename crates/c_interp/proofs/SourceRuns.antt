@@ -30,7 +30,7 @@ use Rattle.interleave.specs.Inputs.{InputLists, words_of}
 use Rattle.interleave.specs.World.{World, Common, Member, member_at, told, with_told, with_child, may_move, first_world, no_counts}
 use Rattle.interleave.specs.Turn.{turn, settled, outcome, with_next, with_member, HasNumber, NextHasNumber, MemberHasNumber, HasNumbers}
 use Rattle.core_tree.specs.Ranges.{Limits}
-use Rattle.c_interp.specs.Source.{main_number, source_thread}
+use Rattle.c_tasks.specs.Source.{main_number, source_thread}
 use Rattle.c_interp.specs.SourceThread.{IsQuiet, function_quiet}
 use Rattle.c_interp.specs.Quiet.{Quietly, OneQuiet, IsTurn}
 
@@ -156,24 +156,3 @@ nothing_turn w next t inputs e = λ go. ap (λ (x : Turn × World). unless_broke
 
 pub next_quiet : (w next : World) (t : ℕ) (inputs : InputLists) (r : Turn) → OneQuiet w.members → (r, next) ≡ turn w t inputs → OneQuiet next.members
 next_quiet w next t inputs r o e = let P : Turn × World → Type 0 = λ x. OneQuiet x.1.members in subst P (sym e) (turn_keeps w t inputs o)
-
--- ---- the function named main
-
-pub main_here : (fs : List Function) (i : ℕ) (f : Function) → i < length fs → is_main (view_function (get_or fs i f)) ≡ true → main_number (view_functions (drop i fs)) ≡ 0
-main_here fs i f h e =
-    at_drop_more (λ fs. main_number (view_functions fs)) fs i f h ∙ ap (λ (b : Bool). if b then 0 else main_number (view_functions (drop (i + 1) fs)) + 1) e
-
-pub main_later : (fs : List Function) (i : ℕ) (f : Function) → i < length fs → is_main (view_function (get_or fs i f)) ≡ false → main_number (view_functions (drop i fs)) ≡ main_number (view_functions (drop (i + 1) fs)) + 1
-main_later fs i f h e =
-    at_drop_more (λ fs. main_number (view_functions fs)) fs i f h ∙ ap (λ (b : Bool). if b then 0 else main_number (view_functions (drop (i + 1) fs)) + 1) e
-
-pub main_nowhere : (fs : List Function) (i : ℕ) → length fs ≤ i → main_number (view_functions (drop i fs)) ≡ 0
-main_nowhere fs i h = at_drop_all (λ (fs : List Function). main_number (view_functions fs)) fs i h
-
-choice_within : (b : Bool) (m n : ℕ) → m ≤ n → (if b then 0 else m + 1) ≤ n + 1
-choice_within true m n h = omega arith
-choice_within false m n h = omega arith
-
-pub main_within : (fs : List Function) → main_number (view_functions fs) ≤ length fs
-main_within [] = omega arith
-main_within (f ∷ fs) = let h = choice_within (is_main (view_function f)) (main_number (view_functions fs)) (length fs) (main_within fs) in omega (arith, h)

@@ -6,9 +6,9 @@ use Rattle.core_tree.specs.declared.functions.PassedType.{PassedType}
 use Rattle.core_tree.specs.Trees.{Procedure, no_argument, TypedFile}
 use Rattle.core_tree.specs.Typed.{Signature, signature}
 use Rattle.c_values.specs.Variables.{first_variables}
-use Rattle.c_interp.specs.Items.{sizes_at, wants_end, gathers}
-use Rattle.c_interp.specs.Fits.{sizes_of, is_given, wanted_of, variables_at, fits}
-use Rattle.c_interp.proofs.Sizes.{first_sizes}
+use Rattle.c_tasks.specs.Items.{sizes_at, wants_end, gathers}
+use Rattle.c_tasks.specs.Fits.{sizes_of, is_given, wanted_of, variables_at, fits}
+use Rattle.c_tasks.proofs.Sizes.{first_sizes}
 
 any_given : (line : ℕ) (gives : Option PassedType) → is_given (wants_end line) gives ≡ true
 any_given line None = refl

@@ -7,11 +7,11 @@ use Rattle.actions.specs.Behaviour.{Behaviour, accepts}
 use Rattle.actions.specs.declared.action.Action.{Action}
 use Rattle.actions.specs.declared.action.Answer.{Answer}
 use Rattle.c_interp.specs.declared.thread.Thread.{Thread}
-use Rattle.c_interp.specs.Source.{code_of, source_program}
-use Rattle.c_interp.specs.Items.{State, behaves}
+use Rattle.c_tasks.specs.Source.{code_of, source_program}
+use Rattle.c_tasks.specs.Items.{State, behaves}
 use Rattle.c_interp.specs.Work.{weight}
-use Rattle.c_interp.specs.Steps.{Move, silent, move}
-use Rattle.c_interp.specs.Tasks.{IsAsked}
+use Rattle.c_tasks.specs.Steps.{Move, silent, move}
+use Rattle.c_tasks.specs.Tasks.{IsAsked}
 use Rattle.c_interp.specs.Halts.{step_same, step_falls}
 use Rattle.c_interp.specs.View.{code_under, state_of, thread_of, next_move, SameProgram}
 

@@ -8,15 +8,15 @@ use Rattle.actions.specs.declared.action.Answer.{Answer}
 use Rattle.actions.specs.declared.action.Next.{Next}
 use Rattle.actions.specs.declared.action.Next.TheVariants.{Act, Blocked}
 use Rattle.actions.specs.Behaviour.{Behaviour, after, accepts, shape_of, has_shape}
-use Rattle.c_interp.specs.declared.task.Change.{Change}
-use Rattle.c_interp.specs.declared.task.Halt.{Halt}
-use Rattle.c_interp.specs.declared.task.Halt.TheVariants as halt
-use Rattle.c_interp.specs.Meaning.{Code, ask_in}
+use Rattle.c_tasks.specs.declared.task.Change.{Change}
+use Rattle.c_tasks.specs.declared.task.Halt.{Halt}
+use Rattle.c_tasks.specs.declared.task.Halt.TheVariants as halt
+use Rattle.c_tasks.specs.Meaning.{Code, ask_in}
 use Rattle.c_interp.specs.Work.{weight}
-use Rattle.c_interp.specs.Items.{State, state, behaves}
-use Rattle.c_interp.specs.Steps.{Move, silent, asks, breaks, blocks, ends, move}
-use Rattle.c_interp.specs.Adequate.{Meets, meets}
-use Rattle.c_interp.specs.Tasks.{behind, changed, action_of, IsAsked, IsHalt, next_by, Answers, Accepts}
+use Rattle.c_tasks.specs.Items.{State, state, behaves}
+use Rattle.c_tasks.specs.Steps.{Move, silent, asks, breaks, blocks, ends, move}
+use Rattle.c_interp.specs.inner.Adequate.{Meets, meets}
+use Rattle.c_tasks.specs.Tasks.{behind, changed, action_of, IsAsked, IsHalt, next_by, Answers, Accepts}
 
 module _ (code : Code) (first : Bool) (s : State) where
   met : (m : Move) → move code first true s ≡ m → Meets code first s m

@@ -1,16 +1,7 @@
-pub mod Meaning
-pub mod Source
-pub mod Items
-pub mod Fits
-pub mod Steps
 pub mod Small
 pub mod Work
-pub mod Cuts
-pub mod Adequate
+pub mod inner
 pub mod SourceThread
-pub mod Tasks
-pub mod Plans
-pub mod Answered
 pub mod Halts
 pub mod View
 pub mod Quiet

@@ -17,16 +17,16 @@ use Rattle.actions.specs.declared.action.Next.TheVariants.{Act, Ended, Blocked}
 use Rattle.actions.specs.Behaviour.{Behaviour, accepts, Program, Thread, CanStart, EndsAfter, IsBehaviour, IsThread, word_64}
 use Rattle.actions.specs.ByStates.{behaves_by_states}
 use Rattle.c_values.specs.Variables.{Variables, first_variables}
-use Rattle.c_interp.specs.Meaning as meaning
-use Rattle.c_interp.specs.Meaning.{Given, Code, total, activation}
-use Rattle.c_interp.specs.Source.{code_of, first_left, function_behaviour, runs_at, source_program}
+use Rattle.c_tasks.specs.Meaning as meaning
+use Rattle.c_tasks.specs.Meaning.{Given, Code, total, activation}
+use Rattle.c_tasks.specs.Source.{code_of, first_left, function_behaviour, runs_at, source_program}
 use Rattle.c_values.specs.Numbers.{TypedNumber}
-use Rattle.c_interp.specs.Items.{top, second, Active, active, sizes_at, Wanted, wants_number, wants_structure, wants_end, line_of, given_by, values_under, structures_under, blocks_on, Loop, Item, evaluates, signs, operates, stores, combines, increments, asserts, assumes, evaluates_structure, lists, runs, enters, goes_on, fills, gathers, gets, turns, retests, ending, ended, State, state, behaves}
+use Rattle.c_tasks.specs.Items.{top, second, Active, active, sizes_at, Wanted, wants_number, wants_structure, wants_end, line_of, given_by, values_under, structures_under, blocks_on, Loop, Item, evaluates, signs, operates, stores, combines, increments, asserts, assumes, evaluates_structure, lists, runs, enters, goes_on, fills, gathers, gets, turns, retests, ending, ended, State, state, behaves}
 use Rattle.c_interp.specs.Work.{weight}
-use Rattle.c_interp.specs.Cuts.{fuel_enough}
-use Rattle.c_interp.specs.Steps.{Move, silent, asks, breaks, blocks, unless_stopped, move_read, move_write, move_expression, move_structure, move_parts, move_statement, move_fill, move_entry, move_items, move_turn, move_test, move_body, move_function, move_arguments, move_given, move_item, move}
+use Rattle.c_interp.specs.inner.Cuts.{fuel_enough}
+use Rattle.c_tasks.specs.Steps.{Move, silent, asks, breaks, blocks, unless_stopped, move_read, move_write, move_expression, move_structure, move_parts, move_statement, move_fill, move_entry, move_items, move_turn, move_test, move_body, move_function, move_arguments, move_given, move_item, move}
 use Rattle.c_interp.specs.Small.{settled, settle, next_of, answered_by, next_small, answered_small, bounded}
-use Rattle.c_interp.specs.Adequate.{adequate}
+use Rattle.c_interp.specs.inner.Adequate.{adequate}
 
 -- ---- the start of a thread: the first call of a function, whose name stands on this line. Its caller is the function itself, before its start
 

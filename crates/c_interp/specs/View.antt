@@ -3,16 +3,16 @@ use Rattle.std.specs.Prelude.{◌≡◌, ◌≤◌, ◌+◌, ◌^◌, true}
 use Rattle.core_tree.specs.Trees.{TypedFile, core_file, view_core, view_functions}
 use Rattle.actions.specs.Behaviour as actions
 use Rattle.c_interp.specs.declared.thread.Thread.{Thread}
-use Rattle.c_interp.specs.declared.task.Halt.{Halt}
-use Rattle.c_interp.specs.declared.task.Change.{Change}
-use Rattle.c_interp.specs.declared.task.Cut.{Cut}
-use Rattle.c_interp.specs.declared.task.Plan.{Plan}
-use Rattle.c_interp.specs.Meaning.{Code}
-use Rattle.c_interp.specs.Source.{code_of}
-use Rattle.c_interp.specs.Steps.{Move, move}
-use Rattle.c_interp.specs.Fits.{Fits, IsSized, variables_at}
-use Rattle.c_interp.specs.Items.{Active, active, State, state}
-use Rattle.c_interp.specs.Tasks.{items_in, values_in, structures_in, behind, changed, cut_to, activations, IsPlan, WritesWithin, IsHalt}
+use Rattle.c_tasks.specs.declared.task.Halt.{Halt}
+use Rattle.c_tasks.specs.declared.task.Change.{Change}
+use Rattle.c_tasks.specs.declared.task.Cut.{Cut}
+use Rattle.c_tasks.specs.declared.task.Plan.{Plan}
+use Rattle.c_tasks.specs.Meaning.{Code}
+use Rattle.c_tasks.specs.Source.{code_of}
+use Rattle.c_tasks.specs.Steps.{Move, move}
+use Rattle.c_tasks.specs.Fits.{Fits, IsSized, variables_at}
+use Rattle.c_tasks.specs.Items.{Active, active, State, state}
+use Rattle.c_tasks.specs.Tasks.{items_in, values_in, structures_in, behind, changed, cut_to, activations, IsPlan, WritesWithin, IsHalt}
 use Rattle.c_interp.specs.SourceThread.{thread_in}
 
 abbrev pub file_of : Thread → TypedFile

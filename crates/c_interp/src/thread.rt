@@ -1,22 +1,20 @@
+//! The thread of the typed source.
+
 ghost use Rattle.std.specs.Prelude.{◌≡◌, ◌≤◌, ◌<◌, ◌+◌, ◌^◌, true, length};
 ghost use Rattle.core_tree.specs.Trees.{core_file, view_core};
 ghost use Rattle.core_tree.specs.Typed.{are_typed};
-ghost use Rattle.c_interp.specs.Meaning.{total};
-ghost use Rattle.c_interp.specs.Fits.{fits, variables_at, types_of, sizes_of};
-ghost use Rattle.c_interp.specs.Tasks.{items_in, values_in, structures_in, open_in};
+ghost use Rattle.c_tasks.specs.Meaning.{total};
+ghost use Rattle.c_tasks.specs.Fits.{fits, variables_at, types_of, sizes_of};
+ghost use Rattle.c_tasks.specs.Tasks.{items_in, values_in, structures_in, open_in};
 
-use crate::activations::{close_activation, first_left, open_activation};
-use crate::answered::answer_task;
-use crate::functions::{body_of, defined, number_of_main};
-use crate::plan::{plan_task, running, top_of};
-use crate::stacks::{
-    change_numbers, change_structures, change_tasks, change_variables, cut_items, push_back,
-    take_caller,
-};
-use crate::task::{Call, Caller, Change, Cut, Halt, Handed, Look, Plan, Request, Task, Tasks};
-use crate::variables::{Block, add_variables, take_frame};
 use actions::{Action, Answer, Bytes, Machine, Next};
 use c_profile::Admitted;
+use c_tasks::{
+    Block, Call, Caller, Change, Cut, Halt, Handed, Look, Plan, Request, Task, Tasks,
+    add_variables, answer_task, body_of, change_numbers, change_structures, change_tasks,
+    change_variables, close_activation, cut_items, defined, first_left, number_of_main,
+    open_activation, plan_task, push_back, running, take_caller, take_frame, top_of,
+};
 use c_values::{Number, low_bytes};
 use core_tree::{Bounds, Function, StaticObject};
 use std::alloc::{AllocError, Global};
@@ -53,15 +51,15 @@ impl<'a> Thread<'a> {
     ghost use Rattle.actions.specs.declared.action.Next.TheVariants.{Blocked};
     ghost use Rattle.core_tree.specs.Typed.{are_typed};
     ghost use Rattle.core_tree.specs.Trees.{core_file, view_function, view_functions, view_core};
-    ghost use Rattle.c_interp.specs.declared.task.Cut.TheVariants as Cut;
-    ghost use Rattle.c_interp.specs.Meaning.{final};
-    ghost use Rattle.c_interp.specs.Source.{source_program, source_thread};
+    ghost use Rattle.c_tasks.specs.declared.task.Cut.TheVariants as Cut;
+    ghost use Rattle.c_tasks.specs.Meaning.{final};
+    ghost use Rattle.c_tasks.specs.Source.{source_program, source_thread};
     ghost use Rattle.c_interp.specs.SourceThread.{start_state, thread_in, function_thread};
     ghost use Rattle.c_interp.specs.Work.{weight};
-    ghost use Rattle.c_interp.specs.Steps.{silent};
-    ghost use Rattle.c_interp.specs.Items.{top_bytes};
-    ghost use Rattle.c_interp.specs.Fits.{Fits, variables_at};
-    ghost use Rattle.c_interp.specs.Tasks.{items_in, values_in, structures_in, behind, activations, action_of, IsAsked, IsCall, next_by, IsAnswered, Accepts, ChangesWithin};
+    ghost use Rattle.c_tasks.specs.Steps.{silent};
+    ghost use Rattle.c_tasks.specs.Items.{top_bytes};
+    ghost use Rattle.c_tasks.specs.Fits.{Fits, variables_at};
+    ghost use Rattle.c_tasks.specs.Tasks.{items_in, values_in, structures_in, behind, activations, action_of, IsAsked, IsCall, next_by, IsAnswered, Accepts, ChangesWithin};
     ghost use Rattle.c_interp.specs.View.{file_of, code_under, active_of, state_of, thread_of, next_move, after_change, after_cut, SameProgram, Halts, IsPlanned, IsSound};
 
     /// Thread 0 of a file at its start: it calls the function named `main`. The bounds tell how many times
@@ -346,7 +344,7 @@ impl<'a> Thread<'a> {
     }
 
     // A copy of the structure value on top.
-    #[tactic(auto, using(crate::proofs::Tops::structures_push))]
+    #[tactic(auto, using(c_tasks::proofs::Tops::structures_push))]
     fn top_bytes(&self) -> Result<Bytes, AllocError>
         ensures { IfOk result (λ bytes. bytes ≡ top_bytes (structures_in (self.now).structures.items)) }
     {

@@ -7,7 +7,7 @@ use Rattle.c_lexer.specs.declared.piece.Start.{Start}
 use Rattle.c_lexer.specs.declared.piece.Start.TheVariants as starts
 use Rattle.c_lexer.specs.Bytes.{is_space}
 use Rattle.c_lexer.specs.Forms.{begins, runs_on, in_line, is_line_comment, is_block_comment, IsLongest, IsShortest, NonePasses}
-use Rattle.c_lexer.specs.Places.{start_of}
+use Rattle.c_lexer.specs.Positions.{start_of}
 use Rattle.c_lexer.proofs.Runs.{run_more, run_ends}
 use Rattle.c_lexer.proofs.Ends.{begins_stays}
 
@@ -113,7 +113,7 @@ block_short text m l =
     let short : nat_le 4 (length (take m text)) ≡ false = lt-leb 4 (length (take m text)) (omega (arith, length-take m text)) in
     rw short refl
 
--- no comment ends before the place two behind k
+-- no comment ends before the position two behind k
 abbrev pub Open : List ℕ → ℕ → Type 0
 Open text k = (m : ℕ) → m < k + 2 → m ≤ length text → is_block_comment (take m text) ≡ false
 

@@ -1,4 +1,4 @@
--- At most one thing stands at a place, and a text has at most one cutting.
+-- At most one thing stands at a position, and a text has at most one cutting.
 use Rattle.std.proofs.Common.{◌≡◌, ℕ, List, [], ◌∷◌, take, drop, Bool, Result, Ok, Err, sym, ap, subst, ◌∙◌, inl, inr}
 use Rattle.std.specs.Prelude.{slice_index}
 use Rattle.std.proofs.lemmas.Bool.{both_ways, cases_order}
@@ -9,10 +9,10 @@ use Rattle.c_lexer.specs.declared.piece.Piece.{Piece}
 use Rattle.c_lexer.specs.declared.piece.Piece.TheVariants as pieces
 use Rattle.c_lexer.specs.declared.piece.Start.{Start}
 use Rattle.c_lexer.specs.declared.piece.Start.TheVariants as starts
-use Rattle.c_lexer.specs.declared.place.Place.{Place}
+use Rattle.c_lexer.specs.declared.position.Position.{Position}
 use Rattle.c_lexer.specs.Forms.{is_token, is_line_comment, is_block_comment, IsLongest, IsShortest, NonePasses}
 use Rattle.c_lexer.specs.Kinds.{kind_of}
-use Rattle.c_lexer.specs.Places.{start_of, token_or_fault, StandsAs, Stands}
+use Rattle.c_lexer.specs.Positions.{start_of, token_or_fault, StandsAs, Stands}
 use Rattle.c_lexer.specs.Cutting.{behind, tokens_of, error_of, in_front, Reads, Cuts}
 
 longest_once : (test : List ℕ → Bool) (text : List ℕ) (n m : ℕ) → IsLongest test text n → IsLongest test text m → n ≡ m
@@ -68,36 +68,36 @@ unfolding start_of
 stands_nowhere p [] a e h = h
 stands_nowhere p (b ∷ bs) a e h = cc
 
--- from a place on a text gives at most one thing
-pub reads_once : (bytes lines : List ℕ) (ps qs : List Piece) (place : Place) (a b : Result (List Token) LexError) →
-    Reads bytes lines ps place a → Reads bytes lines qs place b → a ≡ b
-reads_once bytes lines [] [] place a b (inl (d, e)) (inl (c, f)) = e ∙ sym f
-reads_once bytes lines [] [] place a b (inl (d, e)) (inr (g, s, f)) = absurd (stands_nowhere _ _ _ d s)
-reads_once bytes lines [] [] place a b (inr (g, s, e)) (inl (c, f)) = absurd (stands_nowhere _ _ _ c s)
-reads_once bytes lines [] [] place a b (inr (g, s, e)) (inr (h, t, f)) =
-    let both = stands_once place.behind_prefix (drop place.at bytes) (Err g) (Err h) s t in
+-- from a position on a text gives at most one thing
+pub reads_once : (bytes lines : List ℕ) (ps qs : List Piece) (position : Position) (a b : Result (List Token) LexError) →
+    Reads bytes lines ps position a → Reads bytes lines qs position b → a ≡ b
+reads_once bytes lines [] [] position a b (inl (d, e)) (inl (c, f)) = e ∙ sym f
+reads_once bytes lines [] [] position a b (inl (d, e)) (inr (g, s, f)) = absurd (stands_nowhere _ _ _ d s)
+reads_once bytes lines [] [] position a b (inr (g, s, e)) (inl (c, f)) = absurd (stands_nowhere _ _ _ c s)
+reads_once bytes lines [] [] position a b (inr (g, s, e)) (inr (h, t, f)) =
+    let both = stands_once position.behind_prefix (drop position.at bytes) (Err g) (Err h) s t in
     let same : g ≡ h = cc in
-    e ∙ ap (λ g. Err (error_of g (slice_index lines place.at))) same ∙ sym f
-reads_once bytes lines [] (q ∷ qs) place a b (inl (d, e)) (t, (more, r, f)) = absurd (stands_nowhere _ _ _ d t)
-reads_once bytes lines [] (q ∷ qs) place a b (inr (g, s, e)) (t, (more, r, f)) =
-    let both = stands_once place.behind_prefix (drop place.at bytes) (Err g) (Ok q) s t in cc
-reads_once bytes lines (p ∷ ps) [] place a b (s, (more, r, e)) (inl (d, f)) = absurd (stands_nowhere _ _ _ d s)
-reads_once bytes lines (p ∷ ps) [] place a b (s, (more, r, e)) (inr (g, t, f)) =
-    let both = stands_once place.behind_prefix (drop place.at bytes) (Ok p) (Err g) s t in cc
-reads_once bytes lines (p ∷ ps) (q ∷ qs) place a b (s, (m, r, e)) (t, (n, u, f)) =
-    let both = stands_once place.behind_prefix (drop place.at bytes) (Ok p) (Ok q) s t in
+    e ∙ ap (λ g. Err (error_of g (slice_index lines position.at))) same ∙ sym f
+reads_once bytes lines [] (q ∷ qs) position a b (inl (d, e)) (t, (more, r, f)) = absurd (stands_nowhere _ _ _ d t)
+reads_once bytes lines [] (q ∷ qs) position a b (inr (g, s, e)) (t, (more, r, f)) =
+    let both = stands_once position.behind_prefix (drop position.at bytes) (Err g) (Ok q) s t in cc
+reads_once bytes lines (p ∷ ps) [] position a b (s, (more, r, e)) (inl (d, f)) = absurd (stands_nowhere _ _ _ d s)
+reads_once bytes lines (p ∷ ps) [] position a b (s, (more, r, e)) (inr (g, t, f)) =
+    let both = stands_once position.behind_prefix (drop position.at bytes) (Ok p) (Err g) s t in cc
+reads_once bytes lines (p ∷ ps) (q ∷ qs) position a b (s, (m, r, e)) (t, (n, u, f)) =
+    let both = stands_once position.behind_prefix (drop position.at bytes) (Ok p) (Ok q) s t in
     let same : p ≡ q = cc in
-    let v : Reads bytes lines qs (behind bytes place p) n = subst (λ q. Reads bytes lines qs (behind bytes place q) n) (sym same) u in
-    let rest : m ≡ n = reads_once bytes lines ps qs (behind bytes place p) m n r v in
-    e ∙ ap (λ k. in_front (tokens_of lines place k) m) same ∙ ap (in_front (tokens_of lines place q)) rest ∙ sym f
+    let v : Reads bytes lines qs (behind bytes position p) n = subst (λ q. Reads bytes lines qs (behind bytes position q) n) (sym same) u in
+    let rest : m ≡ n = reads_once bytes lines ps qs (behind bytes position p) m n r v in
+    e ∙ ap (λ k. in_front (tokens_of lines position k) m) same ∙ ap (in_front (tokens_of lines position q)) rest ∙ sym f
 
-pub cuts_once : (bytes lines : List ℕ) (place : Place) (a b : Result (List Token) LexError) → Cuts bytes lines place a → Cuts bytes lines place b → a ≡ b
-cuts_once bytes lines place a b (ps, r) (qs, s) = reads_once bytes lines ps qs place a b r s
+pub cuts_once : (bytes lines : List ℕ) (position : Position) (a b : Result (List Token) LexError) → Cuts bytes lines position a → Cuts bytes lines position b → a ≡ b
+cuts_once bytes lines position a b (ps, r) (qs, s) = reads_once bytes lines ps qs position a b r s
 
 -- the same of a text that is another's copy
-pub copy_once : (bytes lines copy numbers : List ℕ) (place : Place) (a b : Result (List Token) LexError) → copy ≡ bytes → numbers ≡ lines →
-    Cuts copy numbers place a → Cuts bytes lines place b → b ≡ a
-copy_once bytes lines copy numbers place a b e f h k =
-    let moved = subst (λ xs. Cuts xs numbers place a) e h in
-    let again = subst (λ ns. Cuts bytes ns place a) f moved in
-    cuts_once bytes lines place b a k again
+pub copy_once : (bytes lines copy numbers : List ℕ) (position : Position) (a b : Result (List Token) LexError) → copy ≡ bytes → numbers ≡ lines →
+    Cuts copy numbers position a → Cuts bytes lines position b → b ≡ a
+copy_once bytes lines copy numbers position a b e f h k =
+    let moved = subst (λ xs. Cuts xs numbers position a) e h in
+    let again = subst (λ ns. Cuts bytes ns position a) f moved in
+    cuts_once bytes lines position b a k again

@@ -72,7 +72,7 @@ scan_past quote bs j m escaped l w newline closing s =
     let more : is_empty (take (suc k) (drop (j + 1) bs)) ≡ false = nonempty (drop (j + 1) bs) k (omega (arith, length-drop (j + 1) bs)) in
     ap (λ n. closes quote false (take n bs)) same ∙ closes_at quote bs j (suc k) escaped (omega arith) s ∙ rw (newline, closing, more) refl
 
--- The same over the whole text, with the place `end` behind the bytes that were scanned.
+-- The same over the whole text, with the position `end` behind the bytes that were scanned.
 abbrev pub ScannedTo : List ℕ → ℕ → Bool → Type 0
 ScannedTo text end escaped = (1 ≤ end) × (end ≤ length text) × Scanned (get_or text 0 0) (drop 1 text) (end - 1) escaped
 

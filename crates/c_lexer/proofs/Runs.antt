@@ -3,7 +3,7 @@ use Rattle.std.proofs.Common.{◌≡◌, ◌<◌, ℕ, List, [], ◌∷◌, leng
 use Rattle.std.proofs.lemmas.Bool.{and_parts, and_from, and_left, and_right}
 use Rattle.c_lexer.specs.Forms.{runs_on}
 
--- get_or (a ∷ xs) n 0 is the byte before the place n
+-- get_or (a ∷ xs) n 0 is the byte before the position n
 pub run_more : (f : ℕ → ℕ → Bool) (a : ℕ) (xs : List ℕ) (n : ℕ) → n < length xs → runs_on f a (take n xs) ≡ true → f (get_or (a ∷ xs) n 0) (get_or xs n 0) ≡ true → runs_on f a (take (suc n) xs) ≡ true
 run_more f a [] n l r e = absurd (omega arith)
 run_more f a (x ∷ xs) zero l r e = and_from _ _ e refl

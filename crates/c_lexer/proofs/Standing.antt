@@ -8,7 +8,7 @@ use Rattle.c_lexer.specs.declared.fault.Fault.{Fault}
 use Rattle.c_lexer.specs.Bytes.{class_of, space_class, is_letter, is_digit, is_quote}
 use Rattle.c_lexer.specs.Forms.{begins, begins_number, is_word, is_number, is_literal, is_mark, is_token, closes, IsLongest, IsShortest}
 use Rattle.c_lexer.specs.Kinds.{word_kind, number_kind, literal_kind, mark_kind, kind_of}
-use Rattle.c_lexer.specs.Places.{start_of, size_of, token_or_fault, TokenStands}
+use Rattle.c_lexer.specs.Positions.{start_of, size_of, token_or_fault, TokenStands}
 use Rattle.c_lexer.specs.declared.piece.Piece.{Piece}
 use Rattle.c_lexer.specs.declared.piece.Piece.TheVariants as pieces
 use Rattle.c_lexer.specs.declared.fault.Fault.TheVariants.{Foreign}

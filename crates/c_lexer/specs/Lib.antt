@@ -3,5 +3,5 @@ pub mod Forms
 pub mod Constants
 pub mod Literals
 pub mod Kinds
-pub mod Places
+pub mod Positions
 pub mod Cutting

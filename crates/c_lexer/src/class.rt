@@ -16,6 +16,7 @@ pub enum Class {
     Other,
 }
 
+/// The class of a byte.
 #[tactic(auto, unfolding(crate::specs::Bytes::class_of))]
 pub fn class_of(byte: u8) -> Class
     ensures { result ≡ class_of byte }

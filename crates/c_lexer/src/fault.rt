@@ -6,7 +6,7 @@ ghost use Rattle.c_lexer.specs.declared.fault.LexError.TheVariants.{Memory};
 use std::alloc::{AllocError, AllocFailed};
 use thiserror::Error;
 
-/// What is wrong at a place of a text.
+/// What is wrong at a position of a text.
 #[derive(Clone, Copy, PartialEq, Eq)]
 pub enum Fault {
     /// A byte that begins no token.

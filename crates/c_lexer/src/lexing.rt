@@ -9,7 +9,7 @@ ghost use Rattle.c_token.specs.declared.token.Token.{Token};
 
 use crate::fault::{Fault, LexError};
 use crate::piece::piece_at;
-use crate::place::{Place, behind, token_of};
+use crate::position::{Position, behind, token_of};
 use crate::tokens::Tokens;
 use c_token::Token;
 use std::alloc::{AllocError, Global};
@@ -93,24 +93,24 @@ fn cut(alloc: Global, bytes: &[u8], lines: &[u32]) -> Result<Vec<Token>, LexErro
     ensures fault { IfErr result (λ e. e ≢ LexError.Memory → Cuts bytes.now lines.now start (Err e)) }
 {
     let mut tokens = Vec::new(alloc);
-    let mut place = Place {
+    let mut position = Position {
         at: 0,
         first: true,
         behind_prefix: false,
     };
-    while place.at < bytes.len() {
-        let (_, rest) = bytes.split_at(place.at);
-        let piece = match piece_at(rest, place.behind_prefix) {
+    while position.at < bytes.len() {
+        let (_, rest) = bytes.split_at(position.at);
+        let piece = match piece_at(rest, position.behind_prefix) {
             Ok(piece) => piece,
-            Err(fault) => return Err(error_of(fault, lines[place.at])),
+            Err(fault) => return Err(error_of(fault, lines[position.at])),
         };
-        push_token(&mut tokens, token_of(lines, place, piece))?;
-        place = behind(bytes, place, piece);
+        push_token(&mut tokens, token_of(lines, position, piece))?;
+        position = behind(bytes, position, piece);
     }
     Ok(tokens)
 }
 
-/// Cuts a file into its tokens (C11 5.1.1.2, 6.4). The first place that has no token decides the error; memory may run
+/// Cuts a file into its tokens (C11 5.1.1.2, 6.4). The first position that has no token decides the error; memory may run
 /// out at any moment.
 pub fn lex(alloc: Global, file: &[u8]) -> Result<Tokens, LexError>
     requires { length file.now < 4294967295 }

@@ -8,7 +8,7 @@ mod kind;
 mod lexing;
 mod literal;
 mod piece;
-mod place;
+mod position;
 mod tokens;
 
 pub use fault::LexError;

@@ -1,9 +1,9 @@
-//! What stands at a place of a text: a space, a comment, or the longest token.
+//! What stands at a position of a text: a space, a comment, or the longest token.
 
 ghost use Rattle.std.specs.Prelude.{◌≡◌, ◌<◌, ◌≤◌, ◌&&◌, true, false, nat_le, slice_index, length, take, IfOk, MatchOption};
 ghost use Rattle.c_lexer.specs.Bytes.{class_of, is_letter, is_quote};
 ghost use Rattle.c_lexer.specs.Forms.{begins, begins_number, in_number, is_token, is_line_comment, is_block_comment, is_mark, IsLongest, IsShortest, NonePasses};
-ghost use Rattle.c_lexer.specs.Places.{start_of, LineCommentStands, BlockCommentStands, TokenStands, Stands, size_of};
+ghost use Rattle.c_lexer.specs.Positions.{start_of, LineCommentStands, BlockCommentStands, TokenStands, Stands, size_of};
 
 use crate::class::{Class, class_of, is_word_byte};
 use crate::fault::Fault;
@@ -22,7 +22,7 @@ pub enum Start {
     Token,
 }
 
-/// What stands at a place: one byte of space, or a comment or a token with the number of its bytes.
+/// What stands at a position: one byte of space, or a comment or a token with the number of its bytes.
 #[derive(Clone, Copy)]
 pub enum Piece {
     Newline,
@@ -31,7 +31,7 @@ pub enum Piece {
     Token(Kind, usize),
 }
 
-#[tactic(auto, unfolding(crate::specs::Places::start_of))]
+#[tactic(auto, unfolding(crate::specs::Positions::start_of))]
 fn start_of(text: &[u8]) -> Start
     ensures { result ≡ start_of text.now }
 {

@@ -9,7 +9,7 @@ use Rattle.c_tree.specs.declared.declaration.MemberDeclaration.{MemberDeclaratio
 use Rattle.c_tree.specs.declared.declaration.Parameter.{Parameter}
 use Rattle.c_tree.specs.declared.declaration.DeclaratorSuffix.{DeclaratorSuffix, Bounded, Open, Empty, Void, Parameters'}
 use Rattle.c_tree.specs.Declarations.{FullSuffixes, full_end, view_enumerator, view_part, parts_of, members_of, view_full, view_full_suffix, full_suffixes_of, parameters_of, is_typedef, have_typedef, or_suffixes, begins_function, with_enumerators, with_part, with_parts, with_members, with_named, with_parameters, with_parameters_of}
-use Rattle.c_parse_decl.proofs.TakenParts.{or_nothing, or_three}
+use Rattle.c_parse_decl.proofs.SoundParts.{or_nothing, or_three}
 
 enumerators_after : (names : Scope) (es : List Enumerator) (e : Enumerator) → with_enumerators names (map view_enumerator (es ++ e ∷ [])) ≡ ((view_enumerator e).name, false) ∷ with_enumerators names (map view_enumerator es)
 enumerators_after names [] e = refl

@@ -15,10 +15,10 @@ use Rattle.c_parse_expr.specs.Reading.{is_mark}
 use Rattle.c_parse_expr.specs.Reading as expressions
 use Rattle.c_parse_decl.specs.declared.table.Begin.TheVariants as begins
 use Rattle.c_parse_decl.specs.Tables.{start_of_keyword, begin_of_keyword}
-use Rattle.c_parse_decl.specs.Reading.{is_keyword, begin_of, start_by, start_at}
+use Rattle.c_parse_decl.specs.inner.Reading.{is_keyword, begin_of, start_by, start_at}
 use Rattle.c_parse_decl.proofs.Words.{mark_by, keyword_by}
 use Rattle.c_parse_decl.proofs.Starts.{start_fails}
-use Rattle.c_parse_expr.proofs.AgainSteps.{First}
+use Rattle.c_parse_expr.proofs.CompleteSteps.{First}
 
 no_start_keyword : (k : Keyword) (l : Lead) → lead_of_keyword k ≡ Some l → start_of_keyword k ≡ None
 no_start_keyword keywords.Auto l e = absurd cc

@@ -3,7 +3,7 @@ use Rattle.std.proofs.Common.{◌≡◌, ◌<◌, ℕ, zero, suc, List, [], ◌�
 use Rattle.std.specs.Prelude.{◌⊎◌}
 use Rattle.c_token.specs.declared.token.Token.{Token}
 use Rattle.c_parse_expr.specs.Many.{◌>>=◌}
-use Rattle.c_parse_decl.specs.Reading.{Read, or_else, Listing, run_at}
+use Rattle.c_parse_decl.specs.inner.Reading.{Read, or_else, Listing, run_at}
 
 pub some_is : {A : Type 0} {x y : A} → Some x ≡ Some y → x ≡ y
 some_is e = cc

@@ -33,13 +33,13 @@ use Rattle.c_parse_expr.specs.Many.{◌>>=◌}
 use Rattle.c_parse_expr.specs.Reading.{is_mark, reader}
 use Rattle.c_parse_decl.specs.declared.table.Start.{Start}
 use Rattle.c_token.specs.Spelling.{text_of}
-use Rattle.c_parse_decl.specs.declared.slices.Heart.TheVariants as hearts
+use Rattle.c_parse_decl.specs.declared.slices.DeclaratorStart.TheVariants as declarator_starts
 use Rattle.c_parse_decl.specs.declared.slices.Opening.{Opening}
-use Rattle.c_parse_decl.specs.Reading.{definition_at, others_at, outer_behind, first_at, initializer_at, statement_at, FullReader, OneSuffix, one_takes, placed_suffix, last_at, parameters_list, parameters_at, void_at, given_by, given_at, inside_at, full_from, opening_at, one_from, suffixes_stop, suffixes_list, suffixes_at, fulls_list, fulls_at, full_at, Read, State, Body, token_at, run_at, shut_at, ended_at, start_at, enumerators_list, enumerators_at, tag_at, record_by, record_from, record_at, part_from, parts_stop, parts_list, parts_at, are_some, members_list, have_some, members_at, initials_list, initials_at, initial_by, initial_at, declarators_list, declarators_at, Piece, declaration, statement, placed, with_piece, Reader, items_list, items_at, block_at}
-use Rattle.c_parse_decl.specs.Standing.{Outer, declaring, defining}
-use Rattle.c_parse_decl.specs.Pieces.{piece_of, suffix_of, parameter_of}
+use Rattle.c_parse_decl.specs.inner.Reading.{definition_at, others_at, outer_behind, first_at, initializer_at, statement_at, FullReader, OneSuffix, one_takes, placed_suffix, last_at, parameters_list, parameters_at, void_at, given_by, given_at, inside_at, full_from, opening_at, one_from, suffixes_stop, suffixes_list, suffixes_at, fulls_list, fulls_at, full_at, Read, State, Body, token_at, run_at, shut_at, ended_at, start_at, enumerators_list, enumerators_at, tag_at, record_by, record_from, record_at, part_from, parts_stop, parts_list, parts_at, are_some, members_list, have_some, members_at, initials_list, initials_at, initial_by, initial_at, declarators_list, declarators_at, Piece, declaration, statement, placed, with_piece, Reader, items_list, items_at, block_at}
+use Rattle.c_parse_decl.specs.Standing.{Outer, declarations, definitions}
+use Rattle.c_parse_decl.specs.inner.Pieces.{piece_of, suffix_of, parameter_of}
 use Rattle.c_parse_decl.proofs.Lists.{bind_gives, bind_none, placed_all, front_none, Left, closes}
-use Rattle.c_parse_decl.proofs.TakenParts.{or_nothing, or_three}
+use Rattle.c_parse_decl.proofs.SoundParts.{or_nothing, or_three}
 
 -- what ends a list
 pub ended_some : {T : Type 0} (mark : Mark) (t : T) (ts : List Token) (x : Token × List Token) → Some x ≡ token_at (is_mark mark) ts → ended_at mark t ts ≡ Some (t, x.1)
@@ -176,15 +176,15 @@ inside_made bytes n body sub inner names now line ts others rest x box d ss e f 
     ∙ ap (λ (y : FullDeclarator). Some (full_inside line (view_full y) (full_suffixes_of ss.items), rest)) (sym h)
     ∙ ap (λ (y : Full). Some (y, rest)) (sym (view_inside line box ss))
 
-pub unnamed_made : (bytes : List ℕ) (n : ℕ) (body : Body) (sub : FullReader) (inner : Bool) (names : Scope) (ts rest : List Token) (ss : Vec DeclaratorSuffix Global) → suffixes_at bytes n body sub names ts ≡ Some (full_suffixes_of ss.items, rest) → full_from bytes n body sub inner names hearts.Suffixes ts ≡ Some (view_full (Unnamed ss), rest)
+pub unnamed_made : (bytes : List ℕ) (n : ℕ) (body : Body) (sub : FullReader) (inner : Bool) (names : Scope) (ts rest : List Token) (ss : Vec DeclaratorSuffix Global) → suffixes_at bytes n body sub names ts ≡ Some (full_suffixes_of ss.items, rest) → full_from bytes n body sub inner names declarator_starts.Suffixes ts ≡ Some (view_full (Unnamed ss), rest)
 unfolding full_from
 unnamed_made bytes n body sub inner names ts rest ss e =
     ap (λ (o : Read FullSuffixes). o >>= λ ss. Some (full_unnamed ss.0, ss.1)) e ∙ ap (λ (y : Full). Some (y, rest)) (sym (view_unnamed ss))
 
-pub named_made : (bytes : List ℕ) (n : ℕ) (body : Body) (sub : FullReader) (inner : Bool) (names : Scope) (ts others rest : List Token) (t : Token) (name : Name) (ss : Vec DeclaratorSuffix Global) → ts ≡ t ∷ others → view_name name ≡ text_of bytes t → suffixes_at bytes n body sub names others ≡ Some (full_suffixes_of ss.items, rest) → full_from bytes n body sub inner names hearts.Name ts ≡ Some (view_full (Named t.line name ss), rest)
+pub named_made : (bytes : List ℕ) (n : ℕ) (body : Body) (sub : FullReader) (inner : Bool) (names : Scope) (ts others rest : List Token) (t : Token) (name : Name) (ss : Vec DeclaratorSuffix Global) → ts ≡ t ∷ others → view_name name ≡ text_of bytes t → suffixes_at bytes n body sub names others ≡ Some (full_suffixes_of ss.items, rest) → full_from bytes n body sub inner names declarator_starts.Name ts ≡ Some (view_full (Named t.line name ss), rest)
 unfolding full_from
 named_made bytes n body sub inner names ts others rest t name ss e f g =
-    ap (full_from bytes n body sub inner names hearts.Name) e
+    ap (full_from bytes n body sub inner names declarator_starts.Name) e
     ∙ ap (λ (o : Read FullSuffixes). o >>= λ ss. Some (full_named t.line (text_of bytes t) ss.0, ss.1)) g
     ∙ ap (λ (x : List ℕ). Some (full_named t.line x (full_suffixes_of ss.items), rest)) (sym f)
     ∙ ap (λ (y : Full). Some (y, rest)) (sym (view_named t.line name ss))
@@ -474,16 +474,16 @@ pub left_marked : (names new left : Scope) (mark : ℕ) → mark ≡ length name
 left_marked names new left mark e f g = left_behind names new left f (g ∙ ap (λ (m : ℕ). drop (length new - m) new) e)
 
 -- definitions
-pub defined : (bytes : List ℕ) (names now : Scope) (ps : Parts) (d : Full) (line : ℕ) (ts rest : List Token) (body : Statement) (b : Bool) → b ≡ true → b ≡ is_function d → now ≡ with_parameters_of names (nearest d) → block_at bytes 399 (statement_at bytes 399) now line ts ≡ Some (body, rest) → definition_at bytes names ps d line ts ≡ Some (defining ps d body, rest)
+pub defined : (bytes : List ℕ) (names now : Scope) (ps : Parts) (d : Full) (line : ℕ) (ts rest : List Token) (body : Statement) (b : Bool) → b ≡ true → b ≡ is_function d → now ≡ with_parameters_of names (nearest d) → block_at bytes 399 (statement_at bytes 399) now line ts ≡ Some (body, rest) → definition_at bytes names ps d line ts ≡ Some (definitions ps d body, rest)
 unfolding definition_at
 defined bytes names now ps d line ts rest body b e f g h =
-    ap (λ (x : Bool). cond x (block_at bytes 399 (statement_at bytes 399) (with_parameters_of names (nearest d)) line ts) None >>= λ b. Some (defining ps d b.0, b.1)) (sym f ∙ e)
-    ∙ ap (λ (o : Read Statement). o >>= λ b. Some (defining ps d b.0, b.1)) (ap (λ (s : Scope). block_at bytes 399 (statement_at bytes 399) s line ts) (sym g) ∙ h)
+    ap (λ (x : Bool). cond x (block_at bytes 399 (statement_at bytes 399) (with_parameters_of names (nearest d)) line ts) None >>= λ b. Some (definitions ps d b.0, b.1)) (sym f ∙ e)
+    ∙ ap (λ (o : Read Statement). o >>= λ b. Some (definitions ps d b.0, b.1)) (ap (λ (s : Scope). block_at bytes 399 (statement_at bytes 399) s line ts) (sym g) ∙ h)
 
 pub not_defined : (bytes : List ℕ) (names : Scope) (ps : Parts) (d : Full) (line : ℕ) (ts : List Token) (b : Bool) → b ≡ false → b ≡ is_function d → definition_at bytes names ps d line ts ≡ None
 unfolding definition_at
 not_defined bytes names ps d line ts b e f =
-    ap (λ (x : Bool). cond x (block_at bytes 399 (statement_at bytes 399) (with_parameters_of names (nearest d)) line ts) None >>= λ b. Some (defining ps d b.0, b.1)) (sym f ∙ e)
+    ap (λ (x : Bool). cond x (block_at bytes 399 (statement_at bytes 399) (with_parameters_of names (nearest d)) line ts) None >>= λ b. Some (definitions ps d b.0, b.1)) (sym f ∙ e)
 
 -- declarations behind their first declarator
 insert_first : {X : Type 0} (xs : List X) (x : X) → insert xs 0 x ≡ x ∷ xs
@@ -514,12 +514,12 @@ first_defined bytes names now ps d ts others rest x y e f g h =
     ∙ ap (outer_behind bytes ((name_of d, have_typedef ps) ∷ names) ps d others) (sym g)
     ∙ ap (λ (s : Scope). definition_at bytes s ps d x.0.line x.1) (sym f) ∙ h
 
-pub first_declared : (bytes : List ℕ) (names now : Scope) (ps : Parts) (types : Bool) (d : Full) (ts others : List Token) (z : Read Declarators) → full_at bytes 400 false names ts ≡ Some (d, others) → now ≡ (name_of d, have_typedef ps) ∷ names → types ≡ have_typedef ps → None ≡ token_at (is_mark marks.LeftBrace) others → others_at bytes now types d others ≡ z → first_at bytes names ps ts ≡ (z >>= λ ds. Some (declaring ps ds.0, ds.1))
+pub first_declared : (bytes : List ℕ) (names now : Scope) (ps : Parts) (types : Bool) (d : Full) (ts others : List Token) (z : Read Declarators) → full_at bytes 400 false names ts ≡ Some (d, others) → now ≡ (name_of d, have_typedef ps) ∷ names → types ≡ have_typedef ps → None ≡ token_at (is_mark marks.LeftBrace) others → others_at bytes now types d others ≡ z → first_at bytes names ps ts ≡ (z >>= λ ds. Some (declarations ps ds.0, ds.1))
 unfolding first_at
 first_declared bytes names now ps types d ts others z e f k g h =
     ap (λ (o : Read Full). o >>= λ d. outer_behind bytes ((name_of d.0, have_typedef ps) ∷ names) ps d.0 d.1 (token_at (is_mark marks.LeftBrace) d.1)) e
     ∙ ap (outer_behind bytes ((name_of d, have_typedef ps) ∷ names) ps d others) (sym g)
-    ∙ ap (λ (o : Read Declarators). o >>= λ ds. Some (declaring ps ds.0, ds.1))
+    ∙ ap (λ (o : Read Declarators). o >>= λ ds. Some (declarations ps ds.0, ds.1))
     (ap (λ (s : Scope). others_at bytes s (have_typedef ps) d others) (sym f) ∙ ap (λ (b : Bool). others_at bytes now b d others) (sym k) ∙ h)
 
 pub declared_names : (before names now new : Scope) (ps : Parts) (ds : Declarators) (types : Bool) → names ≡ with_parts before ps → types ≡ have_typedef ps → new ≡ with_declarators names types ds → new ≡ with_declaration before ps ds

@@ -9,7 +9,7 @@ use Rattle.c_tree.specs.Spelling.{Behind, Then, IsMark}
 use Rattle.c_tree.specs.Files.{Closes}
 use Rattle.c_parse_expr.specs.Many.{◌>>=◌}
 use Rattle.c_parse_expr.specs.Reading.{is_mark}
-use Rattle.c_parse_decl.specs.Reading.{token_at, comma_at, shut_at, ended_at}
+use Rattle.c_parse_decl.specs.inner.Reading.{token_at, comma_at, shut_at, ended_at}
 use Rattle.c_parse_decl.proofs.Lists.{some_is, bind_some, either_of}
 use Rattle.c_parse_decl.proofs.Words.{mark_takes}
 

@@ -5,12 +5,12 @@ use Rattle.c_tree.specs.Tree.{Tree}
 use Rattle.c_tree.specs.Declarations.{Full, Parts}
 use Rattle.c_tree.specs.Names.{Scope}
 use Rattle.c_parse_expr.specs.Reading.{reader}
-use Rattle.c_parse_expr.proofs.Taken.{reads}
-use Rattle.c_parse_expr.proofs.AgainSteps.{first_token}
-use Rattle.c_parse_decl.specs.Reading.{parts_at, are_some, body_at, full_at}
-use Rattle.c_parse_decl.proofs.TakenParts.{named_full, full_takes, body_takes, parts_take, some_parts}
+use Rattle.c_parse_expr.proofs.Sound.{reads}
+use Rattle.c_parse_expr.proofs.CompleteSteps.{first_token}
+use Rattle.c_parse_decl.specs.inner.Reading.{parts_at, are_some, body_at, full_at}
+use Rattle.c_parse_decl.proofs.SoundParts.{named_full, full_takes, body_takes, parts_take, some_parts}
 use Rattle.c_parse_decl.proofs.Steps.{BeginsFull, opens_length, full_opens, IsWord}
-use Rattle.c_parse_decl.proofs.AgainParts.{parts_open}
+use Rattle.c_parse_decl.proofs.CompleteParts.{parts_open}
 
 shorter_by : (ts own rest : List Token) → ts ≡ own ++ rest → 0 < length own → length rest < length ts
 shorter_by ts own rest e h = let f = ap (λ (xs : List Token). length xs) e ∙ length-append own rest in omega (arith, f, h)

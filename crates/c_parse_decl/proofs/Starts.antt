@@ -25,7 +25,7 @@ use Rattle.c_parse_expr.specs.Reading.{is_mark}
 use Rattle.c_parse_decl.specs.declared.table.Start.{Start}
 use Rattle.c_parse_decl.specs.declared.table.Start.TheVariants as starts
 use Rattle.c_parse_decl.specs.Tables.{start_of_keyword}
-use Rattle.c_parse_decl.specs.Reading.{State, is_keyword, token_at, start_by, kept, start_of, start_at}
+use Rattle.c_parse_decl.specs.inner.Reading.{State, is_keyword, token_at, start_by, kept, start_of, start_at}
 use Rattle.c_parse_decl.proofs.Lists.{some_is, bind_some}
 use Rattle.c_parse_decl.proofs.Words.{keyword_by, token_fails}
 

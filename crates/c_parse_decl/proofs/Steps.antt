@@ -20,13 +20,13 @@ use Rattle.c_parse_expr.specs.Tables.{suffix_of}
 use Rattle.c_parse_expr.specs.Many.{◌>>=◌}
 use Rattle.c_parse_expr.specs.Reading.{is_mark, is_identifier, goes_on, reader}
 use Rattle.c_parse_expr.specs.Standing.{goes_on_inside, Inside, Ends}
-use Rattle.c_parse_decl.specs.Reading.{Read, token_at, or_else, comma_at, shut_at, ended_at, start_at}
+use Rattle.c_parse_decl.specs.inner.Reading.{Read, token_at, or_else, comma_at, shut_at, ended_at, start_at}
 use Rattle.c_parse_decl.proofs.Words.{passes_at, token_fails, mark_gives}
 use Rattle.c_parse_decl.proofs.Starts.{start_fails, name_fails}
-use Rattle.c_parse_expr.proofs.Again.{is_read}
+use Rattle.c_parse_expr.proofs.Complete.{is_read}
 use Rattle.c_parse_expr.proofs.Within.{quiet}
 use Rattle.c_parse_decl.proofs.Runs.{Separated}
-use Rattle.c_parse_decl.proofs.TakenParts.{nothing_spelled}
+use Rattle.c_parse_decl.proofs.SoundParts.{nothing_spelled}
 
 pub apart : (own left right rest : List Token) → own ≡ left ++ right → own ++ rest ≡ left ++ (right ++ rest)
 apart own left right rest e = ap (λ (xs : List Token). xs ++ rest) e ∙ append_assoc left right rest

@@ -8,28 +8,17 @@ use Rattle.c_token.specs.declared.token.Kind.{Kind}
 use Rattle.c_token.specs.declared.token.Kind.TheVariants as kinds
 use Rattle.c_token.specs.declared.token.Keyword.{Keyword}
 use Rattle.c_token.specs.declared.token.Mark.{Mark}
-use Rattle.c_token.specs.Spelling.{keyword_text, mark_text, keyword_of, mark_of}
-use Rattle.c_token.proofs.Spellings.{keyword_back, mark_back}
+use Rattle.c_token.specs.Spelling.{keyword_text, mark_text, keyword_of}
+use Rattle.c_token.proofs.Spellings.{keyword_back}
 use Rattle.c_parse_expr.specs.Reading.{is_mark, is_identifier}
-use Rattle.c_parse_decl.specs.Reading.{Read, is_keyword, token_at}
+pub use Rattle.c_parse_expr.proofs.Marks.{mark_by}
+use Rattle.c_parse_decl.specs.inner.Reading.{Read, is_keyword, token_at}
 use Rattle.c_parse_decl.proofs.Lists.{some_is}
 
--- tokens of one text are of one kind
-same_mark : (a b : Mark) → bytes_eq (mark_text a) (mark_text b) ≡ true → a ≡ b
-same_mark a b e =
-    some_is (sym (mark_back a) ∙ ap mark_of ((bytes_eq-Decides (mark_text a) (mark_text b)).0 e) ∙ mark_back b)
-
+-- keywords of one text are the same keyword
 same_keyword : (a b : Keyword) → bytes_eq (keyword_text a) (keyword_text b) ≡ true → a ≡ b
 same_keyword a b e =
     some_is (sym (keyword_back a) ∙ ap keyword_of ((bytes_eq-Decides (keyword_text a) (keyword_text b)).0 e) ∙ keyword_back b)
-
-pub mark_by : (m : Mark) (k : Kind) → is_mark m k ≡ true → k ≡ kinds.Mark m
-mark_by m kinds.Identifier e = cc
-mark_by m (kinds.Keyword k) e = cc
-mark_by m (kinds.Constant c) e = cc
-mark_by m (kinds.Character c) e = cc
-mark_by m kinds.String e = cc
-mark_by m (kinds.Mark n) e = ap kinds.Mark (same_mark n m e)
 
 pub keyword_by : (w : Keyword) (k : Kind) → is_keyword w k ≡ true → k ≡ kinds.Keyword w
 keyword_by w kinds.Identifier e = cc

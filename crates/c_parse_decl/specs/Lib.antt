@@ -1,4 +1,3 @@
 pub mod Tables
 pub mod Standing
-pub mod Reading
-pub mod Pieces
+pub mod inner

@@ -10,22 +10,22 @@ use Rattle.c_tree.specs.Files.{SpellsDeclaration, SpellsDefinition, SpellsFile, 
 
 -- An external declaration: a declaration, or the definition of a function.
 pub data Outer : Type 0 where
-  declaring : (specifiers : Parts) (declarators : Declarators) → Outer
-  defining : (specifiers : Parts) (declarator : Full) (body : Statement) → Outer
+  declarations : (specifiers : Parts) (declarators : Declarators) → Outer
+  definitions : (specifiers : Parts) (declarator : Full) (body : Statement) → Outer
 
 abbrev pub outer_of : External → Outer
-outer_of (externals.Declares d) = declaring (parts_of d.value.specifiers.items) (declarators_of d.value.declarators.items)
-outer_of (externals.Defines d) = defining (parts_of d.value.specifiers.items) (view_full d.value.declarator) (view_statement d.value.body.value)
+outer_of (externals.Declares d) = declarations (parts_of d.value.specifiers.items) (declarators_of d.value.declarators.items)
+outer_of (externals.Defines d) = definitions (parts_of d.value.specifiers.items) (view_full d.value.declarator) (view_statement d.value.body.value)
 
 -- in front of those that follow
 abbrev pub outermost : Outer → Externals → Externals
-outermost (declaring parts ds) rest = declared parts ds rest
-outermost (defining parts d body) rest = defines parts d body rest
+outermost (declarations parts ds) rest = declared parts ds rest
+outermost (definitions parts d body) rest = defines parts d body rest
 
 -- the names behind it
 abbrev pub with_outer : Scope → Outer → Scope
-with_outer names (declaring parts ds) = with_declaration names parts ds
-with_outer names (defining parts d body) = with_function names parts d
+with_outer names (declarations parts ds) = with_declaration names parts ds
+with_outer names (definitions parts d body) = with_function names parts d
 
 -- the names behind all of a file
 abbrev pub with_externals : Scope → Externals → Scope
@@ -34,16 +34,16 @@ with_externals names (declared parts ds rest) = with_externals (with_declaration
 with_externals names (defines parts d body rest) = with_externals (with_function names parts d) rest
 
 abbrev pub SpellsOuter : List ℕ → Outer → List Token → Type 0
-SpellsOuter bytes (declaring parts ds) = SpellsDeclaration bytes parts ds
-SpellsOuter bytes (defining parts d body) = SpellsDefinition bytes parts d body
+SpellsOuter bytes (declarations parts ds) = SpellsDeclaration bytes parts ds
+SpellsOuter bytes (definitions parts d body) = SpellsDefinition bytes parts d body
 
 abbrev pub IsWellOuter : Scope → Outer → Type 0
-IsWellOuter names (declaring parts ds) = IsWellDeclaration names parts ds
-IsWellOuter names (defining parts d body) = IsWellDefinition names parts d body
+IsWellOuter names (declarations parts ds) = IsWellDeclaration names parts ds
+IsWellOuter names (definitions parts d body) = IsWellDefinition names parts d body
 
 abbrev pub outer_depth : Outer → ℕ
-outer_depth (declaring parts ds) = max (parts_depth parts) (declarators_depth ds)
-outer_depth (defining parts d body) = max (parts_depth parts) (max (full_depth d) (statement_depth body))
+outer_depth (declarations parts ds) = max (parts_depth parts) (declarators_depth ds)
+outer_depth (definitions parts d body) = max (parts_depth parts) (max (full_depth d) (statement_depth body))
 
 -- The tokens are the external declaration, with the names that are declared before it.
 pub record IsExternal (bytes : List ℕ) (names : Scope) (e : Outer) (tokens : List Token) : Type 0 where

@@ -16,31 +16,20 @@ pub fn is_typedef(specifier: &Specifier) -> bool
 {
     match specifier {
         Specifier::Type(_) => false,
-        Specifier::Storage { line: _, class } => match class {
+        Specifier::Storage { class, .. } => match class {
             StorageClass::Typedef => true,
             StorageClass::Extern => false,
             StorageClass::Static => false,
             StorageClass::Auto => false,
             StorageClass::Register => false,
         },
-        Specifier::Function {
-            line: _,
-            specifier: _,
-        } => false,
-        Specifier::Record {
-            line: _,
-            kind: _,
-            tag: _,
-            members: _,
-        } => false,
-        Specifier::Enumeration {
-            line: _,
-            tag: _,
-            enumerators: _,
-        } => false,
+        Specifier::Function { .. } => false,
+        Specifier::Record { .. } => false,
+        Specifier::Enumeration { .. } => false,
     }
 }
 
+/// Whether one of the two holds.
 pub fn either(a: bool, b: bool) -> bool
     ensures { result ≡ (a || b) }
 {
@@ -63,17 +52,9 @@ pub fn declared_name(declarator: &FullDeclarator) -> &[u8]
     ensures { result.now ≡ name_of (view_full declarator.now) }
 {
     match declarator {
-        FullDeclarator::Unnamed { suffixes: _ } => &[],
-        FullDeclarator::Named {
-            line: _,
-            name,
-            suffixes: _,
-        } => &name.bytes,
-        FullDeclarator::Inside {
-            line: _,
-            inner,
-            suffixes: _,
-        } => declared_name(inner),
+        FullDeclarator::Unnamed { .. } => &[],
+        FullDeclarator::Named { name, .. } => &name.bytes,
+        FullDeclarator::Inside { inner, .. } => declared_name(inner),
     }
 }
 
@@ -82,17 +63,9 @@ fn has_name(declarator: &FullDeclarator) -> bool
     ensures { result ≡ full_has_name (view_full declarator.now) }
 {
     match declarator {
-        FullDeclarator::Unnamed { suffixes: _ } => false,
-        FullDeclarator::Named {
-            line: _,
-            name: _,
-            suffixes: _,
-        } => true,
-        FullDeclarator::Inside {
-            line: _,
-            inner,
-            suffixes: _,
-        } => has_name(inner),
+        FullDeclarator::Unnamed { .. } => false,
+        FullDeclarator::Named { .. } => true,
+        FullDeclarator::Inside { inner, .. } => has_name(inner),
     }
 }
 
@@ -135,25 +108,17 @@ fn declare_part(
 {
     match specifier {
         Specifier::Type(_) => Ok(()),
-        Specifier::Storage { line: _, class: _ } => Ok(()),
-        Specifier::Function {
-            line: _,
-            specifier: _,
-        } => Ok(()),
-        Specifier::Record {
-            line: _,
-            kind: _,
-            tag: _,
-            members,
-        } => {
+        Specifier::Storage { .. } => Ok(()),
+        Specifier::Function { .. } => Ok(()),
+        Specifier::Record { members, .. } => {
             declare_members(alloc, names, members)?;
             Ok(())
         }
-        Specifier::Enumeration {
-            line: _,
-            tag: _,
+        Specifier::Enumeration { enumerators, .. } => declare_enumerators(
+            alloc,
+            names,
             enumerators,
-        } => declare_enumerators(alloc, names, enumerators),
+        ),
     }
 }
 
@@ -221,15 +186,11 @@ fn declare_suffix(
     ensures { IfOk result (λ _. names.new ≡ with_parameters_of names.old (view_full_suffix suffix.now full_end)) }
 {
     match suffix {
-        DeclaratorSuffix::Bounded { line: _, bound: _ } => Ok(()),
-        DeclaratorSuffix::Open { line: _ } => Ok(()),
-        DeclaratorSuffix::Empty { line: _ } => Ok(()),
-        DeclaratorSuffix::Void { line: _ } => Ok(()),
-        DeclaratorSuffix::Parameters {
-            line: _,
-            parameters,
-            variadic: _,
-        } => {
+        DeclaratorSuffix::Bounded { .. } => Ok(()),
+        DeclaratorSuffix::Open { .. } => Ok(()),
+        DeclaratorSuffix::Empty { .. } => Ok(()),
+        DeclaratorSuffix::Void { .. } => Ok(()),
+        DeclaratorSuffix::Parameters { parameters, .. } => {
             declare_parameters(alloc, names, parameters)?;
             Ok(())
         }
@@ -257,15 +218,11 @@ fn is_of_function(suffix: &DeclaratorSuffix) -> bool
     ensures { result ≡ begins_function (view_full_suffix suffix.now full_end) }
 {
     match suffix {
-        DeclaratorSuffix::Bounded { line: _, bound: _ } => false,
-        DeclaratorSuffix::Open { line: _ } => false,
-        DeclaratorSuffix::Empty { line: _ } => true,
-        DeclaratorSuffix::Void { line: _ } => true,
-        DeclaratorSuffix::Parameters {
-            line: _,
-            parameters: _,
-            variadic: _,
-        } => true,
+        DeclaratorSuffix::Bounded { .. } => false,
+        DeclaratorSuffix::Open { .. } => false,
+        DeclaratorSuffix::Empty { .. } => true,
+        DeclaratorSuffix::Void { .. } => true,
+        DeclaratorSuffix::Parameters { .. } => true,
     }
 }
 
@@ -297,15 +254,11 @@ fn nearest(declarator: &FullDeclarator) -> &[DeclaratorSuffix]
 {
     match declarator {
         FullDeclarator::Unnamed { suffixes } => suffixes,
-        FullDeclarator::Named {
-            line: _,
-            name: _,
-            suffixes,
-        } => suffixes,
+        FullDeclarator::Named { suffixes, .. } => suffixes,
         FullDeclarator::Inside {
-            line: _,
             inner,
             suffixes,
+            ..
         } => or_suffixes(nearest(inner), suffixes),
     }
 }

@@ -8,7 +8,7 @@ ghost use Rattle.c_tree.specs.Files.{IsFile};
 ghost use Rattle.c_parse_expr.specs.Standing.{line_at};
 ghost use Rattle.c_parse_decl.specs.Standing.{Outer, outer_of, with_outer, IsExternal, Stands, NoneStands, EndsAt};
 
-use crate::defining::external;
+use crate::definitions::external;
 use crate::fault::ParseError;
 use c_lexer::Tokens;
 use c_parse_expr::{Refused, TypeNames, line_of};

@@ -1,15 +1,15 @@
 //! The tree of a C file (C11 6.9) among its tokens.
 #![tactic(auto)]
 
+mod declarations;
 mod declared;
-mod declaring;
-mod defining;
-mod enumerating;
+mod definitions;
+mod enumerators;
 mod fault;
 mod file;
 mod slices;
-mod specifying;
-mod stating;
+mod specifiers;
+mod statements;
 mod table;
 
 pub use fault::ParseError;

@@ -3,7 +3,7 @@
 ghost use Rattle.std.specs.Prelude.{◌≡◌, ◌<◌, ◌≤◌, IfSome, length, option_map};
 ghost use Rattle.c_token.specs.declared.token.Mark.TheVariants as marks;
 ghost use Rattle.c_parse_expr.specs.Reading.{is_mark, is_identifier};
-ghost use Rattle.c_parse_decl.specs.Reading.{is_keyword, token_at, stands, begin_of, comma_at, shut_at, void_at, dots_at, last_at, tag_at, start_by, kept, start_of, start_at, opening_of, opening_at, takes, heart_of, heart_at, is_label, declares_at};
+ghost use Rattle.c_parse_decl.specs.inner.Reading.{is_keyword, token_at, stands, begin_of, comma_at, shut_at, void_at, dots_at, last_at, tag_at, start_by, kept, start_of, start_at, opening_of, opening_at, takes, declarator_start_of, declarator_start_at, is_label, declares_at};
 
 use crate::table::{Begin, Start, begin_of_keyword, start_of_keyword};
 use c_parse_expr::{TypeNames, is_mark, split, token_text};
@@ -18,7 +18,7 @@ pub enum Opening {
 
 /// What a declarator begins with.
 #[derive(Clone, Copy, PartialEq, Eq)]
-pub enum Heart {
+pub enum DeclaratorStart {
     /// The name that it declares.
     Name,
     /// The parenthesis around a declarator.
@@ -56,7 +56,7 @@ fn is_identifier(kind: Kind) -> bool
 }
 
 /// The mark at the front, and the tokens behind it.
-#[tactic(auto, unfolding(crate::specs::Reading::token_at))]
+#[tactic(auto, unfolding(crate::specs::inner::Reading::token_at))]
 pub fn mark_at(tokens: &[Token], mark: Mark) -> Option<(Token, &[Token])>
     ensures value { option_map (λ x. (x.0, x.1.now)) result ≡ token_at (is_mark mark) tokens.now }
     ensures shorter { IfSome result (λ x. length x.1.now < length tokens.now) }
@@ -74,7 +74,7 @@ pub fn mark_at(tokens: &[Token], mark: Mark) -> Option<(Token, &[Token])>
 }
 
 /// The keyword at the front, and the tokens behind it.
-#[tactic(auto, unfolding(crate::specs::Reading::token_at))]
+#[tactic(auto, unfolding(crate::specs::inner::Reading::token_at))]
 pub fn keyword_at(tokens: &[Token], keyword: Keyword) -> Option<(Token, &[Token])>
     ensures value { option_map (λ x. (x.0, x.1.now)) result ≡ token_at (is_keyword keyword) tokens.now }
     ensures shorter { IfSome result (λ x. length x.1.now < length tokens.now) }
@@ -92,7 +92,7 @@ pub fn keyword_at(tokens: &[Token], keyword: Keyword) -> Option<(Token, &[Token]
 }
 
 /// The identifier at the front, and the tokens behind it.
-#[tactic(auto, unfolding(crate::specs::Reading::token_at))]
+#[tactic(auto, unfolding(crate::specs::inner::Reading::token_at))]
 pub fn identifier_at(tokens: &[Token]) -> Option<(Token, &[Token])>
     ensures value { option_map (λ x. (x.0, x.1.now)) result ≡ token_at is_identifier tokens.now }
     ensures shorter { IfSome result (λ x. length x.1.now < length tokens.now) }
@@ -148,7 +148,7 @@ pub fn begin_of(colon: bool, kind: Kind) -> Begin
 }
 
 /// Where an item of a list stands: the first at the front, the others behind a comma.
-#[tactic(auto, unfolding(crate::specs::Reading::comma_at))]
+#[tactic(auto, unfolding(crate::specs::inner::Reading::comma_at))]
 pub fn comma_at(tokens: &[Token], first: bool) -> Option<&[Token]>
     ensures value { option_map (λ x. x.now) result ≡ comma_at first tokens.now }
     ensures shorter { IfSome result (λ x. length x.now ≤ length tokens.now) }
@@ -163,7 +163,7 @@ pub fn comma_at(tokens: &[Token], first: bool) -> Option<&[Token]>
 }
 
 /// The tokens behind the brace that closes a list, with a comma before it or not. A list has an item.
-#[tactic(auto, unfolding(crate::specs::Reading::shut_at))]
+#[tactic(auto, unfolding(crate::specs::inner::Reading::shut_at))]
 pub fn shut_at(tokens: &[Token], first: bool) -> Option<&[Token]>
     ensures value { option_map (λ x. x.now) result ≡ shut_at first tokens.now }
     ensures shorter { IfSome result (λ x. length x.now < length tokens.now) }
@@ -184,7 +184,7 @@ pub fn shut_at(tokens: &[Token], first: bool) -> Option<&[Token]>
 }
 
 /// The text of a tag at the front, if one stands there, and the tokens behind it.
-#[tactic(auto, unfolding(crate::specs::Reading::tag_at))]
+#[tactic(auto, unfolding(crate::specs::inner::Reading::tag_at))]
 pub fn tag_at<'a, 'b>(bytes: &'b [u8], tokens: &'a [Token]) -> (Option<&'b [u8]>, &'a [Token])
     ensures value { (option_map (λ x. x.now) result.0, result.1.now) ≡ tag_at bytes.now tokens.now }
     ensures shorter { length result.1.now ≤ length tokens.now }
@@ -241,7 +241,7 @@ fn start_of(
 }
 
 /// What the first token begins among specifiers, the token, and those behind it.
-#[tactic(auto, unfolding(crate::specs::Reading::start_at))]
+#[tactic(auto, unfolding(crate::specs::inner::Reading::start_at))]
 pub fn start_at<'a>(
     inner: bool,
     bytes: &[u8],
@@ -271,7 +271,7 @@ fn is_label(tokens: &[Token]) -> bool
 }
 
 /// What a declaration among statements begins with. A label begins none.
-#[tactic(auto, unfolding(crate::specs::Reading::declares_at))]
+#[tactic(auto, unfolding(crate::specs::inner::Reading::declares_at))]
 pub fn declares_at<'a>(
     bytes: &[u8],
     names: &TypeNames,
@@ -298,7 +298,7 @@ fn opening_of(kind: Kind) -> Option<Opening>
 }
 
 /// What begins a suffix of a declarator, the token, and those behind it.
-#[tactic(auto, unfolding(crate::specs::Reading::opening_at))]
+#[tactic(auto, unfolding(crate::specs::inner::Reading::opening_at))]
 pub fn opening_at(tokens: &[Token]) -> Option<(Opening, Token, &[Token])>
     ensures value { option_map (λ x. (x.0, x.1, x.2.now)) result ≡ opening_at tokens.now }
     ensures shorter { IfSome result (λ x. length x.2.now < length tokens.now) }
@@ -313,7 +313,7 @@ pub fn opening_at(tokens: &[Token]) -> Option<(Opening, Token, &[Token])>
 }
 
 /// The tokens behind `void` and a parenthesis.
-#[tactic(auto, unfolding(crate::specs::Reading::void_at))]
+#[tactic(auto, unfolding(crate::specs::inner::Reading::void_at))]
 pub fn void_at(tokens: &[Token]) -> Option<&[Token]>
     ensures value { option_map (λ x. x.now) result ≡ void_at tokens.now }
     ensures shorter { IfSome result (λ x. length x.now < length tokens.now) }
@@ -327,7 +327,7 @@ pub fn void_at(tokens: &[Token]) -> Option<&[Token]>
     }
 }
 
-#[tactic(auto, unfolding(crate::specs::Reading::dots_at))]
+#[tactic(auto, unfolding(crate::specs::inner::Reading::dots_at))]
 fn dots_at(tokens: &[Token]) -> Option<&[Token]>
     ensures value { option_map (λ x. x.now) result ≡ dots_at tokens.now }
     ensures shorter { IfSome result (λ x. length x.now < length tokens.now) }
@@ -346,7 +346,7 @@ fn dots_at(tokens: &[Token]) -> Option<&[Token]>
 
 /// Whether `...` stands before the parenthesis that closes a list of parameters, and the tokens behind it. A list has a
 /// parameter.
-#[tactic(auto, unfolding(crate::specs::Reading::last_at))]
+#[tactic(auto, unfolding(crate::specs::inner::Reading::last_at))]
 pub fn last_at(tokens: &[Token], first: bool) -> Option<(bool, &[Token])>
     ensures value { option_map (λ x. (x.0, x.1.now)) result ≡ last_at first tokens.now }
     ensures shorter { IfSome result (λ x. length x.1.now < length tokens.now) }
@@ -374,22 +374,22 @@ fn takes(bytes: &[u8], names: &TypeNames, tokens: &[Token]) -> bool
     stands(tokens, Mark::RightParenthesis) || specifier
 }
 
-fn heart_of(inner: bool, given: bool, kind: Kind) -> Option<Heart>
-    ensures { result ≡ heart_of inner given kind }
+fn declarator_start_of(inner: bool, given: bool, kind: Kind) -> Option<DeclaratorStart>
+    ensures { result ≡ declarator_start_of inner given kind }
 {
     if is_mark(Mark::LeftParenthesis, kind) {
         if inner && given {
-            Some(Heart::Suffixes)
+            Some(DeclaratorStart::Suffixes)
         } else {
-            Some(Heart::Inside)
+            Some(DeclaratorStart::Inside)
         }
     } else if is_identifier(kind) {
-        Some(Heart::Name)
+        Some(DeclaratorStart::Name)
     } else if inner {
         if is_mark(Mark::LeftBracket, kind) {
-            Some(Heart::Suffixes)
+            Some(DeclaratorStart::Suffixes)
         } else {
-            Some(Heart::Nothing)
+            Some(DeclaratorStart::Nothing)
         }
     } else {
         None
@@ -397,12 +397,23 @@ fn heart_of(inner: bool, given: bool, kind: Kind) -> Option<Heart>
 }
 
 /// What a declarator begins with, of a parameter or of another thing.
-#[tactic(auto, unfolding(crate::specs::Reading::heart_at))]
-pub fn heart_at(inner: bool, bytes: &[u8], names: &TypeNames, tokens: &[Token]) -> Option<Heart>
-    ensures { result ≡ heart_at inner bytes.now names.now tokens.now }
+#[tactic(auto, unfolding(crate::specs::inner::Reading::declarator_start_at))]
+pub fn declarator_start_at(
+    inner: bool,
+    bytes: &[u8],
+    names: &TypeNames,
+    tokens: &[Token],
+) -> Option<DeclaratorStart>
+    ensures { result ≡ declarator_start_at inner bytes.now names.now tokens.now }
 {
     match split(tokens) {
-        Some((token, rest)) => heart_of(inner, takes(bytes, names, rest), token.kind),
-        None => { if inner { Some(Heart::Nothing) } else { None } }
+        Some((token, rest)) => declarator_start_of(inner, takes(bytes, names, rest), token.kind),
+        None => {
+            if inner {
+                Some(DeclaratorStart::Nothing)
+            } else {
+                None
+            }
+        }
     }
 }

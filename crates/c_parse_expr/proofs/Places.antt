@@ -12,7 +12,7 @@ use Rattle.std.proofs.lemmas.List.{take-append-drop}
 use Rattle.c_parse_expr.specs.declared.place.Level.{Level}
 use Rattle.c_parse_expr.specs.declared.place.Level.TheVariants as levels
 use Rattle.c_parse_expr.specs.Standing.{number_of}
-use Rattle.c_parse_expr.proofs.Taken.{reads}
+use Rattle.c_parse_expr.proofs.Sound.{reads}
 
 number_small : (l : Level) → number_of l ≤ 15
 number_small levels.Comma = omega arith

@@ -20,8 +20,8 @@ use Rattle.c_parse_expr.specs.declared.table.Suffix.{Suffix}
 use Rattle.c_parse_expr.specs.declared.table.Suffix.TheVariants as suffixes
 use Rattle.c_parse_expr.specs.declared.table.TypeStart.{TypeStart}
 use Rattle.c_parse_expr.specs.declared.table.TypeStart.TheVariants as starts
-use Rattle.c_parse_expr.specs.declared.heart.Heart.{Heart}
-use Rattle.c_parse_expr.specs.declared.heart.Heart.TheVariants as hearts
+use Rattle.c_parse_expr.specs.declared.declarator_start.DeclaratorStart.{DeclaratorStart}
+use Rattle.c_parse_expr.specs.declared.declarator_start.DeclaratorStart.TheVariants as declarator_starts
 use Rattle.c_parse_expr.specs.declared.fault.Refused.{Refused}
 use Rattle.c_parse_expr.specs.declared.fault.Refused.TheVariants as refusals
 use Rattle.c_parse_expr.specs.Tables.{lead_of, suffix_of, strength_behind, least_left, keyword_start}
@@ -215,15 +215,15 @@ suffixes_at sub ts = do
   Some (suffixes_from x.0, x.1)
 
 -- what a declarator begins with, where it has a name or none
-abbrev pub heart_of : Bool → Kind → Option Heart
-heart_of with_name k =
-    if is_mark marks.LeftParenthesis k then Some hearts.Inside
-    else if with_name then (if is_identifier k then Some hearts.Name else None)
-    else if is_mark marks.LeftBracket k then Some hearts.Suffixes else Some hearts.Nothing
+abbrev pub declarator_start_of : Bool → Kind → Option DeclaratorStart
+declarator_start_of with_name k =
+    if is_mark marks.LeftParenthesis k then Some declarator_starts.Inside
+    else if with_name then (if is_identifier k then Some declarator_starts.Name else None)
+    else if is_mark marks.LeftBracket k then Some declarator_starts.Suffixes else Some declarator_starts.Nothing
 
-abbrev pub heart_at : Bool → List Token → Option Heart
-heart_at with_name [] = if with_name then None else Some hearts.Nothing
-heart_at with_name (t ∷ ts) = heart_of with_name t.kind
+abbrev pub declarator_start_at : Bool → List Token → Option DeclaratorStart
+declarator_start_at with_name [] = if with_name then None else Some declarator_starts.Nothing
+declarator_start_at with_name (t ∷ ts) = declarator_start_of with_name t.kind
 
 -- a declarator in parentheses behind its parenthesis
 unfoldable pub inside_at : Reader → DeclaredReader → Bool → ℕ → List Token → Option (Declared × List Token)
@@ -240,23 +240,23 @@ unnamed_at sub ts = do
   Some (unnamed s.0, s.1)
 
 -- a declarator that begins so
-unfoldable pub declared_from : List ℕ → Reader → DeclaredReader → Bool → Heart → List Token → Option (Declared × List Token)
-declared_from bytes sub inner with_name hearts.Nothing ts = Some (unnamed no_suffix, ts)
-declared_from bytes sub inner with_name hearts.Suffixes ts = unnamed_at sub ts
-declared_from bytes sub inner with_name hearts.Name [] = None
-declared_from bytes sub inner with_name hearts.Name (t ∷ ts) = do
+unfoldable pub declared_from : List ℕ → Reader → DeclaredReader → Bool → DeclaratorStart → List Token → Option (Declared × List Token)
+declared_from bytes sub inner with_name declarator_starts.Nothing ts = Some (unnamed no_suffix, ts)
+declared_from bytes sub inner with_name declarator_starts.Suffixes ts = unnamed_at sub ts
+declared_from bytes sub inner with_name declarator_starts.Name [] = None
+declared_from bytes sub inner with_name declarator_starts.Name (t ∷ ts) = do
   s ← suffixes_at sub ts
   Some (named t.line (text_of bytes t) s.0, s.1)
-declared_from bytes sub inner with_name hearts.Inside [] = None
-declared_from bytes sub inner with_name hearts.Inside (t ∷ ts) = inside_at sub inner with_name t.line ts
+declared_from bytes sub inner with_name declarator_starts.Inside [] = None
+declared_from bytes sub inner with_name declarator_starts.Inside (t ∷ ts) = inside_at sub inner with_name t.line ts
 
 -- a declarator without levels: the empty one
-abbrev pub bare : Option Heart → List Token → Option (Declared × List Token)
+abbrev pub bare : Option DeclaratorStart → List Token → Option (Declared × List Token)
 bare None ts = None
-bare (Some hearts.Nothing) ts = Some (unnamed no_suffix, ts)
-bare (Some hearts.Suffixes) ts = None
-bare (Some hearts.Name) ts = None
-bare (Some hearts.Inside) ts = None
+bare (Some declarator_starts.Nothing) ts = Some (unnamed no_suffix, ts)
+bare (Some declarator_starts.Suffixes) ts = None
+bare (Some declarator_starts.Name) ts = None
+bare (Some declarator_starts.Inside) ts = None
 
 -- a type name with the parenthesis behind it
 unfoldable pub type_name_at : List ℕ → Scope → DeclaredReader → List Token → Option ((List TypePart × Declared) × List Token)
@@ -360,5 +360,5 @@ unfoldable mutual
 
   -- a declarator of at most n levels, with a name or without
   pub declared_at : List ℕ → Scope → ℕ → DeclaredReader
-  declared_at bytes names zero with_name ts = bare (heart_at with_name ts) ts
-  declared_at bytes names (suc n) with_name ts = heart_at with_name ts >>= λ h. declared_from bytes (reader bytes names n) (declared_at bytes names n) with_name h ts
+  declared_at bytes names zero with_name ts = bare (declarator_start_at with_name ts) ts
+  declared_at bytes names (suc n) with_name ts = declarator_start_at with_name ts >>= λ h. declared_from bytes (reader bytes names n) (declared_at bytes names n) with_name h ts

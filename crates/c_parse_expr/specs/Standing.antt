@@ -82,7 +82,7 @@ pub record DeclaredStands (bytes : List ℕ) (names : Scope) (levels : ℕ) (nam
   pub own : List Token
   pub spelled : SpellsDeclared bytes d own
   pub front : tokens ≡ own ++ rest
-  pub heart : has_name d ≡ named
+  pub declarator_start : has_name d ≡ named
   pub well : IsWellDeclared names d
   pub ends : goes_on_with d rest ≡ false
   pub deep : declared_depth d ≤ levels

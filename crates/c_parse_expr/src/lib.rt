@@ -2,9 +2,9 @@
 //! 6.7.7).
 #![tactic(auto)]
 
+mod declarator_start;
 mod fault;
 mod flags;
-mod heart;
 mod names;
 mod nodes;
 mod place;

@@ -65,6 +65,7 @@ pub struct FoundSuffixes<'a> {
     pub rest: &'a [Token],
 }
 
+/// The larger of two numbers of levels.
 pub fn larger(a: u32, b: u32) -> u32
     ensures { result ≡ max a b }
 {

@@ -5,8 +5,8 @@ ghost use Rattle.c_tree.specs.Tree.{view, views_of, view_type_part, view_declara
 ghost use Rattle.c_parse_expr.specs.declared.table.Suffix.TheVariants.{Choice};
 ghost use Rattle.c_parse_expr.specs.Reading.{Gives, reader, declared_at, declared_from, bare, inside_at, suffixes_at, unnamed_at, bound_at, pair_of, type_name_at, grouped, sizeof_at, prefix_at, prefixed, suffixed, arguments_at};
 
+use crate::declarator_start::DeclaratorStart;
 use crate::fault::Refused;
-use crate::heart::Heart;
 use crate::names::TypeNames;
 use crate::nodes::{
     Found, FoundDeclarator, FoundSuffix, FoundSuffixes, FoundType, Items, assign_node, binary_node,
@@ -16,7 +16,7 @@ use crate::nodes::{
 };
 use crate::slices::{behind_mark, bracket, name_of, next_suffix, split, token_text};
 use crate::table::{Lead, Suffix, lead_of, operand_level, strength_of};
-use crate::words::{begins_type, heart_at, type_behind, type_specifiers};
+use crate::words::{begins_type, declarator_start_at, type_behind, type_specifiers};
 use c_token::{Mark, Token};
 use c_tree::{ArraySuffix, Declarator, DeclaratorCore, Expr};
 use std::alloc::Global;
@@ -213,19 +213,19 @@ fn nothing(alloc: Global, tokens: &[Token]) -> FoundDeclarator<'_>
 /// A declarator without levels, which is the empty one.
 fn bare<'a>(
     alloc: Global,
-    heart: Heart,
+    declarator_start: DeclaratorStart,
     tokens: &'a [Token],
 ) -> Result<FoundDeclarator<'a>, Refused>
-    ensures exact { Gives (λ x. (view_declarator x.declarator, x.rest.now)) result (bare (Some heart) tokens.now) }
+    ensures exact { Gives (λ x. (view_declarator x.declarator, x.rest.now)) result (bare (Some declarator_start) tokens.now) }
     ensures height { IfOk result (λ x. x.height ≡ declared_depth (view_declarator x.declarator)) }
     ensures low { IfOk result (λ x. x.height ≤ 0) }
     ensures shorter { IfOk result (λ x. length x.rest.now ≤ length tokens.now) }
 {
-    match heart {
-        Heart::Nothing => Ok(nothing(alloc, tokens)),
-        Heart::Suffixes => Err(Refused::Syntax),
-        Heart::Name => Err(Refused::Syntax),
-        Heart::Inside => Err(Refused::Syntax),
+    match declarator_start {
+        DeclaratorStart::Nothing => Ok(nothing(alloc, tokens)),
+        DeclaratorStart::Suffixes => Err(Refused::Syntax),
+        DeclaratorStart::Name => Err(Refused::Syntax),
+        DeclaratorStart::Inside => Err(Refused::Syntax),
     }
 }
 
@@ -304,20 +304,20 @@ fn declarator_behind<'a>(
     bytes: &[u8],
     names: &TypeNames,
     named: bool,
-    heart: Heart,
+    declarator_start: DeclaratorStart,
     tokens: &'a [Token],
     levels: u32,
 ) -> Result<FoundDeclarator<'a>, Refused>
     requires { levels < 400 }
-    ensures exact { Gives (λ x. (view_declarator x.declarator, x.rest.now)) result (declared_from bytes.now (reader bytes.now names.now levels) (declared_at bytes.now names.now levels) named heart tokens.now) }
+    ensures exact { Gives (λ x. (view_declarator x.declarator, x.rest.now)) result (declared_from bytes.now (reader bytes.now names.now levels) (declared_at bytes.now names.now levels) named declarator_start tokens.now) }
     ensures height { IfOk result (λ x. x.height ≡ declared_depth (view_declarator x.declarator)) }
     ensures low { IfOk result (λ x. x.height ≤ levels + 1) }
     ensures shorter { IfOk result (λ x. length x.rest.now ≤ length tokens.now) }
 {
-    match heart {
-        Heart::Nothing => Ok(nothing(alloc, tokens)),
-        Heart::Suffixes => unnamed(alloc, bytes, names, tokens, levels),
-        Heart::Name => {
+    match declarator_start {
+        DeclaratorStart::Nothing => Ok(nothing(alloc, tokens)),
+        DeclaratorStart::Suffixes => unnamed(alloc, bytes, names, tokens, levels),
+        DeclaratorStart::Name => {
             let Some((token, rest)) = split(tokens) else {
                 return Err(Refused::Syntax);
             };
@@ -335,7 +335,7 @@ fn declarator_behind<'a>(
                 rest: found.rest,
             })
         }
-        Heart::Inside => {
+        DeclaratorStart::Inside => {
             let Some((token, rest)) = split(tokens) else {
                 return Err(Refused::Syntax);
             };
@@ -361,13 +361,21 @@ pub fn declarator<'a>(
     ensures low { IfOk result (λ x. x.height ≤ levels) }
     ensures shorter { IfOk result (λ x. length x.rest.now ≤ length tokens.now) }
 {
-    let Some(heart) = heart_at(named, tokens) else {
+    let Some(declarator_start) = declarator_start_at(named, tokens) else {
         return Err(Refused::Syntax);
     };
     if levels == 0 {
-        return bare(alloc, heart, tokens);
+        return bare(alloc, declarator_start, tokens);
     }
-    declarator_behind(alloc, bytes, names, named, heart, tokens, levels - 1)
+    declarator_behind(
+        alloc,
+        bytes,
+        names,
+        named,
+        declarator_start,
+        tokens,
+        levels - 1,
+    )
 }
 
 /// What the tokens begin.

@@ -53,6 +53,7 @@ pub fn behind_mark(tokens: &[Token], mark: Mark) -> Option<&[Token]>
     }
 }
 
+/// Whether a token is an identifier.
 pub fn is_identifier(kind: Kind) -> bool
     ensures { result ≡ is_identifier kind }
 {
@@ -196,68 +197,21 @@ pub fn level_of(expr: &Expr) -> u8
     ensures { result ≡ level_of (view expr.now) }
 {
     match expr {
-        Expr::Constant {
-            line: _,
-            constant: _,
-        } => 17,
-        Expr::Character { line: _, value: _ } => 17,
-        Expr::Strings { line: _, parts: _ } => 17,
-        Expr::Name { line: _, name: _ } => 17,
-        Expr::Parens { line: _, inner: _ } => 17,
-        Expr::Unary {
-            line: _,
-            operator: _,
-            operand: _,
-        } => 15,
-        Expr::Cast {
-            line: _,
-            type_name: _,
-            operand: _,
-        } => 14,
-        Expr::SizeofExpr {
-            line: _,
-            operand: _,
-        } => 15,
-        Expr::SizeofType {
-            line: _,
-            type_name: _,
-        } => 15,
-        Expr::Step {
-            line: _,
-            operator: _,
-            operand: _,
-        } => 16,
-        Expr::Member {
-            line: _,
-            left: _,
-            name: _,
-        } => 16,
-        Expr::Binary {
-            line: _,
-            operator,
-            left: _,
-            right: _,
-        } => strength_of(*operator),
-        Expr::Choice {
-            line: _,
-            test: _,
-            yes: _,
-            no: _,
-        } => 3,
-        Expr::Assign {
-            line: _,
-            operator: _,
-            place: _,
-            value: _,
-        } => 2,
-        Expr::Comma {
-            line: _,
-            left: _,
-            right: _,
-        } => 1,
-        Expr::Call {
-            function: _,
-            arguments: _,
-        } => 16,
+        Expr::Constant { .. } => 17,
+        Expr::Character { .. } => 17,
+        Expr::Strings { .. } => 17,
+        Expr::Name { .. } => 17,
+        Expr::Parens { .. } => 17,
+        Expr::Unary { .. } => 15,
+        Expr::Cast { .. } => 14,
+        Expr::SizeofExpr { .. } => 15,
+        Expr::SizeofType { .. } => 15,
+        Expr::Step { .. } => 16,
+        Expr::Member { .. } => 16,
+        Expr::Binary { operator, .. } => strength_of(*operator),
+        Expr::Choice { .. } => 3,
+        Expr::Assign { .. } => 2,
+        Expr::Comma { .. } => 1,
+        Expr::Call { .. } => 16,
     }
 }

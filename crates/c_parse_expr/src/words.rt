@@ -2,12 +2,12 @@
 
 ghost use Rattle.std.specs.Prelude.{◌≡◌, ◌<◌, ◌≤◌, Some, length, map, option_map, IfOk, IfSome};
 ghost use Rattle.c_tree.specs.Tree.{view_name, view_type_part};
-ghost use Rattle.c_parse_expr.specs.Reading.{Gives, behind, start_by, start_of, begins_type, type_behind, started, type_part_at, type_parts_at, strings_behind, heart_of, heart_at};
+ghost use Rattle.c_parse_expr.specs.Reading.{Gives, behind, start_by, start_of, begins_type, type_behind, started, type_part_at, type_parts_at, strings_behind, declarator_start_of, declarator_start_at};
 ghost use Rattle.c_token.specs.declared.token.Mark.TheVariants.{LeftParenthesis};
 ghost use Rattle.c_token.specs.Spelling.{text_of};
 
+use crate::declarator_start::DeclaratorStart;
 use crate::fault::Refused;
-use crate::heart::Heart;
 use crate::names::TypeNames;
 use crate::slices::{
     behind_mark, identifier, is_identifier, is_mark, name_of, split, string, text_name, token_text,
@@ -162,31 +162,37 @@ pub fn type_specifiers<'a>(
     Ok((specifiers, rest))
 }
 
-fn heart_of(named: bool, kind: Kind) -> Option<Heart>
-    ensures { result ≡ heart_of named kind }
+fn declarator_start_of(named: bool, kind: Kind) -> Option<DeclaratorStart>
+    ensures { result ≡ declarator_start_of named kind }
 {
     if is_mark(Mark::LeftParenthesis, kind) {
-        return Some(Heart::Inside);
+        return Some(DeclaratorStart::Inside);
     }
     if named {
         if is_identifier(kind) {
-            Some(Heart::Name)
+            Some(DeclaratorStart::Name)
         } else {
             None
         }
     } else if is_mark(Mark::LeftBracket, kind) {
-        Some(Heart::Suffixes)
+        Some(DeclaratorStart::Suffixes)
     } else {
-        Some(Heart::Nothing)
+        Some(DeclaratorStart::Nothing)
     }
 }
 
 /// What a declarator at the front begins with, where it has a name or none.
-pub fn heart_at(named: bool, tokens: &[Token]) -> Option<Heart>
-    ensures { result ≡ heart_at named tokens.now }
+pub fn declarator_start_at(named: bool, tokens: &[Token]) -> Option<DeclaratorStart>
+    ensures { result ≡ declarator_start_at named tokens.now }
 {
     match split(tokens) {
-        Some((token, _)) => heart_of(named, token.kind),
-        None => { if named { None } else { Some(Heart::Nothing) } }
+        Some((token, _)) => declarator_start_of(named, token.kind),
+        None => {
+            if named {
+                None
+            } else {
+                Some(DeclaratorStart::Nothing)
+            }
+        }
     }
 }

@@ -1,3 +1,5 @@
+//! A file that keeps the profile.
+
 ghost use Rattle.std.specs.Prelude.{◌≡◌, true, Some, None, codes, option_map, IfOk, MatchResult};
 ghost use Rattle.std.specs.Str.{bytes_eq};
 ghost use Rattle.core_tree.specs.Trees.{view_core, view_function, view_functions, view_statics, boxed_statement};

@@ -1,9 +1,11 @@
+//! Which rule of the profile a file breaks, and on which line.
+
 ghost use Rattle.std.specs.Prelude.{◌≡◌};
 ghost use Rattle.c_profile.specs.Rules.{breach, is_before, earlier};
 
 use std::marker::Model;
 
-// A broken rule, and the line that it is told with.
+/// A broken rule, and the line that it is told with.
 #[derive(Clone, Copy)]
 pub(crate) struct Breach {
     line: u32,
@@ -47,7 +49,7 @@ impl Breach {
     }
 }
 
-// The one on the lower line, and on one line that of the lower rule.
+/// The one on the lower line, and on one line that of the lower rule.
 pub(crate) fn earlier(a: Option<Breach>, b: Option<Breach>) -> Option<Breach>
     ensures { result ≡ earlier a b }
 {

@@ -37,106 +37,53 @@ fn expression_breach(functions: &[Function], expr: &CoreExpr) -> Option<Breach>
     ensures { result ≡ rules.expression_breach (view_functions functions.now) (view expr.now) }
 {
     match expr {
-        CoreExpr::Constant {
-            line: _,
-            type_: _,
-            bits: _,
-        } => None,
-        CoreExpr::Read { place: _ } => None,
-        CoreExpr::Convert { to: _, operand } => expression_breach(functions, operand),
-        CoreExpr::Sign {
-            line: _,
-            operator: _,
-            operand,
-        } => expression_breach(functions, operand),
-        CoreExpr::IsZero { line: _, operand } => expression_breach(functions, operand),
-        CoreExpr::Arithmetic {
-            line: _,
-            operator: _,
-            left,
-            right,
-        } => earlier(
+        CoreExpr::Constant { .. } => None,
+        CoreExpr::Read { .. } => None,
+        CoreExpr::Convert { operand, .. } => expression_breach(functions, operand),
+        CoreExpr::Sign { operand, .. } => expression_breach(functions, operand),
+        CoreExpr::IsZero { operand, .. } => expression_breach(functions, operand),
+        CoreExpr::Arithmetic { left, right, .. } => earlier(
             expression_breach(functions, left),
             expression_breach(functions, right),
         ),
-        CoreExpr::Compare {
-            line: _,
-            operator: _,
-            left,
-            right,
-        } => earlier(
+        CoreExpr::Compare { left, right, .. } => earlier(
             expression_breach(functions, left),
             expression_breach(functions, right),
         ),
-        CoreExpr::Logical {
-            line: _,
-            operator: _,
-            left,
-            right,
-        } => earlier(
+        CoreExpr::Logical { left, right, .. } => earlier(
             expression_breach(functions, left),
             expression_breach(functions, right),
         ),
-        CoreExpr::Choice {
-            line: _,
-            test,
-            yes,
-            no,
-        } => {
+        CoreExpr::Choice { test, yes, no, .. } => {
             let branches = earlier(
                 expression_breach(functions, yes),
                 expression_breach(functions, no),
             );
             earlier(expression_breach(functions, test), branches)
         },
-        CoreExpr::Assign {
-            line: _,
-            place: _,
-            value,
-        } => expression_breach(functions, value),
-        CoreExpr::Update {
-            line: _,
-            place: _,
-            operator: _,
-            type_: _,
-            value,
-        } => expression_breach(functions, value),
-        CoreExpr::Step {
-            line: _,
-            place: _,
-            operator: _,
-            before: _,
-        } => None,
-        CoreExpr::Comma {
-            line: _,
-            left,
-            right,
-        } => earlier(
+        CoreExpr::Assign { value, .. } => expression_breach(functions, value),
+        CoreExpr::Update { value, .. } => expression_breach(functions, value),
+        CoreExpr::Step { .. } => None,
+        CoreExpr::Comma { left, right, .. } => earlier(
             expression_breach(functions, left),
             expression_breach(functions, right),
         ),
-        CoreExpr::Assertion { line: _, condition } => expression_breach(functions, condition),
-        CoreExpr::Assumption { line: _, condition } => expression_breach(functions, condition),
-        CoreExpr::Draw { line: _, type_: _ } => None,
-        CoreExpr::Member {
-            line: _,
-            type_: _,
-            offset: _,
-            value,
-        } => structure_breach(functions, value),
-        CoreExpr::Discard { line: _, operand } => expression_breach(functions, operand),
+        CoreExpr::Assertion { condition, .. } => expression_breach(functions, condition),
+        CoreExpr::Assumption { condition, .. } => expression_breach(functions, condition),
+        CoreExpr::Draw { .. } => None,
+        CoreExpr::Member { value, .. } => structure_breach(functions, value),
+        CoreExpr::Discard { operand, .. } => expression_breach(functions, operand),
         CoreExpr::DiscardStructure { value } => structure_breach(functions, value),
         CoreExpr::Call {
             line,
             function,
-            used: _,
-            type_: _,
             arguments,
+            ..
         } => earlier(
             call_breach(functions, *line, *function),
             arguments_breach(functions, arguments),
         ),
-        CoreExpr::FunctionName { line, function: _ } => Some(Breach::new(*line, 3)),
+        CoreExpr::FunctionName { line, .. } => Some(Breach::new(*line, 3)),
     }
 }
 
@@ -145,72 +92,29 @@ fn structure_breach(functions: &[Function], value: &CoreStructure) -> Option<Bre
     ensures { result ≡ rules.structure_breach (view_functions functions.now) (view_structure value.now) }
 {
     match value {
-        CoreStructure::Read {
-            line: _,
-            variable: _,
-            offset: _,
-            size: _,
-        } => None,
-        CoreStructure::Load {
-            line: _,
-            object: _,
-            offset: _,
-            size: _,
-        } => None,
-        CoreStructure::Choice {
-            line: _,
-            test,
-            yes,
-            no,
-        } => {
+        CoreStructure::Read { .. } => None,
+        CoreStructure::Load { .. } => None,
+        CoreStructure::Choice { test, yes, no, .. } => {
             let branches = earlier(
                 structure_breach(functions, yes),
                 structure_breach(functions, no),
             );
             earlier(expression_breach(functions, test), branches)
         },
-        CoreStructure::Assign {
-            line: _,
-            variable: _,
-            offset: _,
-            value,
-        } => structure_breach(functions, value),
-        CoreStructure::Store {
-            line: _,
-            object: _,
-            offset: _,
-            value,
-        } => structure_breach(functions, value),
-        CoreStructure::Comma {
-            line: _,
-            left,
-            right,
-        } => earlier(
+        CoreStructure::Assign { value, .. } => structure_breach(functions, value),
+        CoreStructure::Store { value, .. } => structure_breach(functions, value),
+        CoreStructure::Comma { left, right, .. } => earlier(
             expression_breach(functions, left),
             structure_breach(functions, right),
         ),
-        CoreStructure::Member {
-            line: _,
-            offset: _,
-            size: _,
-            value,
-        } => structure_breach(functions, value),
-        CoreStructure::List {
-            line: _,
-            size: _,
-            parts,
-        } => parts_breach(functions, parts),
-        CoreStructure::String {
-            line: _,
-            size: _,
-            bytes: _,
-        } => None,
+        CoreStructure::Member { value, .. } => structure_breach(functions, value),
+        CoreStructure::List { parts, .. } => parts_breach(functions, parts),
+        CoreStructure::String { .. } => None,
         CoreStructure::Call {
             line,
             function,
-            used: _,
-            size: _,
             arguments,
+            ..
         } => earlier(
             call_breach(functions, *line, *function),
             arguments_breach(functions, arguments),
@@ -234,8 +138,8 @@ fn part_breach(functions: &[Function], part: &CorePart) -> Option<Breach>
     ensures { (rest : _) → earlier result (rules.parts_breach (view_functions functions.now) rest) ≡ rules.parts_breach (view_functions functions.now) (with_part part.now rest) }
 {
     match part {
-        CorePart::Number { offset: _, value } => expression_breach(functions, value),
-        CorePart::Structure { offset: _, value } => structure_breach(functions, value),
+        CorePart::Number { value, .. } => expression_breach(functions, value),
+        CorePart::Structure { value, .. } => structure_breach(functions, value),
     }
 }
 
@@ -281,7 +185,7 @@ fn jump_breach(labels: &[u32], line: u32, label: u32) -> Option<Breach>
     }
 }
 
-// Of a statement with these labels in scope.
+/// Of a statement with these labels in scope.
 #[cycle(statement)]
 pub(crate) fn statement_breach(
     functions: &[Function],
@@ -293,56 +197,41 @@ pub(crate) fn statement_breach(
 {
     match statement {
         CoreStatement::Block { items } => items_breach(functions, labels, items),
-        CoreStatement::If { line: _, test, yes } => {
+        CoreStatement::If { test, yes, .. } => {
             let inner = statement_breach(functions, labels, yes)?;
             Ok(earlier(expression_breach(functions, test), inner))
         }
-        CoreStatement::IfElse {
-            line: _,
-            test,
-            yes,
-            no,
-        } => {
+        CoreStatement::IfElse { test, yes, no, .. } => {
             let inner = statement_breach(functions, labels, yes)?;
             let other = statement_breach(functions, labels, no)?;
             Ok(earlier(expression_breach(functions, test), earlier(inner, other)))
         }
         CoreStatement::Evaluate { expression } => Ok(expression_breach(functions, expression)),
-        CoreStatement::Return { line: _, value } => Ok(expression_breach(functions, value)),
-        CoreStatement::ReturnStructure { line: _, value } => Ok(structure_breach(functions, value)),
-        CoreStatement::ReturnNothing { line: _ } => Ok(None),
+        CoreStatement::Return { value, .. } => Ok(expression_breach(functions, value)),
+        CoreStatement::ReturnStructure { value, .. } => Ok(structure_breach(functions, value)),
+        CoreStatement::ReturnNothing { .. } => Ok(None),
         CoreStatement::For {
-            line: _,
-            number: _,
             first,
             test,
             last,
             body,
+            ..
         } => {
             let inner = statement_breach(functions, labels, body)?;
             let behind = earlier(optional_breach(functions, last), inner);
             let behind = earlier(optional_breach(functions, test), behind);
             Ok(earlier(optional_breach(functions, first), behind))
         }
-        CoreStatement::Do {
-            line: _,
-            number: _,
-            body,
-            test,
-        } => {
+        CoreStatement::Do { body, test, .. } => {
             let inner = statement_breach(functions, labels, body)?;
             Ok(earlier(inner, expression_breach(functions, test)))
         }
-        CoreStatement::Switch {
-            line: _,
-            value,
-            items,
-        } => {
+        CoreStatement::Switch { value, items, .. } => {
             let inner = items_breach(functions, labels, items)?;
             Ok(earlier(expression_breach(functions, value), inner))
         }
-        CoreStatement::Break { line: _ } => Ok(None),
-        CoreStatement::Continue { line: _ } => Ok(None),
+        CoreStatement::Break { .. } => Ok(None),
+        CoreStatement::Continue { .. } => Ok(None),
         CoreStatement::Goto { line, label } => Ok(jump_breach(labels.as_slice(), *line, *label)),
         CoreStatement::Stray { line, statement } => {
             let inner = statement_breach(functions, labels, statement)?;
@@ -381,32 +270,15 @@ fn item_breach(
     ensures labels { OnOk result ((outer : _) (rest : _) → labels_from rest outer ≡ labels.old.items → labels.new.items ≡ labels_from (with_item item.now rest) outer) }
 {
     match item {
-        CoreItem::Declare {
-            line: _,
-            variable: _,
-        } => Ok(None),
-        CoreItem::Initialize {
-            line: _,
-            variable: _,
-            drawn: _,
-            value,
-        } => Ok(expression_breach(functions, value)),
-        CoreItem::InitializeStructure {
-            line: _,
-            variable: _,
-            drawn: _,
-            value,
-        } => Ok(structure_breach(functions, value)),
+        CoreItem::Declare { .. } => Ok(None),
+        CoreItem::Initialize { value, .. } => Ok(expression_breach(functions, value)),
+        CoreItem::InitializeStructure { value, .. } => Ok(structure_breach(functions, value)),
         CoreItem::Statement { statement } => statement_breach(functions, labels, statement),
         CoreItem::Label { label } => {
             labels.push(*label)?;
             Ok(None)
         }
-        CoreItem::Case {
-            line: _,
-            type_: _,
-            bits: _,
-        } => Ok(None),
-        CoreItem::Default { line: _ } => Ok(None),
+        CoreItem::Case { .. } => Ok(None),
+        CoreItem::Default { .. } => Ok(None),
     }
 }

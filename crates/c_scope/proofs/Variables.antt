@@ -9,7 +9,7 @@ use Rattle.c_types.specs.Layouts.{is_completed, is_complete, is_sized, size_of}
 use Rattle.c_types.proofs.Records.{same_type}
 use Rattle.c_scope.specs.declared.meaning.Meaning.{Meaning}
 use Rattle.c_scope.specs.declared.meaning.Meaning.TheVariants.{Variable, Object, Incomplete, Assert, Assume, Draw, Function, Typedef, Enumerator, Record, Enumeration}
-use Rattle.c_scope.specs.Scopes.{Named, Lasting, Environment, is_called, meaning_in, is_there, are_there, are_complete, sizes_of}
+use Rattle.c_scope.specs.Scopes.{Named, ObjectEntry, Environment, is_called, meaning_in, is_there, are_there, are_complete, sizes_of}
 use Rattle.c_scope.specs.Types.{type_size}
 
 pub both : (a b : Bool) → (a && b) ≡ true → (a ≡ true) × (b ≡ true)
@@ -67,10 +67,10 @@ meant_there variables objects types records tags (b ∷ bs) name e =
     meant variables objects types records (is_called tags name b) b.meaning (meaning_in tags None bs name) parts.0 (meant_there variables objects types records tags bs name parts.1)
 
 -- where one object, one typedef or one struct or union more is declared
-pub one_object_more : (variables : ℕ) (objects others : List Lasting) (o : Lasting) (types records : ℕ) (env : Environment) → others ≡ objects ++ o ∷ []
+pub one_object_more : (variables : ℕ) (objects others : List ObjectEntry) (o : ObjectEntry) (types records : ℕ) (env : Environment) → others ≡ objects ++ o ∷ []
     → are_there variables (length objects) types records env ≡ true → are_there variables (length others) types records env ≡ true
 one_object_more variables objects others o types records env e h =
-    let long = ap (λ (os : List Lasting). length os) e ∙ length-append objects (o ∷ []) in
+    let long = ap (λ (os : List ObjectEntry). length os) e ∙ length-append objects (o ∷ []) in
     are_there_wider variables variables (length objects) (length others) types types records records env (omega arith) (omega (arith, long)) (omega arith) (omega arith) h
 
 pub one_type_more : (variables objects : ℕ) (types others : List Named) (t : Named) (records : ℕ) (env : Environment) → others ≡ types ++ t ∷ []

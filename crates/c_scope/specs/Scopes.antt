@@ -16,7 +16,7 @@ use Rattle.core_tree.specs.Typed.{Sizes, Signature}
 use Rattle.c_scope.specs.declared.meaning.Meaning.{Meaning}
 use Rattle.c_scope.specs.declared.meaning.Meaning.TheVariants.{Variable, Object, Incomplete, Assert, Assume, Draw, Function, Typedef, Enumerator, Record, Enumeration}
 use Rattle.c_scope.specs.declared.scope.QualifiedType.{QualifiedType}
-use Rattle.c_scope.specs.declared.scope.Lasting.{Lasting as CodeLasting}
+use Rattle.c_scope.specs.declared.scope.ObjectEntry.{ObjectEntry as CodeObjectEntry}
 use Rattle.c_scope.specs.declared.functions.FunctionType.{FunctionType as CodeFunctionType}
 use Rattle.c_scope.specs.declared.functions.Callable.{Callable as CodeCallable}
 use Rattle.c_scope.specs.declared.flow.Cases.{Cases as CodeCases}
@@ -148,7 +148,7 @@ declares tags bindings name = list_any (λ b. is_called tags name b) bindings
 
 -- An object that lives as long as the program: its type, which is that of its elements where it is an array whose length isn't
 -- known so far, the bytes that its initializer says, whether it has a definition so far, and the line of its first declarator.
-pub record Lasting : Type 0 where
+pub record ObjectEntry : Type 0 where
   pub named : Named
   pub unknown_length : Bool
   pub bytes : Option (List ℕ)
@@ -209,13 +209,13 @@ pub record Scoped : Type 0 where
   pub records : Records
   pub members : List Members
   pub variables : List Named
-  pub objects : List Lasting
+  pub objects : List ObjectEntry
   pub linked : List Linked
   pub functions : FunctionTable
   pub flow : Flow
 
-abbrev pub view_lasting : CodeLasting → Lasting
-view_lasting o = record { named = view_named o.named; unknown_length = o.unknown_length; bytes = option_map (λ v. v.items) o.bytes; defined = o.defined; line = o.line }
+abbrev pub view_object_entry : CodeObjectEntry → ObjectEntry
+view_object_entry o = record { named = view_named o.named; unknown_length = o.unknown_length; bytes = option_map (λ v. v.items) o.bytes; defined = o.defined; line = o.line }
 
 abbrev pub view_linked : Vec ℕ Global × ℕ → Linked
 view_linked l = record { name = l.0.items; object = l.1 }
@@ -305,7 +305,7 @@ sizes s = sizes_of s.records.done s.variables
 -- ---- objects
 
 -- the object with this number
-abbrev pub object_at : Scoped → ℕ → Option Lasting
+abbrev pub object_at : Scoped → ℕ → Option ObjectEntry
 object_at s k = if k == 0 then None else slice_get s.objects (k - 1)
 
 -- the object that a name with linkage has already
@@ -314,12 +314,12 @@ linked_to [] name = None
 linked_to (l ∷ linked) name = if bytes_eq name l.name then Some l.object else linked_to linked name
 
 -- its type isn't complete here (C11 6.2.5p22)
-abbrev pub is_incomplete : List Completed → Lasting → Bool
+abbrev pub is_incomplete : List Completed → ObjectEntry → Bool
 is_incomplete done o = o.unknown_length || not (is_complete done o.named.type)
 
 -- how many bytes it has, as far as its type is complete
-abbrev pub lasting_size : List Completed → Lasting → ℕ
-lasting_size done o = if is_incomplete done o then 0 else size_of done o.named.type
+abbrev pub object_entry_size : List Completed → ObjectEntry → ℕ
+object_entry_size done o = if is_incomplete done o then 0 else size_of done o.named.type
 
 -- ---- functions
 
@@ -343,7 +343,7 @@ signature_of done f = record { gives = given_by done f.type.gives.type; paramete
 abbrev pub all_sizes : Scoped → Sizes
 all_sizes s = record {
   variables = sizes s;
-  objects = map (lasting_size s.records.done) s.objects;
+  objects = map (object_entry_size s.records.done) s.objects;
   functions = map (signature_of s.records.done) s.functions.all;
   gives = given_by s.records.done s.flow.gives;
 }
@@ -353,8 +353,8 @@ all_sizes s = record {
 abbrev pub coded_named : Coded Named
 coded_named = code_by (CType × Bool) (coded× coded_type coded_bool) (λ n. (n.type, n.constant)) (λ p. record { type = p.0; constant = p.1 }) (λ _. refl)
 
-abbrev pub coded_lasting : Coded Lasting
-coded_lasting = code_by (Named × (Bool × (Option (List ℕ) × (Bool × ℕ)))) (coded× coded_named (coded× coded_bool (coded× (coded_option (coded_list coded_ℕ)) (coded× coded_bool coded_ℕ))))
+abbrev pub coded_object_entry : Coded ObjectEntry
+coded_object_entry = code_by (Named × (Bool × (Option (List ℕ) × (Bool × ℕ)))) (coded× coded_named (coded× coded_bool (coded× (coded_option (coded_list coded_ℕ)) (coded× coded_bool coded_ℕ))))
     (λ o. (o.named, (o.unknown_length, (o.bytes, (o.defined, o.line))))) (λ p. record { named = p.0; unknown_length = p.1.0; bytes = p.1.1.0; defined = p.1.1.1.0; line = p.1.1.1.1 }) (λ _. refl)
 
 abbrev pub coded_linked : Coded Linked

@@ -18,7 +18,7 @@ use Rattle.c_types.specs.Types as ctypes
 use Rattle.c_types.specs.Layouts.{is_complete, is_sized, size_of, most_bytes, kind_at}
 use Rattle.c_scope.specs.declared.meaning.Meaning.{Meaning}
 use Rattle.c_scope.specs.declared.meaning.Meaning.TheVariants.{Variable, Object, Incomplete, Assert, Assume, Draw, Function, Typedef, Enumerator, Record, Enumeration}
-use Rattle.c_scope.specs.declared.specifying.Specified.{Specified}
+use Rattle.c_scope.specs.declared.specifiers.Specified.{Specified}
 use Rattle.c_scope.specs.Scopes.{Named, plain, Scoped, meaning_of, tag_of}
 use Rattle.c_scope.specs.Faults.{◌>>=◌, required}
 
@@ -110,11 +110,11 @@ pub record Said : Type 0 where
   pub storage : List StorageClass
   pub broken : Option ℕ
 
-abbrev pub nothing_said : Said
-nothing_said = record { words = []; named = []; constant = false; storage = []; broken = None }
+abbrev pub nothing_specified : Said
+nothing_specified = record { words = []; named = []; constant = false; storage = []; broken = None }
 
-abbrev pub view_said : Specified → Said
-view_said s = record { words = s.words.items; named = ctypes.views s.named.items; constant = s.constant; storage = s.storage.items; broken = s.broken }
+abbrev pub view_specified : Specified → Said
+view_specified s = record { words = s.words.items; named = ctypes.views s.named.items; constant = s.constant; storage = s.storage.items; broken = s.broken }
 
 abbrev pub lower : ℕ → ℕ → ℕ
 lower a b = if nat_lt a b then a else b
@@ -204,15 +204,15 @@ value_type Void = ctypes.void
 value_type (Integer t) = ctypes.integer t
 
 -- one named type and no words, or the words of a type alone
-abbrev pub type_said : List CType → List TypeWord → Option CType
-type_said [] ws = option_map value_type (words_type ws)
-type_said (t ∷ []) [] = Some t
-type_said (t ∷ []) (w ∷ ws) = None
-type_said (t ∷ u ∷ ts) ws = None
+abbrev pub type_specified : List CType → List TypeWord → Option CType
+type_specified [] ws = option_map value_type (words_type ws)
+type_specified (t ∷ []) [] = Some t
+type_specified (t ∷ []) (w ∷ ws) = None
+type_specified (t ∷ u ∷ ts) ws = None
 
 -- and at most one storage word
-abbrev pub shape_said : Said → Option CType
-shape_said s = if nat_le (length s.storage) 1 then type_said s.named s.words else None
+abbrev pub stated_shape : Said → Option CType
+stated_shape s = if nat_le (length s.storage) 1 then type_specified s.named s.words else None
 
 abbrev pub said_by : Bool → Option ℕ → Option CType → Result Named ℕ
 said_by constant broken None = Err (lowest broken 5)
@@ -221,7 +221,7 @@ said_by constant (Some rule) (Some t) = Err rule
 
 -- the type that specifiers say, or the lowest rule that they break
 abbrev pub specified_type : Said → Result Named ℕ
-specified_type s = said_by s.constant s.broken (shape_said s)
+specified_type s = said_by s.constant s.broken (stated_shape s)
 
 -- the line of the first token
 abbrev pub part_line : TypePart → ℕ

@@ -19,8 +19,8 @@ pub fn declared_line(declarator: &Declarator) -> u32
 {
     match &declarator.core {
         DeclaratorCore::Absent => suffixes_line(&declarator.suffixes),
-        DeclaratorCore::Named { line, name: _ } => *line,
-        DeclaratorCore::Inside { line, inner: _ } => *line,
+        DeclaratorCore::Named { line, .. } => *line,
+        DeclaratorCore::Inside { line, .. } => *line,
     }
 }
 
@@ -29,7 +29,7 @@ fn suffixes_line(suffixes: &[ArraySuffix]) -> u32
 {
     match suffixes {
         [] => 0,
-        [ArraySuffix::Bounded { line, bound: _ }, ..] => *line,
+        [ArraySuffix::Bounded { line, .. }, ..] => *line,
         [ArraySuffix::Open { line }, ..] => *line,
     }
 }

@@ -10,7 +10,7 @@ mod meaning;
 mod members;
 mod places;
 mod scope;
-mod specifying;
+mod specifiers;
 mod type_words;
 
 pub use built_ins::built_in;
@@ -20,6 +20,6 @@ pub use flow::{Cases, Flow};
 pub use functions::{Callable, FunctionType, Functions};
 pub use meaning::Meaning;
 pub use members::{Field, member_at, part_at};
-pub use scope::{Lasting, QualifiedType, Scope, is_incomplete};
-pub use specifying::{Specified, parts_type, tag_type, typedef_of};
+pub use scope::{ObjectEntry, QualifiedType, Scope, is_incomplete};
+pub use specifiers::{Specified, parts_type, tag_type, typedef_of};
 pub use type_words::words_type;

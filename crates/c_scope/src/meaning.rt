@@ -1,3 +1,5 @@
+//! What a name means.
+
 ghost use Rattle.std.specs.Prelude.{◌≡◌};
 ghost use Rattle.c_scope.specs.Scopes.{is_tag};
 
@@ -36,16 +38,16 @@ impl Meaning {
         ensures { result ≡ is_tag self }
     {
         match self {
-            Meaning::Record { place: _ } | Meaning::Enumeration => true,
-            Meaning::Variable { variable: _ }
-            | Meaning::Object { object: _ }
+            Meaning::Record { .. } | Meaning::Enumeration => true,
+            Meaning::Variable { .. }
+            | Meaning::Object { .. }
             | Meaning::Incomplete
             | Meaning::Assert
             | Meaning::Assume
-            | Meaning::Draw { type_: _ }
-            | Meaning::Function { function: _ }
-            | Meaning::Typedef { number: _ }
-            | Meaning::Enumerator { bits: _ } => false,
+            | Meaning::Draw { .. }
+            | Meaning::Function { .. }
+            | Meaning::Typedef { .. }
+            | Meaning::Enumerator { .. } => false,
         }
     }
 }

@@ -136,10 +136,7 @@ fn table_in<'a>(type_: &Ty, tables: &'a [MemberTable]) -> Option<&'a MemberTable
         Ty::Record(place) => tables.get(*place as usize),
         Ty::Void => None,
         Ty::Integer(_) => None,
-        Ty::Array {
-            element: _,
-            length: _,
-        } => None,
+        Ty::Array { .. } => None,
     }
 }
 
@@ -199,7 +196,7 @@ pub fn is_constant_within(type_: &Ty, tables: &[MemberTable]) -> bool
                     None => false,
                 };
             }
-            Ty::Array { element, length: _ } => inner = element,
+            Ty::Array { element, .. } => inner = element,
             Ty::Void => return false,
             Ty::Integer(_) => return false,
         }
@@ -223,7 +220,7 @@ fn has_constant(fields: &[Field], tables: &[MemberTable]) -> bool
     false
 }
 
-// Whether the type of each member is complete.
+/// Whether the type of each member is complete.
 pub fn have_complete_types(fields: &[Field], layouts: &Layouts) -> bool
     ensures { result ≡ are_complete layouts.now.done (field_types (view_fields fields.now)) }
 {
@@ -278,10 +275,7 @@ pub fn member_at<'a>(type_: &Ty, number: u32, layouts: &'a Layouts) -> Option<(&
         Ty::Record(place) => record_member(*place, number, layouts),
         Ty::Void => None,
         Ty::Integer(_) => None,
-        Ty::Array {
-            element: _,
-            length: _,
-        } => None,
+        Ty::Array { .. } => None,
     }
 }
 

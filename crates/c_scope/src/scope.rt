@@ -5,7 +5,7 @@ ghost use Rattle.c_types.specs.Types.{integer, view as type_view};
 ghost use Rattle.c_types.specs.Layouts.{kind_at, is_completed, with_completed, are_complete, fits, Refuses, IsBuilt};
 ghost use Rattle.c_scope.specs.Members.{view_fields, view_members, view_tables, field_types, no_members, members_in, members_by, found};
 ghost use Rattle.c_scope.specs.Places.{place_in};
-ghost use Rattle.c_scope.specs.Scopes.{binding, view_lasting, view_callable, view_function_type, view_flow, with_callable, with_defined, object_at, linked_to, is_incomplete, view_named, meaning_of, tag_of, declares, is_there, are_there, is_known, are_known, plain, built_in_types, built_in_records, built_in_members, first_scope, sizes};
+ghost use Rattle.c_scope.specs.Scopes.{binding, view_object_entry, view_callable, view_function_type, view_flow, with_callable, with_defined, object_at, linked_to, is_incomplete, view_named, meaning_of, tag_of, declares, is_there, are_there, is_known, are_known, plain, built_in_types, built_in_records, built_in_members, first_scope, sizes};
 ghost use Rattle.c_scope.specs.Scopes as scopes;
 ghost use Rattle.c_scope.specs.Types.{type_size};
 
@@ -42,7 +42,7 @@ pub struct QualifiedType {
 /// length isn't known so far; the bytes that its initializer says; whether it has a definition so far; and the line of its first
 /// declarator.
 #[derive(Drop)]
-pub struct Lasting {
+pub struct ObjectEntry {
     pub named: QualifiedType,
     pub unknown_length: bool,
     pub bytes: Option<Vec<u8>>,
@@ -51,8 +51,8 @@ pub struct Lasting {
 }
 
 /// Whether an object's type isn't complete here.
-pub fn is_incomplete(object: &Lasting, layouts: &Layouts) -> bool
-    ensures { result ≡ is_incomplete layouts.now.done (view_lasting object.now) }
+pub fn is_incomplete(object: &ObjectEntry, layouts: &Layouts) -> bool
+    ensures { result ≡ is_incomplete layouts.now.done (view_object_entry object.now) }
 {
     object.unknown_length || !is_complete(&object.named.type_, layouts)
 }
@@ -71,7 +71,7 @@ pub struct Scope {
     tables: Vec<MemberTable>,
     variables: Vec<QualifiedType>,
     sizes: Vec<u32>,
-    objects: Vec<Lasting>,
+    objects: Vec<ObjectEntry>,
     linked: IndexMap<Vec<u8>, u32>,
     functions: Functions,
     flow: Flow,
@@ -82,16 +82,16 @@ impl Model for Scope {
     ghost use Rattle.std.specs.Coded.{codes};
     ghost use Rattle.c_types.specs.Types.{coded_records};
     ghost use Rattle.c_scope.specs.Members.{view_tables, coded_members};
-    ghost use Rattle.c_scope.specs.Scopes.{Scoped, view_named, view_lasting, view_linked, view_flow, are_there, are_complete, sizes_of, coded_named, coded_lasting, coded_linked, coded_functions, coded_flow};
+    ghost use Rattle.c_scope.specs.Scopes.{Scoped, view_named, view_object_entry, view_linked, view_flow, are_there, are_complete, sizes_of, coded_named, coded_object_entry, coded_linked, coded_functions, coded_flow};
     ghost use Rattle.c_scope.specs.Places.{environment, place_in, hidden_in, hidden_of, entries_of, place_at};
 
     ghost Value = { Scoped };
 
-    ghost coded = { Prim.hlevel (codes, coded_named, coded_records, coded_members, coded_lasting, coded_linked, coded_functions, coded_flow) };
+    ghost coded = { Prim.hlevel (codes, coded_named, coded_records, coded_members, coded_object_entry, coded_linked, coded_functions, coded_flow) };
 
-    ghost view = { λ s. record { bindings = environment s.bounds.items; types = map view_named s.types.items; records = s.layouts; members = view_tables s.tables.items; variables = map view_named s.variables.items; objects = map view_lasting s.objects.items; linked = map view_linked s.linked.entries; functions = s.functions; flow = view_flow s.flow } };
+    ghost view = { λ s. record { bindings = environment s.bounds.items; types = map view_named s.types.items; records = s.layouts; members = view_tables s.tables.items; variables = map view_named s.variables.items; objects = map view_object_entry s.objects.items; linked = map view_linked s.linked.entries; functions = s.functions; flow = view_flow s.flow } };
 
-    ghost invariant = { λ s. (are_there (length (map view_named s.variables.items)) (length (map view_lasting s.objects.items)) (length (map view_named s.types.items)) (length s.layouts.declared) (environment s.bounds.items) ≡ true)
+    ghost invariant = { λ s. (are_there (length (map view_named s.variables.items)) (length (map view_object_entry s.objects.items)) (length (map view_named s.types.items)) (length s.layouts.declared) (environment s.bounds.items) ≡ true)
         × ((tags : Bool) (name : List ℕ) → place_at (entries_of tags s.places) name ≡ place_in tags (environment s.bounds.items) name)
         × (hidden_of s.bounds.items ≡ hidden_in (environment s.bounds.items))
         × (s.sizes.items ≡ sizes_of s.layouts.done (map view_named s.variables.items))
@@ -209,8 +209,8 @@ impl Scope {
     }
 
     /// An object that lives as long as the program, by its number.
-    pub fn object(&self, number: u32) -> Option<&Lasting>
-        ensures { option_map (λ o. view_lasting o.now) result ≡ object_at self.now number }
+    pub fn object(&self, number: u32) -> Option<&ObjectEntry>
+        ensures { option_map (λ o. view_object_entry o.now) result ≡ object_at self.now number }
     {
         if number == 0 {
             return None;
@@ -229,19 +229,19 @@ impl Scope {
     }
 
     /// One more object that lives as long as the program, and its number.
-    pub fn add_object(&mut self, object: Lasting) -> Result<u32, AllocError>
+    pub fn add_object(&mut self, object: ObjectEntry) -> Result<u32, AllocError>
         requires { length self.old.objects < 2 ^ 31 }
         ensures number { IfOk result (λ k. k ≡ length self.old.objects + 1) }
-        ensures added { OnOk result (self.new ≡ record self.old { objects = self.old.objects ++ view_lasting object ∷ [] }) }
+        ensures added { OnOk result (self.new ≡ record self.old { objects = self.old.objects ++ view_object_entry object ∷ [] }) }
     {
         self.objects.push(object)?;
         Ok(self.objects.len() as u32)
     }
 
     /// What is known of an object from now on.
-    pub fn set_object(&mut self, number: u32, object: Lasting)
+    pub fn set_object(&mut self, number: u32, object: ObjectEntry)
         requires { (1 ≤ number) × (number ≤ length self.old.objects) }
-        ensures { self.new ≡ record self.old { objects = slice_set self.old.objects (number - 1) (view_lasting object) } }
+        ensures { self.new ≡ record self.old { objects = slice_set self.old.objects (number - 1) (view_object_entry object) } }
     {
         self.objects[number as usize - 1] = object;
     }
@@ -319,9 +319,9 @@ impl Scope {
     }
 
     /// Ends the file: the objects that live as long as the program. No name is in scope.
-    pub fn take_objects(&mut self, alloc: Global) -> Vec<Lasting>
+    pub fn take_objects(&mut self, alloc: Global) -> Vec<ObjectEntry>
         requires { self.old.bindings ≡ [] }
-        ensures objects { map view_lasting result.items ≡ self.old.objects }
+        ensures objects { map view_object_entry result.items ≡ self.old.objects }
         ensures ended { self.new ≡ record self.old { objects = [] } }
     {
         let mut taken = Vec::new(alloc);

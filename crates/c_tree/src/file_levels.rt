@@ -47,22 +47,10 @@ fn part_depth(specifier: &Specifier) -> u32
 {
     match specifier {
         Specifier::Type(_) => 0,
-        Specifier::Storage { line: _, class: _ } => 0,
-        Specifier::Function {
-            line: _,
-            specifier: _,
-        } => 0,
-        Specifier::Record {
-            line: _,
-            kind: _,
-            tag: _,
-            members,
-        } => members_depth(members) + 1,
-        Specifier::Enumeration {
-            line: _,
-            tag: _,
-            enumerators,
-        } => enumerators_depth(enumerators),
+        Specifier::Storage { .. } => 0,
+        Specifier::Function { .. } => 0,
+        Specifier::Record { members, .. } => members_depth(members) + 1,
+        Specifier::Enumeration { enumerators, .. } => enumerators_depth(enumerators),
     }
 }
 
@@ -119,15 +107,11 @@ fn full_depth(declarator: &FullDeclarator) -> u32
                 full_suffixes_depth(suffixes) + 1
             }
         }
-        FullDeclarator::Named {
-            line: _,
-            name: _,
-            suffixes,
-        } => full_suffixes_depth(suffixes) + 1,
+        FullDeclarator::Named { suffixes, .. } => full_suffixes_depth(suffixes) + 1,
         FullDeclarator::Inside {
-            line: _,
             inner,
             suffixes,
+            ..
         } => larger(full_depth(inner), full_suffixes_depth(suffixes)) + 1,
     }
 }
@@ -150,15 +134,11 @@ fn full_suffix_depth(suffix: &DeclaratorSuffix) -> u32
     ensures { result ≡ full_suffixes_depth (view_full_suffix suffix.now full_end) }
 {
     match suffix {
-        DeclaratorSuffix::Bounded { line: _, bound } => expression_depth(bound),
-        DeclaratorSuffix::Open { line: _ } => 0,
-        DeclaratorSuffix::Empty { line: _ } => 0,
-        DeclaratorSuffix::Void { line: _ } => 0,
-        DeclaratorSuffix::Parameters {
-            line: _,
-            parameters,
-            variadic: _,
-        } => parameters_depth(parameters),
+        DeclaratorSuffix::Bounded { bound, .. } => expression_depth(bound),
+        DeclaratorSuffix::Open { .. } => 0,
+        DeclaratorSuffix::Empty { .. } => 0,
+        DeclaratorSuffix::Void { .. } => 0,
+        DeclaratorSuffix::Parameters { parameters, .. } => parameters_depth(parameters),
     }
 }
 
@@ -185,7 +165,7 @@ fn initial_depth(initializer: &Initializer) -> u32
 {
     match initializer {
         Initializer::Value(expr) => expression_depth(expr),
-        Initializer::List { line: _, items } => initials_depth(items) + 1,
+        Initializer::List { items, .. } => initials_depth(items) + 1,
     }
 }
 
@@ -266,39 +246,24 @@ fn statement_depth(statement: &Stmt) -> u32
     ensures { result ≡ statement_depth (view_statement statement.now) }
 {
     match statement {
-        Stmt::Block { line: _, items } => items_depth(items) + 1,
-        Stmt::If { line: _, test, yes } => {
-            larger(expression_depth(test), statement_depth(yes)) + 1
-        }
-        Stmt::IfElse {
-            line: _,
-            test,
-            yes,
-            no,
-        } => larger(
+        Stmt::Block { items, .. } => items_depth(items) + 1,
+        Stmt::If { test, yes, .. } => { larger(expression_depth(test), statement_depth(yes)) + 1 }
+        Stmt::IfElse { test, yes, no, .. } => larger(
             expression_depth(test),
             larger(statement_depth(yes), statement_depth(no)),
         ) + 1,
         Stmt::Evaluate { expression } => expression_depth(expression) + 1,
-        Stmt::ReturnNothing { line: _ } => 1,
-        Stmt::ReturnValue { line: _, value } => expression_depth(value) + 1,
-        Stmt::Empty { line: _ } => 1,
-        Stmt::While {
-            line: _,
-            test,
-            body,
-        } => larger(expression_depth(test), statement_depth(body)) + 1,
-        Stmt::Do {
-            line: _,
-            body,
-            test,
-        } => larger(statement_depth(body), expression_depth(test)) + 1,
+        Stmt::ReturnNothing { .. } => 1,
+        Stmt::ReturnValue { value, .. } => expression_depth(value) + 1,
+        Stmt::Empty { .. } => 1,
+        Stmt::While { test, body, .. } => larger(expression_depth(test), statement_depth(body)) + 1,
+        Stmt::Do { body, test, .. } => larger(statement_depth(body), expression_depth(test)) + 1,
         Stmt::For {
-            line: _,
             first,
             test,
             last,
             body,
+            ..
         } => larger(
             value_depth(first),
             larger(
@@ -307,11 +272,11 @@ fn statement_depth(statement: &Stmt) -> u32
             ),
         ) + 1,
         Stmt::ForDeclared {
-            line: _,
             declaration,
             test,
             last,
             body,
+            ..
         } => larger(
             declaration_depth(declaration),
             larger(
@@ -319,25 +284,15 @@ fn statement_depth(statement: &Stmt) -> u32
                 larger(value_depth(last), statement_depth(body)),
             ),
         ) + 1,
-        Stmt::Switch {
-            line: _,
-            value,
-            body,
-        } => larger(expression_depth(value), statement_depth(body)) + 1,
-        Stmt::Case {
-            line: _,
-            value,
-            body,
-        } => larger(expression_depth(value), statement_depth(body)) + 1,
-        Stmt::Default { line: _, body } => statement_depth(body) + 1,
-        Stmt::Label {
-            line: _,
-            name: _,
-            body,
-        } => statement_depth(body) + 1,
-        Stmt::Goto { line: _, name: _ } => 1,
-        Stmt::Break { line: _ } => 1,
-        Stmt::Continue { line: _ } => 1,
+        Stmt::Switch { value, body, .. } => larger(expression_depth(value), statement_depth(body))
+            + 1,
+        Stmt::Case { value, body, .. } => larger(expression_depth(value), statement_depth(body))
+            + 1,
+        Stmt::Default { body, .. } => statement_depth(body) + 1,
+        Stmt::Label { body, .. } => statement_depth(body) + 1,
+        Stmt::Goto { .. } => 1,
+        Stmt::Break { .. } => 1,
+        Stmt::Continue { .. } => 1,
     }
 }
 

@@ -5,6 +5,7 @@ ghost use Rattle.c_tree.specs.Tree.{no_suffix, unnamed, view, views_of, view_dec
 
 use crate::expr::{ArraySuffix, Declarator, DeclaratorCore, Expr};
 
+/// The larger of two numbers of levels.
 pub fn larger(a: u32, b: u32) -> u32
     ensures { result ≡ max a b }
 {
@@ -29,8 +30,8 @@ fn suffix_depth(suffix: &ArraySuffix) -> u32
     ensures { result ≡ suffixes_depth (view_suffix suffix.now no_suffix) }
 {
     match suffix {
-        ArraySuffix::Bounded { line: _, bound } => expression_depth(bound),
-        ArraySuffix::Open { line: _ } => 0,
+        ArraySuffix::Bounded { bound, .. } => expression_depth(bound),
+        ArraySuffix::Open { .. } => 0,
     }
 }
 
@@ -66,8 +67,8 @@ pub fn declarator_depth(declarator: &Declarator) -> u32
         DeclaratorCore::Absent => {
             unnamed_depth(&declarator.suffixes, suffixes_depth(&declarator.suffixes))
         }
-        DeclaratorCore::Named { line: _, name: _ } => suffixes_depth(&declarator.suffixes) + 1,
-        DeclaratorCore::Inside { line: _, inner } => {
+        DeclaratorCore::Named { .. } => suffixes_depth(&declarator.suffixes) + 1,
+        DeclaratorCore::Inside { inner, .. } => {
             larger(
                 declarator_depth(inner),
                 suffixes_depth(&declarator.suffixes),
@@ -83,65 +84,36 @@ pub fn expression_depth(expr: &Expr) -> u32
     ensures { result ≡ depth (view expr.now) }
 {
     match expr {
-        Expr::Constant {
-            line: _,
-            constant: _,
-        } => 1,
-        Expr::Character { line: _, value: _ } => 1,
-        Expr::Strings { line: _, parts: _ } => 1,
-        Expr::Name { line: _, name: _ } => 1,
-        Expr::Parens { line: _, inner } => expression_depth(inner) + 1,
-        Expr::Unary {
-            line: _,
-            operator: _,
-            operand,
-        } => expression_depth(operand) + 1,
+        Expr::Constant { .. } => 1,
+        Expr::Character { .. } => 1,
+        Expr::Strings { .. } => 1,
+        Expr::Name { .. } => 1,
+        Expr::Parens { inner, .. } => expression_depth(inner) + 1,
+        Expr::Unary { operand, .. } => expression_depth(operand) + 1,
         Expr::Cast {
-            line: _,
             type_name,
             operand,
+            ..
         } => larger(
             declarator_depth(&type_name.declarator),
             expression_depth(operand),
         ) + 1,
-        Expr::SizeofExpr { line: _, operand } => expression_depth(operand) + 1,
-        Expr::SizeofType { line: _, type_name } => declarator_depth(&type_name.declarator) + 1,
-        Expr::Step {
-            line: _,
-            operator: _,
-            operand,
-        } => expression_depth(operand) + 1,
-        Expr::Member {
-            line: _,
-            left,
-            name: _,
-        } => expression_depth(left) + 1,
-        Expr::Binary {
-            line: _,
-            operator: _,
-            left,
-            right,
-        } => larger(expression_depth(left), expression_depth(right)) + 1,
-        Expr::Choice {
-            line: _,
-            test,
-            yes,
-            no,
-        } => larger(
+        Expr::SizeofExpr { operand, .. } => expression_depth(operand) + 1,
+        Expr::SizeofType { type_name, .. } => declarator_depth(&type_name.declarator) + 1,
+        Expr::Step { operand, .. } => expression_depth(operand) + 1,
+        Expr::Member { left, .. } => expression_depth(left) + 1,
+        Expr::Binary { left, right, .. } => larger(expression_depth(left), expression_depth(right))
+            + 1,
+        Expr::Choice { test, yes, no, .. } => larger(
             expression_depth(test),
             larger(expression_depth(yes), expression_depth(no)),
         ) + 1,
-        Expr::Assign {
-            line: _,
-            operator: _,
-            place,
-            value,
-        } => larger(expression_depth(place), expression_depth(value)) + 1,
-        Expr::Comma {
-            line: _,
-            left,
-            right,
-        } => larger(expression_depth(left), expression_depth(right)) + 1,
+        Expr::Assign { place, value, .. } => larger(
+            expression_depth(place),
+            expression_depth(value),
+        ) + 1,
+        Expr::Comma { left, right, .. } => larger(expression_depth(left), expression_depth(right))
+            + 1,
         Expr::Call {
             function,
             arguments,

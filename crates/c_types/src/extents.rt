@@ -12,7 +12,7 @@ use crate::sizes::{MOST_BYTES, alignment, total_size};
 use crate::types::Ty;
 use std::alloc::{AllocError, Global};
 
-// How a struct or union lies in memory.
+/// How a struct or union lies in memory.
 #[derive(Drop)]
 pub struct Extent {
     pub offsets: Vec<u32>,
@@ -28,7 +28,7 @@ struct Filled {
     alignment: u32,
 }
 
-// The least multiple of an alignment at or above an offset.
+/// The least multiple of an alignment at or above an offset.
 pub fn next_multiple(offset: u32, alignment: u32) -> u64
     requires { 1 ≤ alignment }
     ensures { result ≡ padded offset alignment }
@@ -94,7 +94,7 @@ pub fn struct_extent(
     })
 }
 
-// The greatest of the sizes and the greatest of the alignments of these types. None where one is too large.
+/// The greatest of the sizes and the greatest of the alignments of these types. None where one is too large.
 pub fn greatest(members: &[Ty], layouts: &Layouts) -> Option<(u32, u32)>
     ensures sized { MatchOption result (are_sized layouts.now.done (views members.now) ≡ false) (λ _. are_sized layouts.now.done (views members.now) ≡ true) }
     ensures size { MatchOption result ⊤ (λ g. g.0 ≡ greatest_size (record_layout layouts.now.done) (views members.now)) }

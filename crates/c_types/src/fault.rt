@@ -1,3 +1,5 @@
+//! Why there is no type or no layout.
+
 ghost use Rattle.std.specs.Prelude.{◌≡◌};
 ghost use Rattle.c_types.specs.declared.fault.LayoutError.TheVariants as errors;
 

@@ -1,3 +1,5 @@
+//! The integer types, their widths, their ranks and their conversions.
+
 ghost use Rattle.std.specs.Prelude.{◌≡◌, ◌≤◌, true};
 ghost use Rattle.c_types.specs.Integers.{width, is_signed, rank, unsigned_of, bytes, promoted, mixed_type, common_type};
 

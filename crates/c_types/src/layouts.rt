@@ -1,3 +1,5 @@
+//! The layouts of structs and unions.
+
 ghost use Rattle.std.specs.Prelude.{◌≡◌, ◌≤◌, ◌<◌, ◌^◌, ◌++◌, ◌∷◌, [], true, false, length, slice_get, None, Some, MatchOption, IfOk, IfErr, OnErr};
 ghost use Rattle.c_types.specs.Types.{Completed, view, views};
 ghost use Rattle.c_types.specs.Layouts.{is_completed, completed_at, record_layout, are_complete, fits, with_completed, most_bytes, kind_at, members_of, layout_of, IsBuilt, Refuses};

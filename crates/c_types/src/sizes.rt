@@ -23,7 +23,7 @@ pub fn is_complete(type_: &Ty, layouts: &Layouts) -> bool
             Ty::Void => return false,
             Ty::Integer(_) => return true,
             Ty::Record(place) => return layouts.is_completed(*place),
-            Ty::Array { element, length: _ } => inner = element,
+            Ty::Array { element, .. } => inner = element,
         }
     }
 }
@@ -71,7 +71,7 @@ fn bytes_of(all: u64, most: u64, size: u32) -> Option<u32>
     Some((all * size as u64) as u32)
 }
 
-// The bytes of a type, 0 where it is incomplete. None where an array within has too many.
+/// The bytes of a type, 0 where it is incomplete. None where an array within has too many.
 pub fn total_size(type_: &Ty, layouts: &Layouts) -> Option<u32>
     ensures sized { MatchOption result (is_sized layouts.now.done (view type_.now) ≡ false) (λ _. is_sized layouts.now.done (view type_.now) ≡ true) }
     ensures size { MatchOption result ⊤ (λ s. s ≡ size_of layouts.now.done (view type_.now)) }
@@ -95,7 +95,7 @@ pub fn total_size(type_: &Ty, layouts: &Layouts) -> Option<u32>
     }
 }
 
-// The alignment of a type, 1 where it is incomplete.
+/// The alignment of a type, 1 where it is incomplete.
 pub fn alignment(type_: &Ty, layouts: &Layouts) -> u32
     ensures is { result ≡ alignment_of layouts.now.done (view type_.now) }
     ensures positive { 1 ≤ result }
@@ -106,7 +106,7 @@ pub fn alignment(type_: &Ty, layouts: &Layouts) -> u32
             Ty::Void => return 1,
             Ty::Integer(integer) => return integer.size(),
             Ty::Record(place) => return layouts.record_alignment(*place),
-            Ty::Array { element, length: _ } => inner = element,
+            Ty::Array { element, .. } => inner = element,
         }
     }
 }

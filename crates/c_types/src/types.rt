@@ -1,3 +1,5 @@
+//! The types of C that are accepted.
+
 ghost use Rattle.std.specs.Prelude.{◌≡◌, ◌↔◌, true, IfOk};
 ghost use Rattle.c_types.specs.Types.{view};
 

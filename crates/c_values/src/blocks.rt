@@ -1,3 +1,5 @@
+//! Blocks of bytes, and numbers in them.
+
 ghost use Rattle.std.specs.Prelude.{◌≡◌, ◌+◌, ◌<◌, ◌≤◌, ◌^◌, length, drop, slice_index, IfOk};
 ghost use Rattle.std.specs.Int.{from_le_bytes};
 ghost use Rattle.c_types.specs.Integers.{width};

@@ -1,3 +1,5 @@
+//! The words that an object is drawn in.
+
 ghost use Rattle.std.specs.Prelude.{◌≡◌, ◌≤◌};
 ghost use Rattle.c_values.specs.Variables as variables;
 

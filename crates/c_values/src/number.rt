@@ -1,3 +1,5 @@
+//! Numbers of an integer type, and C's operations on them.
+
 ghost use Rattle.std.specs.Prelude.{◌≡◌, ◌+◌, ◌-◌, ◌^◌, ◌<◌, ◌≤◌, pos, not, ◌&&◌, int_le, int_lt, true, None, Some, MatchResult, nat_lt};
 ghost use Rattle.c_types.specs.Integers.{width, is_signed, same_integer};
 ghost use Rattle.core_tree.specs.Operations as operations;
@@ -31,6 +33,7 @@ impl Model for Number {
 }
 
 impl Number {
+    /// The number of a type with these bits, which are below 2 to the type's width.
     pub fn new(type_: IntegerType, bits: u64) -> Number
         requires { bits < 2 ^ width type_ }
         ensures value { result ≡ typed type_ bits }
@@ -39,7 +42,7 @@ impl Number {
         Number { type_, bits }
     }
 
-    // 1 or 0 of type int.
+    /// 1 or 0 of type int.
     pub fn of_truth(truth: bool) -> Number
         ensures { result ≡ typed IntegerType.Int (truth_bits truth) }
     {
@@ -49,6 +52,7 @@ impl Number {
         }
     }
 
+    /// The bits, below 2 to the type's width.
     pub fn bits(self) -> u64
         ensures value { result ≡ self.bits }
         ensures within { result < 2 ^ width self.type }
@@ -56,12 +60,14 @@ impl Number {
         self.bits
     }
 
+    /// The type.
     pub fn type_of(self) -> IntegerType
         ensures { result ≡ self.type }
     {
         self.type_
     }
 
+    /// Whether it isn't 0.
     pub fn is_true(self) -> bool
         ensures { result ≡ is_true self.bits }
     {
@@ -86,7 +92,7 @@ impl Number {
         }
     }
 
-    // The same bits, of another type of the same width.
+    /// The same bits, of another type of the same width.
     pub fn retyped(self, type_: IntegerType) -> Number
         requires { width self.type ≡ width type_ }
         ensures { result ≡ typed type_ self.bits }

@@ -1,3 +1,5 @@
+//! Pointers as numbers.
+
 ghost use Rattle.std.specs.Prelude.{◌≡◌, ◌<◌, ◌^◌};
 ghost use Rattle.c_values.specs.Variables as variables;
 

@@ -1,3 +1,5 @@
+//! Tests of what the search answers.
+
 // Programs with functions, loops, switches and jumps: their verdicts under bounds, and their refusals.
 
 ghost use Rattle.std.specs.Prelude.{◌≡◌, IfOk, IfSome};

@@ -31,9 +31,9 @@ use Rattle.c_elab_base.specs.Declarators.{with_typedef, with_function_typedef, w
 use Rattle.c_elab_type.specs.Declarators.{Typed, typed_typedef, typed_function_typedef, typed_variable, in_front, variable_type, declared_item}
 use Rattle.c_elab_base.specs.Specifiers.{Fields, Parted, Passed, with_named, with_type_part, fields_within, fields_out, with_members, said_before, fields_behind, with_anonymous, has_untagged, is_none, is_anonymous, with_member, with_field, judged_parameter, declared_parameter, ended, inner_region, are_several, parted, named_parts, counted_in_front, called_in_front, lone_tag, with_lone, role_of}
 use Rattle.c_elab_type.specs.Specifiers.{Specification, typed_enumeration, said_bound, typed_part, typed_parts, typed_members, typed_fields, typed_full, typed_suffixes, typed_parameters, typed_specifiers}
-use Rattle.c_elab_object.specs.LastingObjects.{typed_object, with_object, changed_object, added_object, declared_object, initialized_object, lasting_node, earlier_linked, linked_object, lasting_type, may_define, counted_by, element_of, declared_again}
+use Rattle.c_elab_object.specs.ObjectEntries.{typed_object, with_object, changed_object, added_object, declared_object, initialized_object, object_entry_node, earlier_linked, linked_object, object_entry_type, may_define, counted_by, element_of, declared_again}
 use Rattle.c_elab_object.specs.Functions.{function_node, first_callable, callable_again, changed_callable, declared_callable, declared_function, declared_or_built_in, with_meaning, typed_function}
-use Rattle.c_elab_object.specs.Listed.{typedef_by, typed_typedefs, object_by, typed_objects, variable_by, typed_variables, typed_others, typed_by, typed_declaration, in_file, typed_outside}
+use Rattle.c_elab_object.specs.DeclaratorLists.{typedef_by, typed_typedefs, object_by, typed_objects, variable_by, typed_variables, typed_others, typed_by, typed_declaration, in_file, typed_outside}
 use Rattle.c_elab_flow.specs.Jumps.{jumps_in, is_passed}
 use Rattle.c_elab_flow.specs.Nodes.{Around, in_loop, in_switch, with_loop, with_label, with_switch, switch_type, part_ignored, part_tested, return_node, return_nothing_node, jump_node, test_node, switch_value, case_node, default_node, label_node}
 use Rattle.c_elab_decl.specs.Statements.{TypedStatement, TypedFront, in_block, as_block, own_block, as_items, switch_of, typed_rest, typed_statement, typed_front, typed_items}
@@ -228,7 +228,7 @@ module _ (P : List ℕ → Type 0) where
     member_declarations_good r f no_member fine = ok _ _ fine
     member_declarations_good r f (members parts ds rest) fine =
         bind (λ q. q.scope) (λ g. g.scope) (typed_parts r (is_none ds) (said_before f) parts) _ (parts_good r (is_none ds) (said_before f) parts fine) (λ p h.
-        pass (λ g. g.scope) (on_line (parts_line parts) (specified_type p.said)) _ (λ n.
+        pass (λ g. g.scope) (on_line (parts_line parts) (specified_type p.specified)) _ (λ n.
         bind (λ g. g.scope) (λ g. g.scope) (typed_fields r n (fields_behind f parts ds p n) ds) _
         (fields_good r n (fields_behind f parts ds p n) ds (anonymous_fine (is_none ds && has_untagged parts) n (record { fields = f.fields; names = p.names; scope = p.scope }) h))
         (λ g k. member_declarations_good r g rest k)))
@@ -259,7 +259,7 @@ module _ (P : List ℕ → Type 0) where
     parameters_good r several p no_parameter fine = ok _ _ fine
     parameters_good r several p (parameter parts d rest) fine =
         bind (λ x. x.1) (λ q. q.scope) (named_parts parts (typed_parts r false (parted [] p.scope) parts)) _
-        (bind (λ q. q.scope) (λ x. x.1) (typed_parts r false (parted [] p.scope) parts) _ (parts_good r false (parted [] p.scope) parts fine) (λ q h. pass (λ x. x.1) (on_line (parts_line parts) (specified_type q.said)) _ (λ n. ok _ _ h)))
+        (bind (λ q. q.scope) (λ x. x.1) (typed_parts r false (parted [] p.scope) parts) _ (parts_good r false (parted [] p.scope) parts fine) (λ q h. pass (λ x. x.1) (on_line (parts_line parts) (specified_type q.specified)) _ (λ n. ok _ _ h)))
         (λ x h. bind (λ q. q.scope) (λ q. q.scope) (judged_parameter r several p parts x.0 d (typed_full x.1 d)) _
         (bind (λ y. y.1) (λ q. q.scope) (typed_full x.1 d) _ (full_good x.1 d h) (λ y k. pass (λ q. q.scope) _ _ (λ t. ok _ _ (parameter_fine _ _ _ k k))))
         (λ q k. parameters_good r several q rest k))
@@ -272,7 +272,7 @@ module _ (P : List ℕ → Type 0) where
   specifiers_good r s parts ds fine =
       bind (λ q. q.scope) (λ x. x.scope) (typed_parts r false (record (parted [] s) { scope = with_lone r s (lone_tag parts ds) }) parts) _
       (parts_good r false (record (parted [] s) { scope = with_lone r s (lone_tag parts ds) }) parts (lone_fine r s (lone_tag parts ds) fine))
-      (λ p h. pass (λ x. x.scope) (on_line (parts_line parts) (specified_type p.said)) _ (λ t. ok _ _ h))
+      (λ p h. pass (λ x. x.scope) (on_line (parts_line parts) (specified_type p.specified)) _ (λ t. ok _ _ h))
 
   -- ---- declarators
 
@@ -318,7 +318,7 @@ module _ (P : List ℕ → Type 0) where
 
   object_good : (r : Region) (is_extern : Bool) (s : Scoped) (base : Named) (d : Full) (i : Option Initial) (x : Derivation) → Fine s → P (name_of d) → Good itself (object_by r is_extern s base d i x)
   object_good r is_extern s base d i (lengths ls) fine p =
-      pass itself (on_line (full_line d) (lasting_node s base.constant (earlier_linked r is_extern s (name_of d)) (linked_object r is_extern s (name_of d)) (lasting_type s.records.done base.type is_extern i ls) i)) _ (λ x.
+      pass itself (on_line (full_line d) (object_entry_node s base.constant (earlier_linked r is_extern s (name_of d)) (linked_object r is_extern s (name_of d)) (object_entry_type s.records.done base.type is_extern i ls) i)) _ (λ x.
       pass itself (may_define (full_line d) r is_extern i) _ (λ may.
       let within = declared_object s (r.is_file || is_extern) base.constant (name_of d) (linked_object r is_extern s (name_of d)) (counted_by (is_some i && is_open ls) x (element_of x.0)) (not is_extern || is_some i) (full_line d) in
       pass itself (initializer_of true (full_line d) within.1 x.0 i) _ (λ v.
@@ -341,7 +341,7 @@ module _ (P : List ℕ → Type 0) where
   others_good : (r : Region) (x : Specification) (role : Role) (ds : Declarators) → Fine x.scope → AreNamed ds → Good itself (typed_others r x role ds)
   others_good r x roles.Typedef ds fine named = typedefs_good r x.scope x.type ds fine
   others_good r x roles.Extern ds fine named = objects_good r true x.scope x.type ds fine named
-  others_good r x roles.Lasting ds fine named = objects_good r false x.scope x.type ds fine named
+  others_good r x roles.Static ds fine named = objects_good r false x.scope x.type ds fine named
   others_good r x roles.Automatic ds fine named = objects_good r false x.scope x.type ds fine named
 
   abbrev Behind : (Scoped → Typed) → Type 0
@@ -367,7 +367,7 @@ module _ (P : List ℕ → Type 0) where
   by_good : (r : Region) (x : Specification) (role : Role) (passed : Bool) (ds : Declarators) (behind : Scoped → Typed) → Fine x.scope → AreNamed ds → Behind behind → Good (λ y. y.1) (typed_by r x role passed ds behind)
   by_good r x roles.Typedef passed ds behind fine named later = bind itself (λ y. y.1) (typed_others r x roles.Typedef ds) behind (others_good r x roles.Typedef ds fine named) later
   by_good r x roles.Extern passed ds behind fine named later = bind itself (λ y. y.1) (typed_others r x roles.Extern ds) behind (others_good r x roles.Extern ds fine named) later
-  by_good r x roles.Lasting passed ds behind fine named later = bind itself (λ y. y.1) (typed_others r x roles.Lasting ds) behind (others_good r x roles.Lasting ds fine named) later
+  by_good r x roles.Static passed ds behind fine named later = bind itself (λ y. y.1) (typed_others r x roles.Static ds) behind (others_good r x roles.Static ds fine named) later
   by_good r x roles.Automatic passed ds behind fine named later = variables_good r x.scope x.type passed ds behind fine named later
 
   declaration_good : (r : Region) (s : Scoped) (passed : Bool) (parts : Parts) (ds : Declarators) (behind : Scoped → Typed) → Fine s → AreNamed ds → Behind behind → Good (λ y. y.1) (typed_declaration r s passed parts ds behind)
@@ -464,7 +464,7 @@ module _ (P : List ℕ → Type 0) where
   definition_good : (s : Scoped) (parts : Parts) (d : Full) (body : Statement) → Fine s → P (name_of d) → StatementNamed body → Good (λ y. y.1) (typed_definition s parts d body)
   definition_good s parts d body fine p named =
       bind (λ x. x.1) (λ y. y.1) (named_parts parts (typed_parts in_file false (parted [] s) parts)) _
-      (bind (λ q. q.scope) (λ x. x.1) (typed_parts in_file false (parted [] s) parts) _ (parts_good in_file false (parted [] s) parts fine) (λ q h. pass (λ x. x.1) (on_line (parts_line parts) (specified_type q.said)) _ (λ n. ok _ _ h)))
+      (bind (λ q. q.scope) (λ x. x.1) (typed_parts in_file false (parted [] s) parts) _ (parts_good in_file false (parted [] s) parts fine) (λ q h. pass (λ x. x.1) (on_line (parts_line parts) (specified_type q.specified)) _ (λ n. ok _ _ h)))
       (λ x h. bind (λ y. y.1.scope) (λ y. y.1) (own_suffixes x.1 d (own_parameters d)) _ (own_suffixes_good x.1 d (own_parameters d) h) (λ q k.
       pass (λ y. y.1) (on_line (full_line d) (definition_type x.1 x.0 d q.0 q.1)) _ (λ f.
       bind (λ y. y.1) (λ y. y.1) (typed_body_of (length x.1.bindings + 1) (within_body x.1 q.1.scope d f) body) _

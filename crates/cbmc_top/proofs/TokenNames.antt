@@ -15,7 +15,7 @@ use Rattle.c_lexer.specs.Literals.{string_bytes, character_byte}
 use Rattle.c_lexer.specs.Forms.{begins, runs_on, in_word, is_word, is_number, is_literal}
 use Rattle.c_lexer.specs.Kinds.{is_foreign, word_kind, number_kind, literal_kind, mark_kind, int_bits, kind_of}
 use Rattle.c_token.specs.Spelling.{text_of}
-use Rattle.c_lexer.specs.Places.{Stands, StandsAs, token_or_fault, start_of}
+use Rattle.c_lexer.specs.Positions.{Stands, StandsAs, token_or_fault, start_of}
 use Rattle.c_lexer.specs.Cutting.{bytes_of, lines_of, characters, behind, tokens_of, in_front, Reads, IsCutInto, start}
 use Rattle.c_token.specs.declared.token.Token.{Token}
 use Rattle.c_token.specs.declared.token.Kind.{Kind}
@@ -27,7 +27,7 @@ use Rattle.c_lexer.specs.declared.piece.Piece.{Piece}
 use Rattle.c_lexer.specs.declared.piece.Piece.TheVariants as pieces
 use Rattle.c_lexer.specs.declared.piece.Start.{Start}
 use Rattle.c_lexer.specs.declared.piece.Start.TheVariants as starts
-use Rattle.c_lexer.specs.declared.place.Place.{Place}
+use Rattle.c_lexer.specs.declared.position.Position.{Position}
 use Rattle.c_tree.specs.Names.{Scope, built_in_names}
 use Rattle.c_tree.specs.Spelling.{Single, Behind, Then, Nothing, IsMark, Names}
 use Rattle.c_tree.specs.Tree.{Tree}
@@ -195,25 +195,25 @@ token_text starts.Token behind_prefix text kind n (inl h) =
     subst (λ (m : ℕ). kind_of (take m text) ≡ Ok kind) found.0 found.1
 token_text starts.Token behind_prefix text kind n (inr h) = absurd (let e = h.1 in cc)
 
-piece_named : (bytes lines : List ℕ) (place : Place) (p : Piece) → Stands place.behind_prefix (drop place.at bytes) (Ok p) → AllNamed bytes (tokens_of lines place p)
-piece_named bytes lines place pieces.Newline stands = tt
-piece_named bytes lines place pieces.Space stands = tt
-piece_named bytes lines place (pieces.Comment n) stands = tt
-piece_named bytes lines place (pieces.Token kind n) stands =
-    ((λ is_name. word_is (take n (drop place.at bytes)) (name_is_word (take n (drop place.at bytes)) (token_text (start_of (drop place.at bytes)) place.behind_prefix (drop place.at bytes) kind n stands ∙ ap (λ (k : Kind). Ok k) is_name))), tt)
+piece_named : (bytes lines : List ℕ) (position : Position) (p : Piece) → Stands position.behind_prefix (drop position.at bytes) (Ok p) → AllNamed bytes (tokens_of lines position p)
+piece_named bytes lines position pieces.Newline stands = tt
+piece_named bytes lines position pieces.Space stands = tt
+piece_named bytes lines position (pieces.Comment n) stands = tt
+piece_named bytes lines position (pieces.Token kind n) stands =
+    ((λ is_name. word_is (take n (drop position.at bytes)) (name_is_word (take n (drop position.at bytes)) (token_text (start_of (drop position.at bytes)) position.behind_prefix (drop position.at bytes) kind n stands ∙ ap (λ (k : Kind). Ok k) is_name))), tt)
 
 abbrev FoundNamed : List ℕ → Result (List Token) LexError → Type 0
 FoundNamed bytes (Ok tokens) = AllNamed bytes tokens
 FoundNamed bytes (Err e) = Unit {0}
 
-reads_named : (bytes lines : List ℕ) (ps : List Piece) (place : Place) (found : Result (List Token) LexError) → Reads bytes lines ps place found → FoundNamed bytes found
-reads_named bytes lines [] place found (inl h) = subst (FoundNamed bytes) (sym h.1) tt
-reads_named bytes lines [] place found (inr h) = subst (FoundNamed bytes) (sym h.2) tt
-reads_named bytes lines (p ∷ ps) place found h =
-    subst (FoundNamed bytes) (sym h.1.2) (in_front_named h.1.0 (reads_named bytes lines ps (behind bytes place p) h.1.0 h.1.1))
+reads_named : (bytes lines : List ℕ) (ps : List Piece) (position : Position) (found : Result (List Token) LexError) → Reads bytes lines ps position found → FoundNamed bytes found
+reads_named bytes lines [] position found (inl h) = subst (FoundNamed bytes) (sym h.1) tt
+reads_named bytes lines [] position found (inr h) = subst (FoundNamed bytes) (sym h.2) tt
+reads_named bytes lines (p ∷ ps) position found h =
+    subst (FoundNamed bytes) (sym h.1.2) (in_front_named h.1.0 (reads_named bytes lines ps (behind bytes position p) h.1.0 h.1.1))
   where
-    in_front_named : (more : Result (List Token) LexError) → FoundNamed bytes more → FoundNamed bytes (in_front (tokens_of lines place p) more)
-    in_front_named (Ok more) all = named_both bytes (tokens_of lines place p) more (piece_named bytes lines place p h.0) all
+    in_front_named : (more : Result (List Token) LexError) → FoundNamed bytes more → FoundNamed bytes (in_front (tokens_of lines position p) more)
+    in_front_named (Ok more) all = named_both bytes (tokens_of lines position p) more (piece_named bytes lines position p h.0) all
     in_front_named (Err e) all = tt
 
 tokens_named : (file : List ℕ) (tokens : List Token) → IsCutInto file (Ok tokens) → AllNamed (bytes_of file) tokens

@@ -148,14 +148,10 @@ fn in_profile(alloc: Global, core: Core) -> Result<Admitted, Stop>
 {
     match admit(alloc, core) {
         Ok(file) => Ok(file),
-        Err(
-            c_profile::Refusal::Outside {
-                core: _,
-                line,
-                rule,
-            },
-        ) => { Err(Stop::Refused(Refusal::new(12, line, Some(rule)))) }
-        Err(c_profile::Refusal::Memory { core: _ }) => Err(Stop::Memory),
+        Err(c_profile::Refusal::Outside { line, rule, .. }) => {
+            Err(Stop::Refused(Refusal::new(12, line, Some(rule))))
+        }
+        Err(c_profile::Refusal::Memory { .. }) => Err(Stop::Memory),
     }
 }
 

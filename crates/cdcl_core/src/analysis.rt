@@ -1,3 +1,5 @@
+//! What a conflict teaches: the first unique implication point, with the clauses that it comes from (1UIP).
+
 ghost use Rattle.std.specs.Prelude.{◌≡◌, ℕ, suc, ◌+◌, ◌<◌, ◌≤◌, ◌⊎◌, min, max, Bool, List, [], ◌∷◌, ◌++◌, None, Some, length, reverse, slice_get, IsSome, IsSomeAnd, IfOk, OnOk};
 ghost use Rattle.sat_form.specs.Satisfaction.{Literal, IsWithin, AreWithin};
 ghost use Rattle.cdcl_core.specs.Steps.{known_value, oldest, AreFresh, decision_places};

@@ -1,3 +1,5 @@
+//! Lists of literals and of numbers, written in place.
+
 ghost use Rattle.std.specs.Prelude.{◌≡◌, ◌<◌, [], ℕ, Some, IfOk, OnOk, length, slice_get, slice_index_or};
 ghost use Rattle.sat_form.specs.Satisfaction.{index_of};
 

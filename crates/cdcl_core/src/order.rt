@@ -1,3 +1,5 @@
+//! The order in which variables are decided.
+
 ghost use Rattle.std.specs.Prelude.{◌≡◌, ◌^◌, ◌<◌, None, IfSome};
 ghost use Rattle.cdcl_core.specs.Steps.{known_value};
 

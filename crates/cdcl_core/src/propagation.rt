@@ -1,3 +1,5 @@
+//! Unit propagation over watched literals.
+
 ghost use Rattle.std.specs.Prelude.{◌≢◌, ◌<◌, IfSome, IfNone, Contains};
 ghost use Rattle.sat_form.specs.Satisfaction.{IsWithin};
 ghost use Rattle.cdcl_core.specs.Watched.{IsNotFalse, AreFalseBeside};

@@ -1,3 +1,5 @@
+//! The search: propagate, analyze, backjump, decide, until there is a model, a refutation, or no budget.
+
 ghost use Rattle.std.specs.Prelude.{◌≡◌, ◌≢◌, ℕ, ◌^◌, ◌<◌, ◌≤◌, false, [], ◌∷◌, ◌++◌, length, take, IsTrue, IsFalse, IsSome, IfOk, OnOk, IfNone, IfSome, Some, None, Contains, List, slice_get, slice_index};
 ghost use Rattle.sat_form.specs.Satisfaction.{Form, Literal, IsWithin};
 ghost use Rattle.cdcl_core.specs.Steps.{known_value, known_truth, oldest, decision_places};

@@ -1,3 +1,5 @@
+//! The trail: the literals that hold, with their reasons and levels.
+
 ghost use Rattle.std.specs.Prelude.{◌≡◌, ◌^◌, ◌<◌, ◌≤◌, [], ◌∷◌, ℕ, Bool, true, false, suc, ◌↔◌, None, Some, length, IsTrue, IsSome, IfSome, IfNone, IfOk, OnOk, OnErr};
 ghost use Rattle.sat_form.specs.Satisfaction.{assignment_of};
 ghost use Rattle.cdcl_core.specs.Steps.{Course, known_value, known_place, known_truth, false_literal_of, oldest};

@@ -1,3 +1,5 @@
+//! Which clauses watch a literal.
+
 ghost use Rattle.std.specs.Prelude.{◌≡◌, ◌≢◌, ◌↔◌, [], ◌∷◌, ◌++◌, ◌<◌, suc, Some, IsTrue, IsSomeAnd, IfSome, IfOk, IfNone, OnOk, Contains, length, slice_get, slice_set};
 ghost use Rattle.sat_form.specs.Satisfaction.{Literal, index_of, AreWithin};
 ghost use Rattle.cdcl_core.specs.Settled.{AreFalse};

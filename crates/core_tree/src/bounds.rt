@@ -1,15 +1,17 @@
+//! How often loops are tested and functions called.
+
 ghost use Rattle.std.specs.Prelude.{◌≡◌, ◌≤◌, true};
 ghost use Rattle.core_tree.specs.Ranges.{loop_limits, is_unwinding, is_malloc_limit, are_loop_limits};
 
 use crate::functions::Name;
 use std::marker::Model;
 
-/// The bound of one loop: the name of its function, its number there by keyword from 0, and how many
-/// times its test may be evaluated at each arrival.
+/// The bound of one loop: the name of its function, its number there by keyword from 0, which a command
+/// may give 10 digits, and how many times its test may be evaluated at each arrival.
 #[derive(Drop)]
 pub struct LoopBound {
     pub function: Name,
-    pub number: u32,
+    pub number: u64,
     pub unwind: u32,
 }
 

@@ -1,3 +1,5 @@
+//! Typed expressions, and values of structures.
+
 use crate::operators::{
     ArithmeticOperator, Comparison, LogicalOperator, SignOperator, StepOperator,
 };

@@ -1,3 +1,5 @@
+//! Functions, static objects, and the typed file.
+
 ghost use Rattle.std.specs.Prelude.{◌≡◌, ◌<◌, ◌^◌, true, length, MatchOption, slice_get, option_map};
 ghost use Rattle.core_tree.specs.Trees.{core_file, view_core};
 ghost use Rattle.core_tree.specs.Standing.{stands_file};

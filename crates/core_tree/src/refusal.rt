@@ -1,3 +1,5 @@
+//! Why a file is not supported: the refusals and the limits.
+
 ghost use Rattle.std.specs.Prelude.{◌≡◌, true};
 ghost use Rattle.core_tree.specs.Ranges.{is_refusal};
 

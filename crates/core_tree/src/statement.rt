@@ -1,3 +1,5 @@
+//! Typed statements and items of blocks.
+
 use crate::expression::{CoreExpr, CoreStructure};
 use c_types::IntegerType;
 

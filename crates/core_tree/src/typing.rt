@@ -7,22 +7,12 @@ ghost use Rattle.core_tree.specs.Typed.{type_of, size_of, place_type, place_name
 use crate::expression::{CoreArgument, CoreExpr, CorePart, CoreStructure, Place};
 use c_types::{IntegerType, ValueType};
 
-fn place_type(place: &Place) -> IntegerType
+/// The type of what stands at a place.
+pub fn place_type(place: &Place) -> IntegerType
     ensures { result ≡ place_type place.now }
 {
     match place {
-        Place::Variable {
-            line: _,
-            type_,
-            variable: _,
-            offset: _,
-        }
-        | Place::Object {
-            line: _,
-            type_,
-            object: _,
-            offset: _,
-        } => *type_,
+        Place::Variable { type_, .. } | Place::Object { type_, .. } => *type_,
     }
 }
 
@@ -31,100 +21,27 @@ pub fn type_of(expr: &CoreExpr) -> ValueType
     ensures { result ≡ type_of (view expr.now) }
 {
     match expr {
-        CoreExpr::Constant {
-            line: _,
-            type_,
-            bits: _,
-        } => ValueType::Integer(*type_),
+        CoreExpr::Constant { type_, .. } => ValueType::Integer(*type_),
         CoreExpr::Read { place } => ValueType::Integer(place_type(place)),
-        CoreExpr::Convert { to, operand: _ } => ValueType::Integer(*to),
-        CoreExpr::Sign {
-            line: _,
-            operator: _,
-            operand,
-        } => type_of(operand),
-        CoreExpr::IsZero {
-            line: _,
-            operand: _,
-        } => ValueType::Integer(IntegerType::Int),
-        CoreExpr::Arithmetic {
-            line: _,
-            operator: _,
-            left,
-            right: _,
-        } => type_of(left),
-        CoreExpr::Compare {
-            line: _,
-            operator: _,
-            left: _,
-            right: _,
-        } => ValueType::Integer(IntegerType::Int),
-        CoreExpr::Logical {
-            line: _,
-            operator: _,
-            left: _,
-            right: _,
-        } => ValueType::Integer(IntegerType::Int),
-        CoreExpr::Choice {
-            line: _,
-            test: _,
-            yes,
-            no: _,
-        } => type_of(yes),
-        CoreExpr::Assign {
-            line: _,
-            place,
-            value: _,
-        } => ValueType::Integer(place_type(place)),
-        CoreExpr::Update {
-            line: _,
-            place,
-            operator: _,
-            type_: _,
-            value: _,
-        } => ValueType::Integer(place_type(place)),
-        CoreExpr::Step {
-            line: _,
-            place,
-            operator: _,
-            before: _,
-        } => ValueType::Integer(place_type(place)),
-        CoreExpr::Comma {
-            line: _,
-            left: _,
-            right,
-        } => type_of(right),
-        CoreExpr::Assertion {
-            line: _,
-            condition: _,
-        } => ValueType::Void,
-        CoreExpr::Assumption {
-            line: _,
-            condition: _,
-        } => ValueType::Void,
-        CoreExpr::Draw { line: _, type_ } => ValueType::Integer(*type_),
-        CoreExpr::Member {
-            line: _,
-            type_,
-            offset: _,
-            value: _,
-        } => ValueType::Integer(*type_),
-        CoreExpr::Discard {
-            line: _,
-            operand: _,
-        } => ValueType::Void,
-        CoreExpr::DiscardStructure { value: _ } => ValueType::Void,
-        CoreExpr::Call {
-            line: _,
-            function: _,
-            used: _,
-            type_,
-            arguments: _,
-        } => *type_,
-        CoreExpr::FunctionName {
-            line: _,
-            function: _,
-        } => ValueType::Void,
+        CoreExpr::Convert { to, .. } => ValueType::Integer(*to),
+        CoreExpr::Sign { operand, .. } => type_of(operand),
+        CoreExpr::IsZero { .. } => ValueType::Integer(IntegerType::Int),
+        CoreExpr::Arithmetic { left, .. } => type_of(left),
+        CoreExpr::Compare { .. } => ValueType::Integer(IntegerType::Int),
+        CoreExpr::Logical { .. } => ValueType::Integer(IntegerType::Int),
+        CoreExpr::Choice { yes, .. } => type_of(yes),
+        CoreExpr::Assign { place, .. } => ValueType::Integer(place_type(place)),
+        CoreExpr::Update { place, .. } => ValueType::Integer(place_type(place)),
+        CoreExpr::Step { place, .. } => ValueType::Integer(place_type(place)),
+        CoreExpr::Comma { right, .. } => type_of(right),
+        CoreExpr::Assertion { .. } => ValueType::Void,
+        CoreExpr::Assumption { .. } => ValueType::Void,
+        CoreExpr::Draw { type_, .. } => ValueType::Integer(*type_),
+        CoreExpr::Member { type_, .. } => ValueType::Integer(*type_),
+        CoreExpr::Discard { .. } => ValueType::Void,
+        CoreExpr::DiscardStructure { .. } => ValueType::Void,
+        CoreExpr::Call { type_, .. } => *type_,
+        CoreExpr::FunctionName { .. } => ValueType::Void,
     }
 }
 
@@ -133,64 +50,16 @@ pub fn structure_size(value: &CoreStructure) -> u32
     ensures { result ≡ size_of (view_structure value.now) }
 {
     match value {
-        CoreStructure::Read {
-            line: _,
-            variable: _,
-            offset: _,
-            size,
-        } => *size,
-        CoreStructure::Load {
-            line: _,
-            object: _,
-            offset: _,
-            size,
-        } => *size,
-        CoreStructure::Choice {
-            line: _,
-            test: _,
-            yes,
-            no: _,
-        } => structure_size(yes),
-        CoreStructure::Assign {
-            line: _,
-            variable: _,
-            offset: _,
-            value,
-        } => structure_size(value),
-        CoreStructure::Store {
-            line: _,
-            object: _,
-            offset: _,
-            value,
-        } => structure_size(value),
-        CoreStructure::Comma {
-            line: _,
-            left: _,
-            right,
-        } => structure_size(right),
-        CoreStructure::Member {
-            line: _,
-            offset: _,
-            size,
-            value: _,
-        } => *size,
-        CoreStructure::List {
-            line: _,
-            size,
-            parts: _,
-        } => *size,
-        CoreStructure::String {
-            line: _,
-            size,
-            bytes: _,
-        } => *size,
-        CoreStructure::Call {
-            line: _,
-            function: _,
-            used: _,
-            size,
-            arguments: _,
-        } => *size,
+        CoreStructure::Read { size, .. } => *size,
+        CoreStructure::Load { size, .. } => *size,
+        CoreStructure::Choice { yes, .. } => structure_size(yes),
+        CoreStructure::Assign { value, .. } => structure_size(value),
+        CoreStructure::Store { value, .. } => structure_size(value),
+        CoreStructure::Comma { right, .. } => structure_size(right),
+        CoreStructure::Member { size, .. } => *size,
+        CoreStructure::List { size, .. } => *size,
+        CoreStructure::String { size, .. } => *size,
+        CoreStructure::Call { size, .. } => *size,
     }
 }
 
@@ -199,17 +68,10 @@ fn place_names(variable: u32, place: &Place) -> bool
 {
     match place {
         Place::Variable {
-            line: _,
-            type_: _,
             variable: named,
-            offset: _,
+            ..
         } => variable == *named,
-        Place::Object {
-            line: _,
-            type_: _,
-            object: _,
-            offset: _,
-        } => false,
+        Place::Object { .. } => false,
     }
 }
 
@@ -220,92 +82,37 @@ pub fn names_variable(variable: u32, expr: &CoreExpr) -> bool
     ensures { result ≡ names_variable variable (view expr.now) }
 {
     match expr {
-        CoreExpr::Constant {
-            line: _,
-            type_: _,
-            bits: _,
-        } => false,
+        CoreExpr::Constant { .. } => false,
         CoreExpr::Read { place } => place_names(variable, place),
-        CoreExpr::Convert { to: _, operand } => names_variable(variable, operand),
-        CoreExpr::Sign {
-            line: _,
-            operator: _,
-            operand,
-        } => names_variable(variable, operand),
-        CoreExpr::IsZero { line: _, operand } => names_variable(variable, operand),
-        CoreExpr::Arithmetic {
-            line: _,
-            operator: _,
-            left,
-            right,
-        } => names_variable(variable, left) || names_variable(variable, right),
-        CoreExpr::Compare {
-            line: _,
-            operator: _,
-            left,
-            right,
-        } => names_variable(variable, left) || names_variable(variable, right),
-        CoreExpr::Logical {
-            line: _,
-            operator: _,
-            left,
-            right,
-        } => names_variable(variable, left) || names_variable(variable, right),
-        CoreExpr::Choice {
-            line: _,
-            test,
-            yes,
-            no,
-        } => {
+        CoreExpr::Convert { operand, .. } => names_variable(variable, operand),
+        CoreExpr::Sign { operand, .. } => names_variable(variable, operand),
+        CoreExpr::IsZero { operand, .. } => names_variable(variable, operand),
+        CoreExpr::Arithmetic { left, right, .. } => names_variable(variable, left)
+            || names_variable(variable, right),
+        CoreExpr::Compare { left, right, .. } => names_variable(variable, left)
+            || names_variable(variable, right),
+        CoreExpr::Logical { left, right, .. } => names_variable(variable, left)
+            || names_variable(variable, right),
+        CoreExpr::Choice { test, yes, no, .. } => {
             names_variable(variable, test)
                 || names_variable(variable, yes)
                 || names_variable(variable, no)
         }
-        CoreExpr::Assign {
-            line: _,
-            place,
-            value,
-        } => place_names(variable, place) || names_variable(variable, value),
-        CoreExpr::Update {
-            line: _,
-            place,
-            operator: _,
-            type_: _,
-            value,
-        } => place_names(variable, place) || names_variable(variable, value),
-        CoreExpr::Step {
-            line: _,
-            place,
-            operator: _,
-            before: _,
-        } => place_names(variable, place),
-        CoreExpr::Comma {
-            line: _,
-            left,
-            right,
-        } => names_variable(variable, left) || names_variable(variable, right),
-        CoreExpr::Assertion { line: _, condition } => names_variable(variable, condition),
-        CoreExpr::Assumption { line: _, condition } => names_variable(variable, condition),
-        CoreExpr::Draw { line: _, type_: _ } => false,
-        CoreExpr::Member {
-            line: _,
-            type_: _,
-            offset: _,
-            value,
-        } => structure_names_variable(variable, value),
-        CoreExpr::Discard { line: _, operand } => names_variable(variable, operand),
+        CoreExpr::Assign { place, value, .. } => place_names(variable, place)
+            || names_variable(variable, value),
+        CoreExpr::Update { place, value, .. } => place_names(variable, place)
+            || names_variable(variable, value),
+        CoreExpr::Step { place, .. } => place_names(variable, place),
+        CoreExpr::Comma { left, right, .. } => names_variable(variable, left)
+            || names_variable(variable, right),
+        CoreExpr::Assertion { condition, .. } => names_variable(variable, condition),
+        CoreExpr::Assumption { condition, .. } => names_variable(variable, condition),
+        CoreExpr::Draw { .. } => false,
+        CoreExpr::Member { value, .. } => structure_names_variable(variable, value),
+        CoreExpr::Discard { operand, .. } => names_variable(variable, operand),
         CoreExpr::DiscardStructure { value } => structure_names_variable(variable, value),
-        CoreExpr::Call {
-            line: _,
-            function: _,
-            used: _,
-            type_: _,
-            arguments,
-        } => arguments_name(variable, arguments),
-        CoreExpr::FunctionName {
-            line: _,
-            function: _,
-        } => false,
+        CoreExpr::Call { arguments, .. } => arguments_name(variable, arguments),
+        CoreExpr::FunctionName { .. } => false,
     }
 }
 
@@ -317,67 +124,27 @@ pub fn structure_names_variable(variable: u32, value: &CoreStructure) -> bool
 {
     match value {
         CoreStructure::Read {
-            line: _,
             variable: named,
-            offset: _,
-            size: _,
+            ..
         } => variable == *named,
-        CoreStructure::Load {
-            line: _,
-            object: _,
-            offset: _,
-            size: _,
-        } => false,
-        CoreStructure::Choice {
-            line: _,
-            test,
-            yes,
-            no,
-        } => {
+        CoreStructure::Load { .. } => false,
+        CoreStructure::Choice { test, yes, no, .. } => {
             names_variable(variable, test)
                 || structure_names_variable(variable, yes)
                 || structure_names_variable(variable, no)
         }
         CoreStructure::Assign {
-            line: _,
             variable: named,
-            offset: _,
             value,
+            ..
         } => variable == *named || structure_names_variable(variable, value),
-        CoreStructure::Store {
-            line: _,
-            object: _,
-            offset: _,
-            value,
-        } => structure_names_variable(variable, value),
-        CoreStructure::Comma {
-            line: _,
-            left,
-            right,
-        } => names_variable(variable, left) || structure_names_variable(variable, right),
-        CoreStructure::Member {
-            line: _,
-            offset: _,
-            size: _,
-            value,
-        } => structure_names_variable(variable, value),
-        CoreStructure::List {
-            line: _,
-            size: _,
-            parts,
-        } => parts_name(variable, parts),
-        CoreStructure::String {
-            line: _,
-            size: _,
-            bytes: _,
-        } => false,
-        CoreStructure::Call {
-            line: _,
-            function: _,
-            used: _,
-            size: _,
-            arguments,
-        } => arguments_name(variable, arguments),
+        CoreStructure::Store { value, .. } => structure_names_variable(variable, value),
+        CoreStructure::Comma { left, right, .. } => names_variable(variable, left)
+            || structure_names_variable(variable, right),
+        CoreStructure::Member { value, .. } => structure_names_variable(variable, value),
+        CoreStructure::List { parts, .. } => parts_name(variable, parts),
+        CoreStructure::String { .. } => false,
+        CoreStructure::Call { arguments, .. } => arguments_name(variable, arguments),
     }
 }
 
@@ -398,8 +165,8 @@ fn part_names(variable: u32, part: &CorePart) -> bool
     ensures { (rest : Parts) → (result || parts_name variable rest) ≡ parts_name variable (with_part part.now rest) }
 {
     match part {
-        CorePart::Number { offset: _, value } => names_variable(variable, value),
-        CorePart::Structure { offset: _, value } => structure_names_variable(variable, value),
+        CorePart::Number { value, .. } => names_variable(variable, value),
+        CorePart::Structure { value, .. } => structure_names_variable(variable, value),
     }
 }
 

@@ -1,5 +1,8 @@
+//! Tests of the clauses of gates and of goals.
+
 // Goals that are solved as clauses, and the laws of the operators.
 
+use base_tests::node_values::{NODE_VALUES, YES};
 use bit_blast::{blast, lift};
 use cdcl_core::{Answer, solve};
 use std::alloc::{AllocError, Global};
@@ -55,72 +58,8 @@ fn solved(alloc: Global, dag: &Dag, goal: Id) -> Result<Option<Valuation>, Fail>
     Err("a goal that is no truth value")?
 }
 
-const A: Id = Id { index: 0 };
-
-const B: Id = Id { index: 1 };
-
-const ZERO: Id = Id { index: 2 };
-
-const YES: Id = Id { index: 3 };
-
-const NO: Id = Id { index: 4 };
-
-const MOST: Id = Id { index: 5 };
-
 // Six words, and the values that they are to have.
 static FIRST: [(u32, u64); 6] = [(8, 0x96), (8, 5), (8, 0), (1, 1), (1, 0), (8, 0x7f)];
-
-// A node over these words; its width and its value.
-static ROWS: [(Node, u32, u64); 44] = [
-    (Node::Constant(0xbeef, 16), 16, 0xbeef),
-    (Node::Variable(0, 4), 4, 6),
-    (Node::Not(A), 8, 0x69),
-    (Node::Negate(A), 8, 0x6a),
-    (Node::Binary(BinaryOperator::Add, A, A), 8, 0x2c),
-    (Node::Binary(BinaryOperator::Subtract, B, A), 8, 0x6f),
-    (Node::Binary(BinaryOperator::Multiply, A, B), 8, 0xee),
-    (Node::Binary(BinaryOperator::UnsignedDivide, A, B), 8, 0x1e),
-    (Node::Binary(BinaryOperator::UnsignedDivide, A, ZERO), 8, 0),
-    (Node::Binary(BinaryOperator::SignedDivide, A, B), 8, 0xeb),
-    (Node::Binary(BinaryOperator::SignedDivide, A, ZERO), 8, 0),
-    (Node::Binary(BinaryOperator::UnsignedRemainder, B, A), 8, 5),
-    (
-        Node::Binary(BinaryOperator::UnsignedRemainder, B, ZERO),
-        8,
-        0,
-    ),
-    (Node::Binary(BinaryOperator::SignedRemainder, A, B), 8, 0xff),
-    (Node::Binary(BinaryOperator::SignedRemainder, A, ZERO), 8, 0),
-    (Node::Binary(BinaryOperator::And, A, B), 8, 0x04),
-    (Node::Binary(BinaryOperator::Or, A, B), 8, 0x97),
-    (Node::Binary(BinaryOperator::Xor, A, B), 8, 0x93),
-    (Node::Shift(ShiftKind::Left, A, B), 8, 0xc0),
-    (Node::Shift(ShiftKind::Logical, A, B), 8, 0x04),
-    (Node::Shift(ShiftKind::Arithmetic, A, B), 8, 0xfc),
-    (Node::Shift(ShiftKind::Left, B, A), 8, 0),
-    (Node::Shift(ShiftKind::Logical, A, A), 8, 0),
-    (Node::Shift(ShiftKind::Arithmetic, A, A), 8, 0),
-    (Node::Compare(Comparison::Equal, A, A), 1, 1),
-    (Node::Compare(Comparison::Equal, A, B), 1, 0),
-    (Node::Compare(Comparison::UnsignedLess, B, A), 1, 1),
-    (Node::Compare(Comparison::SignedLess, B, A), 1, 0),
-    (Node::Compare(Comparison::SignedLess, A, B), 1, 1),
-    (Node::Fits(FitsTest::Sum, A, A), 1, 0),
-    (Node::Fits(FitsTest::Sum, A, B), 1, 1),
-    (Node::Fits(FitsTest::Difference, A, MOST), 1, 0),
-    (Node::Fits(FitsTest::Difference, A, B), 1, 1),
-    (Node::Fits(FitsTest::Product, A, B), 1, 0),
-    (Node::Fits(FitsTest::Product, B, B), 1, 1),
-    (Node::Fits(FitsTest::LeftShift, B, B), 1, 0),
-    (Node::Fits(FitsTest::LeftShift, B, A), 1, 0),
-    (Node::Fits(FitsTest::LeftShift, ZERO, A), 1, 1),
-    (Node::Choice(YES, A, B), 8, 0x96),
-    (Node::Choice(NO, A, B), 8, 5),
-    (Node::ZeroExtend(A, 16), 16, 0x0096),
-    (Node::SignExtend(A, 16), 16, 0xff96),
-    (Node::Cut(A, 4, 3), 3, 1),
-    (Node::Join(A, B), 16, 0x9605),
-];
 
 // The first words, as variables, and that each has its value.
 fn first_words(dag: &mut Dag) -> Result<Id, Fail> {
@@ -136,26 +75,40 @@ fn first_words(dag: &mut Dag) -> Result<Id, Fail> {
     Ok(all)
 }
 
+// Whether a node has this value, and can have no other, where the words have theirs.
+fn has_only(alloc: Global, node: Node, width: u32, value: u64) -> Result<bool, Fail> {
+    let mut dag = Dag::new(alloc);
+    let all = first_words(&mut dag)?;
+    let id = made(&mut dag, node)?;
+    let constant = made(&mut dag, Node::Constant(value, width))?;
+    let same = equal(&mut dag, id, constant)?;
+    let goal = binary(&mut dag, BinaryOperator::And, all, same)?;
+    let Some(valuation) = solved(alloc, &dag, goal)? else {
+        return Ok(false);
+    };
+    for (number, (_, value)) in FIRST.iter().enumerate() {
+        if valuation.value(number as u32) != *value {
+            return Ok(false);
+        }
+    }
+    let other = made(&mut dag, Node::Not(same))?;
+    let goal = binary(&mut dag, BinaryOperator::And, all, other)?;
+    Ok(solved(alloc, &dag, goal)?.is_none())
+}
+
+// The first row whose node has another value, or can have one.
+fn wrong_node(alloc: Global, rows: &[(Node, u32, u64)]) -> Result<Option<usize>, Fail> {
+    for (i, (node, width, value)) in rows.iter().enumerate() {
+        if !has_only(alloc, *node, *width, *value)? {
+            return Ok(Some(i));
+        }
+    }
+    Ok(None)
+}
+
 #[test]
 fn each_node_has_its_value_and_no_other(rt: HostRuntime) -> Result<(), Fail> {
-    let alloc = rt.alloc();
-    for (i, (node, width, expected)) in ROWS.iter().enumerate() {
-        let mut dag = Dag::new(alloc);
-        let all = first_words(&mut dag)?;
-        let id = made(&mut dag, *node)?;
-        let constant = made(&mut dag, Node::Constant(*expected, *width))?;
-        let same = equal(&mut dag, id, constant)?;
-        let goal = binary(&mut dag, BinaryOperator::And, all, same)?;
-        let valuation = solved(alloc, &dag, goal)?;
-        assert!(rt; valuation.is_some(), "row {i}");
-        for (number, (_, value)) in FIRST.iter().enumerate() {
-            let found = valuation.as_ref().map(|v| v.value(number as u32));
-            assert_eq!(rt; found, Some(*value), "row {i}");
-        }
-        let other = made(&mut dag, Node::Not(same))?;
-        let goal = binary(&mut dag, BinaryOperator::And, all, other)?;
-        assert!(rt; solved(alloc, &dag, goal)?.is_none(), "row {i}");
-    }
+    assert_eq!(rt; wrong_node(rt.alloc(), &NODE_VALUES)?, None);
     Ok(())
 }
 

@@ -1,3 +1,5 @@
+//! Tests of the guarded events of code.
+
 // Code made by hand, with the events that its equations tell.
 
 ghost use Rattle.std.specs.Prelude.{◌≡◌, true, [], ◌∷◌, IfOk};
@@ -395,24 +397,15 @@ fn told(words: &[Word], event: &Event) -> Option<&'static str> {
         return None;
     }
     match &event.kind {
-        EventKind::Draw { bits: _, answer } => {
+        EventKind::Draw { answer, .. } => {
             if bits(words, *answer)? == 3 {
                 Some("draws 3")
             } else {
                 Some("draws")
             }
         }
-        EventKind::Read {
-            object: _,
-            offset: _,
-            count: _,
-            answer: _,
-        } => Some("reads"),
-        EventKind::Write {
-            object: _,
-            offset: _,
-            bytes,
-        } => {
+        EventKind::Read { .. } => Some("reads"),
+        EventKind::Write { bytes, .. } => {
             if bits(words, *bytes.as_slice().first()?)? == 3 {
                 Some("writes 3")
             } else {

@@ -1,3 +1,5 @@
+//! Tests of the formula of one thread.
+
 // Formulas of events made by hand.
 
 ghost use Rattle.std.specs.Prelude.{IsTrue};
@@ -264,20 +266,11 @@ fn is_in(dag: &Dag, event: &Event) -> bool
         return false;
     }
     match &event.kind {
-        EventKind::Draw { bits: _, answer: _ } => false,
-        EventKind::Read {
-            object: _,
-            offset: _,
-            count,
-            answer,
-        } => are_words(dag, answer.as_slice(), *count),
-        EventKind::Write {
-            object: _,
-            offset: _,
-            bytes,
-        } => are_bytes(dag, bytes.as_slice()),
+        EventKind::Draw { .. } => false,
+        EventKind::Read { count, answer, .. } => are_words(dag, answer.as_slice(), *count),
+        EventKind::Write { bytes, .. } => are_bytes(dag, bytes.as_slice()),
         EventKind::Exit => true,
-        EventKind::Check { class: _, failing } => is_bit(dag, *failing),
+        EventKind::Check { failing, .. } => is_bit(dag, *failing),
         EventKind::Assume { failing } => is_bit(dag, *failing),
     }
 }

@@ -1,3 +1,5 @@
+//! Tests of the search for a model.
+
 // Forms of clauses that are solved, and logs that are checked.
 
 ghost use Rattle.std.specs.Prelude.{◌≡◌, ◌≤◌, length};
@@ -348,6 +350,63 @@ fn expected(operation: Operation, width: u32, mask: u32, a: u32, b: u32) -> u32 
     number & mask
 }
 
+// The literal of an operation whose result is one bit; of any other, whether the operands are equal.
+fn built_bit(
+    alloc: Global,
+    cnf: &mut Cnf,
+    operation: Operation,
+    a: &[Lit],
+    b: &[Lit],
+) -> Result<Lit, AllocError>
+    requires same_width { length a.now ≡ length b.now }
+    requires positive { 1 ≤ length a.now }
+    requires at_most_64 { length a.now ≤ 64 }
+    requires a { IsWithin cnf.old.variables a.now }
+    requires b { IsWithin cnf.old.variables b.now }
+{
+    match operation {
+        Operation::Less => less(alloc, cnf, a, b, false),
+        Operation::SignedLess => less(alloc, cnf, a, b, true),
+        Operation::SumFits => sum_fits(alloc, cnf, a, b),
+        Operation::DifferenceFits => difference_fits(alloc, cnf, a, b),
+        Operation::ProductFits => product_fits(alloc, cnf, a, b),
+        Operation::LeftFits => left_shift_fits(alloc, cnf, a, b),
+        _ => equal(alloc, cnf, a, b),
+    }
+}
+
+// The literals of an operation whose result is a word; of any other, those of its bit.
+fn built_word(
+    alloc: Global,
+    cnf: &mut Cnf,
+    operation: Operation,
+    a: &[Lit],
+    b: &[Lit],
+) -> Result<Lits, AllocError>
+    requires same_width { length a.now ≡ length b.now }
+    requires positive { 1 ≤ length a.now }
+    requires at_most_64 { length a.now ≤ 64 }
+    requires a { IsWithin cnf.old.variables a.now }
+    requires b { IsWithin cnf.old.variables b.now }
+{
+    match operation {
+        Operation::Sum => adder(alloc, cnf, a, b, false),
+        Operation::SumAndOne => adder(alloc, cnf, a, b, true),
+        Operation::Product => multiplier(alloc, cnf, a, b),
+        Operation::Left => shifter(alloc, cnf, Shift::Left, a, b),
+        Operation::Logical => shifter(alloc, cnf, Shift::Logical, a, b),
+        Operation::Arithmetic => shifter(alloc, cnf, Shift::Arithmetic, a, b),
+        Operation::Complement => complement(alloc, a),
+        Operation::Negation => negation(alloc, cnf, a),
+        Operation::Difference => difference(alloc, cnf, a, b),
+        Operation::Conjunction => conjunction(alloc, cnf, a, b),
+        Operation::Disjunction => disjunction(alloc, cnf, a, b),
+        Operation::Exclusive => exclusive(alloc, cnf, a, b),
+        Operation::Choice => choice(alloc, cnf, a[0], a, b),
+        _ => Ok(Lits::new(vec![in alloc; built_bit(alloc, cnf, operation, a, b)?]?)),
+    }
+}
+
 // The literals of the operation's result.
 fn built(
     alloc: Global,
@@ -363,30 +422,11 @@ fn built(
     requires b { IsWithin cnf.old.variables b.now }
 {
     let lits = match operation {
-        Operation::Sum => adder(alloc, cnf, a, b, false)?,
-        Operation::SumAndOne => adder(alloc, cnf, a, b, true)?,
-        Operation::Product => multiplier(alloc, cnf, a, b)?,
         Operation::Quotient => divider(alloc, cnf, a, b, false)?.0,
         Operation::Remainder => divider(alloc, cnf, a, b, false)?.1,
         Operation::SignedQuotient => divider(alloc, cnf, a, b, true)?.0,
         Operation::SignedRemainder => divider(alloc, cnf, a, b, true)?.1,
-        Operation::Left => shifter(alloc, cnf, Shift::Left, a, b)?,
-        Operation::Logical => shifter(alloc, cnf, Shift::Logical, a, b)?,
-        Operation::Arithmetic => shifter(alloc, cnf, Shift::Arithmetic, a, b)?,
-        Operation::Less => Lits::new(vec![in alloc; less(alloc, cnf, a, b, false)?]?),
-        Operation::SignedLess => Lits::new(vec![in alloc; less(alloc, cnf, a, b, true)?]?),
-        Operation::Equal => Lits::new(vec![in alloc; equal(alloc, cnf, a, b)?]?),
-        Operation::Complement => complement(alloc, a)?,
-        Operation::Negation => negation(alloc, cnf, a)?,
-        Operation::Difference => difference(alloc, cnf, a, b)?,
-        Operation::Conjunction => conjunction(alloc, cnf, a, b)?,
-        Operation::Disjunction => disjunction(alloc, cnf, a, b)?,
-        Operation::Exclusive => exclusive(alloc, cnf, a, b)?,
-        Operation::Choice => choice(alloc, cnf, a[0], a, b)?,
-        Operation::SumFits => Lits::new(vec![in alloc; sum_fits(alloc, cnf, a, b)?]?),
-        Operation::DifferenceFits => Lits::new(vec![in alloc; difference_fits(alloc, cnf, a, b)?]?),
-        Operation::ProductFits => Lits::new(vec![in alloc; product_fits(alloc, cnf, a, b)?]?),
-        Operation::LeftFits => Lits::new(vec![in alloc; left_shift_fits(alloc, cnf, a, b)?]?),
+        _ => built_word(alloc, cnf, operation, a, b)?,
     };
     Ok(lits.into_vec())
 }

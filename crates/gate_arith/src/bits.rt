@@ -1,3 +1,5 @@
+//! Gates of one bit.
+
 #![tactic(auto, using(crate::proofs::Growing::growth))]
 
 ghost use Rattle.std.specs.Prelude.{◌≡◌, ◌<◌, IfOk, length, if◌then◌else◌};
@@ -39,7 +41,7 @@ fn bit(alloc: Global, cnf: &mut Cnf, kind: Bitwise, a: Lit, b: Lit) -> Result<Li
     }
 }
 
-// The operation, of two numbers.
+/// The operation, of two numbers.
 pub fn bit_by_bit(
     alloc: Global,
     cnf: &mut Cnf,
@@ -60,7 +62,7 @@ pub fn bit_by_bit(
     Ok(Lits::new(bits))
 }
 
-// The first of two numbers where `test` is true, else the second.
+/// The first of two numbers where `test` is true, else the second.
 pub fn choice(
     alloc: Global,
     cnf: &mut Cnf,

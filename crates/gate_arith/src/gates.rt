@@ -1,3 +1,5 @@
+//! The clauses of gates: and, or, exclusive or, choice.
+
 #![tactic(auto, using(crate::proofs::Growing::growth))]
 
 ghost use Rattle.std.specs.Prelude.{◌≡◌, ℕ, ◌<◌, ◌++◌, true, Bool, ◌&&◌, ◌||◌, IfOk, OnOk, IfSome, IsSome, if◌then◌else◌};
@@ -9,7 +11,7 @@ ghost use Rattle.gate_arith.specs.Truth.{IsTruth, IsFixed, differs, most};
 use sat_form::{Cnf, Lit};
 use std::alloc::{AllocError, Global};
 
-// The literal that the form's first clause holds alone, if it does.
+/// The literal that the form's first clause holds alone, if it does.
 pub fn known(cnf: &Cnf) -> Option<Lit>
     ensures is { IfSome result (λ l. IsTruth cnf.now l (λ _. true)) }
     ensures first { IfSome result (λ l. IsTruth (known_part cnf.now) l (λ _. true)) }

@@ -1,3 +1,5 @@
+//! Lists of literals.
+
 #![tactic(auto, using(crate::proofs::Growing::growth))]
 
 ghost use Rattle.std.specs.Prelude.{◌≡◌, ◌-◌, ◌<◌, ◌≤◌, ◌++◌, IfOk, length, map, take, drop, replicate, if◌then◌else◌};
@@ -10,7 +12,7 @@ use crate::gates::{and, choose, xor};
 use sat_form::{Cnf, Lit};
 use std::alloc::{AllocError, Global};
 
-// The number where `mask` is true, else 0.
+/// The number where `mask` is true, else 0.
 pub fn masked(alloc: Global, cnf: &mut Cnf, bits: &[Lit], mask: Lit) -> Result<Vec<Lit>, AllocError>
     requires bits { IsWithin cnf.old.variables bits.now }
     requires mask { mask.variable < cnf.old.variables }
@@ -24,7 +26,7 @@ pub fn masked(alloc: Global, cnf: &mut Cnf, bits: &[Lit], mask: Lit) -> Result<V
     Ok(kept)
 }
 
-// The bits of `yes` where `test` is true, else those of `no`.
+/// The bits of `yes` where `test` is true, else those of `no`.
 pub fn chosen(
     alloc: Global,
     cnf: &mut Cnf,
@@ -46,7 +48,7 @@ pub fn chosen(
     Ok(bits)
 }
 
-// Each bit, turned over where `by` is true.
+/// Each bit, turned over where `by` is true.
 pub fn turned(alloc: Global, cnf: &mut Cnf, bits: &[Lit], by: Lit) -> Result<Vec<Lit>, AllocError>
     requires bits { IsWithin cnf.old.variables bits.now }
     requires by { by.variable < cnf.old.variables }
@@ -60,14 +62,14 @@ pub fn turned(alloc: Global, cnf: &mut Cnf, bits: &[Lit], by: Lit) -> Result<Vec
     Ok(flipped)
 }
 
-// The inverse of each literal.
+/// The inverse of each literal.
 pub fn inverses(alloc: Global, bits: &[Lit]) -> Result<Vec<Lit>, AllocError>
     ensures { IfOk result (λ r. r.items ≡ map inverse_of bits.now) }
 {
     bits.iter().map(|bit| bit.inverse()).collect(alloc)
 }
 
-// The bits moved up by `distance`, with `fill` below them; as many as there were.
+/// The bits moved up by `distance`, with `fill` below them; as many as there were.
 pub fn moved_up(
     alloc: Global,
     bits: &[Lit],
@@ -82,7 +84,7 @@ pub fn moved_up(
     Ok(moved)
 }
 
-// The bits moved down by `distance`, with `fill` above them; as many as there were.
+/// The bits moved down by `distance`, with `fill` above them; as many as there were.
 pub fn moved_down(
     alloc: Global,
     bits: &[Lit],

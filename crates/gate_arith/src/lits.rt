@@ -1,3 +1,5 @@
+//! Literals that may be constants.
+
 ghost use Rattle.std.specs.Prelude.{◌≡◌};
 
 use sat_form::Lit;

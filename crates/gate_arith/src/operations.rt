@@ -1,3 +1,5 @@
+//! The gates of the operations on words.
+
 #![tactic(auto, using(crate::proofs::Calls::parts))]
 
 ghost use Rattle.std.specs.Prelude.{◌≡◌, ◌+◌, ◌<◌, ◌≤◌, IfOk, length, nat_eq, nat_lt, bit_and, bit_or, bit_xor, if◌then◌else◌};

@@ -1,3 +1,5 @@
+//! Comparators.
+
 #![tactic(auto, using(crate::proofs::Growing::growth))]
 
 ghost use Rattle.std.specs.Prelude.{◌≡◌, ◌<◌, ◌≤◌, IfOk, length, nat_eq, nat_lt, if◌then◌else◌};
@@ -11,7 +13,7 @@ use crate::gates::{and, constant, majority, xor};
 use sat_form::{Cnf, Lit};
 use std::alloc::{AllocError, Global};
 
-// Whether two numbers are equal (C11 6.5.9p3).
+/// Whether two numbers are equal (C11 6.5.9p3).
 pub fn equal(alloc: Global, cnf: &mut Cnf, a: &[Lit], b: &[Lit]) -> Result<Lit, AllocError>
     requires same_width { length a.now ≡ length b.now }
     requires positive { 1 ≤ length a.now }
@@ -29,7 +31,7 @@ pub fn equal(alloc: Global, cnf: &mut Cnf, a: &[Lit], b: &[Lit]) -> Result<Lit, 
     Ok(same)
 }
 
-// Whether the first of two numbers is less: the borrow that their difference leaves.
+/// Whether the first of two numbers is less: the borrow that their difference leaves.
 pub fn borrow(alloc: Global, cnf: &mut Cnf, a: &[Lit], b: &[Lit]) -> Result<Lit, AllocError>
     requires same_width { length a.now ≡ length b.now }
     requires a { IsWithin cnf.old.variables a.now }
@@ -52,7 +54,7 @@ fn swapped(a: Lit, b: Lit, by: bool) -> (Lit, Lit)
     if by { (b, a) } else { (a, b) }
 }
 
-// Whether the first of two numbers is less, in two's complement where `signed` is set (C11 6.5.8p6).
+/// Whether the first of two numbers is less, in two's complement where `signed` is set (C11 6.5.8p6).
 pub fn less(
     alloc: Global,
     cnf: &mut Cnf,

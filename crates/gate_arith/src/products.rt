@@ -1,3 +1,5 @@
+//! Multipliers.
+
 #![tactic(auto, using(crate::proofs::Growing::growth))]
 
 ghost use Rattle.std.specs.Prelude.{◌≡◌, ◌*◌, ◌<◌, ◌≤◌, false, IfOk, length};
@@ -58,8 +60,8 @@ fn product(alloc: Global, cnf: &mut Cnf, factor: &[Lit], rows: &[Lit]) -> Result
     Ok(Lits::new(total))
 }
 
-// The product of two numbers modulo 2 to the width (C11 6.5.5p4). Bits of an operand that are known
-// to be 0 cost nothing.
+/// The product of two numbers modulo 2 to the width (C11 6.5.5p4). Bits of an operand that are known
+/// to be 0 cost nothing.
 pub fn multiplier(alloc: Global, cnf: &mut Cnf, a: &[Lit], b: &[Lit]) -> Result<Lits, AllocError>
     requires same_width { length a.now ≡ length b.now }
     requires a { IsWithin cnf.old.variables a.now }

@@ -1,3 +1,5 @@
+//! Dividers.
+
 #![tactic(auto, using(crate::proofs::Growing::growth))]
 
 ghost use Rattle.std.specs.Prelude.{◌≡◌, ◌+◌, ◌-◌, ◌<◌, ◌≤◌, [], ◌∷◌, ◌++◌, false, true, IfOk, length, map, take, replicate};
@@ -159,7 +161,7 @@ fn trimmed_division(
     Ok((quotient, rest))
 }
 
-// The number, or its negation modulo 2 to the width where `by` is true.
+/// The number, or its negation modulo 2 to the width where `by` is true.
 pub fn negated(
     alloc: Global,
     cnf: &mut Cnf,
@@ -179,7 +181,7 @@ pub fn negated(
     Ok(negation)
 }
 
-// The negation of a number modulo 2 to the width.
+/// The negation of a number modulo 2 to the width.
 pub fn negation(alloc: Global, cnf: &mut Cnf, a: &[Lit]) -> Result<Lits, AllocError>
     requires a { IsWithin cnf.old.variables a.now }
     ensures grows { GrowsFreely cnf.old cnf.new }
@@ -220,8 +222,8 @@ fn signed_division(
     Ok((quotient, rest))
 }
 
-// The quotient and the remainder, in two's complement where `signed` is set: the quotient is then
-// rounded toward zero, and the remainder has the sign of the dividend (C11 6.5.5p6). By 0 both are 0.
+/// The quotient and the remainder, in two's complement where `signed` is set: the quotient is then
+/// rounded toward zero, and the remainder has the sign of the dividend (C11 6.5.5p6). By 0 both are 0.
 pub fn divider(
     alloc: Global,
     cnf: &mut Cnf,

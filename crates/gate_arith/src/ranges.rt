@@ -1,3 +1,5 @@
+//! Whether a result lies in the range of its type.
+
 #![tactic(auto, using(crate::proofs::Growing::growth))]
 
 ghost use Rattle.std.specs.Prelude.{◌≡◌, ℕ, ◌+◌, ◌-◌, ◌*◌, ◌^◌, ◌<◌, ◌≤◌, [], ◌∷◌, ◌++◌, false, not, IfOk, length, replicate, nat_lt};
@@ -30,8 +32,8 @@ fn keeps_sign(alloc: Global, cnf: &mut Cnf, a: Lit, b: Lit, carry: Lit) -> Resul
     Ok(apart.inverse())
 }
 
-// Whether the sum of two signed numbers is in the range of their type. The bits below the signs carry
-// where the complement of those of `b` is less than those of `a`.
+/// Whether the sum of two signed numbers is in the range of their type. The bits below the signs carry
+/// where the complement of those of `b` is less than those of `a`.
 pub fn sum_fits(alloc: Global, cnf: &mut Cnf, a: &[Lit], b: &[Lit]) -> Result<Lit, AllocError>
     requires same_width { length a.now ≡ length b.now }
     requires positive { 1 ≤ length a.now }
@@ -46,7 +48,7 @@ pub fn sum_fits(alloc: Global, cnf: &mut Cnf, a: &[Lit], b: &[Lit]) -> Result<Li
     keeps_sign(alloc, cnf, a[top], b[top], carry)
 }
 
-// Whether the difference of two signed numbers is in the range of their type.
+/// Whether the difference of two signed numbers is in the range of their type.
 pub fn difference_fits(
     alloc: Global,
     cnf: &mut Cnf,
@@ -132,8 +134,8 @@ fn wide_magnitude(
     widened(alloc, &size, zero)
 }
 
-// Whether the product of two signed numbers is in the range of their type: that of the absolute values
-// is below 2 to the width less 1, or the same where the signs differ.
+/// Whether the product of two signed numbers is in the range of their type: that of the absolute values
+/// is below 2 to the width less 1, or the same where the signs differ.
 pub fn product_fits(alloc: Global, cnf: &mut Cnf, a: &[Lit], b: &[Lit]) -> Result<Lit, AllocError>
     requires same_width { length a.now ≡ length b.now }
     requires positive { 1 ≤ length a.now }
@@ -172,8 +174,8 @@ fn shift_fits(
     is_below(alloc, cnf, &moved, a.len() - 1, zero, zero)
 }
 
-// Whether a signed number isn't negative and, shifted to the left by a count, is in the range of its
-// type. Where the count is the width or more, it is where the number is 0.
+/// Whether a signed number isn't negative and, shifted to the left by a count, is in the range of its
+/// type. Where the count is the width or more, it is where the number is 0.
 pub fn left_shift_fits(
     alloc: Global,
     cnf: &mut Cnf,

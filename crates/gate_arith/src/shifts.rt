@@ -1,3 +1,5 @@
+//! Shifters.
+
 #![tactic(auto, using(crate::proofs::Growing::growth))]
 
 ghost use Rattle.std.specs.Prelude.{◌≡◌, ◌+◌, ◌-◌, ◌*◌, ◌^◌, ◌<◌, ◌≤◌, false, true, IfOk, length};
@@ -26,7 +28,7 @@ pub enum Shift {
     Arithmetic,
 }
 
-// How many bits of a count below the width can be 1.
+/// How many bits of a count below the width can be 1.
 pub fn stages(width: usize) -> usize
     requires positive { 1 ≤ width }
     requires at_most_64 { width ≤ 64 }
@@ -66,7 +68,7 @@ fn stage_up(
     chosen(alloc, cnf, on, &moved, bits)
 }
 
-// The number moved up by the count.
+/// The number moved up by the count.
 pub fn shifted_up(
     alloc: Global,
     cnf: &mut Cnf,
@@ -157,7 +159,7 @@ fn shifted_within(
     }
 }
 
-// The bits of a number below 2 to the width.
+/// The bits of a number below 2 to the width.
 pub fn number(alloc: Global, value: usize, width: usize, zero: Lit) -> Result<Vec<Lit>, AllocError>
     ensures { IfOk result (λ r. IsConstant zero value width r.items) }
 {
@@ -170,7 +172,7 @@ pub fn number(alloc: Global, value: usize, width: usize, zero: Lit) -> Result<Ve
     Ok(bits)
 }
 
-// A number shifted by a count of its own width. A count of at least the width gives 0.
+/// A number shifted by a count of its own width. A count of at least the width gives 0.
 pub fn shifter(
     alloc: Global,
     cnf: &mut Cnf,

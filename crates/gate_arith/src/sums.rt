@@ -1,3 +1,5 @@
+//! Adders.
+
 #![tactic(auto, using(crate::proofs::Growing::growth))]
 
 ghost use Rattle.std.specs.Prelude.{◌≡◌, ◌+◌, ◌<◌, ◌≤◌, IfOk, length};
@@ -34,7 +36,7 @@ fn full_adder(
     Ok((sum, next))
 }
 
-// The sum of two numbers and a bit, and the carry that is left.
+/// The sum of two numbers and a bit, and the carry that is left.
 pub fn sum(
     alloc: Global,
     cnf: &mut Cnf,
@@ -59,7 +61,7 @@ pub fn sum(
     Ok((bits, carry))
 }
 
-// The difference of two numbers modulo 2 to the width: the sum with the complement, and 1.
+/// The difference of two numbers modulo 2 to the width: the sum with the complement, and 1.
 pub fn difference(alloc: Global, cnf: &mut Cnf, a: &[Lit], b: &[Lit]) -> Result<Lits, AllocError>
     requires same_width { length a.now ≡ length b.now }
     requires a { IsWithin cnf.old.variables a.now }
@@ -73,7 +75,7 @@ pub fn difference(alloc: Global, cnf: &mut Cnf, a: &[Lit], b: &[Lit]) -> Result<
     Ok(Lits::new(bits))
 }
 
-// The sum of two numbers, plus 1 where `carry` is set, modulo 2 to the width (C11 6.5.6p5).
+/// The sum of two numbers, plus 1 where `carry` is set, modulo 2 to the width (C11 6.5.6p5).
 pub fn adder(
     alloc: Global,
     cnf: &mut Cnf,

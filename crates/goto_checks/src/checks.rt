@@ -1,3 +1,5 @@
+//! Which check stands before an operation.
+
 ghost use Rattle.std.specs.Prelude.{◌≡◌, [], ◌∷◌};
 ghost use Rattle.goto_checks.specs.Inserted as inserted;
 
@@ -6,7 +8,7 @@ use core_tree::{ArithmeticOperator, SignOperator};
 use goto_prog::{Condition, Operation};
 use std::marker::Model;
 
-// The checks of an operation, in the order in which they break.
+/// The checks of an operation, in the order in which they break.
 #[derive(Drop)]
 pub struct Checks {
     pub first: Option<Condition>,
@@ -125,24 +127,24 @@ fn arithmetic_checks(
     }
 }
 
-// The checks that an operation needs.
+/// The checks that an operation needs.
 pub fn checks_of(operation: Operation) -> Checks
     ensures { result ≡ inserted.checks_of operation }
 {
     match operation {
         Operation::Sign {
-            into: _,
             operator: SignOperator::Minus,
             type_,
             operand,
+            ..
         } => if_signed(type_, Condition::Negation { type_, operand }),
         Operation::Arithmetic {
-            into: _,
             operator,
             type_,
             right_type,
             left,
             right,
+            ..
         } => arithmetic_checks(operator, type_, right_type, left, right),
         Operation::Use { returned } => one_check(Condition::Returned { returned }),
         _ => no_check(),

@@ -1,3 +1,5 @@
+//! Checks put before what may break, and jumps led past them.
+
 ghost use Rattle.std.specs.Prelude.{◌≡◌, ◌+◌, true, List, ℕ, length, reverse, IfOk, OnOk, map};
 ghost use Rattle.core_tree.specs.Ranges.{Limits};
 ghost use Rattle.goto_prog.specs.Nodes.{Nodes, plain, with_node, nodes_of, view_procedure, view_procedures, routine_fits, routines_fit};
@@ -28,7 +30,7 @@ fn count_of(operation: Operation) -> usize
 {
     match operation {
         Operation::Skip { count } => count,
-        Operation::SkipIfZero { operand: _, count } => count,
+        Operation::SkipIfZero { count, .. } => count,
         _ => 0,
     }
 }
@@ -38,8 +40,8 @@ fn with_count(operation: Operation, count: usize) -> Operation
     ensures { result ≡ with_count operation count }
 {
     match operation {
-        Operation::Skip { count: _ } => Operation::Skip { count },
-        Operation::SkipIfZero { operand, count: _ } => Operation::SkipIfZero { operand, count },
+        Operation::Skip { .. } => Operation::Skip { count },
+        Operation::SkipIfZero { operand, .. } => Operation::SkipIfZero { operand, count },
         other => other,
     }
 }

@@ -1,10 +1,12 @@
+//! How many places code has with its checks.
+
 ghost use Rattle.std.specs.Prelude.{◌≡◌, ◌+◌, ◌-◌, ◌∷◌, [], List, ℕ, drop, slice_index, IfOk, OnOk};
 ghost use Rattle.goto_checks.specs.Inserted.{total_of, sums, extent};
 
 use std::alloc::{AllocError, Global};
 use std::marker::Model;
 
-// How many places of checked code are from each place of the old code on, those of the last place first.
+/// How many places of checked code are from each place of the old code on, those of the last place first.
 #[derive(Drop)]
 pub struct Totals {
     totals: Vec<usize>,
@@ -19,7 +21,7 @@ impl Model for Totals {
 }
 
 impl Totals {
-    // Behind the code of a function comes its end, which is one place.
+    /// Behind the code of a function comes its end, which is one place.
     pub fn new(alloc: Global) -> Result<Totals, AllocError>
         ensures { IfOk result (λ t. t ≡ sums (1 ∷ [])) }
     {
@@ -41,7 +43,7 @@ impl Totals {
         }
     }
 
-    // One place more in front, which becomes so many.
+    /// One place more in front, which becomes so many.
     pub fn push(&mut self, width: usize) -> Result<(), AllocError>
         ensures { OnOk result (self.new ≡ (width + total_of self.old) ∷ self.old) }
     {
@@ -63,7 +65,7 @@ impl Totals {
         }
     }
 
-    // So many places fewer in front.
+    /// So many places fewer in front.
     pub fn leave(&mut self, count: usize)
         ensures { self.new ≡ drop count self.old }
     {
@@ -72,7 +74,7 @@ impl Totals {
         }
     }
 
-    // How many places the first `count` have become.
+    /// How many places the first `count` have become.
     #[tactic(auto, using(crate::proofs::Extents::extent_read))]
     pub fn extent(&self, count: usize) -> usize
         ensures { (ws : List ℕ) → self.now ≡ sums ws → result ≡ extent count ws }

@@ -23,17 +23,17 @@ use Rattle.core_tree.specs.Typed.{Signature, Sizes, sizes_in, place_type, type_o
 use Rattle.core_tree.specs.Operations.{drawn_width, step_operation}
 use Rattle.c_values.specs.Numbers.{are_operands_of}
 use Rattle.c_values.specs.Variables.{word_count, drawn_count}
-use Rattle.c_interp.specs.Meaning.{integer_of, number_type, has_default}
-use Rattle.c_interp.proofs.TypeWidths.{operand_widths}
+use Rattle.c_tasks.specs.Meaning.{integer_of, number_type, has_default}
+use Rattle.c_tasks.proofs.TypeWidths.{operand_widths}
 use Rattle.goto_prog.specs.declared.code.Instruction.{Instruction}
 use Rattle.goto_prog.specs.declared.code.Operation.TheVariants as operations
 use Rattle.goto_prog.specs.Fitting.{operation_fits}
 use Rattle.goto_prog.specs.Nodes.{Nodes, plain, node_count, nodes_fit, routine_fits, routines_fit}
 use Rattle.goto_lower.specs.Lowering.{Frame, Ways, no_ways, within_loop, within_switch, top, structure_registers, arguments_registers, argument_count, structure_line, line_of, value_size, structure_code, parts_code, arguments_code, text_code, use_code, call_code, taken_code, initial_code, at_line, read_code, write_code, update_code, logical_code, code, size_of as size_of_variable, first_registers, words_code, first_code, entry_registers, part_registers, case_registers, statement_registers, items_registers, entry_code, part_code, test_code, to_place, plains, ends, case_tests, last_case, statement_code, items_code, labels_of, case_jumps, default_place}
 use Rattle.goto_lower.specs.Registers.{types, structure_types, parts_types, arguments_types, part_types, case_types, update_types, first_types, entry_types, statement_types, items_types}
-use Rattle.goto_lower.specs.Rooms.{Rooms, no_rooms, both, under, under_all, place_rooms, argument_sizes, rooms, structure_rooms, parts_rooms, arguments_rooms, part_rooms, statement_rooms, items_rooms}
+use Rattle.goto_lower.specs.Temporaries.{Temporaries, no_temporaries, both, under, under_all, place_temporaries, argument_sizes, temporaries, structure_temporaries, parts_temporaries, arguments_temporaries, part_temporaries, statement_temporaries, items_temporaries}
 use Rattle.goto_lower.specs.Lowered.{given_size, first_frame, code_by, function_codes}
-use Rattle.goto_lower.proofs.Housing.{Room, HasRooms, Housed, housed_left, housed_right, housed_under, housed_room, housed_front, housed_back, housed_behind, housed_zeros, housed_body}
+use Rattle.goto_lower.proofs.Housing.{Room, HasTemporaries, Housed, housed_left, housed_right, housed_under, housed_room, housed_front, housed_back, housed_behind, housed_zeros, housed_body}
 use Rattle.goto_lower.proofs.ExpressionCode.{test_less, test_most, test_equal}
 use Rattle.goto_lower.proofs.RegisterCounts.{types_length, structure_length, arguments_length, part_length, case_length, first_length, entry_length, statement_length, items_length}
 use Rattle.goto_lower.proofs.RegisterTypes.{both as both_true, left_of, right_of, same_types, own_operands, Register, Has, register_at, register_of, register_is, has_at, has_left, has_right, has_itself, Fit, fit-append, there_is, constant_fits, copy_fits, load_fits, store_fits, word_fits, within_is, clear_fits, filled_there, filled_within, at_most_true, less_true, copy_bytes_fits, convert_fits, sign_fits, arithmetic_fits, compare_fits, is_zero_fits, skip_fits, skip_if_fits, draw_fits, one_fits, zero_fits, some_drawn, few_drawn}
@@ -52,7 +52,7 @@ module _ (registers : List IntegerType) (variables others objects : List ℕ) (f
   abbrev frame : ℕ → Frame
   frame d = record { function = function; zeros = edge; result = edge + 1; free = d }
 
-  abbrev Houses : ℕ → Rooms → Type 0
+  abbrev Houses : ℕ → Temporaries → Type 0
   Houses d r = Housed blocks edge d r
 
   -- bytes of a variable are bytes of a block
@@ -92,19 +92,19 @@ module _ (registers : List IntegerType) (variables others objects : List ℕ) (f
   chosen_register true r s t h g = h
   chosen_register false r s t h g = g
 
-  read_fits : (p : Place) (d r : ℕ) → is_place known p ≡ true → Houses d (place_rooms p) → Holds r (place_type p) → (k : ℕ) → Fits k (read_code (frame d) r p)
+  read_fits : (p : Place) (d r : ℕ) → is_place known p ≡ true → Houses d (place_temporaries p) → Holds r (place_type p) → (k : ℕ) → Fits k (read_code (frame d) r p)
   read_fits (Variable line t v offset) d r there housed h k = (load_fits registers blocks r v offset t h (wide v offset (bytes t) there), tt)
   read_fits (Object line t object offset) d r there housed h k =
-      let free = free_within d 0 (bytes t) (bytes t) (housed_room blocks edge d (bytes t) no_rooms housed) (omega arith) in
+      let free = free_within d 0 (bytes t) (bytes t) (housed_room blocks edge d (bytes t) no_temporaries housed) (omega arith) in
       (free, (load_fits registers blocks r d 0 t h free, tt))
 
-  write_fits : (line : ℕ) (p : Place) (d r : ℕ) → is_place known p ≡ true → Houses d (place_rooms p) → Holds r (place_type p) → (k : ℕ) → Fits k (write_code (frame d) line p r)
+  write_fits : (line : ℕ) (p : Place) (d r : ℕ) → is_place known p ≡ true → Houses d (place_temporaries p) → Holds r (place_type p) → (k : ℕ) → Fits k (write_code (frame d) line p r)
   write_fits line (Variable at t v offset) d r there housed h k = (store_fits registers blocks r v offset t h (wide v offset (bytes t) there), tt)
   write_fits line (Object at t object offset) d r there housed h k =
-      let free = free_within d 0 (bytes t) (bytes t) (housed_room blocks edge d (bytes t) no_rooms housed) (omega arith) in
+      let free = free_within d 0 (bytes t) (bytes t) (housed_room blocks edge d (bytes t) no_temporaries housed) (omega arith) in
       (store_fits registers blocks r d 0 t h free, (free, tt))
 
-  update_fits : (d line : ℕ) (p : Place) (op : ArithmeticOperator) (t u : IntegerType) (y n : ℕ) → is_place known p ≡ true → Houses d (place_rooms p) → are_operands_of op t u ≡ true
+  update_fits : (d line : ℕ) (p : Place) (op : ArithmeticOperator) (t u : IntegerType) (y n : ℕ) → is_place known p ≡ true → Houses d (place_temporaries p) → are_operands_of op t u ≡ true
       → Holds y u → Has registers n (update_types p t) → (k : ℕ) → Fits k (update_code (frame d) line p (place_type p) op t u y n)
   update_fits d line p op t u y n there housed operands y_is h k =
       let place = place_type p in
@@ -210,26 +210,26 @@ module _ (registers : List IntegerType) (variables others objects : List ℕ) (f
 
   -- the blocks of a call: those of its arguments, the one that is handed over to, and those behind
   pub record Passed (d size : ℕ) (args : Arguments) : Type 0 where
-    pub arguments : HasRooms blocks d (argument_sizes args)
+    pub arguments : HasTemporaries blocks d (argument_sizes args)
     pub handed : Room blocks (d + argument_count args) size
-    pub behind : Housed blocks edge (d + (argument_count args + 1)) (arguments_rooms args)
+    pub behind : Housed blocks edge (d + (argument_count args + 1)) (arguments_temporaries args)
 
-  passed_rooms : (d size : ℕ) (args : Arguments) → Houses d (under_all (argument_sizes args) (under size (arguments_rooms args))) → Passed d size args
-  passed_rooms d size args housed =
-      let last = housed_back blocks edge d (argument_sizes args) (under size (arguments_rooms args)) housed in
+  passed_temporaries : (d size : ℕ) (args : Arguments) → Houses d (under_all (argument_sizes args) (under size (arguments_temporaries args))) → Passed d size args
+  passed_temporaries d size args housed =
+      let last = housed_back blocks edge d (argument_sizes args) (under size (arguments_temporaries args)) housed in
       let many = argument_sizes_length args in
       let deep : d + length (argument_sizes args) + 1 ≡ d + (argument_count args + 1) = omega (arith, many) in
       record {
-        arguments = housed_front blocks edge d (argument_sizes args) (under size (arguments_rooms args)) housed;
-        handed = subst (λ (c : ℕ). Room blocks (d + c) size) many (housed_room blocks edge (d + length (argument_sizes args)) size (arguments_rooms args) last);
-        behind = subst (λ (c : ℕ). Housed blocks edge c (arguments_rooms args)) deep (housed_under blocks edge (d + length (argument_sizes args)) size (arguments_rooms args) last);
+        arguments = housed_front blocks edge d (argument_sizes args) (under size (arguments_temporaries args)) housed;
+        handed = subst (λ (c : ℕ). Room blocks (d + c) size) many (housed_room blocks edge (d + length (argument_sizes args)) size (arguments_temporaries args) last);
+        behind = subst (λ (c : ℕ). Housed blocks edge c (arguments_temporaries args)) deep (housed_under blocks edge (d + length (argument_sizes args)) size (arguments_temporaries args) last);
       }
 
   beyond_arguments : (args : Arguments) (n : ℕ) (ts : List IntegerType) → Has registers n (arguments_types args ++ ts) → Has registers (n + arguments_registers args) ts
   beyond_arguments args n ts h = has_at registers (n + length (arguments_types args)) (n + arguments_registers args) ts (ap (λ m. n + m) (arguments_length args)) (has_right registers n (arguments_types args) ts h)
 
   mutual
-    pub expression_fits : (e : Expression) (d n : ℕ) → edge < d → is_typed known e ≡ true → Houses d (rooms e) → Has registers n (types e) → Fine e d n
+    pub expression_fits : (e : Expression) (d n : ℕ) → edge < d → is_typed known e ≡ true → Houses d (temporaries e) → Has registers n (types e) → Fine e d n
     expression_fits (constant line t bits) d n deep typed housed h =
         record { value = register_at registers n (n + 0) t (omega arith) h.0; fits = λ k. (constant_fits registers blocks n bits t h.0 typed, tt) }
     expression_fits (read p) d n deep typed housed h = record { value = register_at registers n (n + 0) (place_type p) (omega arith) h.0; fits = read_fits p d n typed housed h.0 }
@@ -248,18 +248,18 @@ module _ (registers : List IntegerType) (variables others objects : List ℕ) (f
     expression_fits (arithmetic line op a b) d n deep typed housed h =
         let second = n + (top a + 1) in
         let both_typed = left_of _ _ typed in
-        let left = expression_fits a d n deep (right_of _ _ both_typed) (housed_left blocks edge d (rooms a) (rooms b) housed) (within a n _ h) in
+        let left = expression_fits a d n deep (right_of _ _ both_typed) (housed_left blocks edge d (temporaries a) (temporaries b) housed) (within a n _ h) in
         let behind = beyond a n (types b ++ number_type a ∷ []) h in
-        let right = expression_fits b d second deep (right_of _ _ typed) (housed_right blocks edge d (rooms a) (rooms b) housed) (within b second _ behind) in
+        let right = expression_fits b d second deep (right_of _ _ typed) (housed_right blocks edge d (temporaries a) (temporaries b) housed) (within b second _ behind) in
         let last : Holds (n + (top a + (top b + 2))) (number_type a) = register_at registers (second + (top b + 1)) (n + (top a + (top b + 2))) (number_type a) (omega arith) (beyond b second (number_type a ∷ []) behind).0 in
         let operands = operand_widths op (type_of a) (type_of b) (left_of _ _ both_typed) in
         record { value = last; fits = joined a d n _ left (joined b d second _ right (λ k. (arithmetic_fits registers blocks _ (n + top a) (second + top b) op (number_type a) (number_type b) operands last left.value right.value, tt))) }
     expression_fits (compare line op a b) d n deep typed housed h =
         let second = n + (top a + 1) in
         let both_typed = left_of _ _ typed in
-        let left = expression_fits a d n deep (right_of _ _ both_typed) (housed_left blocks edge d (rooms a) (rooms b) housed) (within a n _ h) in
+        let left = expression_fits a d n deep (right_of _ _ both_typed) (housed_left blocks edge d (temporaries a) (temporaries b) housed) (within a n _ h) in
         let behind = beyond a n (types b ++ Int ∷ []) h in
-        let right = expression_fits b d second deep (right_of _ _ typed) (housed_right blocks edge d (rooms a) (rooms b) housed) (within b second _ behind) in
+        let right = expression_fits b d second deep (right_of _ _ typed) (housed_right blocks edge d (temporaries a) (temporaries b) housed) (within b second _ behind) in
         let last : Holds (n + (top a + (top b + 2))) Int = register_at registers (second + (top b + 1)) (n + (top a + (top b + 2))) Int (omega arith) (beyond b second (Int ∷ []) behind).0 in
         let same = same_types (type_of a) (type_of b) (right_of _ _ (left_of _ _ both_typed)) in
         let other : Holds (second + top b) (number_type a) = register_of registers (second + top b) (number_type b) (number_type a) (sym same) right.value in
@@ -268,9 +268,9 @@ module _ (registers : List IntegerType) (variables others objects : List ℕ) (f
         let second = n + (top a + 1) in
         let y = second + top b in
         let both_typed = left_of _ _ typed in
-        let left = expression_fits a d n deep (right_of _ _ both_typed) (housed_left blocks edge d (rooms a) (rooms b) housed) (within a n _ h) in
+        let left = expression_fits a d n deep (right_of _ _ both_typed) (housed_left blocks edge d (temporaries a) (temporaries b) housed) (within a n _ h) in
         let behind = beyond a n (types b ++ Int ∷ Int ∷ []) h in
-        let right = expression_fits b d second deep (right_of _ _ typed) (housed_right blocks edge d (rooms a) (rooms b) housed) (within b second _ behind) in
+        let right = expression_fits b d second deep (right_of _ _ typed) (housed_right blocks edge d (temporaries a) (temporaries b) housed) (within b second _ behind) in
         let last = beyond b second (Int ∷ Int ∷ []) behind in
         let one : Holds (y + 1) Int = register_at registers (second + (top b + 1)) (y + 1) Int (omega arith) last.0 in
         let two : Holds (y + 2) Int = register_at registers (second + (top b + 1) + 1) (y + 2) Int (omega arith) last.1.0 in
@@ -284,11 +284,11 @@ module _ (registers : List IntegerType) (variables others objects : List ℕ) (f
         let result = second + (top b + 1) in
         let some_typed = left_of _ _ typed in
         let most_typed = left_of _ _ some_typed in
-        let tested = expression_fits test d n deep (right_of _ _ most_typed) (housed_left blocks edge d (rooms test) (both (rooms a) (rooms b)) housed) (within test n _ h) in
+        let tested = expression_fits test d n deep (right_of _ _ most_typed) (housed_left blocks edge d (temporaries test) (both (temporaries a) (temporaries b)) housed) (within test n _ h) in
         let behind1 = beyond test n (types a ++ (types b ++ number_type a ∷ [])) h in
-        let yes = expression_fits a d first deep (right_of _ _ some_typed) (housed_left blocks edge d (rooms a) (rooms b) (housed_right blocks edge d (rooms test) (both (rooms a) (rooms b)) housed)) (within a first _ behind1) in
+        let yes = expression_fits a d first deep (right_of _ _ some_typed) (housed_left blocks edge d (temporaries a) (temporaries b) (housed_right blocks edge d (temporaries test) (both (temporaries a) (temporaries b)) housed)) (within a first _ behind1) in
         let behind2 = beyond a first (types b ++ number_type a ∷ []) behind1 in
-        let no = expression_fits b d second deep (right_of _ _ typed) (housed_right blocks edge d (rooms a) (rooms b) (housed_right blocks edge d (rooms test) (both (rooms a) (rooms b)) housed)) (within b second _ behind2) in
+        let no = expression_fits b d second deep (right_of _ _ typed) (housed_right blocks edge d (temporaries a) (temporaries b) (housed_right blocks edge d (temporaries test) (both (temporaries a) (temporaries b)) housed)) (within b second _ behind2) in
         let last = (beyond b second (number_type a ∷ []) behind2).0 in
         let same = same_types (type_of a) (type_of b) (right_of _ _ (left_of _ _ most_typed)) in
         let other : Holds (second + top b) (number_type a) = register_of registers (second + top b) (number_type b) (number_type a) (sym same) no.value in
@@ -310,22 +310,22 @@ module _ (registers : List IntegerType) (variables others objects : List ℕ) (f
           ));
         }
     expression_fits (assign line p e) d n deep typed housed h =
-        let fine = expression_fits e d n deep (right_of _ _ typed) (housed_left blocks edge d (rooms e) (place_rooms p) housed) h in
+        let fine = expression_fits e d n deep (right_of _ _ typed) (housed_left blocks edge d (temporaries e) (place_temporaries p) housed) h in
         let tests = left_of _ _ typed in
         let same = same_types (type_of e) (Integer (place_type p)) (right_of _ _ tests) in
         let value : Holds (n + top e) (place_type p) = register_of registers (n + top e) (number_type e) (place_type p) same fine.value in
         record {
           value = value;
-          fits = joined e d n (write_code (frame d) line p (n + top e)) fine (write_fits line p d (n + top e) (left_of _ _ tests) (housed_right blocks edge d (rooms e) (place_rooms p) housed) value);
+          fits = joined e d n (write_code (frame d) line p (n + top e)) fine (write_fits line p d (n + top e) (left_of _ _ tests) (housed_right blocks edge d (temporaries e) (place_temporaries p) housed) value);
         }
     expression_fits (update line p op t e) d n deep typed housed h =
-        let fine = expression_fits e d n deep (right_of _ _ typed) (housed_left blocks edge d (rooms e) (place_rooms p) housed) (within e n _ h) in
+        let fine = expression_fits e d n deep (right_of _ _ typed) (housed_left blocks edge d (temporaries e) (place_temporaries p) housed) (within e n _ h) in
         let tests = left_of _ _ typed in
         let m = n + (top e + 1) in
         let behind = beyond e n (update_types p t) h in
         record {
           value = register_at registers (m + 1 + 1 + 1) (n + (top e + 4)) (place_type p) (omega arith) behind.1.1.1.0;
-          fits = joined e d n _ fine (update_fits d line p op t (number_type e) (n + top e) m (left_of _ _ tests) (housed_right blocks edge d (rooms e) (place_rooms p) housed) (operand_widths op (Integer t) (type_of e) (right_of _ _ tests)) fine.value behind);
+          fits = joined e d n _ fine (update_fits d line p op t (number_type e) (n + top e) m (left_of _ _ tests) (housed_right blocks edge d (temporaries e) (place_temporaries p) housed) (operand_widths op (Integer t) (type_of e) (right_of _ _ tests)) fine.value behind);
         }
     expression_fits (step line p op before) d n deep typed housed h =
         let t = promoted (place_type p) in
@@ -343,8 +343,8 @@ module _ (registers : List IntegerType) (variables others objects : List ℕ) (f
         }
     expression_fits (comma line a b) d n deep typed housed h =
         let second = n + (top a + 1) in
-        let left = expression_fits a d n deep (left_of _ _ typed) (housed_left blocks edge d (rooms a) (rooms b) housed) (within a n _ h) in
-        let right = expression_fits b d second deep (right_of _ _ typed) (housed_right blocks edge d (rooms a) (rooms b) housed) (beyond a n (types b) h) in
+        let left = expression_fits a d n deep (left_of _ _ typed) (housed_left blocks edge d (temporaries a) (temporaries b) housed) (within a n _ h) in
+        let right = expression_fits b d second deep (right_of _ _ typed) (housed_right blocks edge d (temporaries a) (temporaries b) housed) (beyond a n (types b) h) in
         record { value = register_at registers (second + top b) (n + (top a + (top b + 1))) (number_type b) (omega arith) right.value; fits = joined a d n _ left right.fits }
     expression_fits (assertion line e) d n deep typed housed h =
         let fine = expression_fits e d n deep (right_of _ _ typed) housed (within e n _ h) in
@@ -357,13 +357,13 @@ module _ (registers : List IntegerType) (variables others objects : List ℕ) (f
     expression_fits (draw line t) d n deep typed housed h =
         record { value = register_at registers n (n + 0) t (omega arith) h.0; fits = λ k. (draw_fits registers blocks n (drawn_width t) t h.0 (some_drawn t) (few_drawn t), tt) }
     expression_fits (part line t offset a) d n deep typed housed h =
-        let free = housed_room blocks edge d (size_of a) (structure_rooms a) housed in
+        let free = housed_room blocks edge d (size_of a) (structure_temporaries a) housed in
         let inner = test_most (offset + bytes t) (size_of a) (left_of _ _ typed) in
         let last : Holds (n + structure_registers a) t = (beyond_structure a n (t ∷ []) h).0 in
         record {
           value = last;
           fits = λ k. fit-append registers blocks k (structure_code (frame (d + 1)) a n d 0) (at_line (frame d) line (operations.Load (n + structure_registers a) t d offset) ∷ [])
-              (structure_fits a (d + 1) n d 0 (omega (arith, deep)) (right_of _ _ typed) (housed_under blocks edge d (size_of a) (structure_rooms a) housed) (free_within d 0 (size_of a) (size_of a) free (omega arith)) (has_left registers n (structure_types a) (t ∷ []) h) _)
+              (structure_fits a (d + 1) n d 0 (omega (arith, deep)) (right_of _ _ typed) (housed_under blocks edge d (size_of a) (structure_temporaries a) housed) (free_within d 0 (size_of a) (size_of a) free (omega arith)) (has_left registers n (structure_types a) (t ∷ []) h) _)
               (load_fits registers blocks (n + structure_registers a) d offset t last (free_within d offset (bytes t) (size_of a) free inner), tt);
         }
     expression_fits (discard line e) d n deep typed housed h =
@@ -371,19 +371,19 @@ module _ (registers : List IntegerType) (variables others objects : List ℕ) (f
         let last = (beyond e n (Int ∷ []) h).0 in
         record { value = last; fits = joined e d n _ fine (λ k. (constant_fits registers blocks (n + (top e + 1)) 0 Int last refl, tt)) }
     expression_fits (discard_structure a) d n deep typed housed h =
-        let free = housed_room blocks edge d (size_of a) (structure_rooms a) housed in
+        let free = housed_room blocks edge d (size_of a) (structure_temporaries a) housed in
         let last : Holds (n + structure_registers a) Int = (beyond_structure a n (Int ∷ []) h).0 in
         record {
           value = last;
           fits = λ k. fit-append registers blocks k (structure_code (frame (d + 1)) a n d 0) (at_line (frame d) (structure_line a) (operations.Constant (n + structure_registers a) 0) ∷ [])
-              (structure_fits a (d + 1) n d 0 (omega (arith, deep)) typed (housed_under blocks edge d (size_of a) (structure_rooms a) housed) (free_within d 0 (size_of a) (size_of a) free (omega arith)) (has_left registers n (structure_types a) (Int ∷ []) h) _)
+              (structure_fits a (d + 1) n d 0 (omega (arith, deep)) typed (housed_under blocks edge d (size_of a) (structure_temporaries a) housed) (free_within d 0 (size_of a) (size_of a) free (omega arith)) (has_left registers n (structure_types a) (Int ∷ []) h) _)
               (constant_fits registers blocks (n + structure_registers a) 0 Int last refl, tt);
         }
     expression_fits (call line callee used t args) d n deep typed housed h =
         let count = argument_count args in
         let r = n + arguments_registers args in
         let size = value_size t in
-        let all = passed_rooms d size args (housed_behind blocks edge d size (under_all (argument_sizes args) (under size (arguments_rooms args))) housed) in
+        let all = passed_temporaries d size args (housed_behind blocks edge d size (under_all (argument_sizes args) (under size (arguments_temporaries args))) housed) in
         let behind = beyond_arguments args n (Int ∷ integer_of t ∷ []) h in
         let value : Holds (n + (arguments_registers args + 1)) (integer_of t) = register_at registers (r + 1) (n + (arguments_registers args + 1)) (integer_of t) (omega arith) behind.1.0 in
         record {
@@ -391,13 +391,13 @@ module _ (registers : List IntegerType) (variables others objects : List ℕ) (f
           fits = λ k. fit-append registers blocks k (arguments_code (frame (d + (count + 1))) args n d) (call_code (frame d) line callee used size count r ++ taken_code (frame d) line t (d + count) (r + 1) ∷ [])
               (arguments_fit args (parameters_of (slice_get functions callee)) (d + (count + 1)) n d (omega (arith, deep)) (right_of _ _ typed) all.behind all.arguments (has_left registers n (arguments_types args) (Int ∷ integer_of t ∷ []) h) _)
               (fit-append registers blocks k (call_code (frame d) line callee used size count r) (taken_code (frame d) line t (d + count) (r + 1) ∷ [])
-              (called_fits d line callee used size count r (housed_zeros blocks edge d size (under_all (argument_sizes args) (under size (arguments_rooms args))) housed) all.handed behind.0 _)
+              (called_fits d line callee used size count r (housed_zeros blocks edge d size (under_all (argument_sizes args) (under size (arguments_temporaries args))) housed) all.handed behind.0 _)
               (taken_fits d line t (d + count) (r + 1) all.handed behind.1.0 _, tt));
         }
     expression_fits (function_name line callee) d n deep typed housed h =
         record { value = register_at registers n (n + 0) Int (omega arith) h.0; fits = λ k. (constant_fits registers blocks n 0 Int h.0 refl, tt) }
 
-    pub structure_fits : (a : Structure) (d n into to : ℕ) → edge < d → is_structure known a ≡ true → Houses d (structure_rooms a) → is_within blocks into to (size_of a) ≡ true → Has registers n (structure_types a) → (k : ℕ) → Fits k (structure_code (frame d) a n into to)
+    pub structure_fits : (a : Structure) (d n into to : ℕ) → edge < d → is_structure known a ≡ true → Houses d (structure_temporaries a) → is_within blocks into to (size_of a) ≡ true → Has registers n (structure_types a) → (k : ℕ) → Fits k (structure_code (frame d) a n into to)
     structure_fits (copy line v offset size) d n into to deep typed housed there h k = (copy_bytes_fits registers blocks into to v offset size there (wide v offset size typed), tt)
     structure_fits (load line object offset size) d n into to deep typed housed there h k = (there, tt)
     structure_fits (choose line test a b) d n into to deep typed housed there h k =
@@ -406,8 +406,8 @@ module _ (registers : List IntegerType) (variables others objects : List ℕ) (f
         let some_typed = left_of _ _ typed in
         let most_typed = left_of _ _ some_typed in
         let same = test_equal (size_of a) (size_of b) (right_of _ _ (left_of _ _ most_typed)) in
-        let ways = housed_right blocks edge d (rooms test) (both (structure_rooms a) (structure_rooms b)) housed in
-        let tested = expression_fits test d n deep (right_of _ _ most_typed) (housed_left blocks edge d (rooms test) (both (structure_rooms a) (structure_rooms b)) housed) (within test n (structure_types a ++ structure_types b) h) in
+        let ways = housed_right blocks edge d (temporaries test) (both (structure_temporaries a) (structure_temporaries b)) housed in
+        let tested = expression_fits test d n deep (right_of _ _ most_typed) (housed_left blocks edge d (temporaries test) (both (structure_temporaries a) (structure_temporaries b)) housed) (within test n (structure_types a ++ structure_types b) h) in
         let behind = beyond test n (structure_types a ++ structure_types b) h in
         let last = beyond_structure a first (structure_types b) behind in
         let yes = structure_code (frame d) a first into to in
@@ -417,8 +417,8 @@ module _ (registers : List IntegerType) (variables others objects : List ℕ) (f
         let other : is_within blocks into to (size_of b) ≡ true = subst (λ (size : ℕ). is_within blocks into to size ≡ true) same there in
         joined test d n (at_line (frame d) line (operations.SkipIfZero (n + top test) (length yes + 1)) ∷ (yes ++ over ∷ no)) tested (λ j. (
           skip_if_fits registers blocks _ (n + top test) (length yes + 1) (number_type test) tested.value (omega (arith, long)),
-          fit-append registers blocks j yes (over ∷ no) (structure_fits a d first into to deep (right_of _ _ some_typed) (housed_left blocks edge d (structure_rooms a) (structure_rooms b) ways) there (has_left registers first (structure_types a) (structure_types b) behind) _)
-              (skip_fits registers blocks _ (length no) (omega arith), structure_fits b d second into to deep (right_of _ _ typed) (housed_right blocks edge d (structure_rooms a) (structure_rooms b) ways) other last j),
+          fit-append registers blocks j yes (over ∷ no) (structure_fits a d first into to deep (right_of _ _ some_typed) (housed_left blocks edge d (structure_temporaries a) (structure_temporaries b) ways) there (has_left registers first (structure_types a) (structure_types b) behind) _)
+              (skip_fits registers blocks _ (length no) (omega arith), structure_fits b d second into to deep (right_of _ _ typed) (housed_right blocks edge d (structure_temporaries a) (structure_temporaries b) ways) other last j),
         )) k
     structure_fits (put line v offset a) d n into to deep typed housed there h k =
         fit-append registers blocks k (structure_code (frame d) a n into to) (at_line (frame d) line (operations.CopyBytes v offset into to (size_of a)) ∷ [])
@@ -429,64 +429,64 @@ module _ (registers : List IntegerType) (variables others objects : List ℕ) (f
         (structure_fits a d n into to deep (right_of _ _ typed) housed there h _)
         (there, tt)
     structure_fits (follow line e a) d n into to deep typed housed there h k =
-        let fine = expression_fits e d n deep (left_of _ _ typed) (housed_left blocks edge d (rooms e) (structure_rooms a) housed) (within e n (structure_types a) h) in
-        joined e d n (structure_code (frame d) a (n + (top e + 1)) into to) fine (λ j. structure_fits a d (n + (top e + 1)) into to deep (right_of _ _ typed) (housed_right blocks edge d (rooms e) (structure_rooms a) housed) there (beyond e n (structure_types a) h) j) k
+        let fine = expression_fits e d n deep (left_of _ _ typed) (housed_left blocks edge d (temporaries e) (structure_temporaries a) housed) (within e n (structure_types a) h) in
+        joined e d n (structure_code (frame d) a (n + (top e + 1)) into to) fine (λ j. structure_fits a d (n + (top e + 1)) into to deep (right_of _ _ typed) (housed_right blocks edge d (temporaries e) (structure_temporaries a) housed) there (beyond e n (structure_types a) h) j) k
     structure_fits (section line offset size a) d n into to deep typed housed there h k =
-        let free = housed_room blocks edge d (size_of a) (structure_rooms a) housed in
+        let free = housed_room blocks edge d (size_of a) (structure_temporaries a) housed in
         let inner = test_most (offset + size) (size_of a) (left_of _ _ typed) in
         fit-append registers blocks k (structure_code (frame (d + 1)) a n d 0) (at_line (frame d) line (operations.CopyBytes into to d offset size) ∷ [])
-        (structure_fits a (d + 1) n d 0 (omega (arith, deep)) (right_of _ _ typed) (housed_under blocks edge d (size_of a) (structure_rooms a) housed) (free_within d 0 (size_of a) (size_of a) free (omega arith)) h _)
+        (structure_fits a (d + 1) n d 0 (omega (arith, deep)) (right_of _ _ typed) (housed_under blocks edge d (size_of a) (structure_temporaries a) housed) (free_within d 0 (size_of a) (size_of a) free (omega arith)) h _)
         (copy_bytes_fits registers blocks into to d offset size there (free_within d offset size (size_of a) free inner), tt)
     structure_fits (list line size ps) d n into to deep typed housed there h k =
-        (copy_bytes_fits registers blocks into to edge 0 size there (zeros_within size (housed_zeros blocks edge d size (parts_rooms ps) housed)), parts_fit ps line d n into to size deep (right_of _ _ typed) (housed_behind blocks edge d size (parts_rooms ps) housed) there h k)
+        (copy_bytes_fits registers blocks into to edge 0 size there (zeros_within size (housed_zeros blocks edge d size (parts_temporaries ps) housed)), parts_fit ps line d n into to size deep (right_of _ _ typed) (housed_behind blocks edge d size (parts_temporaries ps) housed) there h k)
     structure_fits (string line size text) d n into to deep typed housed there h k =
         let few = test_most (length text) size (right_of _ _ (left_of _ _ typed)) in
         let whole : 0 + length text ≤ size = omega (arith, few) in (
-          copy_bytes_fits registers blocks into to edge 0 size there (zeros_within size (housed_zeros blocks edge d size no_rooms housed)),
+          copy_bytes_fits registers blocks into to edge 0 size there (zeros_within size (housed_zeros blocks edge d size no_temporaries housed)),
           text_fits text (frame d) line n into to 0 to size (omega arith) (right_of _ _ typed) there whole h.0 k,
         )
     structure_fits (give line callee used size args) d n into to deep typed housed there h k =
         let count = argument_count args in
         let r = n + arguments_registers args in
-        let all = passed_rooms d size args (housed_behind blocks edge d size (under_all (argument_sizes args) (under size (arguments_rooms args))) housed) in
+        let all = passed_temporaries d size args (housed_behind blocks edge d size (under_all (argument_sizes args) (under size (arguments_temporaries args))) housed) in
         let behind = beyond_arguments args n (Int ∷ []) h in
         fit-append registers blocks k (arguments_code (frame (d + (count + 1))) args n d) (call_code (frame d) line callee used size count r ++ at_line (frame d) line (operations.CopyBytes into to (d + count) 0 size) ∷ [])
         (arguments_fit args (parameters_of (slice_get functions callee)) (d + (count + 1)) n d (omega (arith, deep)) (right_of _ _ typed) all.behind all.arguments (has_left registers n (arguments_types args) (Int ∷ []) h) _)
         (fit-append registers blocks k (call_code (frame d) line callee used size count r) (at_line (frame d) line (operations.CopyBytes into to (d + count) 0 size) ∷ [])
-        (called_fits d line callee used size count r (housed_zeros blocks edge d size (under_all (argument_sizes args) (under size (arguments_rooms args))) housed) all.handed behind.0 _)
+        (called_fits d line callee used size count r (housed_zeros blocks edge d size (under_all (argument_sizes args) (under size (arguments_temporaries args))) housed) all.handed behind.0 _)
         (copy_bytes_fits registers blocks into to (d + count) 0 size there (free_within (d + count) 0 size size all.handed (omega arith)), tt))
 
-    pub parts_fit : (ps : Parts) (line d n into to size : ℕ) → edge < d → are_parts known size ps ≡ true → Houses d (parts_rooms ps) → is_within blocks into to size ≡ true → Has registers n (parts_types ps) → (k : ℕ) → Fits k (parts_code (frame d) line ps n into to)
+    pub parts_fit : (ps : Parts) (line d n into to size : ℕ) → edge < d → are_parts known size ps ≡ true → Houses d (parts_temporaries ps) → is_within blocks into to size ≡ true → Has registers n (parts_types ps) → (k : ℕ) → Fits k (parts_code (frame d) line ps n into to)
     parts_fit no_part line d n into to size deep typed housed there h k = tt
     parts_fit (number_part offset e rest) line d n into to size deep typed housed there h k =
-        let fine = expression_fits e d n deep (right_of _ _ (left_of _ _ typed)) (housed_left blocks edge d (rooms e) (parts_rooms rest) housed) (within e n (parts_types rest) h) in
+        let fine = expression_fits e d n deep (right_of _ _ (left_of _ _ typed)) (housed_left blocks edge d (temporaries e) (parts_temporaries rest) housed) (within e n (parts_types rest) h) in
         let inner = number_inside size offset (type_of e) (left_of _ _ (left_of _ _ typed)) in
         joined e d n (at_line (frame d) line (operations.Store into (to + offset) (bytes (number_type e)) (n + top e)) ∷ parts_code (frame d) line rest (n + (top e + 1)) into to) fine (λ j. (
           store_fits registers blocks (n + top e) into (to + offset) (number_type e) fine.value (part_within into to size offset (bytes (number_type e)) there inner),
-          parts_fit rest line d (n + (top e + 1)) into to size deep (right_of _ _ typed) (housed_right blocks edge d (rooms e) (parts_rooms rest) housed) there (beyond e n (parts_types rest) h) j,
+          parts_fit rest line d (n + (top e + 1)) into to size deep (right_of _ _ typed) (housed_right blocks edge d (temporaries e) (parts_temporaries rest) housed) there (beyond e n (parts_types rest) h) j,
         )) k
     parts_fit (structure_part offset a rest) line d n into to size deep typed housed there h k =
         let inner = test_most (offset + size_of a) size (left_of _ _ (left_of _ _ typed)) in
         fit-append registers blocks k (structure_code (frame d) a n into (to + offset)) (parts_code (frame d) line rest (n + structure_registers a) into to)
-        (structure_fits a d n into (to + offset) deep (right_of _ _ (left_of _ _ typed)) (housed_left blocks edge d (structure_rooms a) (parts_rooms rest) housed) (part_within into to size offset (size_of a) there inner) (has_left registers n (structure_types a) (parts_types rest) h) _)
-        (parts_fit rest line d (n + structure_registers a) into to size deep (right_of _ _ typed) (housed_right blocks edge d (structure_rooms a) (parts_rooms rest) housed) there (beyond_structure a n (parts_types rest) h) k)
+        (structure_fits a d n into (to + offset) deep (right_of _ _ (left_of _ _ typed)) (housed_left blocks edge d (structure_temporaries a) (parts_temporaries rest) housed) (part_within into to size offset (size_of a) there inner) (has_left registers n (structure_types a) (parts_types rest) h) _)
+        (parts_fit rest line d (n + structure_registers a) into to size deep (right_of _ _ typed) (housed_right blocks edge d (structure_temporaries a) (parts_temporaries rest) housed) there (beyond_structure a n (parts_types rest) h) k)
 
     -- arguments, the first into the block b
-    pub arguments_fit : (args : Arguments) (ps : List PassedType) (d n b : ℕ) → edge < d → are_arguments known ps args ≡ true → Houses d (arguments_rooms args) → HasRooms blocks b (argument_sizes args) → Has registers n (arguments_types args)
+    pub arguments_fit : (args : Arguments) (ps : List PassedType) (d n b : ℕ) → edge < d → are_arguments known ps args ≡ true → Houses d (arguments_temporaries args) → HasTemporaries blocks b (argument_sizes args) → Has registers n (arguments_types args)
         → (k : ℕ) → Fits k (arguments_code (frame d) args n b)
     arguments_fit no_argument ps d n b deep typed housed there h k = tt
     arguments_fit (number_argument e rest) [] d n b deep typed housed there h k = absurd (false≢true typed)
     arguments_fit (number_argument e rest) (p ∷ ps) d n b deep typed housed there h k =
-        let fine = expression_fits e d n deep (right_of _ _ (left_of _ _ typed)) (housed_left blocks edge d (rooms e) (arguments_rooms rest) housed) (within e n (arguments_types rest) h) in
+        let fine = expression_fits e d n deep (right_of _ _ (left_of _ _ typed)) (housed_left blocks edge d (temporaries e) (arguments_temporaries rest) housed) (within e n (arguments_types rest) h) in
         joined e d n (at_line (frame d) (line_of e) (operations.Store b 0 (bytes (number_type e)) (n + top e)) ∷ arguments_code (frame d) rest (n + (top e + 1)) (b + 1)) fine (λ j. (
           store_fits registers blocks (n + top e) b 0 (number_type e) fine.value (free_within b 0 (bytes (number_type e)) (bytes (number_type e)) there.0 (omega arith)),
-          arguments_fit rest ps d (n + (top e + 1)) (b + 1) deep (right_of _ _ typed) (housed_right blocks edge d (rooms e) (arguments_rooms rest) housed) there.1 (beyond e n (arguments_types rest) h) j,
+          arguments_fit rest ps d (n + (top e + 1)) (b + 1) deep (right_of _ _ typed) (housed_right blocks edge d (temporaries e) (arguments_temporaries rest) housed) there.1 (beyond e n (arguments_types rest) h) j,
         )) k
     arguments_fit (structure_argument a rest) [] d n b deep typed housed there h k = absurd (false≢true typed)
     arguments_fit (structure_argument a rest) (p ∷ ps) d n b deep typed housed there h k =
         fit-append registers blocks k (structure_code (frame d) a n b 0) (arguments_code (frame d) rest (n + structure_registers a) (b + 1))
-        (structure_fits a d n b 0 deep (right_of _ _ (left_of _ _ typed)) (housed_left blocks edge d (structure_rooms a) (arguments_rooms rest) housed) (free_within b 0 (size_of a) (size_of a) there.0 (omega arith)) (has_left registers n (structure_types a) (arguments_types rest) h) _)
-        (arguments_fit rest ps d (n + structure_registers a) (b + 1) deep (right_of _ _ typed) (housed_right blocks edge d (structure_rooms a) (arguments_rooms rest) housed) there.1 (beyond_structure a n (arguments_types rest) h) k)
+        (structure_fits a d n b 0 deep (right_of _ _ (left_of _ _ typed)) (housed_left blocks edge d (structure_temporaries a) (arguments_temporaries rest) housed) (free_within b 0 (size_of a) (size_of a) there.0 (omega arith)) (has_left registers n (structure_types a) (arguments_types rest) h) _)
+        (arguments_fit rest ps d (n + structure_registers a) (b + 1) deep (right_of _ _ typed) (housed_right blocks edge d (structure_temporaries a) (arguments_temporaries rest) housed) there.1 (beyond_structure a n (arguments_types rest) h) k)
 
   -- ---- nodes
 
@@ -571,12 +571,12 @@ module _ (registers : List IntegerType) (variables others objects : List ℕ) (f
   to_place_fits : (line behind place : ℕ) (rest : Nodes) → 1 ≤ place → NodesFit behind rest → NodesFit behind (to_place here variables line (behind + 1) place rest)
   to_place_fits line behind place rest some fit = both_true _ _ (skip_fits registers blocks (node_count rest + behind) (behind + 1 + node_count rest - place) (omega (arith, some))) fit
 
-  part_fits : (e : Option Expression) (n : ℕ) → is_typed_part known e ≡ true → Houses first (part_rooms e) → Has registers n (part_types e) → (k : ℕ) → Fits k (part_code here variables e n)
+  part_fits : (e : Option Expression) (n : ℕ) → is_typed_part known e ≡ true → Houses first (part_temporaries e) → Has registers n (part_types e) → (k : ℕ) → Fits k (part_code here variables e n)
   part_fits None n typed housed h k = tt
   part_fits (Some e) n typed housed h k = (expression_fits e first n deep typed housed h).fits k
 
   -- a test behind which there is a place
-  test_fits : (line : ℕ) (e : Option Expression) (n : ℕ) → is_test known e ≡ true → Houses first (part_rooms e) → Has registers n (part_types e) → (k : ℕ) → 1 ≤ k → Fits k (test_code here variables line e n)
+  test_fits : (line : ℕ) (e : Option Expression) (n : ℕ) → is_test known e ≡ true → Houses first (part_temporaries e) → Has registers n (part_types e) → (k : ℕ) → 1 ≤ k → Fits k (test_code here variables line e n)
   test_fits line None n typed housed h k place = tt
   test_fits line (Some e) n typed housed h k place =
       let fine = expression_fits e first n deep (right_of _ _ typed) housed h in
@@ -695,7 +695,7 @@ module _ (registers : List IntegerType) (variables others objects : List ℕ) (f
     result_within size same = within_is registers blocks (edge + 1) 0 size result_there (omega (arith, same, result_size))
 
     mutual
-      pub statement_fits : (s : Statement) (behind : ℕ) (ways : Ways) (n : ℕ) (rest : Nodes) → is_typed_statement known s ≡ true → Houses first (statement_rooms s) → Has registers n (statement_types variables s) → WaysFit ways → NodesFit behind rest
+      pub statement_fits : (s : Statement) (behind : ℕ) (ways : Ways) (n : ℕ) (rest : Nodes) → is_typed_statement known s ≡ true → Houses first (statement_temporaries s) → Has registers n (statement_types variables s) → WaysFit ways → NodesFit behind rest
           → NodesFit behind (statement_code here variables (behind + 1) ways s n rest)
       statement_fits (block items) behind ways n rest typed housed h ways_fit fit =
           plains_fit (entry_code here variables items (n + items_registers variables items)) _ behind (entry_fits items (n + items_registers variables items) typed (beyond_items items n (entry_types variables items) h) _)
@@ -703,25 +703,25 @@ module _ (registers : List IntegerType) (variables others objects : List ℕ) (f
       statement_fits (if_then line test s) behind ways n rest typed housed h ways_fit fit =
           let m = n + statement_registers variables s in
           let yes = statement_code here variables (behind + 1) ways s n rest in
-          let tested = expression_fits test first m deep (right_of _ _ (left_of _ _ typed)) (housed_left blocks edge first (rooms test) (statement_rooms s) housed) (beyond_statement s n (types test) h) in
+          let tested = expression_fits test first m deep (right_of _ _ (left_of _ _ typed)) (housed_left blocks edge first (temporaries test) (statement_temporaries s) housed) (beyond_statement s n (types test) h) in
           plains_fit (code here test m) (plain (at_line here line (operations.SkipIfZero (m + top test) (node_count yes - node_count rest))) yes) behind (tested.fits _)
           (both_true _ _ (skip_if_fits registers blocks (node_count yes + behind) (m + top test) (node_count yes - node_count rest) (number_type test) tested.value (omega arith))
-          (statement_fits s behind ways n rest (right_of _ _ typed) (housed_right blocks edge first (rooms test) (statement_rooms s) housed) (has_left registers n (statement_types variables s) (types test) h) ways_fit fit))
+          (statement_fits s behind ways n rest (right_of _ _ typed) (housed_right blocks edge first (temporaries test) (statement_temporaries s) housed) (has_left registers n (statement_types variables s) (types test) h) ways_fit fit))
       statement_fits (if_else line test s t) behind ways n rest typed housed h ways_fit fit =
           let some_typed = left_of _ _ typed in
           let second = n + statement_registers variables t in
           let m = second + statement_registers variables s in
-          let other = housed_right blocks edge first (rooms test) (both (statement_rooms s) (statement_rooms t)) housed in
+          let other = housed_right blocks edge first (temporaries test) (both (statement_temporaries s) (statement_temporaries t)) housed in
           let last = beyond_statement t n (statement_types variables s ++ types test) h in
           let no = statement_code here variables (behind + 1) ways t n rest in
           let over = to_place here variables line (behind + 1) (behind + 1 + node_count rest) no in
           let yes = statement_code here variables (behind + 1) ways s second over in
-          let tested = expression_fits test first m deep (right_of _ _ (left_of _ _ some_typed)) (housed_left blocks edge first (rooms test) (both (statement_rooms s) (statement_rooms t)) housed) (beyond_statement s second (types test) last) in
+          let tested = expression_fits test first m deep (right_of _ _ (left_of _ _ some_typed)) (housed_left blocks edge first (temporaries test) (both (statement_temporaries s) (statement_temporaries t)) housed) (beyond_statement s second (types test) last) in
           plains_fit (code here test m) (plain (at_line here line (operations.SkipIfZero (m + top test) (node_count yes - node_count no))) yes) behind (tested.fits _)
           (both_true _ _ (skip_if_fits registers blocks (node_count yes + behind) (m + top test) (node_count yes - node_count no) (number_type test) tested.value (omega arith))
-          (statement_fits s behind ways second over (right_of _ _ some_typed) (housed_left blocks edge first (statement_rooms s) (statement_rooms t) other) (has_left registers second (statement_types variables s) (types test) last) ways_fit
+          (statement_fits s behind ways second over (right_of _ _ some_typed) (housed_left blocks edge first (statement_temporaries s) (statement_temporaries t) other) (has_left registers second (statement_types variables s) (types test) last) ways_fit
           (to_place_fits line behind (behind + 1 + node_count rest) no (omega arith)
-          (statement_fits t behind ways n rest (right_of _ _ typed) (housed_right blocks edge first (statement_rooms s) (statement_rooms t) other) (has_left registers n (statement_types variables t) (statement_types variables s ++ types test) h) ways_fit fit))))
+          (statement_fits t behind ways n rest (right_of _ _ typed) (housed_right blocks edge first (statement_temporaries s) (statement_temporaries t) other) (has_left registers n (statement_types variables t) (statement_types variables s ++ types test) h) ways_fit fit))))
       statement_fits (evaluate e) behind ways n rest typed housed h ways_fit fit = plains_fit (code here e n) rest behind ((expression_fits e first n deep typed housed h).fits _) fit
       statement_fits (returns line e) behind ways n rest typed housed h ways_fit fit =
           let fine = expression_fits e first n deep (right_of _ _ typed) housed h in
@@ -745,25 +745,25 @@ module _ (registers : List IntegerType) (variables others objects : List ℕ) (f
           let start_typed = left_of _ _ (left_of _ _ (left_of _ _ typed)) in
           let test_typed = right_of _ _ (left_of _ _ (left_of _ _ typed)) in
           let last_typed = right_of _ _ (left_of _ _ typed) in
-          let others1 = housed_right blocks edge first (part_rooms start) (both (part_rooms test) (both (part_rooms last) (statement_rooms s))) housed in
-          let others2 = housed_right blocks edge first (part_rooms test) (both (part_rooms last) (statement_rooms s)) others1 in
-          let test_housed = housed_left blocks edge first (part_rooms test) (both (part_rooms last) (statement_rooms s)) others1 in
+          let others1 = housed_right blocks edge first (part_temporaries start) (both (part_temporaries test) (both (part_temporaries last) (statement_temporaries s))) housed in
+          let others2 = housed_right blocks edge first (part_temporaries test) (both (part_temporaries last) (statement_temporaries s)) others1 in
+          let test_housed = housed_left blocks edge first (part_temporaries test) (both (part_temporaries last) (statement_temporaries s)) others1 in
           let h1 = beyond_part test n (part_types last ++ (statement_types variables s ++ (part_types test ++ part_types start))) h in
           let h2 = beyond_part last in_last (statement_types variables s ++ (part_types test ++ part_types start)) h1 in
           let h3 = beyond_statement s in_body (part_types test ++ part_types start) h2 in
           let h4 = beyond_part test in_test (part_types start) h3 in
           let end_fits : NodesFit body_behind end =
           plains_fit (part_code here variables last in_last) (plains (test_code here variables line test n) ends) body_behind
-          (part_fits last in_last last_typed (housed_left blocks edge first (part_rooms last) (statement_rooms s) others2) (has_left registers in_last (part_types last) (statement_types variables s ++ (part_types test ++ part_types start)) h1) _)
+          (part_fits last in_last last_typed (housed_left blocks edge first (part_temporaries last) (statement_temporaries s) others2) (has_left registers in_last (part_types last) (statement_types variables s ++ (part_types test ++ part_types start)) h1) _)
           (plains_fit (test_code here variables line test n) ends body_behind (test_fits line test n test_typed test_housed (has_left registers n (part_types test) (part_types last ++ (statement_types variables s ++ (part_types test ++ part_types start))) h) _ (omega arith)) refl) in
           let inner_fits : WaysFit inner = record { breaks = omega arith; continues = omega arith; labels = ways_fit.labels } in
           let body_fits : NodesFit body_behind (statement_code here variables (body_behind + 1) inner s in_body end) =
-          statement_fits s body_behind inner in_body end (right_of _ _ typed) (housed_right blocks edge first (part_rooms last) (statement_rooms s) others2) (has_left registers in_body (statement_types variables s) (part_types test ++ part_types start) h2) inner_fits end_fits in
+          statement_fits s body_behind inner in_body end (right_of _ _ typed) (housed_right blocks edge first (part_temporaries last) (statement_temporaries s) others2) (has_left registers in_body (statement_types variables s) (part_types test ++ part_types start) h2) inner_fits end_fits in
           let same : body_behind + 1 ≡ place + 1 = omega arith in
           let body_there : NodesFit body_behind (statement_code here variables (place + 1) inner s in_body end) =
           subst (λ (base : ℕ). NodesFit body_behind (statement_code here variables base inner s in_body end)) same body_fits in
           plains_fit (part_code here variables start (in_test + part_registers variables test)) _ behind
-          (part_fits start (in_test + part_registers variables test) start_typed (housed_left blocks edge first (part_rooms start) (both (part_rooms test) (both (part_rooms last) (statement_rooms s))) housed) h4 _)
+          (part_fits start (in_test + part_registers variables test) start_typed (housed_left blocks edge first (part_temporaries start) (both (part_temporaries test) (both (part_temporaries last) (statement_temporaries s))) housed) h4 _)
           (plains_fit (test_code here variables line test in_test) _ behind
           (test_fits line test in_test test_typed test_housed (has_left registers in_test (part_types test) (part_types start) h3) _ (omega arith))
           (both_true _ _ body_there fit))
@@ -777,10 +777,10 @@ module _ (registers : List IntegerType) (variables others objects : List ℕ) (f
           let value_typed = is_typed known test in
           let tests : is_test known (Some test) ≡ true = both_true number value_typed (right_of body_typed number (left_of (body_typed && number) value_typed typed)) (right_of (body_typed && number) value_typed typed) in
           let end_fits : NodesFit body_behind end =
-          plains_fit (test_code here variables line (Some test) n) ends body_behind (test_fits line (Some test) n tests (housed_right blocks edge first (statement_rooms s) (rooms test) housed) (has_left registers n (types test) (statement_types variables s) h) _ (omega arith)) refl in
+          plains_fit (test_code here variables line (Some test) n) ends body_behind (test_fits line (Some test) n tests (housed_right blocks edge first (statement_temporaries s) (temporaries test) housed) (has_left registers n (types test) (statement_types variables s) h) _ (omega arith)) refl in
           let inner_fits : WaysFit inner = record { breaks = omega arith; continues = omega arith; labels = ways_fit.labels } in
           let body_fits : NodesFit body_behind (statement_code here variables (body_behind + 1) inner s (n + (top test + 1)) end) =
-          statement_fits s body_behind inner (n + (top test + 1)) end (left_of body_typed number (left_of (body_typed && number) value_typed typed)) (housed_left blocks edge first (statement_rooms s) (rooms test) housed) (beyond test n (statement_types variables s) h) inner_fits end_fits in
+          statement_fits s body_behind inner (n + (top test + 1)) end (left_of body_typed number (left_of (body_typed && number) value_typed typed)) (housed_left blocks edge first (statement_temporaries s) (temporaries test) housed) (beyond test n (statement_types variables s) h) inner_fits end_fits in
           let same : body_behind + 1 ≡ place + 1 = omega arith in
           both_true _ _ (subst (λ (base : ℕ). NodesFit body_behind (statement_code here variables base inner s (n + (top test + 1)) end)) same body_fits) fit
       statement_fits (switch line e items) behind ways n rest typed housed h ways_fit fit =
@@ -800,10 +800,10 @@ module _ (registers : List IntegerType) (variables others objects : List ℕ) (f
           let h1 = beyond_items items n (Int ∷ (case_types items ++ (entry_types variables items ++ types e))) h in
           let h2 = beyond_cases items in_cases (entry_types variables items ++ types e) h1.1 in
           let h3 = beyond_entry items in_entry (types e) h2 in
-          let fine = expression_fits e first x deep value_typed (housed_left blocks edge first (rooms e) (items_rooms items) housed) h3 in
+          let fine = expression_fits e first x deep value_typed (housed_left blocks edge first (temporaries e) (items_temporaries items) housed) h3 in
           let tests = has_left registers in_cases (case_types items) (entry_types variables items ++ types e) h1.1 in
           let inner_fits : WaysFit inner = record { breaks = omega arith; continues = ways_fit.continues; labels = ways_fit.labels } in
-          let body_fits = items_fit items behind inner n rest items_typed (housed_right blocks edge first (rooms e) (items_rooms items) housed) (has_left registers n (items_types variables items) (Int ∷ (case_types items ++ (entry_types variables items ++ types e))) h) inner_fits fit in
+          let body_fits = items_fit items behind inner n rest items_typed (housed_right blocks edge first (temporaries e) (items_temporaries items) housed) (has_left registers n (items_types variables items) (Int ∷ (case_types items ++ (entry_types variables items ++ types e))) h) inner_fits fit in
           let last_fits = to_place_fits line behind otherwise body (chosen (has_default items) _ _ (default_some behind inner items n rest) (omega arith)) body_fits in
           let entered_fits : NodesFit behind entered =
           plains_fit (entry_code here variables items in_entry) _ behind (entry_fits items in_entry items_typed (has_left registers in_entry (entry_types variables items) (types e) h2) _)
@@ -826,34 +826,34 @@ module _ (registers : List IntegerType) (variables others objects : List ℕ) (f
       statement_fits (jumps line l) behind ways n rest typed housed h ways_fit fit = to_place_fits line behind (ways.label_at l) rest (ways_fit.labels l) fit
       statement_fits (stray line s) behind ways n rest typed housed h ways_fit fit = statement_fits s behind ways n rest typed housed h ways_fit fit
 
-      pub items_fit : (items : Items) (behind : ℕ) (ways : Ways) (n : ℕ) (rest : Nodes) → are_typed_items known items ≡ true → Houses first (items_rooms items) → Has registers n (items_types variables items) → WaysFit ways → NodesFit behind rest
+      pub items_fit : (items : Items) (behind : ℕ) (ways : Ways) (n : ℕ) (rest : Nodes) → are_typed_items known items ≡ true → Houses first (items_temporaries items) → Has registers n (items_types variables items) → WaysFit ways → NodesFit behind rest
           → NodesFit behind (items_code here variables (behind + 1) ways items n rest)
       items_fit done behind ways n rest typed housed h ways_fit fit = fit
       items_fit (declares line v more) behind ways n rest typed housed h ways_fit fit = items_fit more behind ways n rest (right_of _ _ typed) housed h ways_fit fit
       items_fit (initializes line v drawn e more) behind ways n rest typed housed h ways_fit fit =
           let m = n + items_registers variables more in
           let some_typed = left_of _ _ typed in
-          let fine = expression_fits e first m deep (right_of _ _ some_typed) (housed_left blocks edge first (rooms e) (items_rooms more) housed) (beyond_items more n (types e) h) in
+          let fine = expression_fits e first m deep (right_of _ _ some_typed) (housed_left blocks edge first (temporaries e) (items_temporaries more) housed) (beyond_items more n (types e) h) in
           plains_fit (code here e m) _ behind (fine.fits _)
           (both_true _ _ (store_fits registers blocks (m + top e) v 0 (number_type e) fine.value (wide v 0 (bytes (number_type e)) (filled_within registers variables v (type_of e) (left_of _ _ some_typed))))
-          (items_fit more behind ways n rest (right_of _ _ typed) (housed_right blocks edge first (rooms e) (items_rooms more) housed) (has_left registers n (items_types variables more) (types e) h) ways_fit fit))
+          (items_fit more behind ways n rest (right_of _ _ typed) (housed_right blocks edge first (temporaries e) (items_temporaries more) housed) (has_left registers n (items_types variables more) (types e) h) ways_fit fit))
       items_fit (initializes_structure line v drawn a more) behind ways n rest typed housed h ways_fit fit =
           let m = n + items_registers variables more in
-          let needs = under (size_of a) (structure_rooms a) in
-          let own = housed_left blocks edge first needs (items_rooms more) housed in
-          let free = housed_room blocks edge first (size_of a) (structure_rooms a) own in
+          let needs = under (size_of a) (structure_temporaries a) in
+          let own = housed_left blocks edge first needs (items_temporaries more) housed in
+          let free = housed_room blocks edge first (size_of a) (structure_temporaries a) own in
           let tests = left_of _ _ (left_of _ _ typed) in
           let whole = test_equal (size_of a) (slice_index variables v) (right_of _ _ tests) in
           let copied = at_line here line (operations.CopyBytes v 0 first 0 (size_of a)) in
           plains_fit (initial_code here variables line v a m) _ behind
           (fit-append registers blocks _ (structure_code (frame (first + 1)) a m first 0) (copied ∷ [])
-          (structure_fits a (first + 1) m first 0 (omega (arith, deep)) (right_of _ _ (left_of _ _ typed)) (housed_under blocks edge first (size_of a) (structure_rooms a) own) (free_within first 0 (size_of a) (size_of a) free (omega arith)) (beyond_items more n (structure_types a) h) _)
+          (structure_fits a (first + 1) m first 0 (omega (arith, deep)) (right_of _ _ (left_of _ _ typed)) (housed_under blocks edge first (size_of a) (structure_temporaries a) own) (free_within first 0 (size_of a) (size_of a) free (omega arith)) (beyond_items more n (structure_types a) h) _)
           (copy_bytes_fits registers blocks v 0 first 0 (size_of a) (wide v 0 (size_of a) (within_is registers variables v 0 (size_of a) (left_of _ _ tests) (omega (arith, whole)))) (free_within first 0 (size_of a) (size_of a) free (omega arith)), tt))
-          (items_fit more behind ways n rest (right_of _ _ typed) (housed_right blocks edge first needs (items_rooms more) housed) (has_left registers n (items_types variables more) (structure_types a) h) ways_fit fit)
+          (items_fit more behind ways n rest (right_of _ _ typed) (housed_right blocks edge first needs (items_temporaries more) housed) (has_left registers n (items_types variables more) (structure_types a) h) ways_fit fit)
       items_fit (does s more) behind ways n rest typed housed h ways_fit fit =
           statement_fits s behind (labels_of here variables (behind + 1) ways more n rest) (n + items_registers variables more) (items_code here variables (behind + 1) ways more n rest) (left_of _ _ typed)
-          (housed_left blocks edge first (statement_rooms s) (items_rooms more) housed) (beyond_items more n (statement_types variables s) h) (labels_fit behind ways more n rest ways_fit)
-          (items_fit more behind ways n rest (right_of _ _ typed) (housed_right blocks edge first (statement_rooms s) (items_rooms more) housed) (has_left registers n (items_types variables more) (statement_types variables s) h) ways_fit fit)
+          (housed_left blocks edge first (statement_temporaries s) (items_temporaries more) housed) (beyond_items more n (statement_types variables s) h) (labels_fit behind ways more n rest ways_fit)
+          (items_fit more behind ways n rest (right_of _ _ typed) (housed_right blocks edge first (statement_temporaries s) (items_temporaries more) housed) (has_left registers n (items_types variables more) (statement_types variables s) h) ways_fit fit)
       items_fit (label l more) behind ways n rest typed housed h ways_fit fit = items_fit more behind ways n rest typed housed h ways_fit fit
       items_fit (case_at line t bits more) behind ways n rest typed housed h ways_fit fit = items_fit more behind ways n rest (right_of _ _ typed) housed h ways_fit fit
       items_fit (default_at line more) behind ways n rest typed housed h ways_fit fit = items_fit more behind ways n rest typed housed h ways_fit fit
@@ -864,7 +864,7 @@ module _ (registers : List IntegerType) (variables others objects : List ℕ) (f
 body_fits : (file : TypedFile) (number : ℕ) (p : Procedure) (s : Statement) → is_typed_statement (sizes_in file p) s ≡ true → routine_fits (code_by number p (Some s)) ≡ true
 body_fits file number p s typed =
     let registers = Int ∷ statement_types p.variables s in
-    let needed = statement_rooms s in
+    let needed = statement_temporaries s in
     let others = needed.zeros ∷ given_size p.gives ∷ needed.sizes in
     let blocks = p.variables ++ others in
     let f = first_frame number p.variables in

@@ -30,18 +30,18 @@ use Rattle.actions.specs.declared.action.Answer.{Answer}
 use Rattle.actions.specs.declared.action.Answer.TheVariants as answers
 use Rattle.actions.specs.declared.action.Next.TheVariants.{Broken, Blocked}
 use Rattle.words.specs.declared.check.Class.TheVariants.{Assertion, Return}
-use Rattle.c_interp.specs.Meaning as source
-use Rattle.c_interp.specs.Meaning.{Running, integer_of, number_type, drawn, decides, eval, eval_structure, eval_parts, eval_arguments, unless_broken, unless_used, received, received_structure, reads, writes, tells_bytes, combined, updated, stepped, operated}
+use Rattle.c_tasks.specs.Meaning as source
+use Rattle.c_tasks.specs.Meaning.{Running, integer_of, number_type, drawn, decides, eval, eval_structure, eval_parts, eval_arguments, unless_broken, unless_used, received, received_structure, reads, writes, tells_bytes, combined, updated, stepped, operated}
 use Rattle.goto_prog.specs.declared.code.Instruction.{Instruction}
 use Rattle.goto_prog.specs.declared.code.Operation.TheVariants as operations
 use Rattle.goto_prog.specs.Meaning.{Given, Reading, word_of, bytes_in, bytes_of, Memory, register, with_register, with_blocks, at, or_else}
 use Rattle.goto_prog.specs.Meaning as flat
 use Rattle.goto_prog.specs.Threads.{Calls, acting, ask}
 use Rattle.goto_lower.specs.Lowering.{Frame, top, structure_registers, parts_registers, arguments_registers, argument_count, value_size, at_line, read_code, write_code, code, structure_code, parts_code, arguments_code, text_code, update_code, logical_code, use_code, call_code, taken_code}
-use Rattle.goto_lower.specs.Rooms.{Rooms, no_rooms, both, under, under_all, place_rooms, rooms, structure_rooms, parts_rooms, arguments_rooms, argument_sizes}
+use Rattle.goto_lower.specs.Temporaries.{Temporaries, no_temporaries, both, under, under_all, place_temporaries, temporaries, structure_temporaries, parts_temporaries, arguments_temporaries, argument_sizes}
 use Rattle.goto_lower.proofs.RegisterTypes.{left_of, right_of, same_integers}
 use Rattle.goto_lower.proofs.BlockBytes.{put_size, low_count, few_bytes, put_more, put_none, taken_back, part_of_front, number_of_front, some_zeros, zeros_length, one_byte}
-use Rattle.goto_lower.proofs.Housing.{Housed, HasRooms, Room, housed_left, housed_right, housed_under, housed_room, housed_behind, housed_zeros, housed_front, housed_back}
+use Rattle.goto_lower.proofs.Housing.{Housed, HasTemporaries, Room, housed_left, housed_right, housed_under, housed_room, housed_behind, housed_zeros, housed_front, housed_back}
 use Rattle.goto_lower.proofs.Placing.{Places, begin_in, on_in, on-append, at-behind, written, written_other, Kept, Filled, kept-refl, kept-then, kept-set, kept-write, filled-write, filled-put, kept-filled, filled-kept, filled-within, set_same, set_other, set_room, same_final, same_ask, same_ask_when, same_check}
 
 -- what follows a value and the variables
@@ -125,7 +125,7 @@ module _ (running : Running) (others : List ℕ) (calls : Calls) (hands : Given 
     pub sized : map length m.blocks ≡ sizes
     pub clean : block_of m.blocks edge ≡ zeros (slice_index sizes edge)
 
-  abbrev pub Houses : ℕ → Rooms → Type 0
+  abbrev pub Houses : ℕ → Temporaries → Type 0
   Houses d r = Housed sizes edge d r
 
   -- the places go on with the value in register r, whatever the registers from n on and the blocks from d on are
@@ -380,13 +380,13 @@ module _ (running : Running) (others : List ℕ) (calls : Calls) (hands : Given 
 
     -- the code of a read of a place, into a register from n on
     reading : (d n r : ℕ) (p : Place) (m : Memory) (rest : Places) (follows : Follows)
-        → is_place known p ≡ true → Houses d (place_rooms p) → Placed d m → n ≤ r → r < length m.registers → Goes d n m rest r follows
+        → is_place known p ≡ true → Houses d (place_temporaries p) → Placed d m → n ≤ r → r < length m.registers → Goes d n m rest r follows
         → begin (on (read_code (frame d) r p) rest) m ≡ reads running p (shown m) follows
     reading d n r (Variable line t v offset) m rest follows typed housed placed above room goes =
         sets d n r (read_variable m.blocks v offset t) m m rest follows above room (kept-refl edge d n m) goes
         ∙ ap (λ x. follows x (shown m)) (ap (number_at t offset) (shown_block m v (variable_below v offset (bytes t) typed)))
     reading d n r (Object line t k offset) m rest follows typed housed placed above room goes =
-        let free = housed_room sizes edge d (bytes t) no_rooms housed in
+        let free = housed_room sizes edge d (bytes t) no_temporaries housed in
         let there : d < length m.blocks = block_there (d + 1) m (placed_deeper d m free.there placed) d (omega arith) in
         same_ask_when running (Read (pointer_to k offset) (bytes t)) line _ _ (λ a h.
         let found = bytes_in a in
@@ -400,7 +400,7 @@ module _ (running : Running) (others : List ℕ) (calls : Calls) (hands : Given 
 
     -- the code of a write of a place leaves the registers as they are
     writing : (d n line r : ℕ) (p : Place) (m0 m : Memory) (rest : Places) (follows : Variables → Behaviour)
-        → is_place known p ≡ true → Houses d (place_rooms p) → Placed d m0 → Kept edge d n m0 m
+        → is_place known p ≡ true → Houses d (place_temporaries p) → Placed d m0 → Kept edge d n m0 m
         → ((m' : Memory) → Kept edge d n m0 m' → m'.registers ≡ m.registers → begin rest m' ≡ follows (shown m'))
         → begin (on (write_code (frame d) line p r) rest) m ≡ writes running p line (register m r) (shown m) follows
     writing d n line r (Variable at_name t v offset) m0 m rest follows typed housed placed kept goes =
@@ -410,7 +410,7 @@ module _ (running : Running) (others : List ℕ) (calls : Calls) (hands : Given 
         goes (written m v offset new) (kept-write edge d n v offset new m0 m variable fits kept) refl
         ∙ ap follows (shown_write m v offset new variable)
     writing d n line r (Object at_name t k offset) m0 m rest follows typed housed placed kept goes =
-        let free = housed_room sizes edge d (bytes t) no_rooms housed in
+        let free = housed_room sizes edge d (bytes t) no_temporaries housed in
         let placed1 = placed_kept d n m0 m placed kept in
         let there : d < length m.blocks = block_there (d + 1) m (placed_deeper d m free.there placed1) d (omega arith) in
         let new = low_bytes (bytes t) (register m r) in
@@ -424,7 +424,7 @@ module _ (running : Running) (others : List ℕ) (calls : Calls) (hands : Given 
 
     -- what an operation on a place does: the registers from k on hold the place's number, it converted, the result, and that converted back
     updating : (d line : ℕ) (p : Place) (op : ArithmeticOperator) (t u : IntegerType) (y k : ℕ) (m : Memory) (rest : Places) (follows : ℕ → Follows)
-        → is_place known p ≡ true → Houses d (place_rooms p) → Placed d m → y < k → k + 3 < length m.registers
+        → is_place known p ≡ true → Houses d (place_temporaries p) → Placed d m → y < k → k + 3 < length m.registers
         → ((m' : Memory) → Kept edge d k m m' → begin rest m' ≡ follows (register m' k) (register m' (k + 3)) (shown m'))
         → begin (on (update_code (frame d) line p (place_type p) op t u y k) rest) m
         ≡ reads running p (shown m) (λ old after. combined running p op t u old (register m y) line after (follows old))
@@ -489,7 +489,7 @@ module _ (running : Running) (others : List ℕ) (calls : Calls) (hands : Given 
         ∙ sets d n result 1 m m1 rest follows (omega arith) (omega (arith, room)) kept1 goes')
 
     means_step : (d line : ℕ) (p : Place) (op : StepOperator) (before : Bool) (n : ℕ) (m : Memory) (rest : Places) (follows : Follows)
-        → is_place known p ≡ true → Houses d (place_rooms p) → Placed d m → n + 5 < length m.registers → Goes d n m rest (n + 5) follows
+        → is_place known p ≡ true → Houses d (place_temporaries p) → Placed d m → n + 5 < length m.registers → Goes d n m rest (n + 5) follows
         → begin (on (code (frame d) (step line p op before) n) rest) m ≡ stepped running p (step_operation op) before line (shown m) follows
     means_step d line p op before n m rest follows typed housed placed room goes =
         let u = promoted (place_type p) in
@@ -614,16 +614,16 @@ module _ (running : Running) (others : List ℕ) (calls : Calls) (hands : Given 
     size_total (structure_argument a args) = omega (arith, size_total args)
 
     -- the blocks of the arguments, that of what is handed over, and those for values on the way to the arguments
-    call_rooms : (args : Arguments) (size d : ℕ) → Houses d (under_all (argument_sizes args) (under size (arguments_rooms args)))
-        → HasRooms sizes d (argument_sizes args) × Room sizes (d + argument_count args) size × Houses (d + (argument_count args + 1)) (arguments_rooms args)
-    call_rooms args size d housed =
+    call_temporaries : (args : Arguments) (size d : ℕ) → Houses d (under_all (argument_sizes args) (under size (arguments_temporaries args)))
+        → HasTemporaries sizes d (argument_sizes args) × Room sizes (d + argument_count args) size × Houses (d + (argument_count args + 1)) (arguments_temporaries args)
+    call_temporaries args size d housed =
         let many = size_total args in
-        let back : Houses (d + argument_count args) (under size (arguments_rooms args)) =
-        subst (λ (k : ℕ). Houses (d + k) (under size (arguments_rooms args))) many (housed_back sizes edge d (argument_sizes args) (under size (arguments_rooms args)) housed) in
+        let back : Houses (d + argument_count args) (under size (arguments_temporaries args)) =
+        subst (λ (k : ℕ). Houses (d + k) (under size (arguments_temporaries args))) many (housed_back sizes edge d (argument_sizes args) (under size (arguments_temporaries args)) housed) in
         let more : d + argument_count args + 1 ≡ d + (argument_count args + 1) = omega arith in (
-          housed_front sizes edge d (argument_sizes args) (under size (arguments_rooms args)) housed,
-          housed_room sizes edge (d + argument_count args) size (arguments_rooms args) back,
-          subst (λ (k : ℕ). Houses k (arguments_rooms args)) more (housed_under sizes edge (d + argument_count args) size (arguments_rooms args) back),
+          housed_front sizes edge d (argument_sizes args) (under size (arguments_temporaries args)) housed,
+          housed_room sizes edge (d + argument_count args) size (arguments_temporaries args) back,
+          subst (λ (k : ℕ). Houses k (arguments_temporaries args)) more (housed_under sizes edge (d + argument_count args) size (arguments_temporaries args) back),
         )
 
     placed_at : (d e : ℕ) (m : Memory) → edge + 1 < e → e ≤ length sizes → Placed d m → Placed e m
@@ -669,7 +669,7 @@ module _ (running : Running) (others : List ℕ) (calls : Calls) (hands : Given 
 
     mutual
       pub means : (e : Expression) (d n : ℕ) (m : Memory) (rest : Places) (follows : Follows)
-          → is_typed known e ≡ true → Houses d (rooms e) → Placed d m → n + top e < length m.registers → Goes d n m rest (n + top e) follows
+          → is_typed known e ≡ true → Houses d (temporaries e) → Placed d m → n + top e < length m.registers → Goes d n m rest (n + top e) follows
           → begin (on (code (frame d) e n) rest) m ≡ eval running meant e (shown m) follows
       means (constant line t bits) d n m rest follows typed housed placed room goes =
           sets d n n bits m m rest follows (omega arith) (omega (arith, room)) (kept-refl edge d n m) (goes-at d n m rest n (n + 0) follows (omega arith) goes)
@@ -695,9 +695,9 @@ module _ (running : Running) (others : List ℕ) (calls : Calls) (hands : Given 
       means (arithmetic line op a b) d n m rest follows typed housed placed room goes =
           let second = n + (top a + 1) in
           split (code (frame d) a n) _ rest m
-          ∙ means a d n m _ (λ x after. eval running meant b after (λ y last. operated running op (number_type a) (number_type b) x y line (λ z. follows z last))) (right_of _ _ (left_of _ _ typed)) (housed_left sizes edge d (rooms a) (rooms b) housed) placed (omega (arith, room)) (λ m1 kept1.
+          ∙ means a d n m _ (λ x after. eval running meant b after (λ y last. operated running op (number_type a) (number_type b) x y line (λ z. follows z last))) (right_of _ _ (left_of _ _ typed)) (housed_left sizes edge d (temporaries a) (temporaries b) housed) placed (omega (arith, room)) (λ m1 kept1.
           split (code (frame d) b second) _ rest m1
-          ∙ means b d second m1 _ (λ y last. operated running op (number_type a) (number_type b) (register m1 (n + top a)) y line (λ z. follows z last)) (right_of _ _ typed) (housed_right sizes edge d (rooms a) (rooms b) housed) (placed_kept d n m m1 placed kept1) (omega (arith, room, kept1.room)) (λ m2 kept2.
+          ∙ means b d second m1 _ (λ y last. operated running op (number_type a) (number_type b) (register m1 (n + top a)) y line (λ z. follows z last)) (right_of _ _ typed) (housed_right sizes edge d (temporaries a) (temporaries b) housed) (placed_kept d n m m1 placed kept1) (omega (arith, room, kept1.room)) (λ m2 kept2.
           same_check calls hands running (arithmetic_check op (number_type a) (number_type b) (register m2 (n + top a)) (register m2 (second + top b))) line _ _
           (sets d n (n + (top a + (top b + 2))) (arithmetic_value op (number_type a) (register m2 (n + top a)) (register m2 (second + top b))) m m2 rest follows (omega arith) room
           (kept-then edge d n second m m1 m2 (omega arith) kept1 kept2) goes)
@@ -705,15 +705,15 @@ module _ (running : Running) (others : List ℕ) (calls : Calls) (hands : Given 
       means (compare line op a b) d n m rest follows typed housed placed room goes =
           let second = n + (top a + 1) in
           split (code (frame d) a n) _ rest m
-          ∙ means a d n m _ (λ x after. eval running meant b after (λ y. follows (truth_bits (compared op (number_type a) x y)))) (right_of _ _ (left_of _ _ typed)) (housed_left sizes edge d (rooms a) (rooms b) housed) placed (omega (arith, room)) (λ m1 kept1.
+          ∙ means a d n m _ (λ x after. eval running meant b after (λ y. follows (truth_bits (compared op (number_type a) x y)))) (right_of _ _ (left_of _ _ typed)) (housed_left sizes edge d (temporaries a) (temporaries b) housed) placed (omega (arith, room)) (λ m1 kept1.
           split (code (frame d) b second) _ rest m1
-          ∙ means b d second m1 _ (λ y. follows (truth_bits (compared op (number_type a) (register m1 (n + top a)) y))) (right_of _ _ typed) (housed_right sizes edge d (rooms a) (rooms b) housed) (placed_kept d n m m1 placed kept1) (omega (arith, room, kept1.room)) (λ m2 kept2.
+          ∙ means b d second m1 _ (λ y. follows (truth_bits (compared op (number_type a) (register m1 (n + top a)) y))) (right_of _ _ typed) (housed_right sizes edge d (temporaries a) (temporaries b) housed) (placed_kept d n m m1 placed kept1) (omega (arith, room, kept1.room)) (λ m2 kept2.
           sets d n (n + (top a + (top b + 2))) (truth_bits (compared op (number_type a) (register m2 (n + top a)) (register m2 (second + top b)))) m m2 rest follows (omega arith) room
           (kept-then edge d n second m m1 m2 (omega arith) kept1 kept2) goes
           ∙ ap (λ x. follows (truth_bits (compared op (number_type a) x (register m2 (second + top b)))) (shown m2)) (kept2.below (n + top a) (omega arith))))
       means (logical line op a b) d n m rest follows typed housed placed room goes =
           split (code (frame d) a n) _ rest m
-          ∙ means a d n m _ _ (right_of _ _ (left_of _ _ typed)) (housed_left sizes edge d (rooms a) (rooms b) housed) placed (omega (arith, room)) (λ m1 kept1. means_logical d line op (code (frame d) b (n + (top a + 1))) (top b) (eval running meant b) n (top a) (λ m2 rest2 follows2 placed2. means b d (n + (top a + 1)) m2 rest2 follows2 (right_of _ _ typed) (housed_right sizes edge d (rooms a) (rooms b) housed) placed2) m m1 rest follows (placed_kept d n m m1 placed kept1) room kept1 goes)
+          ∙ means a d n m _ _ (right_of _ _ (left_of _ _ typed)) (housed_left sizes edge d (temporaries a) (temporaries b) housed) placed (omega (arith, room)) (λ m1 kept1. means_logical d line op (code (frame d) b (n + (top a + 1))) (top b) (eval running meant b) n (top a) (λ m2 rest2 follows2 placed2. means b d (n + (top a + 1)) m2 rest2 follows2 (right_of _ _ typed) (housed_right sizes edge d (temporaries a) (temporaries b) housed) placed2) m m1 rest follows (placed_kept d n m m1 placed kept1) room kept1 goes)
       means (choice line test a b) d n m rest follows typed housed placed room goes =
           let first = n + (top test + 1) in
           let second = first + (top a + 1) in
@@ -722,33 +722,33 @@ module _ (running : Running) (others : List ℕ) (calls : Calls) (hands : Given 
           let no_code = code (frame d) b second in
           let goes' : Goes d n m rest result follows = goes-at d n m rest result (n + (top test + (top a + (top b + 3)))) follows (omega arith) goes in
           split (code (frame d) test n) _ rest m
-          ∙ means test d n m _ (λ x after. if is_true x then eval running meant a after follows else eval running meant b after follows) (right_of _ _ (left_of _ _ (left_of _ _ typed))) (housed_left sizes edge d (rooms test) (both (rooms a) (rooms b)) housed) placed (omega (arith, room)) (λ m1 kept1.
+          ∙ means test d n m _ (λ x after. if is_true x then eval running meant a after follows else eval running meant b after follows) (right_of _ _ (left_of _ _ (left_of _ _ typed))) (housed_left sizes edge d (temporaries test) (both (temporaries a) (temporaries b)) housed) placed (omega (arith, room)) (λ m1 kept1.
           turned (register m1 (n + top test) == 0) _ _ _ _
           (past yes_code _ rest 2 m1
           ∙ split no_code _ rest m1
-          ∙ means b d second m1 _ follows (right_of _ _ typed) (housed_right sizes edge d (rooms a) (rooms b) (housed_right sizes edge d (rooms test) (both (rooms a) (rooms b)) housed)) (placed_kept d n m m1 placed kept1) (omega (arith, room, kept1.room)) (λ m2 kept2.
+          ∙ means b d second m1 _ follows (right_of _ _ typed) (housed_right sizes edge d (temporaries a) (temporaries b) (housed_right sizes edge d (temporaries test) (both (temporaries a) (temporaries b)) housed)) (placed_kept d n m m1 placed kept1) (omega (arith, room, kept1.room)) (λ m2 kept2.
           sets d n result (register m2 (second + top b)) m m2 rest follows (omega arith) (omega (arith, room)) (kept-then edge d n second m m1 m2 (omega arith) kept1 kept2) goes'))
           (split yes_code _ rest m1
-          ∙ means a d first m1 _ follows (right_of _ _ (left_of _ _ typed)) (housed_left sizes edge d (rooms a) (rooms b) (housed_right sizes edge d (rooms test) (both (rooms a) (rooms b)) housed)) (placed_kept d n m m1 placed kept1) (omega (arith, room, kept1.room)) (λ m2 kept2.
+          ∙ means a d first m1 _ follows (right_of _ _ (left_of _ _ typed)) (housed_left sizes edge d (temporaries a) (temporaries b) (housed_right sizes edge d (temporaries test) (both (temporaries a) (temporaries b)) housed)) (placed_kept d n m m1 placed kept1) (omega (arith, room, kept1.room)) (λ m2 kept2.
           past no_code _ rest 1 (with_register m2 result (register m2 (first + top a)))
           ∙ sets d n result (register m2 (first + top a)) m m2 rest follows (omega arith) (omega (arith, room)) (kept-then edge d n first m m1 m2 (omega arith) kept1 kept2) goes')))
       means (assign line p e) d n m rest follows typed housed placed room goes =
           split (code (frame d) e n) _ rest m
-          ∙ means e d n m _ (λ x after. writes running p line x after (follows x)) (right_of _ _ typed) (housed_left sizes edge d (rooms e) (place_rooms p) housed) placed (omega (arith, room)) (λ m1 kept1.
-          writing d n line (n + top e) p m m1 rest (follows (register m1 (n + top e))) (left_of _ _ (left_of _ _ typed)) (housed_right sizes edge d (rooms e) (place_rooms p) housed) placed kept1 (λ m2 kept2 same.
+          ∙ means e d n m _ (λ x after. writes running p line x after (follows x)) (right_of _ _ typed) (housed_left sizes edge d (temporaries e) (place_temporaries p) housed) placed (omega (arith, room)) (λ m1 kept1.
+          writing d n line (n + top e) p m m1 rest (follows (register m1 (n + top e))) (left_of _ _ (left_of _ _ typed)) (housed_right sizes edge d (temporaries e) (place_temporaries p) housed) placed kept1 (λ m2 kept2 same.
           goes m2 kept2 ∙ (λ i. follows (slice_index (same i) (n + top e)) (shown m2))))
       means (update line p op t e) d n m rest follows typed housed placed room goes =
           split (code (frame d) e n) _ rest m
-          ∙ means e d n m _ (λ y after. updated running p op t (number_type e) y line after follows) (right_of _ _ typed) (housed_left sizes edge d (rooms e) (place_rooms p) housed) placed (omega (arith, room)) (λ m1 kept1.
-          updating d line p op t (number_type e) (n + top e) (n + (top e + 1)) m1 rest (λ old. follows) (left_of _ _ (left_of _ _ typed)) (housed_right sizes edge d (rooms e) (place_rooms p) housed) (placed_kept d n m m1 placed kept1) (omega arith) (omega (arith, room, kept1.room)) (λ m2 kept2.
+          ∙ means e d n m _ (λ y after. updated running p op t (number_type e) y line after follows) (right_of _ _ typed) (housed_left sizes edge d (temporaries e) (place_temporaries p) housed) placed (omega (arith, room)) (λ m1 kept1.
+          updating d line p op t (number_type e) (n + top e) (n + (top e + 1)) m1 rest (λ old. follows) (left_of _ _ (left_of _ _ typed)) (housed_right sizes edge d (temporaries e) (place_temporaries p) housed) (placed_kept d n m m1 placed kept1) (omega arith) (omega (arith, room, kept1.room)) (λ m2 kept2.
           goes m2 (kept-then edge d n (n + (top e + 1)) m m1 m2 (omega arith) kept1 kept2)
           ∙ (let same : n + (top e + 4) ≡ n + (top e + 1) + 3 = omega arith in ap (λ r. follows (register m2 r) (shown m2)) same)))
       means (step line p op before) d n m rest follows typed housed placed room goes = means_step d line p op before n m rest follows typed housed placed room goes
       means (comma line a b) d n m rest follows typed housed placed room goes =
           let second = n + (top a + 1) in
           split (code (frame d) a n) _ rest m
-          ∙ means a d n m _ (λ x after. eval running meant b after follows) (left_of _ _ typed) (housed_left sizes edge d (rooms a) (rooms b) housed) placed (omega (arith, room)) (λ m1 kept1.
-          means b d second m1 rest follows (right_of _ _ typed) (housed_right sizes edge d (rooms a) (rooms b) housed) (placed_kept d n m m1 placed kept1) (omega (arith, room, kept1.room)) (λ m2 kept2.
+          ∙ means a d n m _ (λ x after. eval running meant b after follows) (left_of _ _ typed) (housed_left sizes edge d (temporaries a) (temporaries b) housed) placed (omega (arith, room)) (λ m1 kept1.
+          means b d second m1 rest follows (right_of _ _ typed) (housed_right sizes edge d (temporaries a) (temporaries b) housed) (placed_kept d n m m1 placed kept1) (omega (arith, room, kept1.room)) (λ m2 kept2.
           goes m2 (kept-then edge d n second m m1 m2 (omega arith) kept1 kept2)
           ∙ (let same : n + (top a + (top b + 1)) ≡ second + top b = omega arith in ap (λ r. follows (register m2 r) (shown m2)) same)))
       means (assertion line e) d n m rest follows typed housed placed room goes =
@@ -762,10 +762,10 @@ module _ (running : Running) (others : List ℕ) (calls : Calls) (hands : Given 
           turned (register m' (n + top e) == 0) _ _ _ _ (same_final Blocked)
           (sets d n (n + (top e + 1)) 0 m m' rest follows (omega arith) room kept goes))
       means (part line t offset a) d n m rest follows typed housed placed room goes =
-          let free = housed_room sizes edge d (size_of a) (structure_rooms a) housed in
+          let free = housed_room sizes edge d (size_of a) (structure_temporaries a) housed in
           let inner = test_most (offset + bytes t) (size_of a) (left_of _ _ typed) in
           split (structure_code (frame (d + 1)) a n d 0) _ rest m
-          ∙ structure_means a (d + 1) n d 0 m _ (λ value. follows (number_at t offset value)) (right_of _ _ typed) (housed_under sizes edge d (size_of a) (structure_rooms a) housed) (placed_deeper d m free.there placed)
+          ∙ structure_means a (d + 1) n d 0 m _ (λ value. follows (number_at t offset value)) (right_of _ _ typed) (housed_under sizes edge d (size_of a) (structure_temporaries a) housed) (placed_deeper d m free.there placed)
           (omega (arith, placed.deep)) (omega arith) (omega (arith, free.fits, block_size d m placed d)) (omega (arith, room)) (λ m1 value long filled.
           sets d n (n + structure_registers a) (read_variable m1.blocks d offset t) m m1 rest follows (omega arith) room (filled-kept edge d n 0 value m m1 filled) goes
           ∙ (λ i. follows (number_at t offset (filled.filled i)) (shown m1))
@@ -775,9 +775,9 @@ module _ (running : Running) (others : List ℕ) (calls : Calls) (hands : Given 
           ∙ means e d n m _ (λ x. follows 0) (right_of _ _ typed) housed placed (omega (arith, room)) (λ m' kept.
           sets d n (n + (top e + 1)) 0 m m' rest follows (omega arith) room kept goes)
       means (discard_structure a) d n m rest follows typed housed placed room goes =
-          let free = housed_room sizes edge d (size_of a) (structure_rooms a) housed in
+          let free = housed_room sizes edge d (size_of a) (structure_temporaries a) housed in
           split (structure_code (frame (d + 1)) a n d 0) _ rest m
-          ∙ structure_means a (d + 1) n d 0 m _ (λ value. follows 0) typed (housed_under sizes edge d (size_of a) (structure_rooms a) housed) (placed_deeper d m free.there placed)
+          ∙ structure_means a (d + 1) n d 0 m _ (λ value. follows 0) typed (housed_under sizes edge d (size_of a) (structure_temporaries a) housed) (placed_deeper d m free.there placed)
           (omega (arith, placed.deep)) (omega arith) (omega (arith, free.fits, block_size d m placed d)) (omega (arith, room)) (λ m1 value long filled.
           sets d n (n + structure_registers a) 0 m m1 rest follows (omega arith) room (filled-kept edge d n 0 value m m1 filled) goes)
       means (call line f used t args) d n m rest follows typed housed placed room goes =
@@ -791,7 +791,7 @@ module _ (running : Running) (others : List ℕ) (calls : Calls) (hands : Given 
           let parameters : parameters_of (slice_get functions f) ≡ g.parameters = ap parameters_of found.1 in
           let fitting : are_arguments known g.parameters args ≡ true = (λ i. are_arguments known (sym parameters i) args) ∙ right_of _ _ typed in
           let many : count ≡ length g.parameters = argument_total g.parameters args fitting in
-          let inner = call_rooms args size d (housed_behind sizes edge d size (under_all (argument_sizes args) (under size (arguments_rooms args))) housed) in
+          let inner = call_temporaries args size d (housed_behind sizes edge d size (under_all (argument_sizes args) (under size (arguments_temporaries args))) housed) in
           let free = inner.1 in
           let placed_in : Placed deep m = placed_at d deep m (omega (arith, placed.deep)) (omega (arith, free.there)) placed in
           split (arguments_code (frame deep) args n d) (call_code (frame d) line f used size count r ++ taken_code (frame d) line t into (r + 1) ∷ []) rest m
@@ -799,7 +799,7 @@ module _ (running : Running) (others : List ℕ) (calls : Calls) (hands : Given 
           let placed1 = placed_kept d n m m1 placed kept1 in
           let placed_deep : Placed deep m1 = placed_at d deep m1 (omega (arith, placed.deep)) (omega (arith, free.there)) placed1 in
           let fits : size ≤ length (block_of m1.blocks into) = omega (arith, free.fits, block_size d m1 placed1 into) in
-          let zero_room = housed_zeros sizes edge d size (under_all (argument_sizes args) (under size (arguments_rooms args))) housed in
+          let zero_room = housed_zeros sizes edge d size (under_all (argument_sizes args) (under size (arguments_temporaries args))) housed in
           let m2 : Memory = written m1 into 0 (zeros size) in
           let wide : into < length m1.blocks = block_there deep m1 placed_deep into (omega arith) in
           let filled : Filled edge (into + 1) n into 0 (zeros size) m1 m2 = filled-put edge (into + 1) n into 0 (zeros size) m1 wide (omega (arith, zeros_length size, fits)) in
@@ -815,46 +815,46 @@ module _ (running : Running) (others : List ℕ) (calls : Calls) (hands : Given 
 
       -- the arguments of a call are put into blocks from b on
       pub arguments_mean : (args : Arguments) (ps : List PassedType) (d n b : ℕ) (so_far : List (List ℕ)) (m : Memory) (rest : Places) (follows : List (List ℕ) → Variables → Behaviour)
-          → are_arguments known ps args ≡ true → Houses d (arguments_rooms args) → HasRooms sizes b (argument_sizes args) → Placed d m → edge + 1 < b → b + argument_count args ≤ d
+          → are_arguments known ps args ≡ true → Houses d (arguments_temporaries args) → HasTemporaries sizes b (argument_sizes args) → Placed d m → edge + 1 < b → b + argument_count args ≤ d
           → n + arguments_registers args ≤ length m.registers
           → ((m' : Memory) (values : List (List ℕ)) → Kept edge b n m m' → AreThere ps b values m' → begin rest m' ≡ follows (so_far ++ values) (shown m'))
           → begin (on (arguments_code (frame d) args n b) rest) m ≡ eval_arguments running meant args so_far (shown m) follows
-      arguments_mean no_argument [] d n b so_far m rest follows typed housed rooms_there placed behind free room goes =
+      arguments_mean no_argument [] d n b so_far m rest follows typed housed temporaries_there placed behind free room goes =
           goes m [] (kept-refl edge b n m) tt ∙ (λ i. follows (append-nil so_far i) (shown m))
-      arguments_mean no_argument (p ∷ ps) d n b so_far m rest follows typed housed rooms_there placed behind free room goes = absurd (false≢true typed)
-      arguments_mean (number_argument e args) [] d n b so_far m rest follows typed housed rooms_there placed behind free room goes = absurd (false≢true typed)
-      arguments_mean (number_argument e args) (p ∷ ps) d n b so_far m rest follows typed housed rooms_there placed behind free room goes =
+      arguments_mean no_argument (p ∷ ps) d n b so_far m rest follows typed housed temporaries_there placed behind free room goes = absurd (false≢true typed)
+      arguments_mean (number_argument e args) [] d n b so_far m rest follows typed housed temporaries_there placed behind free room goes = absurd (false≢true typed)
+      arguments_mean (number_argument e args) (p ∷ ps) d n b so_far m rest follows typed housed temporaries_there placed behind free room goes =
           let t = number_type e in
           let is_passed : p ≡ passed.Integer t = number_passed p (type_of e) (left_of _ _ (left_of _ _ typed)) in
           let place : b < d = omega (arith, free) in
           split (code (frame d) e n) _ rest m
-          ∙ means e d n m _ (λ x after. eval_arguments running meant args (so_far ++ low_bytes (bytes t) x ∷ []) after follows) (right_of _ _ (left_of _ _ typed)) (housed_left sizes edge d (rooms e) (arguments_rooms args) housed) placed (omega (arith, room)) (λ m1 kept1.
+          ∙ means e d n m _ (λ x after. eval_arguments running meant args (so_far ++ low_bytes (bytes t) x ∷ []) after follows) (right_of _ _ (left_of _ _ typed)) (housed_left sizes edge d (temporaries e) (arguments_temporaries args) housed) placed (omega (arith, room)) (λ m1 kept1.
           let new = low_bytes (bytes t) (register m1 (n + top e)) in
           let count : length new ≡ bytes t = low_count (bytes t) (register m1 (n + top e)) (few_bytes t) in
           let placed1 = placed_kept d n m m1 placed kept1 in
           let m2 : Memory = written m1 b 0 new in
-          let fits : 0 + length new ≤ length (block_of m1.blocks b) = omega (arith, count, rooms_there.0.fits, block_size d m1 placed1 b) in
+          let fits : 0 + length new ≤ length (block_of m1.blocks b) = omega (arith, count, temporaries_there.0.fits, block_size d m1 placed1 b) in
           let filled : Filled edge (b + 1) n b 0 new m1 m2 = filled-put edge (b + 1) n b 0 new m1 (block_there d m1 placed1 b place) fits in
           let filled_in : Filled edge d n b 0 new m1 m2 = filled-put edge d n b 0 new m1 (block_there d m1 placed1 b place) fits in
           let placed2 : Placed d m2 = placed_filled d n b 0 new m1 m2 placed1 (omega (arith, behind)) filled_in in
           let kept2 : Kept edge b n m m2 = kept-then edge b n n m m1 m2 (omega arith) (kept_lower d b n m m1 (omega (arith, place)) kept1) (filled-kept edge b n 0 new m1 m2 filled) in
-          arguments_mean args ps d (n + (top e + 1)) (b + 1) (so_far ++ new ∷ []) m2 rest follows (right_of _ _ typed) (housed_right sizes edge d (rooms e) (arguments_rooms args) housed) rooms_there.1 placed2 (omega (arith, behind)) (omega (arith, free)) (omega (arith, room, kept2.room)) (λ m3 values kept3 there.
+          arguments_mean args ps d (n + (top e + 1)) (b + 1) (so_far ++ new ∷ []) m2 rest follows (right_of _ _ typed) (housed_right sizes edge d (temporaries e) (arguments_temporaries args) housed) temporaries_there.1 placed2 (omega (arith, behind)) (omega (arith, free)) (omega (arith, room, kept2.room)) (λ m3 values kept3 there.
           let kept : Kept edge b n m m3 = kept-then edge b n (n + (top e + 1)) m m2 m3 (omega arith) kept2 (kept_lower (b + 1) b (n + (top e + 1)) m2 m3 (omega arith) kept3) in
           let held : block_of m3.blocks b ≡ put_at 0 new (block_of m1.blocks b) = kept3.held b (omega (arith, behind)) (omega arith) ∙ filled_in.filled in
           let size : passed_size p ≡ bytes t = ap passed_size is_passed in
           let first : take (passed_size p) (block_of m3.blocks b) ≡ new = (λ i. take (size i) (drop 0 (held i))) ∙ taken_back 0 (bytes t) new (block_of m1.blocks b) count (omega arith) in
           goes m3 (new ∷ values) kept (first, count ∙ sym size, there) ∙ sym (λ i. follows (append_assoc so_far (new ∷ []) values i) (shown m3)))
           ∙ (λ i. eval_arguments running meant args (so_far ++ new ∷ []) (shown_other m1 b 0 new (omega (arith, behind)) i) follows))
-      arguments_mean (structure_argument a args) [] d n b so_far m rest follows typed housed rooms_there placed behind free room goes = absurd (false≢true typed)
-      arguments_mean (structure_argument a args) (p ∷ ps) d n b so_far m rest follows typed housed rooms_there placed behind free room goes =
+      arguments_mean (structure_argument a args) [] d n b so_far m rest follows typed housed temporaries_there placed behind free room goes = absurd (false≢true typed)
+      arguments_mean (structure_argument a args) (p ∷ ps) d n b so_far m rest follows typed housed temporaries_there placed behind free room goes =
           let is_passed : p ≡ passed.Structure (size_of a) = structure_passed p (size_of a) (left_of _ _ (left_of _ _ typed)) in
           let place : b < d = omega (arith, free) in
           split (structure_code (frame d) a n b 0) _ rest m
-          ∙ structure_means a d n b 0 m _ (λ value after. eval_arguments running meant args (so_far ++ value ∷ []) after follows) (right_of _ _ (left_of _ _ typed)) (housed_left sizes edge d (structure_rooms a) (arguments_rooms args) housed) placed (omega (arith, behind)) place
-          (omega (arith, rooms_there.0.fits, block_size d m placed b)) (omega (arith, room)) (λ m1 value long filled.
+          ∙ structure_means a d n b 0 m _ (λ value after. eval_arguments running meant args (so_far ++ value ∷ []) after follows) (right_of _ _ (left_of _ _ typed)) (housed_left sizes edge d (structure_temporaries a) (arguments_temporaries args) housed) placed (omega (arith, behind)) place
+          (omega (arith, temporaries_there.0.fits, block_size d m placed b)) (omega (arith, room)) (λ m1 value long filled.
           let placed1 : Placed d m1 = placed_filled d n b 0 value m m1 placed (omega (arith, behind)) filled in
           let kept1 : Kept edge b n m m1 = filled_lower d b n 0 value m m1 (omega (arith, place)) filled in
-          arguments_mean args ps d (n + structure_registers a) (b + 1) (so_far ++ value ∷ []) m1 rest follows (right_of _ _ typed) (housed_right sizes edge d (structure_rooms a) (arguments_rooms args) housed) rooms_there.1 placed1 (omega (arith, behind)) (omega (arith, free)) (omega (arith, room, kept1.room)) (λ m2 values kept2 there.
+          arguments_mean args ps d (n + structure_registers a) (b + 1) (so_far ++ value ∷ []) m1 rest follows (right_of _ _ typed) (housed_right sizes edge d (structure_temporaries a) (arguments_temporaries args) housed) temporaries_there.1 placed1 (omega (arith, behind)) (omega (arith, free)) (omega (arith, room, kept1.room)) (λ m2 values kept2 there.
           let kept : Kept edge b n m m2 = kept-then edge b n (n + structure_registers a) m m1 m2 (omega arith) kept1 (kept_lower (b + 1) b (n + structure_registers a) m1 m2 (omega arith) kept2) in
           let held : block_of m2.blocks b ≡ put_at 0 value (block_of m.blocks b) = kept2.held b (omega (arith, behind)) (omega arith) ∙ filled.filled in
           let size : passed_size p ≡ size_of a = ap passed_size is_passed in
@@ -863,7 +863,7 @@ module _ (running : Running) (others : List ℕ) (calls : Calls) (hands : Given 
 
       -- the code of a structure value puts its bytes where they are wanted
       pub structure_means : (a : Structure) (d n into to : ℕ) (m : Memory) (rest : Places) (follows : FollowsBytes)
-          → is_structure known a ≡ true → Houses d (structure_rooms a) → Placed d m → edge < into → into < d → to + size_of a ≤ length (block_of m.blocks into)
+          → is_structure known a ≡ true → Houses d (structure_temporaries a) → Placed d m → edge < into → into < d → to + size_of a ≤ length (block_of m.blocks into)
           → n + structure_registers a ≤ length m.registers → GoesInto d n m rest into to (size_of a) follows
           → begin (on (structure_code (frame d) a n into to) rest) m ≡ eval_structure running meant a (shown m) follows
       structure_means (copy line v offset size) d n into to m rest follows typed housed placed behind free fits room goes =
@@ -883,16 +883,16 @@ module _ (running : Running) (others : List ℕ) (calls : Calls) (hands : Given 
           let second = first + structure_registers a in
           let yes_code = structure_code (frame d) a first into to in
           let no_code = structure_code (frame d) b second into to in
-          let ways = housed_right sizes edge d (rooms test) (both (structure_rooms a) (structure_rooms b)) housed in
+          let ways = housed_right sizes edge d (temporaries test) (both (structure_temporaries a) (structure_temporaries b)) housed in
           let same = test_equal (size_of a) (size_of b) (right_of _ _ (left_of _ _ (left_of _ _ (left_of _ _ typed)))) in
           split (code (frame d) test n) _ rest m
-          ∙ means test d n m _ (λ x after. if is_true x then eval_structure running meant a after follows else eval_structure running meant b after follows) (right_of _ _ (left_of _ _ (left_of _ _ typed))) (housed_left sizes edge d (rooms test) (both (structure_rooms a) (structure_rooms b)) housed) placed (omega (arith, room)) (λ m1 kept1.
+          ∙ means test d n m _ (λ x after. if is_true x then eval_structure running meant a after follows else eval_structure running meant b after follows) (right_of _ _ (left_of _ _ (left_of _ _ typed))) (housed_left sizes edge d (temporaries test) (both (structure_temporaries a) (structure_temporaries b)) housed) placed (omega (arith, room)) (λ m1 kept1.
           turned (register m1 (n + top test) == 0) _ _ _ _
           (past yes_code _ rest 1 m1
-          ∙ structure_means b d second into to m1 rest follows (right_of _ _ typed) (housed_right sizes edge d (structure_rooms a) (structure_rooms b) ways) (placed_kept d n m m1 placed kept1) behind free (omega (arith, fits, same, kept_size d n m m1 placed kept1 into)) (omega (arith, room, kept1.room)) (λ m2 value long filled.
+          ∙ structure_means b d second into to m1 rest follows (right_of _ _ typed) (housed_right sizes edge d (structure_temporaries a) (structure_temporaries b) ways) (placed_kept d n m m1 placed kept1) behind free (omega (arith, fits, same, kept_size d n m m1 placed kept1 into)) (omega (arith, room, kept1.room)) (λ m2 value long filled.
           goes m2 value (omega (arith, long, same)) (kept-filled edge d n second into to value m m1 m2 (omega arith) (omega (arith, behind)) free kept1 filled)))
           (split yes_code _ rest m1
-          ∙ structure_means a d first into to m1 _ follows (right_of _ _ (left_of _ _ typed)) (housed_left sizes edge d (structure_rooms a) (structure_rooms b) ways) (placed_kept d n m m1 placed kept1) behind free (omega (arith, fits, kept_size d n m m1 placed kept1 into)) (omega (arith, room, kept1.room)) (λ m2 value long filled.
+          ∙ structure_means a d first into to m1 _ follows (right_of _ _ (left_of _ _ typed)) (housed_left sizes edge d (structure_temporaries a) (structure_temporaries b) ways) (placed_kept d n m m1 placed kept1) behind free (omega (arith, fits, kept_size d n m m1 placed kept1 into)) (omega (arith, room, kept1.room)) (λ m2 value long filled.
           past_all no_code rest m2
           ∙ goes m2 value long (kept-filled edge d n first into to value m m1 m2 (omega arith) (omega (arith, behind)) free kept1 filled))))
       structure_means (put line v offset a) d n into to m rest follows typed housed placed behind free fits room goes =
@@ -915,14 +915,14 @@ module _ (running : Running) (others : List ℕ) (calls : Calls) (hands : Given 
           ∙ same_ask running (Write (pointer_to k offset) value false) line _ _ (λ i done. goes m1 value long filled i))
       structure_means (follow line e a) d n into to m rest follows typed housed placed behind free fits room goes =
           split (code (frame d) e n) _ rest m
-          ∙ means e d n m _ (λ x after. eval_structure running meant a after follows) (left_of _ _ typed) (housed_left sizes edge d (rooms e) (structure_rooms a) housed) placed (omega (arith, room)) (λ m1 kept1.
-          structure_means a d (n + (top e + 1)) into to m1 rest follows (right_of _ _ typed) (housed_right sizes edge d (rooms e) (structure_rooms a) housed) (placed_kept d n m m1 placed kept1) behind free (omega (arith, fits, kept_size d n m m1 placed kept1 into)) (omega (arith, room, kept1.room)) (λ m2 value long filled.
+          ∙ means e d n m _ (λ x after. eval_structure running meant a after follows) (left_of _ _ typed) (housed_left sizes edge d (temporaries e) (structure_temporaries a) housed) placed (omega (arith, room)) (λ m1 kept1.
+          structure_means a d (n + (top e + 1)) into to m1 rest follows (right_of _ _ typed) (housed_right sizes edge d (temporaries e) (structure_temporaries a) housed) (placed_kept d n m m1 placed kept1) behind free (omega (arith, fits, kept_size d n m m1 placed kept1 into)) (omega (arith, room, kept1.room)) (λ m2 value long filled.
           goes m2 value long (kept-filled edge d n (n + (top e + 1)) into to value m m1 m2 (omega arith) (omega (arith, behind)) free kept1 filled)))
       structure_means (section line offset size a) d n into to m rest follows typed housed placed behind free fits room goes =
-          let block = housed_room sizes edge d (size_of a) (structure_rooms a) housed in
+          let block = housed_room sizes edge d (size_of a) (structure_temporaries a) housed in
           let inner = test_most (offset + size) (size_of a) (left_of _ _ typed) in
           split (structure_code (frame (d + 1)) a n d 0) _ rest m
-          ∙ structure_means a (d + 1) n d 0 m _ (λ value. follows (take size (drop offset value))) (right_of _ _ typed) (housed_under sizes edge d (size_of a) (structure_rooms a) housed) (placed_deeper d m block.there placed)
+          ∙ structure_means a (d + 1) n d 0 m _ (λ value. follows (take size (drop offset value))) (right_of _ _ typed) (housed_under sizes edge d (size_of a) (structure_temporaries a) housed) (placed_deeper d m block.there placed)
           (omega (arith, placed.deep)) (omega arith) (omega (arith, block.fits, block_size d m placed d)) room (λ m1 value long filled.
           let part_of = take size (drop offset value) in
           let new = take size (drop offset (block_of m1.blocks d)) in
@@ -937,15 +937,15 @@ module _ (running : Running) (others : List ℕ) (calls : Calls) (hands : Given 
           ∙ ap (follows part_of) (shown_other m1 into to part_of (omega (arith, behind))))
       structure_means (list line size ps) d n into to m rest follows typed housed placed behind free fits room goes =
           let new = take size (drop 0 (block_of m.blocks edge)) in
-          let zero : new ≡ zeros size = (λ i. take size (placed.clean i)) ∙ some_zeros size (slice_index sizes edge) (housed_zeros sizes edge d size (parts_rooms ps) housed) in
+          let zero : new ≡ zeros size = (λ i. take size (placed.clean i)) ∙ some_zeros size (slice_index sizes edge) (housed_zeros sizes edge d size (parts_temporaries ps) housed) in
           let start = filled-put edge d n into to (zeros size) m (block_there d m placed into free) (omega (arith, fits, zeros_length size)) in
           let m1 : Memory = written m into to (zeros size) in
           (λ i. begin (on (parts_code (frame d) line ps n into to) rest) (written m into to (zero i)))
-          ∙ parts_mean ps line d n into to size n (zeros size) m m1 rest follows (right_of _ _ typed) (housed_behind sizes edge d size (parts_rooms ps) housed) (placed_filled d n into to (zeros size) m m1 placed behind start) behind free (zeros_length size) fits (omega arith) room start goes
+          ∙ parts_mean ps line d n into to size n (zeros size) m m1 rest follows (right_of _ _ typed) (housed_behind sizes edge d size (parts_temporaries ps) housed) (placed_filled d n into to (zeros size) m m1 placed behind start) behind free (zeros_length size) fits (omega arith) room start goes
           ∙ (λ i. eval_parts running meant ps (zeros size) (shown_other m into to (zeros size) (omega (arith, behind)) i) follows)
       structure_means (string line size text) d n into to m rest follows typed housed placed behind free fits room goes =
           let new = take size (drop 0 (block_of m.blocks edge)) in
-          let zero : new ≡ zeros size = (λ i. take size (placed.clean i)) ∙ some_zeros size (slice_index sizes edge) (housed_zeros sizes edge d size no_rooms housed) in
+          let zero : new ≡ zeros size = (λ i. take size (placed.clean i)) ∙ some_zeros size (slice_index sizes edge) (housed_zeros sizes edge d size no_temporaries housed) in
           let start = filled-put edge d n into to (zeros size) m (block_there d m placed into free) (omega (arith, fits, zeros_length size)) in
           let m1 : Memory = written m into to (zeros size) in
           let few = test_most (length text) size (right_of _ _ (left_of _ _ typed)) in
@@ -962,7 +962,7 @@ module _ (running : Running) (others : List ℕ) (calls : Calls) (hands : Given 
           let parameters : parameters_of (slice_get functions f) ≡ g.parameters = ap parameters_of found.1 in
           let fitting : are_arguments known g.parameters args ≡ true = (λ i. are_arguments known (sym parameters i) args) ∙ right_of _ _ typed in
           let many : count ≡ length g.parameters = argument_total g.parameters args fitting in
-          let inner = call_rooms args size d (housed_behind sizes edge d size (under_all (argument_sizes args) (under size (arguments_rooms args))) housed) in
+          let inner = call_temporaries args size d (housed_behind sizes edge d size (under_all (argument_sizes args) (under size (arguments_temporaries args))) housed) in
           let last = inner.1 in
           let placed_in : Placed deep m = placed_at d deep m (omega (arith, placed.deep)) (omega (arith, last.there)) placed in
           let copy_code : List Instruction = at_line (frame d) line (operations.CopyBytes into to b 0 size) ∷ [] in
@@ -971,7 +971,7 @@ module _ (running : Running) (others : List ℕ) (calls : Calls) (hands : Given 
           let placed1 = placed_kept d n m m1 placed kept1 in
           let placed_deep : Placed deep m1 = placed_at d deep m1 (omega (arith, placed.deep)) (omega (arith, last.there)) placed1 in
           let room1 : size ≤ length (block_of m1.blocks b) = omega (arith, last.fits, block_size d m1 placed1 b) in
-          let zero_room = housed_zeros sizes edge d size (under_all (argument_sizes args) (under size (arguments_rooms args))) housed in
+          let zero_room = housed_zeros sizes edge d size (under_all (argument_sizes args) (under size (arguments_temporaries args))) housed in
           let m2 : Memory = written m1 b 0 (zeros size) in
           let wide : b < length m1.blocks = block_there deep m1 placed_deep b (omega arith) in
           let filled : Filled edge (b + 1) n b 0 (zeros size) m1 m2 = filled-put edge (b + 1) n b 0 (zeros size) m1 wide (omega (arith, zeros_length size, room1)) in
@@ -985,7 +985,7 @@ module _ (running : Running) (others : List ℕ) (calls : Calls) (hands : Given 
 
       -- the parts of an initializer, over the bytes so far
       pub parts_mean : (ps : Parts) (line d n into to size from : ℕ) (value : List ℕ) (m0 m : Memory) (rest : Places) (follows : FollowsBytes)
-          → are_parts known size ps ≡ true → Houses d (parts_rooms ps) → Placed d m → edge < into → into < d
+          → are_parts known size ps ≡ true → Houses d (parts_temporaries ps) → Placed d m → edge < into → into < d
           → length value ≡ size → to + size ≤ length (block_of m0.blocks into) → from ≤ n → n + parts_registers ps ≤ length m.registers
           → Filled edge d from into to value m0 m → GoesInto d from m0 rest into to size follows
           → begin (on (parts_code (frame d) line ps n into to) rest) m ≡ eval_parts running meant ps value (shown m) follows
@@ -994,7 +994,7 @@ module _ (running : Running) (others : List ℕ) (calls : Calls) (hands : Given 
           let t = number_type e in
           let inner = number_within size offset (type_of e) (left_of _ _ (left_of _ _ typed)) in
           split (code (frame d) e n) _ rest m
-          ∙ means e d n m _ (λ x after. eval_parts running meant others (put_at offset (low_bytes (bytes t) x) value) after follows) (right_of _ _ (left_of _ _ typed)) (housed_left sizes edge d (rooms e) (parts_rooms others) housed) placed (omega (arith, room)) (λ m1 kept1.
+          ∙ means e d n m _ (λ x after. eval_parts running meant others (put_at offset (low_bytes (bytes t) x) value) after follows) (right_of _ _ (left_of _ _ typed)) (housed_left sizes edge d (temporaries e) (parts_temporaries others) housed) placed (omega (arith, room)) (λ m1 kept1.
           let new = low_bytes (bytes t) (register m1 (n + top e)) in
           let count = low_count (bytes t) (register m1 (n + top e)) (few_bytes t) in
           let m2 : Memory = written m1 into (to + offset) new in
@@ -1003,14 +1003,14 @@ module _ (running : Running) (others : List ℕ) (calls : Calls) (hands : Given 
           let there : to + offset + length new ≤ length (block_of m1.blocks into) = omega (arith, inner, count, fits, size1, kept_size d n m m1 placed kept1 into) in
           let one = kept-filled edge d n n into (to + offset) new m m1 m2 (omega arith) (omega (arith, behind)) free kept1 (filled-put edge d n into (to + offset) new m1 (block_there d m1 placed1 into free) there) in
           let now : Filled edge d from into to (put_at offset new value) m0 m2 = filled-within edge d from n into to offset value new m0 m m2 above (omega (arith, inner, count, long)) (omega (arith, long, fits)) so_far one in
-          parts_mean others line d (n + (top e + 1)) into to size from (put_at offset new value) m0 m2 rest follows (right_of _ _ typed) (housed_right sizes edge d (rooms e) (parts_rooms others) housed) (placed_filled d n into (to + offset) new m m2 placed behind one) behind free
+          parts_mean others line d (n + (top e + 1)) into to size from (put_at offset new value) m0 m2 rest follows (right_of _ _ typed) (housed_right sizes edge d (temporaries e) (parts_temporaries others) housed) (placed_filled d n into (to + offset) new m m2 placed behind one) behind free
           (put_size offset new value (omega (arith, inner, count, long)) ∙ long) fits (omega (arith, above)) (omega (arith, room, kept1.room)) now goes
           ∙ (λ i. eval_parts running meant others (put_at offset new value) (shown_other m1 into (to + offset) new (omega (arith, behind)) i) follows))
       parts_mean (structure_part offset a others) line d n into to size from value m0 m rest follows typed housed placed behind free long fits above room so_far goes =
           let inner = test_most (offset + size_of a) size (left_of _ _ (left_of _ _ typed)) in
           let size1 = block_kept d from into to value m0 m so_far in
           split (structure_code (frame d) a n into (to + offset)) _ rest m
-          ∙ structure_means a d n into (to + offset) m _ (λ part_of after. eval_parts running meant others (put_at offset part_of value) after follows) (right_of _ _ (left_of _ _ typed)) (housed_left sizes edge d (structure_rooms a) (parts_rooms others) housed) placed behind free (omega (arith, inner, fits, size1)) (omega (arith, room)) (λ m1 part_of part_size one.
+          ∙ structure_means a d n into (to + offset) m _ (λ part_of after. eval_parts running meant others (put_at offset part_of value) after follows) (right_of _ _ (left_of _ _ typed)) (housed_left sizes edge d (structure_temporaries a) (parts_temporaries others) housed) placed behind free (omega (arith, inner, fits, size1)) (omega (arith, room)) (λ m1 part_of part_size one.
           let now : Filled edge d from into to (put_at offset part_of value) m0 m1 = filled-within edge d from n into to offset value part_of m0 m m1 above (omega (arith, inner, part_size, long)) (omega (arith, long, fits)) so_far one in
-          parts_mean others line d (n + structure_registers a) into to size from (put_at offset part_of value) m0 m1 rest follows (right_of _ _ typed) (housed_right sizes edge d (structure_rooms a) (parts_rooms others) housed) (placed_filled d n into (to + offset) part_of m m1 placed behind one) behind free
+          parts_mean others line d (n + structure_registers a) into to size from (put_at offset part_of value) m0 m1 rest follows (right_of _ _ typed) (housed_right sizes edge d (structure_temporaries a) (parts_temporaries others) housed) (placed_filled d n into (to + offset) part_of m m1 placed behind one) behind free
           (put_size offset part_of value (omega (arith, inner, part_size, long)) ∙ long) fits (omega (arith, above)) (omega (arith, room, one.room)) now goes)

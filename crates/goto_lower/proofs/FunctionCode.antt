@@ -15,8 +15,8 @@ use Rattle.core_tree.specs.Trees.{Statement, Procedure, TypedFile}
 use Rattle.c_values.specs.Variables.{Variables, block_of, put_at, zeros, first_variables}
 use Rattle.actions.specs.Behaviour.{Behaviour}
 use Rattle.actions.specs.declared.action.Next.TheVariants.{Broken, Blocked}
-use Rattle.c_interp.specs.Meaning as source
-use Rattle.c_interp.specs.Meaning.{Running, Code, running_at, in_function, exec}
+use Rattle.c_tasks.specs.Meaning as source
+use Rattle.c_tasks.specs.Meaning.{Running, Code, running_at, in_function, exec}
 use Rattle.goto_prog.specs.Meaning.{Memory, Given, at}
 use Rattle.goto_prog.specs.Threads.{Calls, acting, final}
 use Rattle.goto_prog.specs.Nodes.{Nodes, plain, Routine}
@@ -24,7 +24,7 @@ use Rattle.goto_prog.specs.Structured as flat
 use Rattle.goto_prog.specs.Structured.{Bounded, with_arguments, entry_memory}
 use Rattle.goto_prog.specs.declared.code.Operation.TheVariants as operations
 use Rattle.goto_lower.specs.Lowering.{at_line, ends, no_ways, statement_code}
-use Rattle.goto_lower.specs.Rooms.{Rooms, statement_rooms}
+use Rattle.goto_lower.specs.Temporaries.{Temporaries, statement_temporaries}
 use Rattle.goto_lower.specs.Lowered.{given_size, first_frame, undefined_code, defined_code, code_by, function_code, function_codes}
 use Rattle.goto_lower.proofs.RegisterTypes.{left_of, right_of}
 use Rattle.goto_lower.proofs.RegisterCounts.{statement_length}
@@ -175,8 +175,8 @@ module _ (file : TypedFile) (limits : Limits) (all_typed : list_all (is_typed_fu
     abbrev running : Running
     running = running_at meaning f p
 
-    abbrev needed : Rooms
-    needed = statement_rooms s
+    abbrev needed : Temporaries
+    needed = statement_temporaries s
 
     abbrev others : List ℕ
     others = needed.zeros ∷ given_size p.gives ∷ needed.sizes

@@ -2,7 +2,7 @@
 use Rattle.std.proofs.Common.{◌≡◌, ℕ, zero, suc, ◌+◌, ◌<◌, ◌≤◌, List, [], ◌∷◌, take, set, length, refl, sym, ap, ◌∙◌, arith}
 use Rattle.std.specs.Prelude.{max, slice_index, Result, Ok, Err, IfOk}
 use Rattle.std.proofs.lemmas.List.{take_all}
-use Rattle.goto_lower.specs.Rooms.{Rooms, greater, no_rooms, both}
+use Rattle.goto_lower.specs.Temporaries.{Temporaries, greater, no_temporaries, both}
 
 pub greater_none : (xs : List ℕ) → greater xs [] ≡ xs
 greater_none [] = refl
@@ -30,9 +30,9 @@ greater_swapped (x ∷ xs) [] = refl
 greater_swapped (x ∷ xs) (y ∷ ys) = let same : max x y ≡ max y x = omega arith in λ i. same i ∷ greater_swapped xs ys i
 
 -- nothing before others
-pub none_first : (a : Rooms) → both no_rooms a ≡ a
+pub none_first : (a : Temporaries) → both no_temporaries a ≡ a
 none_first a = let same : max 0 a.zeros ≡ a.zeros = omega arith in λ i. record { zeros = same i; sizes = a.sizes }
 
-pub same_rooms : {E : Type 0} (r : Result Rooms E) (x y : Rooms) → x ≡ y → IfOk r (λ a. a ≡ x) → IfOk r (λ a. a ≡ y)
-same_rooms (Ok a) x y same h = h ∙ same
-same_rooms (Err e) x y same h = h
+pub same_temporaries : {E : Type 0} (r : Result Temporaries E) (x y : Temporaries) → x ≡ y → IfOk r (λ a. a ≡ x) → IfOk r (λ a. a ≡ y)
+same_temporaries (Ok a) x y same h = h ∙ same
+same_temporaries (Err e) x y same h = h

@@ -18,8 +18,8 @@ use Rattle.c_values.specs.Variables.{Variables, low_bytes, block_of, put_at, wor
 use Rattle.actions.specs.Behaviour.{Behaviour}
 use Rattle.actions.specs.declared.action.Action.TheVariants.{Draw}
 use Rattle.actions.specs.declared.action.Answer.{Answer}
-use Rattle.c_interp.specs.Meaning as source
-use Rattle.c_interp.specs.Meaning.{Running, Exits, number_type, has_case, has_default, in_loop, in_switch, with_labels, enter, eval, eval_structure, eval_part, tested, at_end, exec, exec_items, at_label, at_case, at_default}
+use Rattle.c_tasks.specs.Meaning as source
+use Rattle.c_tasks.specs.Meaning.{Running, Exits, number_type, has_case, has_default, in_loop, in_switch, with_labels, enter, eval, eval_structure, eval_part, tested, at_end, exec, exec_items, at_label, at_case, at_default}
 use Rattle.goto_prog.specs.declared.code.Instruction.{Instruction}
 use Rattle.goto_prog.specs.declared.code.Operation.TheVariants as operations
 use Rattle.goto_prog.specs.Meaning.{Memory, Given, Reading, register, with_register, with_blocks, word_of, operates, at}
@@ -30,7 +30,7 @@ use Rattle.goto_prog.specs.Structured as flat
 use Rattle.goto_prog.specs.Structured.{Bounded, nodes_before, round_count, tests}
 use Rattle.goto_lower.specs.Lowering.{Frame, top, structure_registers, at_line, code, structure_code, size_of, first_registers, words_code, first_code, initial_code, entry_registers, part_registers, case_registers, statement_registers, items_registers, entry_code, part_code, test_code, Ways, within_loop, within_switch, ends, plains, to_place, case_tests, last_case, statement_code, items_code, labels_of, case_jumps, default_place}
 use Rattle.goto_lower.specs.Lowered.{given_size}
-use Rattle.goto_lower.specs.Rooms.{Rooms, no_rooms, both, under, rooms, structure_rooms, part_rooms, statement_rooms, items_rooms}
+use Rattle.goto_lower.specs.Temporaries.{Temporaries, no_temporaries, both, under, temporaries, structure_temporaries, part_temporaries, statement_temporaries, items_temporaries}
 use Rattle.goto_lower.proofs.RegisterTypes.{left_of, right_of, filled_there, filled_within}
 use Rattle.goto_lower.proofs.RegisterTypes as registers_of
 use Rattle.goto_lower.proofs.BlockBytes.{low_count, few_bytes, taken_back}
@@ -86,7 +86,7 @@ module _ (running : Running) (others objects : List ℕ) (functions : List Signa
     pub zero_there : register m 0 ≡ 0
     pub room : length m.registers ≡ total
 
-  abbrev Lives : Rooms → Type 0
+  abbrev Lives : Temporaries → Type 0
   Lives r = Housed sizes edge d r
 
   ready_kept : (n : ℕ) (m m' : Memory) → 1 ≤ n → Ready m → Kept edge d n m m' → Ready m'
@@ -248,13 +248,13 @@ module _ (running : Running) (others objects : List ℕ) (functions : List Signa
   entering (default_at line items) n start m0 m ps follows typed ready kept some above room goes = entering items n start m0 m ps follows typed ready kept some above room goes
 
   -- an expression, in front of places
-  value_first : (e : Expression) (n : ℕ) (m : Memory) (ps : Places) (follows : ℕ → Variables → Behaviour) → is_typed named e ≡ true → Lives (rooms e) → Ready m → 1 ≤ n → n + top e < total
+  value_first : (e : Expression) (n : ℕ) (m : Memory) (ps : Places) (follows : ℕ → Variables → Behaviour) → is_typed named e ≡ true → Lives (temporaries e) → Ready m → 1 ≤ n → n + top e < total
       → ((m' : Memory) → Ready m' → Kept edge d n m m' → begin ps m' ≡ follows (register m' (n + top e)) (view m'))
       → begin (on (code here e n) ps) m ≡ eval running meant e (view m) follows
   value_first e n m ps follows typed housed ready some room goes =
       means running others calls hands meant objects functions gives agree e d n m ps follows typed housed ready.placed (omega (arith, room, ready.room)) (λ m' kept. goes m' (ready_kept n m m' some ready kept) kept)
 
-  structure_first : (a : Structure) (n into : ℕ) (m : Memory) (ps : Places) (follows : List ℕ → Variables → Behaviour) → is_structure named a ≡ true → Lives (structure_rooms a) → Ready m → edge < into → into < d
+  structure_first : (a : Structure) (n into : ℕ) (m : Memory) (ps : Places) (follows : List ℕ → Variables → Behaviour) → is_structure named a ≡ true → Lives (structure_temporaries a) → Ready m → edge < into → into < d
       → 0 + trees.size_of a ≤ length (block_of m.blocks into) → n + structure_registers a ≤ total
       → ((m' : Memory) (value : List ℕ) → length value ≡ trees.size_of a → block_of m'.blocks into ≡ put_at 0 value (block_of m.blocks into) → begin ps m' ≡ follows value (view m'))
       → begin (on (structure_code here a n into 0) ps) m ≡ eval_structure running meant a (view m) follows
@@ -263,14 +263,14 @@ module _ (running : Running) (others objects : List ℕ) (functions : List Signa
 
   -- the structure value of an initializer
   initial_means : (line v : ℕ) (a : Structure) (n : ℕ) (m : Memory) (ps : Places) (follows : Variables → Behaviour)
-      → v < edge → slice_index running.sizes v ≡ trees.size_of a → is_structure named a ≡ true → Lives (under (trees.size_of a) (structure_rooms a)) → Ready m → 1 ≤ n → n + structure_registers a ≤ total → Goes ps follows
+      → v < edge → slice_index running.sizes v ≡ trees.size_of a → is_structure named a ≡ true → Lives (under (trees.size_of a) (structure_temporaries a)) → Ready m → 1 ≤ n → n + structure_registers a ≤ total → Goes ps follows
       → begin (on (initial_code here running.sizes line v a n) ps) m ≡ eval_structure running meant a (view m) (λ value after. follows (put_bytes after v 0 value))
   initial_means line v a n m ps follows variable whole typed housed ready some room goes =
       let placed = ready.placed in
-      let free = housed_room sizes edge d (trees.size_of a) (structure_rooms a) housed in
+      let free = housed_room sizes edge d (trees.size_of a) (structure_temporaries a) housed in
       let free_size = block_size running others calls hands meant d m placed d in
       split running others calls hands meant (structure_code (frame running others calls hands meant (d + 1)) a n d 0) _ ps m
-      ∙ structure_means running others calls hands meant objects functions gives agree a (d + 1) n d 0 m _ (λ value after. follows (put_bytes after v 0 value)) typed (housed_under sizes edge d (trees.size_of a) (structure_rooms a) housed) (placed_deeper running others calls hands meant d m free.there placed)
+      ∙ structure_means running others calls hands meant objects functions gives agree a (d + 1) n d 0 m _ (λ value after. follows (put_bytes after v 0 value)) typed (housed_under sizes edge d (trees.size_of a) (structure_temporaries a) housed) (placed_deeper running others calls hands meant d m free.there placed)
       (omega (arith, placed.deep)) (omega arith) (omega (arith, free.fits, free_size)) (omega (arith, room, ready.room)) (λ m1 value long filled.
       let new = take (trees.size_of a) (drop 0 (block_of m1.blocks d)) in
       let same : new ≡ value = (λ i. take (trees.size_of a) (drop 0 (filled.filled i))) ∙ taken_back 0 (trees.size_of a) value (block_of m.blocks d) long (omega arith) in
@@ -286,13 +286,13 @@ module _ (running : Running) (others objects : List ℕ) (functions : List Signa
   -- ---- loops
 
   -- a part that may be missing
-  part_means : (e : Option Expression) (n : ℕ) (ps : Places) (follows : Variables → Behaviour) → is_typed_part named e ≡ true → Lives (part_rooms e) → 1 ≤ n → n + part_registers running.sizes e ≤ total → Goes ps follows
+  part_means : (e : Option Expression) (n : ℕ) (ps : Places) (follows : Variables → Behaviour) → is_typed_part named e ≡ true → Lives (part_temporaries e) → 1 ≤ n → n + part_registers running.sizes e ≤ total → Goes ps follows
       → Goes (on (part_code here running.sizes e n) ps) (λ vs. eval_part running meant e vs follows)
   part_means None n ps follows typed housed some room goes m ready = goes m ready
   part_means (Some e) n ps follows typed housed some room goes m ready = value_first e n m ps (λ x. follows) typed housed ready some (omega (arith, room)) (λ m' ready' kept. goes m' ready')
 
   -- a test, behind which comes one place where it holds and another where it fails
-  test_means : (line : ℕ) (e : Option Expression) (n : ℕ) (ps : Places) (holds fails : Variables → Behaviour) → is_test named e ≡ true → Lives (part_rooms e) → 1 ≤ n → n + part_registers running.sizes e ≤ total
+  test_means : (line : ℕ) (e : Option Expression) (n : ℕ) (ps : Places) (holds fails : Variables → Behaviour) → is_test named e ≡ true → Lives (part_temporaries e) → 1 ≤ n → n + part_registers running.sizes e ≤ total
       → Goes ps holds → ((m : Memory) → Ready m → at reading ps 1 m ≡ fails (view m))
       → Goes (on (test_code here running.sizes line e n) ps) (λ vs. tested running meant e vs holds fails)
   test_means line None n ps holds fails typed housed some room goes past m ready = goes m ready
@@ -471,7 +471,7 @@ module _ (running : Running) (others objects : List ℕ) (functions : List Signa
   met true c next skip meets at_others other hit missed = hit
   met false c next skip meets at_others other hit missed = missed
 
-  no_room : (r : Rooms) → Lives r → Lives no_rooms
+  no_room : (r : Temporaries) → Lives r → Lives no_temporaries
   no_room r housed = record { zeros = omega arith; sizes = tt }
 
   some_entry : (n before in_cases in_entry : ℕ) (items : Items) → 1 ≤ n → in_entry ≡ in_cases + case_registers running.sizes items → in_cases ≤ in_entry
@@ -505,14 +505,14 @@ module _ (running : Running) (others objects : List ℕ) (functions : List Signa
     abbrev Means : Statement → Type 0
     Means s =
         (ways : Ways) (exits : Exits) (n : ℕ) (rest : Nodes) (later : Places) (follows : Variables → Behaviour)
-        → is_typed_statement named s ≡ true → Lives (statement_rooms s) → 1 ≤ n → n + statement_registers running.sizes s ≤ total → LeadOut ways exits (nodes_on rest later) → Goes (nodes_on rest later) follows
+        → is_typed_statement named s ≡ true → Lives (statement_temporaries s) → 1 ≤ n → n + statement_registers running.sizes s ≤ total → LeadOut ways exits (nodes_on rest later) → Goes (nodes_on rest later) follows
         → Goes (nodes_on (statement_code here running.sizes (length later) ways s n rest) later) (λ vs. exec running meant s exits vs follows)
 
     -- the jumps to cases lead to the one that is met
     abbrev JumpsMean : Items → Type 0
     JumpsMean items =
         (line x k n : ℕ) (ways : Ways) (exits : Exits) (rest more : Nodes) (later : Places) (follows other : Variables → Behaviour)
-        → are_typed_items named items ≡ true → Lives (items_rooms items) → 1 ≤ n → n + items_registers running.sizes items ≤ total → LeadOut ways exits (nodes_on rest later) → Goes (nodes_on rest later) follows
+        → are_typed_items named items ≡ true → Lives (items_temporaries items) → 1 ≤ n → n + items_registers running.sizes items ≤ total → LeadOut ways exits (nodes_on rest later) → Goes (nodes_on rest later) follows
         → InFront more (items_code here running.sizes (length later) ways items n rest)
         → (m : Memory) → Ready m → Tested items k x m → begin (nodes_on more later) m ≡ other (view m)
         → begin (nodes_on (case_jumps here running.sizes (length later) ways line items k n rest more) later) m ≡ (if has_case items x then at_case running meant items x exits (view m) follows else other (view m))
@@ -521,19 +521,19 @@ module _ (running : Running) (others objects : List ℕ) (functions : List Signa
     abbrev DefaultLeads : Items → Type 0
     DefaultLeads items =
         (n : ℕ) (ways : Ways) (exits : Exits) (rest : Nodes) (later : Places) (follows : Variables → Behaviour)
-        → has_default items ≡ true → are_typed_items named items ≡ true → Lives (items_rooms items) → 1 ≤ n → n + items_registers running.sizes items ≤ total → LeadOut ways exits (nodes_on rest later) → Goes (nodes_on rest later) follows
+        → has_default items ≡ true → are_typed_items named items ≡ true → Lives (items_temporaries items) → 1 ≤ n → n + items_registers running.sizes items ≤ total → LeadOut ways exits (nodes_on rest later) → Goes (nodes_on rest later) follows
         → Leads (nodes_on (items_code here running.sizes (length later) ways items n rest) later) (default_place here running.sizes (length later) ways items n rest) (λ vs. at_default running meant items exits vs follows)
 
     -- a round of a loop: the body, then the last part and the test
     each_round : (line : ℕ) (s : Statement) → Means s → (last test : Option Expression) (ways : Ways) (exits : Exits) (n in_last in_body behind : ℕ) (rest : Nodes) (later : Places) (follows : Variables → Behaviour) (again : Memory → Behaviour) (on_again : Variables → Behaviour)
         → behind ≡ length later + node_count rest → is_typed_statement named s ≡ true → is_test named test ≡ true → is_typed_part named last ≡ true
-        → Lives (statement_rooms s) → Lives (part_rooms test) → Lives (part_rooms last) → 1 ≤ n → 1 ≤ in_last → 1 ≤ in_body
+        → Lives (statement_temporaries s) → Lives (part_temporaries test) → Lives (part_temporaries last) → 1 ≤ n → 1 ≤ in_last → 1 ≤ in_body
         → n + part_registers running.sizes test ≤ total → in_last + part_registers running.sizes last ≤ total → in_body + statement_registers running.sizes s ≤ total
         → LeadOut ways exits (nodes_on rest later) → Goes (nodes_on rest later) follows → ((m : Memory) → Ready m → again m ≡ on_again (view m))
         → (let end = plains (part_code here running.sizes last in_last) (plains (test_code here running.sizes line test n) ends) in
         (m : Memory) → Ready m → begin (nodes_on (statement_code here running.sizes (behind + 1) (within_loop ways behind (behind + 1 + node_count end)) s in_body end) (again ∷ nodes_on rest later)) m
         ≡ exec running meant s (in_loop exits follows (at_end running meant last test on_again follows)) (view m) (at_end running meant last test on_again follows))
-    each_round line s means_it last test ways exits n in_last in_body behind rest later follows again on_again is_behind typed test_typed last_typed housed test_rooms last_rooms some some_last some_body test_room last_room room out goes same m ready =
+    each_round line s means_it last test ways exits n in_last in_body behind rest later follows again on_again is_behind typed test_typed last_typed housed test_temporaries last_temporaries some some_last some_body test_room last_room room out goes same m ready =
         let later_in : Places = again ∷ nodes_on rest later in
         let end = plains (part_code here running.sizes last in_last) (plains (test_code here running.sizes line test n) ends) in
         let ways_in = within_loop ways behind (behind + 1 + node_count end) in
@@ -542,9 +542,9 @@ module _ (running : Running) (others objects : List ℕ) (functions : List Signa
         let end_front : InFront end ends = plains_front _ _ ends (plains_front _ ends ends (itself ends)) in
         let end_goes : Goes (nodes_on end later_in) follows_end = λ m1 ready1.
         begin_plains (part_code here running.sizes last in_last) _ later_in m1
-        ∙ part_means last in_last (nodes_on (plains (test_code here running.sizes line test n) ends) later_in) (λ now. tested running meant test now on_again follows) last_typed last_rooms some_last last_room (λ m2 ready2.
+        ∙ part_means last in_last (nodes_on (plains (test_code here running.sizes line test n) ends) later_in) (λ now. tested running meant test now on_again follows) last_typed last_temporaries some_last last_room (λ m2 ready2.
         begin_plains (test_code here running.sizes line test n) ends later_in m2
-        ∙ test_means line test n later_in on_again follows test_typed test_rooms some test_room same goes m2 ready2) m1 ready1 in
+        ∙ test_means line test n later_in on_again follows test_typed test_temporaries some test_room same goes m2 ready2) m1 ready1 in
         let out_in : LeadOut ways_in (in_loop exits follows follows_end) (nodes_on end later_in) = record {
           breaks = leads_front end ends later_in behind follows end_front (leads_behind (again ∷ []) (nodes_on rest later) behind follows (leads_begin (nodes_on rest later) behind follows (omega (arith, is_behind, places_count rest later)) goes));
           continues = leads_begin (nodes_on end later_in) (behind + 1 + node_count end) follows_end (omega (arith, places_count end later_in, base)) end_goes;
@@ -557,7 +557,7 @@ module _ (running : Running) (others objects : List ℕ) (functions : List Signa
     -- behind the tests of the cases: nothing where none is met and there is no default, else the block, from the place that is met
     switch_tail : (b : Bool) (line : ℕ) (items : Items) → JumpsMean items → DefaultLeads items → (ways : Ways) (exits : Exits) (n before in_cases in_entry : ℕ) (rest : Nodes) (later : Places) (follows : Variables → Behaviour) (x : ℕ)
         → has_default items ≡ b → in_entry ≡ in_cases + case_registers running.sizes items → 1 ≤ in_cases
-        → are_typed_items named items ≡ true → Lives (items_rooms items) → 1 ≤ n → n + items_registers running.sizes items ≤ total → in_entry + entry_registers running.sizes items ≤ total
+        → are_typed_items named items ≡ true → Lives (items_temporaries items) → 1 ≤ n → n + items_registers running.sizes items ≤ total → in_entry + entry_registers running.sizes items ≤ total
         → LeadOut ways exits (nodes_on rest later) → Goes (nodes_on rest later) follows → (m : Memory) → Ready m → Tested items in_cases x m → register m (last_case here running.sizes before items in_cases) ≡ truth_bits (has_case items x)
         → (let body = items_code here running.sizes (length later) ways items n rest in
         let last = to_place here running.sizes line (length later) (if b then default_place here running.sizes (length later) ways items n rest else length later + node_count rest) body in
@@ -607,7 +607,7 @@ module _ (running : Running) (others objects : List ℕ) (functions : List Signa
 
     mutual
       pub statement_means : (s : Statement) (ways : Ways) (exits : Exits) (n : ℕ) (rest : Nodes) (later : Places) (follows : Variables → Behaviour)
-          → is_typed_statement named s ≡ true → Lives (statement_rooms s) → 1 ≤ n → n + statement_registers running.sizes s ≤ total → LeadOut ways exits (nodes_on rest later) → Goes (nodes_on rest later) follows
+          → is_typed_statement named s ≡ true → Lives (statement_temporaries s) → 1 ≤ n → n + statement_registers running.sizes s ≤ total → LeadOut ways exits (nodes_on rest later) → Goes (nodes_on rest later) follows
           → Goes (nodes_on (statement_code here running.sizes (length later) ways s n rest) later) (λ vs. exec running meant s exits vs follows)
       statement_means (block items) ways exits n rest later follows typed housed some room out goes m ready =
           let in_entry = n + items_registers running.sizes items in
@@ -618,11 +618,11 @@ module _ (running : Running) (others objects : List ℕ) (functions : List Signa
           let yes = statement_code here running.sizes (length later) ways s n rest in
           let in_test = n + statement_registers running.sizes s in
           begin_plains (code here test in_test) _ later m
-          ∙ value_first test in_test m _ (λ x after. if is_true x then exec running meant s exits after follows else follows after) (right_of _ _ (left_of _ _ typed)) (housed_left sizes edge d (rooms test) (statement_rooms s) housed) ready (omega (arith, some)) (omega (arith, room)) (λ m1 ready1 kept1.
+          ∙ value_first test in_test m _ (λ x after. if is_true x then exec running meant s exits after follows else follows after) (right_of _ _ (left_of _ _ typed)) (housed_left sizes edge d (temporaries test) (statement_temporaries s) housed) ready (omega (arith, some)) (omega (arith, room)) (λ m1 ready1 kept1.
           turned running others calls hands meant (register m1 (in_test + top test) == 0) _ _ _ _
           (skip_to (nodes_on yes later) (node_count yes - node_count rest) (length (nodes_on rest later)) follows (omega (arith, places_count yes later, places_count rest later))
           (leads_front yes rest later (length (nodes_on rest later)) follows (statement_front s (length later) ways n rest) (leads_begin (nodes_on rest later) (length (nodes_on rest later)) follows refl goes)) m1 ready1)
-          (statement_means s ways exits n rest later follows (right_of _ _ typed) (housed_right sizes edge d (rooms test) (statement_rooms s) housed) some (omega (arith, room)) out goes m1 ready1))
+          (statement_means s ways exits n rest later follows (right_of _ _ typed) (housed_right sizes edge d (temporaries test) (statement_temporaries s) housed) some (omega (arith, room)) out goes m1 ready1))
       statement_means (if_else line test s t) ways exits n rest later follows typed housed some room out goes m ready =
           let base = length later in
           let no = statement_code here running.sizes base ways t n rest in
@@ -630,21 +630,21 @@ module _ (running : Running) (others objects : List ℕ) (functions : List Signa
           let jump = to_place here running.sizes line base (base + node_count rest) no in
           let yes = statement_code here running.sizes base ways s second jump in
           let in_test = second + statement_registers running.sizes s in
-          let both_rooms = housed_right sizes edge d (rooms test) (both (statement_rooms s) (statement_rooms t)) housed in
+          let both_temporaries = housed_right sizes edge d (temporaries test) (both (statement_temporaries s) (statement_temporaries t)) housed in
           let no_front : InFront no rest = statement_front t base ways n rest in
           let jump_front : InFront jump rest = plain_front _ no rest no_front in
           let yes_front : InFront yes no = then_front yes jump no (statement_front s base ways second jump) (plain_front _ no no (itself no)) in
           let no_goes : Goes (nodes_on no later) (λ vs. exec running meant t exits vs follows) =
-          statement_means t ways exits n rest later follows (right_of _ _ typed) (housed_right sizes edge d (statement_rooms s) (statement_rooms t) both_rooms) some (omega (arith, room)) out goes in
+          statement_means t ways exits n rest later follows (right_of _ _ typed) (housed_right sizes edge d (statement_temporaries s) (statement_temporaries t) both_temporaries) some (omega (arith, room)) out goes in
           let end : Leads (nodes_on no later) (length (nodes_on rest later)) follows = leads_front no rest later (length (nodes_on rest later)) follows no_front (leads_begin (nodes_on rest later) (length (nodes_on rest later)) follows refl goes) in
           let jump_goes : Goes (nodes_on jump later) follows =
           λ m' ready'. skip_to (nodes_on no later) (base + node_count no - (base + node_count rest)) (length (nodes_on rest later)) follows (omega (arith, places_count no later, places_count rest later)) end m' ready' in
           begin_plains (code here test in_test) _ later m
-          ∙ value_first test in_test m _ (λ x after. if is_true x then exec running meant s exits after follows else exec running meant t exits after follows) (right_of _ _ (left_of _ _ (left_of _ _ typed))) (housed_left sizes edge d (rooms test) (both (statement_rooms s) (statement_rooms t)) housed) ready (omega (arith, some)) (omega (arith, room)) (λ m1 ready1 kept1.
+          ∙ value_first test in_test m _ (λ x after. if is_true x then exec running meant s exits after follows else exec running meant t exits after follows) (right_of _ _ (left_of _ _ (left_of _ _ typed))) (housed_left sizes edge d (temporaries test) (both (statement_temporaries s) (statement_temporaries t)) housed) ready (omega (arith, some)) (omega (arith, room)) (λ m1 ready1 kept1.
           turned running others calls hands meant (register m1 (in_test + top test) == 0) _ _ _ _
           (skip_to (nodes_on yes later) (node_count yes - node_count no) (length (nodes_on no later)) (λ vs. exec running meant t exits vs follows) (omega (arith, places_count yes later, places_count no later))
           (leads_front yes no later (length (nodes_on no later)) (λ vs. exec running meant t exits vs follows) yes_front (leads_begin (nodes_on no later) (length (nodes_on no later)) (λ vs. exec running meant t exits vs follows) refl no_goes)) m1 ready1)
-          (statement_means s ways exits second jump later follows (right_of _ _ (left_of _ _ typed)) (housed_left sizes edge d (statement_rooms s) (statement_rooms t) both_rooms) (omega (arith, some)) (omega (arith, room)) (lead_front ways exits jump rest later jump_front out) jump_goes m1 ready1))
+          (statement_means s ways exits second jump later follows (right_of _ _ (left_of _ _ typed)) (housed_left sizes edge d (statement_temporaries s) (statement_temporaries t) both_temporaries) (omega (arith, some)) (omega (arith, room)) (lead_front ways exits jump rest later jump_front out) jump_goes m1 ready1))
       statement_means (evaluate e) ways exits n rest later follows typed housed some room out goes m ready =
           begin_plains (code here e n) rest later m
           ∙ value_first e n m _ (λ x. follows) typed housed ready some (omega (arith, room)) (λ m1 ready1 kept1. goes m1 ready1)
@@ -681,10 +681,10 @@ module _ (running : Running) (others objects : List ℕ) (functions : List Signa
           let in_first = in_test + part_registers running.sizes test in
           let first_typed = left_of _ _ (left_of _ _ (left_of _ _ typed)) in
           let test_typed = right_of _ _ (left_of _ _ (left_of _ _ typed)) in
-          let first_rooms = housed_left sizes edge d (part_rooms first) (both (part_rooms test) (both (part_rooms last) (statement_rooms s))) housed in
-          let others_rooms = housed_right sizes edge d (part_rooms first) (both (part_rooms test) (both (part_rooms last) (statement_rooms s))) housed in
-          let test_rooms = housed_left sizes edge d (part_rooms test) (both (part_rooms last) (statement_rooms s)) others_rooms in
-          let rounds_rooms = housed_right sizes edge d (part_rooms test) (both (part_rooms last) (statement_rooms s)) others_rooms in
+          let first_temporaries = housed_left sizes edge d (part_temporaries first) (both (part_temporaries test) (both (part_temporaries last) (statement_temporaries s))) housed in
+          let others_temporaries = housed_right sizes edge d (part_temporaries first) (both (part_temporaries test) (both (part_temporaries last) (statement_temporaries s))) housed in
+          let test_temporaries = housed_left sizes edge d (part_temporaries test) (both (part_temporaries last) (statement_temporaries s)) others_temporaries in
+          let rounds_temporaries = housed_right sizes edge d (part_temporaries test) (both (part_temporaries last) (statement_temporaries s)) others_temporaries in
           let end = plains (part_code here running.sizes last in_last) (plains (test_code here running.sizes line test n) ends) in
           let ways_in = within_loop ways behind (behind + 1 + node_count end) in
           let body = statement_code here running.sizes (behind + 1) ways_in s in_body end in
@@ -696,14 +696,14 @@ module _ (running : Running) (others objects : List ℕ) (functions : List Signa
           rounds_mean line limits.assertions (λ again. at reading (nodes_on body (again ∷ nodes_on rest later)) 0) round assertions_same (λ again on_again same m2 ready2.
           each_round line s (λ ways2 exits2 n2 rest2 later2 follows2. statement_means s ways2 exits2 n2 rest2 later2 follows2) last test ways exits n in_last in_body behind rest later follows again on_again refl
           (right_of _ _ typed) test_typed (right_of _ _ (left_of _ _ typed))
-          (housed_right sizes edge d (part_rooms last) (statement_rooms s) rounds_rooms) test_rooms (housed_left sizes edge d (part_rooms last) (statement_rooms s) rounds_rooms)
+          (housed_right sizes edge d (part_temporaries last) (statement_temporaries s) rounds_temporaries) test_temporaries (housed_left sizes edge d (part_temporaries last) (statement_temporaries s) rounds_temporaries)
           some (omega (arith, some)) (omega (arith, some)) (omega (arith, room)) (omega (arith, room)) (omega (arith, room)) out goes same m2 ready2)
           (tests bounded running.function l - 1) m' ready'
           ∙ (λ i. source.rounds running line round (tests_same l i - 1) (view m')) in
           begin_plains (part_code here running.sizes first in_first) _ later m
-          ∙ part_means first in_first (nodes_on (plains (test_code here running.sizes line test in_test) loop) later) (λ start. tested running meant test start rest_rounds follows) first_typed first_rooms (omega (arith, some)) (omega (arith, room)) (λ m1 ready1.
+          ∙ part_means first in_first (nodes_on (plains (test_code here running.sizes line test in_test) loop) later) (λ start. tested running meant test start rest_rounds follows) first_typed first_temporaries (omega (arith, some)) (omega (arith, room)) (λ m1 ready1.
           begin_plains (test_code here running.sizes line test in_test) loop later m1
-          ∙ test_means line test in_test (nodes_on loop later) rest_rounds follows test_typed test_rooms (omega (arith, some)) (omega (arith, room)) loop_goes goes m1 ready1) m ready
+          ∙ test_means line test in_test (nodes_on loop later) rest_rounds follows test_typed test_temporaries (omega (arith, some)) (omega (arith, room)) loop_goes goes m1 ready1) m ready
       statement_means (do_loop line l s test) ways exits n rest later follows typed housed some room out goes m ready =
           let behind = length later + node_count rest in
           let a = is_typed_statement named s in
@@ -717,7 +717,7 @@ module _ (running : Running) (others objects : List ℕ) (functions : List Signa
           rounds_mean line limits.assertions (λ again. at reading (nodes_on body (again ∷ nodes_on rest later)) 0) round assertions_same (λ again on_again same m2 ready2.
           each_round line s (λ ways2 exits2 n2 rest2 later2 follows2. statement_means s ways2 exits2 n2 rest2 later2 follows2) None (Some test) ways exits n in_body in_body behind rest later follows again on_again refl
           (left_of a b (left_of (a && b) c typed)) (registers_of.both b c (right_of a b (left_of (a && b) c typed)) (right_of (a && b) c typed)) refl
-          (housed_left sizes edge d (statement_rooms s) (rooms test) housed) (housed_right sizes edge d (statement_rooms s) (rooms test) housed) (no_room (rooms test) (housed_right sizes edge d (statement_rooms s) (rooms test) housed))
+          (housed_left sizes edge d (statement_temporaries s) (temporaries test) housed) (housed_right sizes edge d (statement_temporaries s) (temporaries test) housed) (no_room (temporaries test) (housed_right sizes edge d (statement_temporaries s) (temporaries test) housed))
           some (omega (arith, some)) (omega (arith, some)) (omega (arith, room)) (omega (arith, room)) (omega (arith, room)) out goes same m2 ready2)
           (tests bounded running.function l) m ready
           ∙ (λ i. source.rounds running line round (tests_same l i) (view m))
@@ -730,7 +730,7 @@ module _ (running : Running) (others objects : List ℕ) (functions : List Signa
           let in_entry = in_cases + case_registers running.sizes items in
           let from = in_entry + entry_registers running.sizes items in
           let items_typed = right_of _ _ typed in
-          let items_housed = housed_right sizes edge d (rooms e) (items_rooms items) housed in
+          let items_housed = housed_right sizes edge d (temporaries e) (items_temporaries items) housed in
           let inner_out : LeadOut inner (in_switch exits follows) (nodes_on rest later) = record {
             breaks = leads_begin (nodes_on rest later) behind follows (omega (arith, places_count rest later)) goes;
             continues = out.continues;
@@ -738,7 +738,7 @@ module _ (running : Running) (others objects : List ℕ) (functions : List Signa
             returns = out.returns;
           } in
           begin_plains (code here e from) _ later m
-          ∙ value_first e from m _ _ (right_of _ _ (left_of _ _ (left_of _ _ typed))) (housed_left sizes edge d (rooms e) (items_rooms items) housed) ready (omega (arith, some)) (omega (arith, room)) (λ m1 ready1 kept1.
+          ∙ value_first e from m _ _ (right_of _ _ (left_of _ _ (left_of _ _ typed))) (housed_left sizes edge d (temporaries e) (items_temporaries items) housed) ready (omega (arith, some)) (omega (arith, room)) (λ m1 ready1 kept1.
           let x = register m1 (from + top e) in
           let m2 : Memory = with_register m1 before 0 in
           let kept2 : Kept edge d before m1 m2 = kept-set edge d before before m1 0 (omega arith) in
@@ -759,7 +759,7 @@ module _ (running : Running) (others objects : List ℕ) (functions : List Signa
       statement_means (stray line s) ways exits n rest later follows typed housed some room out goes m ready = statement_means s ways exits n rest later follows typed housed some room out goes m ready
 
       pub items_mean : (items : Items) (ways : Ways) (exits : Exits) (n : ℕ) (rest : Nodes) (later : Places) (follows : Variables → Behaviour)
-          → are_typed_items named items ≡ true → Lives (items_rooms items) → 1 ≤ n → n + items_registers running.sizes items ≤ total → LeadOut ways exits (nodes_on rest later) → Goes (nodes_on rest later) follows
+          → are_typed_items named items ≡ true → Lives (items_temporaries items) → 1 ≤ n → n + items_registers running.sizes items ≤ total → LeadOut ways exits (nodes_on rest later) → Goes (nodes_on rest later) follows
           → Goes (nodes_on (items_code here running.sizes (length later) ways items n rest) later) (λ vs. exec_items running meant items exits vs follows)
       items_mean done ways exits n rest later follows typed housed some room out goes m ready = goes m ready
       items_mean (declares line v items) ways exits n rest later follows typed housed some room out goes m ready = items_mean items ways exits n rest later follows (right_of _ _ typed) housed some room out goes m ready
@@ -769,23 +769,23 @@ module _ (running : Running) (others objects : List ℕ) (functions : List Signa
           let fills_it = filled_within [] running.sizes v (type_of e) (left_of _ _ (left_of _ _ typed)) in
           let variable = variable_below running others calls hands meant v 0 (bytes t) fills_it in
           begin_plains (code here e in_value) _ later m
-          ∙ value_first e in_value m _ (λ x after. exec_items running meant items exits (write_variable after v 0 t x) follows) (right_of _ _ (left_of _ _ typed)) (housed_left sizes edge d (rooms e) (items_rooms items) housed) ready (omega (arith, some)) (omega (arith, room)) (λ m1 ready1 kept1.
+          ∙ value_first e in_value m _ (λ x after. exec_items running meant items exits (write_variable after v 0 t x) follows) (right_of _ _ (left_of _ _ typed)) (housed_left sizes edge d (temporaries e) (items_temporaries items) housed) ready (omega (arith, some)) (omega (arith, room)) (λ m1 ready1 kept1.
           let new = low_bytes (bytes t) (register m1 (in_value + top e)) in
           let kept2 : Kept edge d 1 m1 (written m1 v 0 new) = kept-write edge d 1 v 0 new m1 m1 variable (low_room running others calls hands meant d m1 ready1.placed v 0 t (register m1 (in_value + top e)) fills_it) (kept-refl edge d 1 m1) in
-          items_mean items ways exits n rest later follows (right_of _ _ typed) (housed_right sizes edge d (rooms e) (items_rooms items) housed) some (omega (arith, room)) out goes (written m1 v 0 new) (ready_kept 1 m1 (written m1 v 0 new) (omega arith) ready1 kept2)
+          items_mean items ways exits n rest later follows (right_of _ _ typed) (housed_right sizes edge d (temporaries e) (items_temporaries items) housed) some (omega (arith, room)) out goes (written m1 v 0 new) (ready_kept 1 m1 (written m1 v 0 new) (omega arith) ready1 kept2)
           ∙ ap (λ vs. exec_items running meant items exits vs follows) (shown_write running others calls hands meant m1 v 0 new variable))
       items_mean (initializes_structure line v drawn a items) ways exits n rest later follows typed housed some room out goes m ready =
-          let needs = under (trees.size_of a) (structure_rooms a) in
+          let needs = under (trees.size_of a) (structure_temporaries a) in
           let about = left_of _ _ (left_of _ _ typed) in
           let in_value = n + items_registers running.sizes items in
           begin_plains (initial_code here running.sizes line v a in_value) _ later m
-          ∙ initial_means line v a in_value m _ (λ after. exec_items running meant items exits after follows) (test_less v edge (left_of _ _ about)) (sym (test_equal (trees.size_of a) (slice_index running.sizes v) (right_of _ _ about))) (right_of _ _ (left_of _ _ typed)) (housed_left sizes edge d needs (items_rooms items) housed) ready (omega (arith, some)) (omega (arith, room))
-          (items_mean items ways exits n rest later follows (right_of _ _ typed) (housed_right sizes edge d needs (items_rooms items) housed) some (omega (arith, room)) out goes)
+          ∙ initial_means line v a in_value m _ (λ after. exec_items running meant items exits after follows) (test_less v edge (left_of _ _ about)) (sym (test_equal (trees.size_of a) (slice_index running.sizes v) (right_of _ _ about))) (right_of _ _ (left_of _ _ typed)) (housed_left sizes edge d needs (items_temporaries items) housed) ready (omega (arith, some)) (omega (arith, room))
+          (items_mean items ways exits n rest later follows (right_of _ _ typed) (housed_right sizes edge d needs (items_temporaries items) housed) some (omega (arith, room)) out goes)
       items_mean (does s items) ways exits n rest later follows typed housed some room out goes m ready =
           let more = items_code here running.sizes (length later) ways items n rest in
-          let items_housed = housed_right sizes edge d (statement_rooms s) (items_rooms items) housed in
+          let items_housed = housed_right sizes edge d (statement_temporaries s) (items_temporaries items) housed in
           statement_means s (labels_of here running.sizes (length later) ways items n rest) (with_labels exits (λ l now. at_label running meant items l exits now follows)) (n + items_registers running.sizes items) more later (λ after. exec_items running meant items exits after follows)
-          (left_of _ _ typed) (housed_left sizes edge d (statement_rooms s) (items_rooms items) housed) (omega (arith, some)) (omega (arith, room))
+          (left_of _ _ typed) (housed_left sizes edge d (statement_temporaries s) (items_temporaries items) housed) (omega (arith, some)) (omega (arith, room))
           (labels_lead items ways exits n rest later follows (right_of _ _ typed) items_housed some (omega (arith, room)) out goes)
           (items_mean items ways exits n rest later follows (right_of _ _ typed) items_housed some (omega (arith, room)) out goes) m ready
       items_mean (label l items) ways exits n rest later follows typed housed some room out goes m ready = items_mean items ways exits n rest later follows typed housed some room out goes m ready
@@ -794,7 +794,7 @@ module _ (running : Running) (others objects : List ℕ) (functions : List Signa
 
       -- the labels among items lead behind them
       labels_lead : (items : Items) (ways : Ways) (exits : Exits) (n : ℕ) (rest : Nodes) (later : Places) (follows : Variables → Behaviour)
-          → are_typed_items named items ≡ true → Lives (items_rooms items) → 1 ≤ n → n + items_registers running.sizes items ≤ total → LeadOut ways exits (nodes_on rest later) → Goes (nodes_on rest later) follows
+          → are_typed_items named items ≡ true → Lives (items_temporaries items) → 1 ≤ n → n + items_registers running.sizes items ≤ total → LeadOut ways exits (nodes_on rest later) → Goes (nodes_on rest later) follows
           → LeadOut (labels_of here running.sizes (length later) ways items n rest) (with_labels exits (λ l now. at_label running meant items l exits now follows)) (nodes_on (items_code here running.sizes (length later) ways items n rest) later)
       labels_lead done ways exits n rest later follows typed housed some room out goes = record { breaks = out.breaks; continues = out.continues; labels = out.labels; returns = out.returns }
       labels_lead (declares line v items) ways exits n rest later follows typed housed some room out goes = labels_lead items ways exits n rest later follows (right_of _ _ typed) housed some room out goes
@@ -802,17 +802,17 @@ module _ (running : Running) (others objects : List ℕ) (functions : List Signa
           let more = items_code here running.sizes (length later) ways items n rest in
           lead_front (labels_of here running.sizes (length later) ways items n rest) (with_labels exits (λ l now. at_label running meant items l exits now follows)) (items_code here running.sizes (length later) ways (initializes line v drawn e items) n rest) more later
           (plains_front _ _ more (plain_front _ more more (itself more)))
-          (labels_lead items ways exits n rest later follows (right_of _ _ typed) (housed_right sizes edge d (rooms e) (items_rooms items) housed) some (omega (arith, room)) out goes)
+          (labels_lead items ways exits n rest later follows (right_of _ _ typed) (housed_right sizes edge d (temporaries e) (items_temporaries items) housed) some (omega (arith, room)) out goes)
       labels_lead (initializes_structure line v drawn a items) ways exits n rest later follows typed housed some room out goes =
           let more = items_code here running.sizes (length later) ways items n rest in
           lead_front (labels_of here running.sizes (length later) ways items n rest) (with_labels exits (λ l now. at_label running meant items l exits now follows)) (items_code here running.sizes (length later) ways (initializes_structure line v drawn a items) n rest) more later
           (plains_front _ more more (itself more))
-          (labels_lead items ways exits n rest later follows (right_of _ _ typed) (housed_right sizes edge d (under (trees.size_of a) (structure_rooms a)) (items_rooms items) housed) some (omega (arith, room)) out goes)
+          (labels_lead items ways exits n rest later follows (right_of _ _ typed) (housed_right sizes edge d (under (trees.size_of a) (structure_temporaries a)) (items_temporaries items) housed) some (omega (arith, room)) out goes)
       labels_lead (does s items) ways exits n rest later follows typed housed some room out goes =
           let more = items_code here running.sizes (length later) ways items n rest in
           lead_front (labels_of here running.sizes (length later) ways items n rest) (with_labels exits (λ l now. at_label running meant items l exits now follows)) (items_code here running.sizes (length later) ways (does s items) n rest) more later
           (statement_front s (length later) (labels_of here running.sizes (length later) ways items n rest) (n + items_registers running.sizes items) more)
-          (labels_lead items ways exits n rest later follows (right_of _ _ typed) (housed_right sizes edge d (statement_rooms s) (items_rooms items) housed) some (omega (arith, room)) out goes)
+          (labels_lead items ways exits n rest later follows (right_of _ _ typed) (housed_right sizes edge d (statement_temporaries s) (items_temporaries items) housed) some (omega (arith, room)) out goes)
       labels_lead (label l items) ways exits n rest later follows typed housed some room out goes =
           let more = items_code here running.sizes (length later) ways items n rest in
           let first = labels_lead items ways exits n rest later follows typed housed some room out goes in
@@ -829,7 +829,7 @@ module _ (running : Running) (others objects : List ℕ) (functions : List Signa
 
       -- the jumps to the cases: behind the one that is met, else on
       jumps_mean : (items : Items) (line x k n : ℕ) (ways : Ways) (exits : Exits) (rest more : Nodes) (later : Places) (follows other : Variables → Behaviour)
-          → are_typed_items named items ≡ true → Lives (items_rooms items) → 1 ≤ n → n + items_registers running.sizes items ≤ total → LeadOut ways exits (nodes_on rest later) → Goes (nodes_on rest later) follows
+          → are_typed_items named items ≡ true → Lives (items_temporaries items) → 1 ≤ n → n + items_registers running.sizes items ≤ total → LeadOut ways exits (nodes_on rest later) → Goes (nodes_on rest later) follows
           → InFront more (items_code here running.sizes (length later) ways items n rest)
           → (m : Memory) → Ready m → Tested items k x m → begin (nodes_on more later) m ≡ other (view m)
           → begin (nodes_on (case_jumps here running.sizes (length later) ways line items k n rest more) later) m ≡ (if has_case items x then at_case running meant items x exits (view m) follows else other (view m))
@@ -838,15 +838,15 @@ module _ (running : Running) (others objects : List ℕ) (functions : List Signa
           jumps_mean items line x k n ways exits rest more later follows other (right_of _ _ typed) housed some room out goes front m ready known_cases last
       jumps_mean (initializes at_line_of v drawn e items) line x k n ways exits rest more later follows other typed housed some room out goes front m ready known_cases last =
           let others_code = items_code here running.sizes (length later) ways items n rest in
-          jumps_mean items line x k n ways exits rest more later follows other (right_of _ _ typed) (housed_right sizes edge d (rooms e) (items_rooms items) housed) some (omega (arith, room)) out goes
+          jumps_mean items line x k n ways exits rest more later follows other (right_of _ _ typed) (housed_right sizes edge d (temporaries e) (items_temporaries items) housed) some (omega (arith, room)) out goes
           (then_front more (items_code here running.sizes (length later) ways (initializes at_line_of v drawn e items) n rest) others_code front (plains_front _ _ others_code (plain_front _ others_code others_code (itself others_code)))) m ready known_cases last
       jumps_mean (initializes_structure at_line_of v drawn a items) line x k n ways exits rest more later follows other typed housed some room out goes front m ready known_cases last =
           let others_code = items_code here running.sizes (length later) ways items n rest in
-          jumps_mean items line x k n ways exits rest more later follows other (right_of _ _ typed) (housed_right sizes edge d (under (trees.size_of a) (structure_rooms a)) (items_rooms items) housed) some (omega (arith, room)) out goes
+          jumps_mean items line x k n ways exits rest more later follows other (right_of _ _ typed) (housed_right sizes edge d (under (trees.size_of a) (structure_temporaries a)) (items_temporaries items) housed) some (omega (arith, room)) out goes
           (then_front more (items_code here running.sizes (length later) ways (initializes_structure at_line_of v drawn a items) n rest) others_code front (plains_front _ others_code others_code (itself others_code))) m ready known_cases last
       jumps_mean (does s items) line x k n ways exits rest more later follows other typed housed some room out goes front m ready known_cases last =
           let others_code = items_code here running.sizes (length later) ways items n rest in
-          jumps_mean items line x k n ways exits rest more later follows other (right_of _ _ typed) (housed_right sizes edge d (statement_rooms s) (items_rooms items) housed) some (omega (arith, room)) out goes
+          jumps_mean items line x k n ways exits rest more later follows other (right_of _ _ typed) (housed_right sizes edge d (statement_temporaries s) (items_temporaries items) housed) some (omega (arith, room)) out goes
           (then_front more (items_code here running.sizes (length later) ways (does s items) n rest) others_code front (statement_front s (length later) (labels_of here running.sizes (length later) ways items n rest) (n + items_registers running.sizes items) others_code)) m ready known_cases last
       jumps_mean (label l items) line x k n ways exits rest more later follows other typed housed some room out goes front m ready known_cases last =
           jumps_mean items line x k n ways exits rest more later follows other typed housed some room out goes front m ready known_cases last
@@ -867,22 +867,22 @@ module _ (running : Running) (others objects : List ℕ) (functions : List Signa
 
       -- where `default` stands
       default_leads : (items : Items) (n : ℕ) (ways : Ways) (exits : Exits) (rest : Nodes) (later : Places) (follows : Variables → Behaviour)
-          → has_default items ≡ true → are_typed_items named items ≡ true → Lives (items_rooms items) → 1 ≤ n → n + items_registers running.sizes items ≤ total → LeadOut ways exits (nodes_on rest later) → Goes (nodes_on rest later) follows
+          → has_default items ≡ true → are_typed_items named items ≡ true → Lives (items_temporaries items) → 1 ≤ n → n + items_registers running.sizes items ≤ total → LeadOut ways exits (nodes_on rest later) → Goes (nodes_on rest later) follows
           → Leads (nodes_on (items_code here running.sizes (length later) ways items n rest) later) (default_place here running.sizes (length later) ways items n rest) (λ vs. at_default running meant items exits vs follows)
       default_leads done n ways exits rest later follows there typed housed some room out goes = absurd (false≢true there)
       default_leads (declares line v items) n ways exits rest later follows there typed housed some room out goes = default_leads items n ways exits rest later follows there (right_of _ _ typed) housed some room out goes
       default_leads (initializes line v drawn e items) n ways exits rest later follows there typed housed some room out goes =
           let behind = items_code here running.sizes (length later) ways items n rest in
           leads_front (items_code here running.sizes (length later) ways (initializes line v drawn e items) n rest) behind later (default_place here running.sizes (length later) ways items n rest) (λ vs. at_default running meant items exits vs follows) (plains_front _ _ behind (plain_front _ behind behind (itself behind)))
-          (default_leads items n ways exits rest later follows there (right_of _ _ typed) (housed_right sizes edge d (rooms e) (items_rooms items) housed) some (omega (arith, room)) out goes)
+          (default_leads items n ways exits rest later follows there (right_of _ _ typed) (housed_right sizes edge d (temporaries e) (items_temporaries items) housed) some (omega (arith, room)) out goes)
       default_leads (initializes_structure line v drawn a items) n ways exits rest later follows there typed housed some room out goes =
           let behind = items_code here running.sizes (length later) ways items n rest in
           leads_front (items_code here running.sizes (length later) ways (initializes_structure line v drawn a items) n rest) behind later (default_place here running.sizes (length later) ways items n rest) (λ vs. at_default running meant items exits vs follows) (plains_front _ behind behind (itself behind))
-          (default_leads items n ways exits rest later follows there (right_of _ _ typed) (housed_right sizes edge d (under (trees.size_of a) (structure_rooms a)) (items_rooms items) housed) some (omega (arith, room)) out goes)
+          (default_leads items n ways exits rest later follows there (right_of _ _ typed) (housed_right sizes edge d (under (trees.size_of a) (structure_temporaries a)) (items_temporaries items) housed) some (omega (arith, room)) out goes)
       default_leads (does s items) n ways exits rest later follows there typed housed some room out goes =
           let behind = items_code here running.sizes (length later) ways items n rest in
           leads_front (items_code here running.sizes (length later) ways (does s items) n rest) behind later (default_place here running.sizes (length later) ways items n rest) (λ vs. at_default running meant items exits vs follows) (statement_front s (length later) (labels_of here running.sizes (length later) ways items n rest) (n + items_registers running.sizes items) behind)
-          (default_leads items n ways exits rest later follows there (right_of _ _ typed) (housed_right sizes edge d (statement_rooms s) (items_rooms items) housed) some (omega (arith, room)) out goes)
+          (default_leads items n ways exits rest later follows there (right_of _ _ typed) (housed_right sizes edge d (statement_temporaries s) (items_temporaries items) housed) some (omega (arith, room)) out goes)
       default_leads (label l items) n ways exits rest later follows there typed housed some room out goes = default_leads items n ways exits rest later follows there typed housed some room out goes
       default_leads (case_at line t bits items) n ways exits rest later follows there typed housed some room out goes = default_leads items n ways exits rest later follows there (right_of _ _ typed) housed some room out goes
       default_leads (default_at line items) n ways exits rest later follows there typed housed some room out goes =

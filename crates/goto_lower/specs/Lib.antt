@@ -1,5 +1,5 @@
 pub mod Lowering
 pub mod Registers
-pub mod Rooms
+pub mod Temporaries
 pub mod Drafts
 pub mod Lowered

@@ -5,13 +5,13 @@ use Rattle.c_types.specs.declared.integers.IntegerType.TheVariants.{Int}
 use Rattle.core_tree.specs.declared.functions.PassedType.{PassedType}
 use Rattle.core_tree.specs.Typed.{passed_size}
 use Rattle.core_tree.specs.Trees.{Statement, Procedure, TypedFile}
-use Rattle.c_interp.specs.Source.{main_number, first_objects, are_storable}
+use Rattle.c_tasks.specs.Source.{main_number, first_objects, are_storable}
 use Rattle.goto_prog.specs.declared.code.Operation.TheVariants as operations
 use Rattle.goto_prog.specs.Nodes.{Routine, plain, view_procedures}
 use Rattle.goto_prog.specs.GotoThreads.{GotoFile}
 use Rattle.goto_lower.specs.Lowering.{Frame, at_line, ends, body_code}
 use Rattle.goto_lower.specs.Registers.{statement_types}
-use Rattle.goto_lower.specs.Rooms.{Rooms, statement_rooms}
+use Rattle.goto_lower.specs.Temporaries.{Temporaries, statement_temporaries}
 
 -- how many bytes a function hands over
 abbrev pub given_size : Option PassedType → ℕ
@@ -19,7 +19,7 @@ given_size None = 0
 given_size (Some p) = passed_size p
 
 -- the blocks of a function: its variables, one whose bytes stay 0, one for what it hands over, and those for values on the way
-abbrev pub blocks_of : List ℕ → (given : ℕ) → Rooms → List ℕ
+abbrev pub blocks_of : List ℕ → (given : ℕ) → Temporaries → List ℕ
 blocks_of variables given needed = variables ++ needed.zeros ∷ given ∷ needed.sizes
 
 abbrev pub first_frame : ℕ → List ℕ → Frame
@@ -42,7 +42,7 @@ defined_code number f body = record {
   name = f.name;
   line = f.line;
   registers = Int ∷ statement_types f.variables body;
-  blocks = blocks_of f.variables (given_size f.gives) (statement_rooms body);
+  blocks = blocks_of f.variables (given_size f.gives) (statement_temporaries body);
   nodes = body_code (first_frame number f.variables) f.variables f.line body;
   startable = false;
 }

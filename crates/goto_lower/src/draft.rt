@@ -1,3 +1,5 @@
+//! Code of a function while it is made: its instructions, registers and blocks.
+
 ghost use Rattle.std.specs.Prelude.{◌≡◌, ◌+◌, [], ◌∷◌, ◌-◌, length, drop, reverse, IfOk, OnOk};
 ghost use Rattle.goto_prog.specs.Nodes.{plain, repeats, nodes_of};
 ghost use Rattle.goto_lower.specs.Lowering.{Frame, at_line, size_of, plains, to_place};
@@ -11,8 +13,8 @@ use goto_prog::{Instruction, Node, Operation};
 use std::alloc::{AllocError, Global};
 use std::marker::Model;
 
-// The code of a function that grows: that of an expression, the types of the registers, and where the
-// labels that are known lead.
+/// The code of a function that grows: that of an expression, the types of the registers, and where the
+/// labels that are known lead.
 #[derive(Drop)]
 pub(crate) struct Draft<'a> {
     function: u32,
@@ -42,7 +44,7 @@ fn jump(test: Option<usize>, count: usize) -> Operation
 }
 
 impl<'a> Draft<'a> {
-    // No code and no register yet.
+    /// No code and no register yet.
     pub fn new(alloc: Global, function: u32, variables: &'a [u32]) -> Draft<'a>
         ensures { result ≡ record { frame = first_frame function variables.now; variables = variables.now; instructions = []; registers = []; labels = [] } }
     {
@@ -56,14 +58,14 @@ impl<'a> Draft<'a> {
         }
     }
 
-    // The number of the next register.
+    /// The number of the next register.
     pub fn next(&self) -> usize
         ensures { result ≡ next self.now }
     {
         self.registers.len()
     }
 
-    // The size of a variable.
+    /// The size of a variable.
     pub fn size_of(&self, variable: u32) -> u32
         ensures { result ≡ size_of self.now.variables variable }
     {
@@ -73,35 +75,35 @@ impl<'a> Draft<'a> {
         }
     }
 
-    // The number of the block whose bytes stay 0.
+    /// The number of the block whose bytes stay 0.
     pub fn zeros(&self) -> usize
         ensures { result ≡ self.now.frame.zeros }
     {
         self.variables.len()
     }
 
-    // The number of the block for what the function hands over.
+    /// The number of the block for what the function hands over.
     pub fn result_block(&self) -> usize
         ensures { result ≡ self.now.frame.result }
     {
         self.variables.len() + 1
     }
 
-    // The number of the first block that is free.
+    /// The number of the first block that is free.
     pub fn free(&self) -> usize
         ensures { result ≡ self.now.frame.free }
     {
         self.free
     }
 
-    // Has another block as the first that is free.
+    /// Has another block as the first that is free.
     pub fn set_free(&mut self, block: usize)
         ensures { self.new ≡ record self.old { frame = record self.old.frame { free = block } } }
     {
         self.free = block;
     }
 
-    // Takes a register of this type.
+    /// Takes a register of this type.
     pub fn register(&mut self, type_: IntegerType) -> Result<usize, AllocError>
         ensures code { OnOk result (self.new ≡ added self.old [] (type_ ∷ [])) }
         ensures number { IfOk result (λ r. r ≡ next self.old) }
@@ -111,7 +113,7 @@ impl<'a> Draft<'a> {
         Ok(number)
     }
 
-    // Adds an instruction.
+    /// Adds an instruction.
     pub fn push(&mut self, line: u32, operation: Operation) -> Result<(), AllocError>
         ensures { OnOk result (self.new ≡ added self.old (at_line self.old.frame line operation ∷ []) []) }
     {
@@ -123,7 +125,7 @@ impl<'a> Draft<'a> {
         Ok(())
     }
 
-    // Adds an instruction that sets the next register, of this type.
+    /// Adds an instruction that sets the next register, of this type.
     pub fn set(
         &mut self,
         line: u32,
@@ -143,7 +145,7 @@ impl<'a> Draft<'a> {
         })
     }
 
-    // Leaves a place for an instruction that is filled in later.
+    /// Leaves a place for an instruction that is filled in later.
     pub fn reserve(&mut self) -> Result<usize, AllocError>
         ensures code { OnOk result (self.new ≡ added self.old (at_line self.old.frame 0 (Operation.Skip 0) ∷ []) []) }
         ensures place { IfOk result (λ p. p ≡ length self.old.instructions) }
@@ -153,7 +155,7 @@ impl<'a> Draft<'a> {
         Ok(place)
     }
 
-    // Fills a place that was left.
+    /// Fills a place that was left.
     pub fn fill(&mut self, place: usize, line: u32, operation: Operation)
         ensures { self.new ≡ filled self.old place (at_line self.old.frame line operation) }
     {
@@ -166,7 +168,7 @@ impl<'a> Draft<'a> {
         }
     }
 
-    // Fills a place that was left by a jump behind the code that is there.
+    /// Fills a place that was left by a jump behind the code that is there.
     pub fn land(&mut self, place: usize, line: u32, test: Option<usize>)
         ensures { self.new ≡ landed self.old place line test }
     {
@@ -178,7 +180,7 @@ impl<'a> Draft<'a> {
 
     // ---- nodes, the last of which comes first
 
-    // Puts an operation before the nodes that are made.
+    /// Puts an operation before the nodes that are made.
     pub fn put(
         &self,
         line: u32,
@@ -197,7 +199,7 @@ impl<'a> Draft<'a> {
         )
     }
 
-    // Puts a jump before the nodes that are made, behind which so many places lie, to a place.
+    /// Puts a jump before the nodes that are made, behind which so many places lie, to a place.
     #[tactic(auto, using(crate::proofs::Making::reversed_count))]
     pub fn jump_to(
         &self,
@@ -213,7 +215,7 @@ impl<'a> Draft<'a> {
         self.put(line, Operation::Skip { count }, made)
     }
 
-    // Puts the code before the nodes that are made.
+    /// Puts the code before the nodes that are made.
     pub fn flush(&mut self, made: &mut Vec<Node>) -> Result<(), AllocError>
         ensures draft { OnOk result (self.new ≡ flushed self.old) }
         ensures code { OnOk result (nodes_of (reverse made.new.items) ≡ plains self.old.instructions (nodes_of (reverse made.old.items))) }
@@ -223,7 +225,7 @@ impl<'a> Draft<'a> {
         Ok(())
     }
 
-    // Puts a loop with this body, the last node of which comes first, before the nodes that are made.
+    /// Puts a loop with this body, the last node of which comes first, before the nodes that are made.
     pub fn repeat(
         &self,
         line: u32,
@@ -248,14 +250,14 @@ impl<'a> Draft<'a> {
 
     // ---- labels
 
-    // How many labels are known.
+    /// How many labels are known.
     pub fn known(&self) -> usize
         ensures { result ≡ length self.now.labels }
     {
         self.labels.len()
     }
 
-    // A label leads to this place.
+    /// A label leads to this place.
     #[tactic(auto, using(crate::proofs::Making::reversed_more))]
     pub fn know(&mut self, label: u32, place: usize) -> Result<(), AllocError>
         ensures { OnOk result (self.new ≡ record self.old { labels = target label place ∷ self.old.labels }) }
@@ -264,7 +266,7 @@ impl<'a> Draft<'a> {
         Ok(())
     }
 
-    // The first labels alone are known.
+    /// The first labels alone are known.
     #[tactic(auto, using(crate::proofs::Making::reversed_first))]
     pub fn forget(&mut self, known: usize)
         ensures { self.new ≡ record self.old { labels = drop (length self.old.labels - known) self.old.labels } }
@@ -272,14 +274,14 @@ impl<'a> Draft<'a> {
         self.labels.truncate(known);
     }
 
-    // Where a label leads: to the end of the function where it is not known.
+    /// Where a label leads: to the end of the function where it is not known.
     pub fn place_of(&self, label: u32) -> usize
         ensures { result ≡ place_of self.now.labels label }
     {
         find_label(&self.labels, label)
     }
 
-    // The types of the registers.
+    /// The types of the registers.
     pub fn into_registers(self) -> Vec<IntegerType>
         ensures { result.items ≡ self.entry.registers }
     {

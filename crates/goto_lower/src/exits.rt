@@ -1,9 +1,11 @@
+//! Where `break`, `continue`, `return` and `goto` lead.
+
 ghost use Rattle.std.specs.Prelude.{◌≡◌, ◌+◌, [], None, IfOk};
 
 use std::alloc::{AllocError, Global};
 
-// How many places lie behind the nodes in front of which code is put, and behind the places where `break`
-// and `continue` lead, each up to the end of the function.
+/// How many places lie behind the nodes in front of which code is put, and behind the places where `break`
+/// and `continue` lead, each up to the end of the function.
 #[derive(Clone, Copy)]
 pub(crate) struct Exits {
     pub(crate) base: usize,
@@ -11,21 +13,21 @@ pub(crate) struct Exits {
     pub(crate) continue_at: usize,
 }
 
-// A label, and how many places lie behind its place.
+/// A label, and how many places lie behind its place.
 #[derive(Clone, Copy)]
 pub(crate) struct Target {
     pub(crate) label: u32,
     pub(crate) place: usize,
 }
 
-// A `case` with its line, and how many places lie behind its place.
+/// A `case` with its line, and how many places lie behind its place.
 #[derive(Clone, Copy)]
 pub(crate) struct CasePlace {
     pub(crate) line: u32,
     pub(crate) place: usize,
 }
 
-// The cases among items, the last of which comes first, and how many places lie behind that of `default`.
+/// The cases among items, the last of which comes first, and how many places lie behind that of `default`.
 #[derive(Drop)]
 pub(crate) struct Cases {
     pub(crate) places: Vec<CasePlace>,
@@ -42,7 +44,7 @@ pub(crate) fn no_cases(alloc: Global) -> Cases
     }
 }
 
-// So many places more. Code that reaches so far can't be had where that has no number.
+/// So many places more. Code that reaches so far can't be had where that has no number.
 pub(crate) fn more(places: usize, count: usize) -> Result<usize, AllocError>
     ensures { IfOk result (λ n. n ≡ places + count) }
 {
@@ -52,7 +54,7 @@ pub(crate) fn more(places: usize, count: usize) -> Result<usize, AllocError>
     }
 }
 
-// Within a loop behind which so many places lie, where the code that ends a round has so many.
+/// Within a loop behind which so many places lie, where the code that ends a round has so many.
 pub(crate) fn within_loop(behind: usize, count: usize) -> Result<Exits, AllocError>
     ensures { IfOk result (λ x. x ≡ record { base = behind + 1; break_at = behind; continue_at = behind + 1 + count }) }
 {

@@ -5,7 +5,7 @@ ghost use Rattle.c_types.specs.Integers.{promoted};
 ghost use Rattle.core_tree.specs.Trees.{Expression, view, constant, read, convert, sign, is_zero, arithmetic, compare, logical, choice, assign, update, step, comma, assertion, assumption, draw, part, discard, discard_structure, call, function_name, view_structure, arguments_of, with_argument, Arguments};
 ghost use Rattle.core_tree.specs.Typed.{place_type};
 ghost use Rattle.core_tree.specs.Operations as operations;
-ghost use Rattle.c_interp.specs.Meaning.{integer_of};
+ghost use Rattle.c_tasks.specs.Meaning.{integer_of};
 ghost use Rattle.goto_prog.specs.declared.code.Operation.TheVariants as instructions;
 ghost use Rattle.goto_lower.specs.Lowering.{at_line, argument_count, write_code, update_code, truth_code, value_size, use_code, taken_code};
 ghost use Rattle.goto_lower.specs.Registers.{update_types};
@@ -18,49 +18,12 @@ use crate::structures::line_of_structure;
 use c_types::{IntegerType, ValueType, promote};
 use core_tree::{
     ArithmeticOperator, Comparison, CoreArgument, CoreExpr, CoreStructure, LogicalOperator, Place,
-    SignOperator, StepOperator,
+    SignOperator, StepOperator, drawn_width, place_type, step_operation,
 };
 use goto_prog::Operation;
 use std::alloc::AllocError;
 
-fn drawn_width(type_: IntegerType) -> u32
-    ensures { result ≡ operations.drawn_width type_ }
-{
-    match type_ {
-        IntegerType::Bool => 1,
-        _ => type_.width(),
-    }
-}
-
-fn step_operation(operator: StepOperator) -> ArithmeticOperator
-    ensures { result ≡ operations.step_operation operator }
-{
-    match operator {
-        StepOperator::Increment => ArithmeticOperator::Add,
-        StepOperator::Decrement => ArithmeticOperator::Subtract,
-    }
-}
-
-fn type_of_place(place: Place) -> IntegerType
-    ensures { result ≡ place_type place }
-{
-    match place {
-        Place::Variable {
-            line: _,
-            type_,
-            variable: _,
-            offset: _,
-        }
-        | Place::Object {
-            line: _,
-            type_,
-            object: _,
-            offset: _,
-        } => type_,
-    }
-}
-
-// How many bytes a value of this type has.
+/// How many bytes a value of this type has.
 pub(crate) fn value_size(type_: ValueType) -> u32
     ensures { result ≡ value_size type_ }
 {
@@ -146,10 +109,10 @@ impl<'a> Draft<'a> {
     {
         match place {
             Place::Variable {
-                line: _,
                 type_,
                 variable,
                 offset,
+                ..
             } => {
                 self.push(
                     line,
@@ -162,10 +125,10 @@ impl<'a> Draft<'a> {
                 )
             }
             Place::Object {
-                line: _,
                 type_,
                 object,
                 offset,
+                ..
             } => {
                 let block = self.free();
                 let count = type_.size();
@@ -234,7 +197,7 @@ impl<'a> Draft<'a> {
         self.store(line, place, x.register)?;
         Ok(Operand {
             register: x.register,
-            type_: type_of_place(place),
+            type_: place_type(&place),
             line,
         })
     }
@@ -295,7 +258,7 @@ impl<'a> Draft<'a> {
         let updated = self.update_by(line, place, operator, type_, y)?;
         Ok(Operand {
             register: updated.new,
-            type_: type_of_place(place),
+            type_: place_type(&place),
             line,
         })
     }
@@ -309,7 +272,7 @@ impl<'a> Draft<'a> {
     ) -> Result<Operand, AllocError>
         ensures { IfOk result (λ x. Lowers self.old self.new (step line place operator before) x) }
     {
-        let type_ = type_of_place(place);
+        let type_ = place_type(&place);
         let promoted = promote(type_);
         let one = self.constant(line, promoted, 1)?;
         let updated = self.update_by(line, place, step_operation(operator), promoted, one)?;
@@ -537,8 +500,8 @@ impl<'a> Draft<'a> {
         }
     }
 
-    // A call with arguments that are in their blocks. The bytes that it hands over are 0 where it hands over
-    // none.
+    /// A call with arguments that are in their blocks. The bytes that it hands over are 0 where it hands over
+    /// none.
     pub(crate) fn call_passed(
         &mut self,
         line: u32,
@@ -567,7 +530,7 @@ impl<'a> Draft<'a> {
         Ok(())
     }
 
-    // The arguments of a call, into the first blocks that are free.
+    /// The arguments of a call, into the first blocks that are free.
     #[cycle(expression)]
     pub(crate) fn pass(&mut self, arguments: &[CoreArgument]) -> Result<Passed, AllocError>
         ensures code { OnOk result (self.new ≡ after_passed self.old (arguments_of arguments.now)) }
@@ -734,9 +697,7 @@ impl<'a> Draft<'a> {
                 type_,
                 arguments,
             } => self.call(*line, *function, *used, *type_, arguments),
-            CoreExpr::FunctionName { line, function: _ } => {
-                self.constant(*line, IntegerType::Int, 0)
-            }
+            CoreExpr::FunctionName { line, .. } => { self.constant(*line, IntegerType::Int, 0) }
         }
     }
 }

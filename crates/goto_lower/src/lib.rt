@@ -6,9 +6,9 @@ mod exits;
 mod expressions;
 mod lowering;
 mod operand;
-mod rooms;
 mod statements;
 mod structures;
 mod switches;
+mod temporaries;
 
 pub use lowering::lower;

@@ -3,22 +3,22 @@
 ghost use Rattle.std.specs.Prelude.{◌≡◌, ◌<◌, ◌^◌, [], ◌∷◌, reverse, IfOk, true, length};
 ghost use Rattle.core_tree.specs.Ranges.{Limits};
 ghost use Rattle.core_tree.specs.Trees.{view_statement, view_function, view_functions, view_core};
-ghost use Rattle.c_interp.specs.Source as source;
-ghost use Rattle.c_interp.specs.Source.{source_thread, first_objects};
+ghost use Rattle.c_tasks.specs.Source as source;
+ghost use Rattle.c_tasks.specs.Source.{source_thread, first_objects};
 ghost use Rattle.goto_prog.specs.Nodes.{plain, nodes_of, view_procedure, view_procedures};
 ghost use Rattle.goto_prog.specs.GotoThreads.{strict_thread};
 ghost use Rattle.goto_prog.specs.Same.{DoSame};
 ghost use Rattle.goto_prog.specs.declared.code.Operation.TheVariants as operations;
 ghost use Rattle.goto_lower.specs.Lowering.{at_line, ends};
-ghost use Rattle.goto_lower.specs.Rooms.{statement_rooms};
+ghost use Rattle.goto_lower.specs.Temporaries.{statement_temporaries};
 ghost use Rattle.goto_lower.specs.Lowered.{given_size, blocks_of, first_frame, undefined_code, defined_code, function_code, function_codes, view_goto, lowered};
 
 use crate::draft::Draft;
 use crate::exits::Exits;
-use crate::rooms::statement_rooms;
+use crate::temporaries::statement_temporaries;
 use actions::Store;
-use c_interp::{are_storable, first_store, number_of_main};
 use c_profile::Admitted;
+use c_tasks::{are_storable, first_store, number_of_main};
 use c_types::IntegerType;
 use core_tree::{CoreStatement, Function, Name, PassedType};
 use goto_prog::{Goto, Instruction, Node, Operation, Procedure};
@@ -88,13 +88,13 @@ fn lower_blocks(
     given: u32,
     body: &CoreStatement,
 ) -> Result<Vec<u32>, AllocError>
-    ensures { IfOk result (λ v. v.items ≡ blocks_of variables.now given (statement_rooms (view_statement body.now))) }
+    ensures { IfOk result (λ v. v.items ≡ blocks_of variables.now given (statement_temporaries (view_statement body.now))) }
 {
-    let rooms = statement_rooms(alloc, body)?;
+    let temporaries = statement_temporaries(alloc, body)?;
     let mut blocks = Vec::from_slice(alloc, variables)?;
-    blocks.push(rooms.zeros())?;
+    blocks.push(temporaries.zeros())?;
     blocks.push(given)?;
-    blocks.extend_from_slice(rooms.sizes())?;
+    blocks.extend_from_slice(temporaries.sizes())?;
     Ok(blocks)
 }
 

@@ -1,9 +1,11 @@
+//! Where the value of an expression lies.
+
 ghost use Rattle.std.specs.Prelude.{◌≡◌, if◌then◌else◌};
 
 use c_types::IntegerType;
 
-// The register that has the value of an expression, the type of the value, and the line of the
-// expression's own token.
+/// The register that has the value of an expression, the type of the value, and the line of the
+/// expression's own token.
 #[derive(Clone, Copy)]
 pub(crate) struct Operand {
     pub(crate) register: usize,
@@ -11,14 +13,14 @@ pub(crate) struct Operand {
     pub(crate) line: u32,
 }
 
-// The registers of a place's number before an operation on it and behind it.
+/// The registers of a place's number before an operation on it and behind it.
 #[derive(Clone, Copy)]
 pub(crate) struct Updated {
     pub(crate) old: usize,
     pub(crate) new: usize,
 }
 
-// The blocks of a call: the first of its arguments, how many they are, and the one for what it hands over.
+/// The blocks of a call: the first of its arguments, how many they are, and the one for what it hands over.
 #[derive(Clone, Copy)]
 pub(crate) struct Passed {
     pub(crate) first: usize,
@@ -26,15 +28,15 @@ pub(crate) struct Passed {
     pub(crate) into: usize,
 }
 
-// In front of the test of a case: the register that tells whether a case before it is met, and the first of
-// its own.
+/// In front of the test of a case: the register that tells whether a case before it is met, and the first of
+/// its own.
 #[derive(Clone, Copy)]
 pub(crate) struct CaseTest {
     pub(crate) before: usize,
     pub(crate) into: usize,
 }
 
-// The register of the value of `++` or `--`.
+/// The register of the value of `++` or `--`.
 pub(crate) fn step_value(updated: Updated, before: bool) -> usize
     ensures { result ≡ (if before then updated.new else updated.old) }
 {

@@ -2,7 +2,7 @@
 
 ghost use Rattle.std.specs.Prelude.{◌≡◌, ℕ, suc, ◌+◌, [], ◌∷◌, ◌++◌, reverse, option_map, IfOk, OnOk};
 ghost use Rattle.core_tree.specs.Trees.{view, boxed, view_structure, view_statement, items_of, with_item, done, Items, block, if_else, for_loop, do_loop, switch, returns, returns_structure};
-ghost use Rattle.c_interp.specs.Meaning.{number_type};
+ghost use Rattle.c_tasks.specs.Meaning.{number_type};
 ghost use Rattle.c_values.specs.Variables as variables;
 ghost use Rattle.goto_prog.specs.Nodes.{Nodes, plain, nodes_of};
 ghost use Rattle.goto_prog.specs.declared.code.Operation.TheVariants as operations;
@@ -99,26 +99,22 @@ impl<'a> Draft<'a> {
                 line,
                 variable,
                 drawn,
-                value: _,
+                ..
             } => self.first_value(*line, *variable, *drawn),
             CoreItem::InitializeStructure {
                 line,
                 variable,
                 drawn,
-                value: _,
+                ..
             } => self.first_value(*line, *variable, *drawn),
-            CoreItem::Statement { statement: _ } => Ok(()),
-            CoreItem::Label { label: _ } => Ok(()),
-            CoreItem::Case {
-                line: _,
-                type_: _,
-                bits: _,
-            } => Ok(()),
-            CoreItem::Default { line: _ } => Ok(()),
+            CoreItem::Statement { .. } => Ok(()),
+            CoreItem::Label { .. } => Ok(()),
+            CoreItem::Case { .. } => Ok(()),
+            CoreItem::Default { .. } => Ok(()),
         }
     }
 
-    // The first values of a block's own variables.
+    /// The first values of a block's own variables.
     pub(crate) fn enter(&mut self, items: &[CoreItem]) -> Result<(), AllocError>
         ensures { OnOk result (self.new ≡ after_entry self.old (items_of items.now)) }
     {
@@ -264,21 +260,18 @@ impl<'a> Draft<'a> {
         ensures { (first : Listed) (rest : Nodes) (others : Items) → Within first rest exits others self.old (nodes_of (reverse made.old.items)) cases.old → OnOk result (Within first rest exits (with_item item.now others) self.new (nodes_of (reverse made.new.items)) cases.new) }
     {
         match item {
-            CoreItem::Declare {
-                line: _,
-                variable: _,
-            } => Ok(()),
+            CoreItem::Declare { .. } => Ok(()),
             CoreItem::Initialize {
                 line,
                 variable,
-                drawn: _,
                 value,
+                ..
             } => self.initialize_number(*line, *variable, value, made),
             CoreItem::InitializeStructure {
                 line,
                 variable,
-                drawn: _,
                 value,
+                ..
             } => {
                 self.initialize_structure(*line, *variable, value)?;
                 self.flush(made)
@@ -288,16 +281,12 @@ impl<'a> Draft<'a> {
                 let place = more(exits.base, made.len())?;
                 self.know(*label, place)
             }
-            CoreItem::Case {
-                line,
-                type_: _,
-                bits: _,
-            } => {
+            CoreItem::Case { line, .. } => {
                 let place = more(exits.base, made.len())?;
                 cases.places.push(CasePlace { line: *line, place })?;
                 Ok(())
             }
-            CoreItem::Default { line: _ } => {
+            CoreItem::Default { .. } => {
                 let place = more(exits.base, made.len())?;
                 cases.otherwise = Some(place);
                 Ok(())
@@ -509,7 +498,7 @@ impl<'a> Draft<'a> {
                 let place = self.place_of(*label);
                 self.jump_to(*line, exits.base, place, made)
             }
-            CoreStatement::Stray { line: _, statement } => {
+            CoreStatement::Stray { statement, .. } => {
                 self.statement(alloc, statement, exits, made)
             }
         }

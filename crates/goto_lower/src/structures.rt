@@ -18,64 +18,16 @@ pub(crate) fn line_of_structure(structure: &CoreStructure) -> u32
     ensures { result ≡ structure_line (view_structure structure.now) }
 {
     match structure {
-        CoreStructure::Read {
-            line,
-            variable: _,
-            offset: _,
-            size: _,
-        } => *line,
-        CoreStructure::Load {
-            line,
-            object: _,
-            offset: _,
-            size: _,
-        } => *line,
-        CoreStructure::Choice {
-            line,
-            test: _,
-            yes: _,
-            no: _,
-        } => *line,
-        CoreStructure::Assign {
-            line,
-            variable: _,
-            offset: _,
-            value: _,
-        } => *line,
-        CoreStructure::Store {
-            line,
-            object: _,
-            offset: _,
-            value: _,
-        } => *line,
-        CoreStructure::Comma {
-            line,
-            left: _,
-            right: _,
-        } => *line,
-        CoreStructure::Member {
-            line,
-            offset: _,
-            size: _,
-            value: _,
-        } => *line,
-        CoreStructure::List {
-            line,
-            size: _,
-            parts: _,
-        } => *line,
-        CoreStructure::String {
-            line,
-            size: _,
-            bytes: _,
-        } => *line,
-        CoreStructure::Call {
-            line,
-            function: _,
-            used: _,
-            size: _,
-            arguments: _,
-        } => *line,
+        CoreStructure::Read { line, .. } => *line,
+        CoreStructure::Load { line, .. } => *line,
+        CoreStructure::Choice { line, .. } => *line,
+        CoreStructure::Assign { line, .. } => *line,
+        CoreStructure::Store { line, .. } => *line,
+        CoreStructure::Comma { line, .. } => *line,
+        CoreStructure::Member { line, .. } => *line,
+        CoreStructure::List { line, .. } => *line,
+        CoreStructure::String { line, .. } => *line,
+        CoreStructure::Call { line, .. } => *line,
     }
 }
 
@@ -90,7 +42,7 @@ fn behind(offset: u32, count: u32) -> Result<u32, AllocError>
 }
 
 impl<'a> Draft<'a> {
-    // Bytes that are 0, into a block.
+    /// Bytes that are 0, into a block.
     pub(crate) fn clear(
         &mut self,
         line: u32,
@@ -275,11 +227,7 @@ impl<'a> Draft<'a> {
                     },
                 )
             }
-            CoreStructure::Comma {
-                line: _,
-                left,
-                right,
-            } => {
+            CoreStructure::Comma { left, right, .. } => {
                 let _left = self.expression(left)?;
                 self.structure(right, into, at)
             }

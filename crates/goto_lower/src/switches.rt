@@ -24,11 +24,7 @@ impl<'a> Draft<'a> {
         ensures last { (rest : Items) → IfOk result (λ r. last_case self.new.frame self.new.variables r rest (next self.new) ≡ last_case self.old.frame self.old.variables before (with_item item.now rest) (next self.old)) }
     {
         match item {
-            CoreItem::Case {
-                line: _,
-                type_,
-                bits: _,
-            } => {
+            CoreItem::Case { type_, .. } => {
                 let _value = self.register(*type_)?;
                 let _met = self.register(IntegerType::Int)?;
                 self.register(IntegerType::Int)
@@ -103,8 +99,8 @@ impl<'a> Draft<'a> {
         }
     }
 
-    // The way from the tests of the cases into the items, behind whose code so many nodes stand. Gives the
-    // register that is 0 in front of the tests.
+    /// The way from the tests of the cases into the items, behind whose code so many nodes stand. Gives the
+    /// register that is 0 in front of the tests.
     pub(crate) fn enter_switch(
         &mut self,
         line: u32,
@@ -205,7 +201,7 @@ impl<'a> Draft<'a> {
         Ok(())
     }
 
-    // The value of a `switch`, and the tests of its cases.
+    /// The value of a `switch`, and the tests of its cases.
     pub(crate) fn choose(
         &mut self,
         line: u32,

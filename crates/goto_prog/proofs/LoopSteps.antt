@@ -14,7 +14,7 @@ use Rattle.goto_prog.specs.Threads.{Calls, acting, final}
 use Rattle.goto_prog.specs.Nodes.{Nodes, repeats, nodes_of, node_count, nodes_fit}
 use Rattle.goto_prog.specs.Running.{acts, is_act}
 use Rattle.goto_prog.specs.Structured.{Bounded, passed, rounds, round_count, tests, nodes_before}
-use Rattle.goto_prog.specs.Walking.{LoopLevel, Place, nodes_behind, first_level, round_of, next_round, into_loop, place_count, levels_fit, place_fits, levels_behind, places_from, does_from, first_of, round_weight, nodes_weights, levels_weights, place_weight, Activation, does, instruction_at, GoesOn, Stops, HandsOver}
+use Rattle.goto_prog.specs.Walking.{LoopLevel, Cursor, nodes_behind, first_level, round_of, next_round, into_loop, place_count, levels_fit, place_fits, levels_behind, places_from, does_from, first_of, round_weight, nodes_weights, levels_weights, place_weight, Activation, does, instruction_at, GoesOn, Stops, HandsOver}
 use Rattle.goto_prog.proofs.Registers.{both}
 use Rattle.goto_prog.proofs.Places.{place_some}
 
@@ -53,7 +53,7 @@ module _ (b : Bounded) (calls : Calls) (hands : Given → Behaviour) where
       let o = acting calls hands in
       at o (nodes_before b o (nodes_of l.body) (again ∷ nodes_before b o (nodes_of l.behind) (levels_behind b o ls))) 0
 
-  round_same : (p : Place) (ls : List LoopLevel) (l : LoopLevel) (m : Memory) → p.nodes ≡ [] → p.levels ≡ ls → first_level ls ≡ Some l → 0 < l.left → does_from b (acting calls hands) (round_of p ls) m ≡ does_at p.nodes ls m
+  round_same : (p : Cursor) (ls : List LoopLevel) (l : LoopLevel) (m : Memory) → p.nodes ≡ [] → p.levels ≡ ls → first_level ls ≡ Some l → 0 < l.left → does_from b (acting calls hands) (round_of p ls) m ≡ does_at p.nodes ls m
   round_same p [] l m none are found more = absurd (none-some l found)
   round_same p (k ∷ ls) l m none are found more =
       let some : 0 < k.left = subst (λ (x : LoopLevel). 0 < x.left) (sym (some_level k l found)) more in
@@ -73,7 +73,7 @@ module _ (b : Bounded) (calls : Calls) (hands : Given → Behaviour) where
       ∙ passed_final b.limits.assertions (Broken classes.Unwind l.line l.function) Blocked
 
 module _ (b : Bounded) (w : ℕ → ℕ) where
-  round_falls : (p : Place) (ls : List LoopLevel) (l : LoopLevel) → p.nodes ≡ [] → p.levels ≡ ls → first_level ls ≡ Some l → 0 < l.left
+  round_falls : (p : Cursor) (ls : List LoopLevel) (l : LoopLevel) → p.nodes ≡ [] → p.levels ≡ ls → first_level ls ≡ Some l → 0 < l.left
       → place_weight b w (round_of p ls) < first_of b w (nodes_weights b w (nodes_of p.nodes) (levels_weights b w ls))
   round_falls p [] l none are found more = absurd (none-some l found)
   round_falls p (k ∷ ls) l none are found more =
@@ -110,7 +110,7 @@ module _ (ts : List IntegerType) (ss : List ℕ) where
   both_true : (x y : Bool) → x ≡ true → y ≡ true → (x && y) ≡ true
   both_true x y first second = λ k. first k && second k
 
-  pub fits_into : (p : Place) (line f n left : ℕ) (rotated : Bool) (body : List Node) → place_fits ts ss p ≡ true → nodes_of p.nodes ≡ repeats line f n rotated (nodes_of body) (nodes_of (nodes_behind p.nodes))
+  pub fits_into : (p : Cursor) (line f n left : ℕ) (rotated : Bool) (body : List Node) → place_fits ts ss p ≡ true → nodes_of p.nodes ≡ repeats line f n rotated (nodes_of body) (nodes_of (nodes_behind p.nodes))
       → place_fits ts ss (into_loop line f left body p) ≡ true
   fits_into p line f n left rotated body fits is =
       let parts = both (nodes_fit ts ss (place_count p.levels) (nodes_of p.nodes)) (levels_fit ts ss p.levels) fits in

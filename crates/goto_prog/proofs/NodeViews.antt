@@ -6,8 +6,8 @@ use mathlib.Core.Former.{Count}
 use Rattle.goto_prog.specs.declared.code.Instruction.{Instruction}
 use Rattle.goto_prog.specs.declared.nodes.Node.{Node, Loop, Loop', Plain, Row_of-Node, end_of-Node, more_of-Node, items-the_row-Node, items_hidden-the_row-Node-0}
 use Rattle.goto_prog.specs.declared.nodes.Node as nodes
-use Rattle.goto_prog.specs.declared.place.Kind.{Kind}
-use Rattle.goto_prog.specs.declared.place.Kind.TheVariants as kinds
+use Rattle.goto_prog.specs.declared.nodes.Kind.{Kind}
+use Rattle.goto_prog.specs.declared.nodes.Kind.TheVariants as kinds
 use Rattle.goto_prog.specs.Nodes.{Nodes, done, plain, repeats, with_node, view_nodes, nodes_of}
 use Rattle.goto_prog.specs.Kinds.{with_kind, IsFirst}
 

@@ -13,7 +13,7 @@ use Rattle.goto_prog.specs.Meaning.{Memory, Reading, at, operates}
 use Rattle.goto_prog.specs.Fitting.{operation_fits}
 use Rattle.goto_prog.specs.Nodes.{Nodes, done, plain, repeats, nodes_of, view_nodes, node_count, nodes_fit}
 use Rattle.goto_prog.specs.Structured.{Bounded, rounds, round_count, tests, nodes_before}
-use Rattle.goto_prog.specs.Walking.{LoopLevel, Place, place_behind, next_place, landed, nodes_behind, next_round, round_of, into_loop, place_count, place_total, levels_fit, place_fits, levels_behind, places_from, does_from, step_weight, first_of, round_weight, nodes_weights, levels_weights, place_weight, instruction_at}
+use Rattle.goto_prog.specs.Walking.{LoopLevel, Cursor, place_behind, next_place, landed, nodes_behind, next_round, round_of, into_loop, place_count, place_total, levels_fit, place_fits, levels_behind, places_from, does_from, step_weight, first_of, round_weight, nodes_weights, levels_weights, place_weight, instruction_at}
 use Rattle.goto_prog.proofs.Registers.{both}
 
 -- ---- going on
@@ -21,7 +21,7 @@ use Rattle.goto_prog.proofs.Registers.{both}
 one_more : (count i : ℕ) → i < count → count - i ≡ suc (count - (i + 1))
 one_more count i lt = omega (arith, lt)
 
-pub landed_more : (count i : ℕ) (p q : Place) → i < count → landed (count - i) p ≡ q → landed (count - (i + 1)) (next_place p) ≡ q
+pub landed_more : (count i : ℕ) (p q : Cursor) → i < count → landed (count - i) p ≡ q → landed (count - (i + 1)) (next_place p) ≡ q
 landed_more count i p q lt same = sym (ap (λ n. landed n p) (one_more count i lt)) ∙ same
 
 -- ---- the instruction that is next
@@ -41,7 +41,7 @@ module _ (b : Bounded) (o : Reading Behaviour) where
   at_front (nodes.Plain j ∷ rest) ls i m h = ap (λ k. operates o b.strict 0 k.line k.function k.operation (nodes_before b o (nodes_of rest) (levels_behind b o ls)) m) (some_same j i h)
   at_front (nodes.Loop' line f n rotated shape body ∷ rest) ls i m h = absurd (none-some i h)
 
-  pub at_instruction : (p : Place) (i : Instruction) (m : Memory) → instruction_at p.nodes ≡ Some i
+  pub at_instruction : (p : Cursor) (i : Instruction) (m : Memory) → instruction_at p.nodes ≡ Some i
       → does_from b o p m ≡ operates o b.strict 0 i.line i.function i.operation (places_from b o (next_place p)) m
   at_instruction p i m h = at_front p.nodes p.levels i m h
 
@@ -58,7 +58,7 @@ module _ (b : Bounded) (o : Reading Behaviour) where
   fewer (nodes.Plain j ∷ rest) ls n within = omega (arith, within)
   fewer (nodes.Loop' line f k rotated shape body ∷ rest) ls n within = omega (arith, within)
 
-  pub landing : (n : ℕ) (p : Place) (m : Memory) → n ≤ place_total p → at o (places_from b o p) n m ≡ does_from b o (landed n p) m
+  pub landing : (n : ℕ) (p : Cursor) (m : Memory) → n ≤ place_total p → at o (places_from b o p) n m ≡ does_from b o (landed n p) m
   landing zero p m within = refl
   landing (suc n) p m within = at_next p.nodes p.levels n m within ∙ landing n (next_place p) m (fewer p.nodes p.levels n within)
 
@@ -83,10 +83,10 @@ module _ (ts : List IntegerType) (ss : List ℕ) where
       let parts = both (nodes_fit ts ss (place_count ls) (nodes_of (nodes.Loop' line f k rotated shape body ∷ rest))) (levels_fit ts ss ls) h in
       both_true _ _ (both (nodes_fit ts ss (node_count (nodes_of rest) + place_count ls + 1) (view_nodes body)) (nodes_fit ts ss (place_count ls) (nodes_of rest)) parts.0).1 parts.1
 
-  pub fits_next : (p : Place) → place_fits ts ss p ≡ true → place_fits ts ss (next_place p) ≡ true
+  pub fits_next : (p : Cursor) → place_fits ts ss p ≡ true → place_fits ts ss (next_place p) ≡ true
   fits_next p h = fits_behind p.nodes p.levels h
 
-  pub fits_landed : (n : ℕ) (p : Place) → place_fits ts ss p ≡ true → place_fits ts ss (landed n p) ≡ true
+  pub fits_landed : (n : ℕ) (p : Cursor) → place_fits ts ss p ≡ true → place_fits ts ss (landed n p) ≡ true
   fits_landed zero p h = h
   fits_landed (suc n) p h = fits_landed n (next_place p) (fits_next p h)
 
@@ -98,10 +98,10 @@ module _ (ts : List IntegerType) (ss : List ℕ) where
       (both (operation_fits ts ss (node_count (nodes_of rest) + place_count ls) j.operation) (nodes_fit ts ss (place_count ls) (nodes_of rest)) parts.0).0
   fits_front (nodes.Loop' line f k rotated shape body ∷ rest) ls i h found = absurd (none-some i found)
 
-  pub fits_here : (p : Place) (i : Instruction) → place_fits ts ss p ≡ true → instruction_at p.nodes ≡ Some i → operation_fits ts ss (place_total (next_place p)) i.operation ≡ true
+  pub fits_here : (p : Cursor) (i : Instruction) → place_fits ts ss p ≡ true → instruction_at p.nodes ≡ Some i → operation_fits ts ss (place_total (next_place p)) i.operation ≡ true
   fits_here p i h found = fits_front p.nodes p.levels i h found
 
-  fits_round : (p : Place) (ls : List LoopLevel) → p.levels ≡ ls → place_fits ts ss p ≡ true → place_fits ts ss (round_of p ls) ≡ true
+  fits_round : (p : Cursor) (ls : List LoopLevel) → p.levels ≡ ls → place_fits ts ss p ≡ true → place_fits ts ss (round_of p ls) ≡ true
   fits_round p [] same h = h
   fits_round p (l ∷ ls) same h =
       let levels = (both (nodes_fit ts ss (place_count p.levels) (nodes_of p.nodes)) (levels_fit ts ss p.levels) h).1 in
@@ -109,7 +109,7 @@ module _ (ts : List IntegerType) (ss : List ℕ) where
       let parts = both (nodes_fit ts ss (place_count (l ∷ ls)) (nodes_of l.body) && nodes_fit ts ss (place_count ls) (nodes_of l.behind)) (levels_fit ts ss ls) here in
       both_true _ _ (both (nodes_fit ts ss (place_count (l ∷ ls)) (nodes_of l.body)) (nodes_fit ts ss (place_count ls) (nodes_of l.behind)) parts.0).0 here
 
-  pub fits_next_round : (p : Place) → place_fits ts ss p ≡ true → place_fits ts ss (next_round p) ≡ true
+  pub fits_next_round : (p : Cursor) → place_fits ts ss p ≡ true → place_fits ts ss (next_round p) ≡ true
   fits_next_round p h = fits_round p p.levels refl h
 
 -- ---- how many steps are left
@@ -143,7 +143,7 @@ module _ (b : Bounded) (w : ℕ → ℕ) where
       let more = rounds_more (λ again. first_of b w (nodes_weights b w (view_nodes body) (again ∷ behind))) (λ x. over (view_nodes body) (x ∷ behind)) (first_of b w behind) (round_count rotated (tests b f n)) in
       omega (arith, more)
 
-  pub landed_lighter : (n : ℕ) (p : Place) → place_weight b w (landed n p) ≤ place_weight b w p
+  pub landed_lighter : (n : ℕ) (p : Cursor) → place_weight b w (landed n p) ≤ place_weight b w p
   landed_lighter zero p = omega arith
   landed_lighter (suc n) p = omega (arith, landed_lighter n (next_place p), lighter p.nodes p.levels)
 
@@ -153,10 +153,10 @@ module _ (b : Bounded) (w : ℕ → ℕ) where
   weight_front (nodes.Plain j ∷ rest) ls i h = ap (λ (k : Instruction). step_weight b w k.operation (first_of b w (nodes_weights b w (nodes_of rest) (levels_weights b w ls)))) (some_same j i h)
   weight_front (nodes.Loop' line f n rotated shape body ∷ rest) ls i h = absurd (none-some i h)
 
-  pub weight_here : (p : Place) (i : Instruction) → instruction_at p.nodes ≡ Some i → place_weight b w p ≡ step_weight b w i.operation (place_weight b w (next_place p))
+  pub weight_here : (p : Cursor) (i : Instruction) → instruction_at p.nodes ≡ Some i → place_weight b w p ≡ step_weight b w i.operation (place_weight b w (next_place p))
   weight_here p i h = weight_front p.nodes p.levels i h
 
-  pub falls_landed : (n : ℕ) (p : Place) (i : Instruction) → instruction_at p.nodes ≡ Some i → place_weight b w (landed n (next_place p)) < place_weight b w p
+  pub falls_landed : (n : ℕ) (p : Cursor) (i : Instruction) → instruction_at p.nodes ≡ Some i → place_weight b w (landed n (next_place p)) < place_weight b w p
   falls_landed n p i h = omega (arith, weight_here p i h, landed_lighter n (next_place p), heavier i.operation (place_weight b w (next_place p)))
 
   some_weight : (ls : List LoopLevel) → 0 < first_of b w (levels_weights b w ls)
@@ -166,5 +166,5 @@ module _ (b : Bounded) (w : ℕ → ℕ) where
       let more = rounds_more (λ again. first_of b w (nodes_weights b w (nodes_of l.body) (again ∷ behind))) (λ x. over (nodes_of l.body) (x ∷ behind)) (first_of b w behind) l.left in
       omega (arith, more)
 
-  pub place_some : (p : Place) → 0 < place_weight b w p
+  pub place_some : (p : Cursor) → 0 < place_weight b w p
   place_some p = omega (arith, some_weight p.levels, over (nodes_of p.nodes) (levels_weights b w p.levels))

@@ -10,7 +10,7 @@ use Rattle.core_tree.specs.declared.operators.ArithmeticOperator.{ArithmeticOper
 use Rattle.core_tree.specs.Typed.{is_shift}
 use Rattle.c_values.specs.Numbers.{same_width, are_operands_of}
 use Rattle.goto_prog.specs.Fitting.{is_there, is_register, is_wide}
-use Rattle.goto_prog.specs.Spaces.{registers_fit}
+use Rattle.goto_prog.specs.Frames.{registers_fit}
 
 positive : (t : IntegerType) → nat_lt 0 (2 ^ width t) ≡ true
 positive types.Bool = refl

@@ -23,7 +23,7 @@ use Rattle.goto_prog.specs.Threads.{Calls, acting, behaving, final, ask}
 use Rattle.goto_prog.specs.Fitting.{is_there, is_register, check_fits, operation_fits, is_some_block}
 use Rattle.goto_prog.specs.Running.{is_calculation, is_action, acts, is_act}
 use Rattle.goto_prog.specs.Structured.{Bounded}
-use Rattle.goto_prog.specs.Walking.{Place, next_place, landed, place_total, places_from, does_from, place_weight, step_weight, Activation, does, instruction_at, GoesOn, Stops, CallsFunction, HandsOver}
+use Rattle.goto_prog.specs.Walking.{Cursor, next_place, landed, place_total, places_from, does_from, place_weight, step_weight, Activation, does, instruction_at, GoesOn, Stops, CallsFunction, HandsOver}
 use Rattle.goto_prog.proofs.Registers.{both}
 use Rattle.goto_prog.proofs.Stepping.{calculation_fits}
 use Rattle.goto_prog.proofs.Places.{at_instruction, landing, falls_landed, weight_here, place_some}

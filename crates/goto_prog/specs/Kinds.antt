@@ -1,8 +1,8 @@
 -- What the node that is next is.
 use Rattle.std.specs.Prelude.{◌≡◌, List, [], Option, Some, None}
 use Rattle.goto_prog.specs.declared.nodes.Node.{Node}
-use Rattle.goto_prog.specs.declared.place.Kind.{Kind}
-use Rattle.goto_prog.specs.declared.place.Kind.TheVariants as kinds
+use Rattle.goto_prog.specs.declared.nodes.Kind.{Kind}
+use Rattle.goto_prog.specs.declared.nodes.Kind.TheVariants as kinds
 use Rattle.goto_prog.specs.Nodes.{Nodes, plain, repeats, nodes_of}
 use Rattle.goto_prog.specs.Walking.{instruction_at, nodes_behind}
 

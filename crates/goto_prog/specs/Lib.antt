@@ -2,7 +2,7 @@ pub mod Meaning
 pub mod Fitting
 pub mod Threads
 pub mod Fine
-pub mod Spaces
+pub mod Frames
 pub mod CodeThread
 pub mod Running
 pub mod Flat
@@ -10,7 +10,7 @@ pub mod Same
 pub mod Nodes
 pub mod Structured
 pub mod Walking
-pub mod PlaceViews
+pub mod CursorViews
 pub mod Walks
 pub mod WalkThread
 pub mod ProgramViews

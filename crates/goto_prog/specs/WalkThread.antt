@@ -13,7 +13,7 @@ use Rattle.goto_prog.specs.Threads.{Calls, acting, final}
 use Rattle.goto_prog.specs.Fine.{AreFine, AreFineCalls, final_behaves, ask_behaves, choice_fine, at_fine, operation_fine}
 use Rattle.goto_prog.specs.Nodes.{Nodes, done, plain, repeats, Routine, nodes_of}
 use Rattle.goto_prog.specs.Structured.{Bounded, passed, rounds, round_count, tests, nodes_before, enters, entry_memory, opened, activation, first_fuel, first_left, leaves, leaves_with, value_of, runs_at, function_behaviour, function_thread, bounded_program}
-use Rattle.goto_prog.specs.Walking.{LoopLevel, Place, levels_behind, places_from, does_from}
+use Rattle.goto_prog.specs.Walking.{LoopLevel, Cursor, levels_behind, places_from, does_from}
 use Rattle.goto_prog.specs.Walks.{total, Waiting, Walk, bounded, calls_with, closed, hands_to, ends_of, does_by, walks, thread_of}
 
 module _ (program : Program) (b : Bounded) where
@@ -52,7 +52,7 @@ module _ (program : Program) (b : Bounded) where
           behind,
         )
 
-    place_fine : (p : Place) (m : Memory) → IsBehaviour program (does_from b (acting calls hands) p m)
+    place_fine : (p : Cursor) (m : Memory) → IsBehaviour program (does_from b (acting calls hands) p m)
     place_fine p m = at_fine program calls hands fine_calls fine_hands (places_from b (acting calls hands) p) 0 m (nodes_fine (nodes_of p.nodes) (levels_behind b (acting calls hands) p.levels) (levels_fine p.levels))
 
   enters_fine : (p : Option Routine) (calls : Calls) (arguments : List (List ℕ)) (follows : Given → Behaviour) → AreFineCalls program calls → ((given : Given) → IsBehaviour program (follows given)) → IsBehaviour program (enters b p calls arguments follows)

@@ -15,7 +15,7 @@ use Rattle.goto_prog.specs.declared.code.Operation.TheVariants as operations
 use Rattle.goto_prog.specs.Meaning.{Memory, Given, Reading, at, arguments_of, received}
 use Rattle.goto_prog.specs.Threads.{Calls, acting, final}
 use Rattle.goto_prog.specs.Fitting.{is_register}
-use Rattle.goto_prog.specs.Spaces.{Working}
+use Rattle.goto_prog.specs.Frames.{Working}
 use Rattle.goto_prog.specs.Running.{acts, is_act}
 use Rattle.goto_prog.specs.Nodes.{view_procedure, Nodes, done, plain, repeats, nodes_of, node_count, nodes_fit}
 use Rattle.goto_prog.specs.Structured.{entry_memory, Bounded, rounds, round_count, tests, nodes_before}
@@ -29,17 +29,17 @@ pub record LoopLevel : Type 0 where
   pub behind : List Node
 
 -- the nodes that are left, and the loops around them, the innermost first
-pub record Place : Type 0 where
+pub record Cursor : Type 0 where
   pub nodes : List Node
   pub levels : List LoopLevel
 
 -- the next place; behind the last of all comes none
-abbrev pub place_behind : List Node → List LoopLevel → Place
+abbrev pub place_behind : List Node → List LoopLevel → Cursor
 place_behind (n ∷ nodes) levels = record { nodes = nodes; levels = levels }
 place_behind [] (l ∷ levels) = record { nodes = l.behind; levels = levels }
 place_behind [] [] = record { nodes = []; levels = [] }
 
-abbrev pub next_place : Place → Place
+abbrev pub next_place : Cursor → Cursor
 next_place p = place_behind p.nodes p.levels
 
 abbrev pub first_level : List LoopLevel → Option LoopLevel
@@ -51,19 +51,19 @@ nodes_behind [] = []
 nodes_behind (n ∷ nodes) = nodes
 
 -- the first place of another round of the innermost loop
-abbrev pub round_of : Place → List LoopLevel → Place
+abbrev pub round_of : Cursor → List LoopLevel → Cursor
 round_of p [] = p
 round_of p (l ∷ levels) = record { nodes = l.body; levels = record l { left = l.left - 1 } ∷ levels }
 
-abbrev pub next_round : Place → Place
+abbrev pub next_round : Cursor → Cursor
 next_round p = round_of p p.levels
 
 -- the end of a round of a loop that is next, which may have so many more
-abbrev pub into_loop : (line function left : ℕ) → List Node → Place → Place
+abbrev pub into_loop : (line function left : ℕ) → List Node → Cursor → Cursor
 into_loop line f left body p = record { nodes = []; levels = record { line = line; function = f; left = left; body = body; behind = nodes_behind p.nodes } ∷ p.levels }
 
 -- the place behind so many others
-abbrev pub landed : ℕ → Place → Place
+abbrev pub landed : ℕ → Cursor → Cursor
 landed zero p = p
 landed (suc n) p = landed n (next_place p)
 
@@ -73,7 +73,7 @@ place_count [] = 0
 place_count (l ∷ levels) = node_count (nodes_of l.behind) + place_count levels + 1
 
 -- how many places are behind a place, the end of the function among them
-abbrev pub place_total : Place → ℕ
+abbrev pub place_total : Cursor → ℕ
 place_total p = node_count (nodes_of p.nodes) + place_count p.levels
 
 abbrev pub levels_fit : List IntegerType → List ℕ → List LoopLevel → Bool
@@ -81,7 +81,7 @@ levels_fit registers blocks [] = true
 levels_fit registers blocks (l ∷ levels) =
     nodes_fit registers blocks (place_count (l ∷ levels)) (nodes_of l.body) && nodes_fit registers blocks (place_count levels) (nodes_of l.behind) && levels_fit registers blocks levels
 
-abbrev pub place_fits : List IntegerType → List ℕ → Place → Bool
+abbrev pub place_fits : List IntegerType → List ℕ → Cursor → Bool
 place_fits registers blocks p = nodes_fit registers blocks (place_count p.levels) (nodes_of p.nodes) && levels_fit registers blocks p.levels
 
 -- ---- what is done
@@ -94,11 +94,11 @@ module _ (b : Bounded) (o : Reading Behaviour) where
       let behind = nodes_before b o (nodes_of l.behind) (levels_behind levels) in
       rounds b.limits.assertions l.line l.function (λ again. at o (nodes_before b o (nodes_of l.body) (again ∷ behind)) 0) l.left ∷ behind
 
-  abbrev pub places_from : Place → List (Memory → Behaviour)
+  abbrev pub places_from : Cursor → List (Memory → Behaviour)
   places_from p = nodes_before b o (nodes_of p.nodes) (levels_behind p.levels)
 
   -- what code does from a place
-  abbrev pub does_from : Place → Memory → Behaviour
+  abbrev pub does_from : Cursor → Memory → Behaviour
   does_from p m = at o (places_from p) 0 m
 
 -- ---- how many steps are left at most, by what a call of each function takes
@@ -129,14 +129,14 @@ module _ (b : Bounded) (w : ℕ → ℕ) where
       let behind = nodes_weights (nodes_of l.behind) (levels_weights levels) in
       round_weight (λ again. first_of (nodes_weights (nodes_of l.body) (again ∷ behind))) (first_of behind) l.left ∷ behind
 
-  abbrev pub place_weight : Place → ℕ
+  abbrev pub place_weight : Cursor → ℕ
   place_weight p = first_of (nodes_weights (nodes_of p.nodes) (levels_weights p.levels))
 
 -- ---- activations
 
 -- a function that runs: where it stands, and its registers and blocks
 pub record Activation : Type 0 where
-  pub place : Place
+  pub place : Cursor
   pub working : Working
 
 abbrev pub IsActivation : Activation → Type 0

@@ -1,9 +1,11 @@
+//! The activation of a function: where its code stands, and its registers and blocks.
+
 ghost use Rattle.std.specs.Prelude.{[], ◌≡◌, ◌==◌, ◌+◌, ◌≤◌, ◌<◌, ◌^◌, nat_le, nat_lt, length, slice_index_or, true, IfOk, OnErr, OnOk, Some, None, if◌then◌else◌, option_map};
 ghost use Rattle.goto_prog.specs.Meaning.{arguments_of, received, own_class, given_by, register, with_register, with_blocks};
 ghost use Rattle.goto_prog.specs.Fitting.{is_there, is_register, operation_fits};
 ghost use Rattle.goto_prog.specs.Nodes.{nodes_of, nodes_fit, repeats, routine_fits, view_procedure};
 ghost use Rattle.goto_prog.specs.Running.{is_calculation, is_action, acts};
-ghost use Rattle.goto_prog.specs.Spaces.{first_space};
+ghost use Rattle.goto_prog.specs.Frames.{first_space};
 ghost use Rattle.goto_prog.specs.ProgramViews.{bounded_by};
 ghost use Rattle.goto_prog.specs.Walking.{next_place, landed, place_total, place_fits, instruction_at, stepped_over, entry, lone, IsReceived, nodes_behind, first_level, next_round, into_loop, GoesOn, Stops, CallsFunction, HandsOver};
 ghost use Rattle.goto_prog.specs.Activations.{Steps};
@@ -12,15 +14,15 @@ ghost use Rattle.actions.specs.Behaviour.{accepts};
 ghost use Rattle.c_types.specs.Integers.{width};
 ghost use Rattle.core_tree.specs.Typed.{is_within};
 ghost use Rattle.c_values.specs.Variables.{put_bytes};
-ghost use Rattle.goto_prog.specs.PlaceViews.{level_of};
+ghost use Rattle.goto_prog.specs.CursorViews.{level_of};
 
 use crate::answers::{bytes_in, word_of};
 use crate::block::Block;
 use crate::code::{Condition, Instruction, Operation};
-use crate::nodes::{Node, Procedure};
-use crate::place::{Kind, LoopLevel, Place};
+use crate::cursor::{Cursor, LoopLevel};
+use crate::frame::Frame;
+use crate::nodes::{Kind, Node, Procedure};
 use crate::program::Program;
-use crate::space::Space;
 use actions::{Action, Answer, Bytes, DrawBits, Next};
 use c_types::IntegerType;
 use c_values::pointer_to;
@@ -28,11 +30,11 @@ use std::alloc::{AllocError, Global};
 use std::marker::Model;
 use words::Class;
 
-// A function that runs: where it stands, and its registers and blocks.
+/// A function that runs: where it stands, and its registers and blocks.
 #[derive(Drop)]
 pub struct Activation<'a> {
-    place: Place<'a>,
-    space: Space<'a>,
+    place: Cursor<'a>,
+    frame: Frame<'a>,
 }
 
 impl<'a> Model for Activation<'a> {
@@ -44,13 +46,13 @@ impl<'a> Model for Activation<'a> {
 
     ghost coded = { Prim.hlevel (codes, node.the_row.coded) };
 
-    ghost view = { λ a. record { place = a.place; working = a.space } };
+    ghost view = { λ a. record { place = a.place; working = a.frame } };
 
-    ghost invariant = { λ a. walking.IsActivation (record { place = a.place; working = a.space }) };
+    ghost invariant = { λ a. walking.IsActivation (record { place = a.place; working = a.frame }) };
 }
 
-// A call of a function: where it stands, the blocks with its arguments, and where what the function hands
-// over is put.
+/// A call of a function: where it stands, the blocks with its arguments, and where what the function hands
+/// over is put.
 #[derive(Clone, Copy)]
 pub struct CallPlan {
     pub instruction: Instruction,
@@ -61,8 +63,8 @@ pub struct CallPlan {
     pub returned: usize,
 }
 
-// What a step does: it goes on, something is next, a function is called, or the function ends and hands
-// something over.
+/// What a step does: it goes on, something is next, a function is called, or the function ends and hands
+/// something over.
 #[derive(Drop)]
 pub enum Stepped {
     GoesOn,
@@ -85,7 +87,7 @@ impl<'a> Activation<'a> {
         requires { is_there self.now.working.types from ≡ true }
         ensures { result ≡ (register self.now.working.memory from == 0) }
     {
-        self.space.is_zero(from)
+        self.frame.is_zero(from)
     }
 
     // An instruction that sets a register or a block.
@@ -100,7 +102,7 @@ impl<'a> Activation<'a> {
         if let Some(class) = self.broken_calculation(program, i) {
             return Ok(Stepped::Stops(Next::Broken(class, i.line, i.function)));
         }
-        self.space.calculate(i.operation)?;
+        self.frame.calculate(i.operation)?;
         self.advance(0);
         Ok(Stepped::GoesOn)
     }
@@ -114,7 +116,7 @@ impl<'a> Activation<'a> {
         ensures { result ≡ (if (program.now).strict then own_class i.operation self.now.working.memory else None) }
     {
         if program.strict {
-            self.space.own_class(i.operation)
+            self.frame.own_class(i.operation)
         } else {
             None
         }
@@ -129,7 +131,7 @@ impl<'a> Activation<'a> {
         ensures { Steps (bounded_by program.now) self.old self.new result }
     {
         let _ = program;
-        match self.space.condition_class(condition) {
+        match self.frame.condition_class(condition) {
             Some(class) => Stepped::Stops(Next::Broken(class, i.line, i.function)),
             None => {
                 self.advance(0);
@@ -235,7 +237,7 @@ impl<'a> Activation<'a> {
     {
         let _ = program;
         let _ = i;
-        Ok(Stepped::HandsOver(self.space.value(value)?))
+        Ok(Stepped::HandsOver(self.frame.value(value)?))
     }
 
     // The instruction that is next.
@@ -272,79 +274,22 @@ impl<'a> Activation<'a> {
             }
             Operation::Return { value } => self.return_value(program, i, value),
             Operation::Fail { class } => { Ok(Stepped::Stops(self.fail(program, i, class))) }
-            Operation::Draw { into: _, bits: _ } => self.stop(program, i),
-            Operation::ReadObject {
-                block: _,
-                at: _,
-                object: _,
-                offset: _,
-                count: _,
-            } => self.stop(program, i),
-            Operation::WriteObject {
-                object: _,
-                offset: _,
-                block: _,
-                at: _,
-                count: _,
-            } => self.stop(program, i),
+            Operation::Draw { .. } => self.stop(program, i),
+            Operation::ReadObject { .. } => self.stop(program, i),
+            Operation::WriteObject { .. } => self.stop(program, i),
             Operation::Exit => self.stop(program, i),
-            Operation::Constant { into: _, bits: _ } => self.calculation(program, i),
-            Operation::Copy {
-                into: _,
-                operand: _,
-            } => self.calculation(program, i),
-            Operation::Load {
-                into: _,
-                type_: _,
-                block: _,
-                offset: _,
-            } => self.calculation(program, i),
-            Operation::Store {
-                block: _,
-                offset: _,
-                count: _,
-                operand: _,
-            } => self.calculation(program, i),
-            Operation::Clear { block: _, size: _ } => self.calculation(program, i),
-            Operation::CopyBytes {
-                into: _,
-                at: _,
-                from: _,
-                offset: _,
-                count: _,
-            } => self.calculation(program, i),
-            Operation::Convert {
-                into: _,
-                from: _,
-                to: _,
-                operand: _,
-            } => self.calculation(program, i),
-            Operation::Sign {
-                into: _,
-                operator: _,
-                type_: _,
-                operand: _,
-            } => self.calculation(program, i),
-            Operation::Arithmetic {
-                into: _,
-                operator: _,
-                type_: _,
-                right_type: _,
-                left: _,
-                right: _,
-            } => self.calculation(program, i),
-            Operation::Compare {
-                into: _,
-                operator: _,
-                type_: _,
-                left: _,
-                right: _,
-            } => self.calculation(program, i),
-            Operation::IsZero {
-                into: _,
-                operand: _,
-            } => self.calculation(program, i),
-            Operation::Use { returned: _ } => self.calculation(program, i),
+            Operation::Constant { .. } => self.calculation(program, i),
+            Operation::Copy { .. } => self.calculation(program, i),
+            Operation::Load { .. } => self.calculation(program, i),
+            Operation::Store { .. } => self.calculation(program, i),
+            Operation::Clear { .. } => self.calculation(program, i),
+            Operation::CopyBytes { .. } => self.calculation(program, i),
+            Operation::Convert { .. } => self.calculation(program, i),
+            Operation::Sign { .. } => self.calculation(program, i),
+            Operation::Arithmetic { .. } => self.calculation(program, i),
+            Operation::Compare { .. } => self.calculation(program, i),
+            Operation::IsZero { .. } => self.calculation(program, i),
+            Operation::Use { .. } => self.calculation(program, i),
         }
     }
 
@@ -440,7 +385,7 @@ impl<'a> Activation<'a> {
         ensures { IfOk result (λ n. Stops (bounded_by program.now) self.now self.now n) }
     {
         let _ = program;
-        let bytes = self.space.part(from.0, from.1, count)?;
+        let bytes = self.frame.part(from.0, from.1, count)?;
         Ok(Next::Act(
             Action::Write(pointer_to(into.0, into.1), Bytes::new(bytes), false),
             i.line,
@@ -543,7 +488,7 @@ impl<'a> Activation<'a> {
         self.place.first()
     }
 
-    // One step.
+    /// One step.
     #[tactic(auto, using(crate::proofs::Places::fits_here))]
     pub fn step(&mut self, program: &Program<'a>) -> Result<Stepped, AllocError>
         ensures steps { IfOk result (Steps (bounded_by program.now) self.old self.new) }
@@ -564,7 +509,7 @@ impl<'a> Activation<'a> {
         }
     }
 
-    // Takes the answer to the action that is next, and says whether that has ended the process.
+    /// Takes the answer to the action that is next, and says whether that has ended the process.
     pub fn receive(&mut self, program: &Program<'a>, answer: &Answer) -> bool
         requires acting { acts (instruction_at self.old.place.nodes) ≡ true }
         requires allowed { accepts (lone (bounded_by program.now) self.old []) answer.now ≡ true }
@@ -688,7 +633,7 @@ impl<'a> Activation<'a> {
         requires bits { bits < 2 ^ width (slice_index_or self.old.working.types into IntegerType.Int) }
         ensures { self.new ≡ record self.old { working = record self.old.working { memory = with_register self.old.working.memory into bits } } }
     {
-        self.space.put(into, bits);
+        self.frame.put(into, bits);
     }
 
     // Writes bytes into a block, from an offset on.
@@ -696,17 +641,17 @@ impl<'a> Activation<'a> {
         requires { is_within self.old.working.sizes block at (length new.now) ≡ true }
         ensures { self.new ≡ record self.old { working = record self.old.working { memory = with_blocks self.old.working.memory (put_bytes self.old.working.memory.blocks block at new.now) } } }
     {
-        self.space.put_bytes(block, at, new);
+        self.frame.put_bytes(block, at, new);
     }
 
-    // Goes past the instruction that is next.
+    /// Goes past the instruction that is next.
     pub fn step_over(&mut self)
         ensures { self.new ≡ stepped_over self.old }
     {
         self.advance(0);
     }
 
-    // A function at its start, with the bytes of so many blocks of its caller, from one on, as its arguments.
+    /// A function at its start, with the bytes of so many blocks of its caller, from one on, as its arguments.
     #[tactic(auto, using(crate::proofs::Entering::entry_fits))]
     pub fn entered(
         alloc: Global,
@@ -719,33 +664,33 @@ impl<'a> Activation<'a> {
         requires there { nat_le (first + count) (length caller.now.working.sizes) ≡ true }
         ensures { IfOk result (λ a. a ≡ entry procedure.now (arguments_of caller.now.working.memory.blocks first count)) }
     {
-        let mut space = Space::new(alloc, &procedure.registers, &procedure.blocks)?;
-        space.take_arguments(&caller.space, first, count);
+        let mut frame = Frame::new(alloc, &procedure.registers, &procedure.blocks)?;
+        frame.take_arguments(&caller.frame, first, count);
         Ok(Activation {
-            place: Place::new(alloc, &procedure.nodes),
-            space,
+            place: Cursor::new(alloc, &procedure.nodes),
+            frame,
         })
     }
 
-    // A function at its start, without arguments.
+    /// A function at its start, without arguments.
     #[tactic(auto, using(crate::proofs::Entering::entry_fits, crate::proofs::Entering::none_given))]
     pub fn started(alloc: Global, procedure: &'a Procedure) -> Result<Activation<'a>, AllocError>
         requires { routine_fits (view_procedure procedure.now) ≡ true }
         ensures { IfOk result (λ a. a ≡ entry procedure.now []) }
     {
-        let space = Space::new(alloc, &procedure.registers, &procedure.blocks)?;
+        let frame = Frame::new(alloc, &procedure.registers, &procedure.blocks)?;
         Ok(Activation {
-            place: Place::new(alloc, &procedure.nodes),
-            space,
+            place: Cursor::new(alloc, &procedure.nodes),
+            frame,
         })
     }
 
-    // Takes what a call has handed over.
+    /// Takes what a call has handed over.
     pub fn accept(&mut self, into: usize, returned: usize, given: Option<Block>)
         requires into { nat_lt into (length self.old.working.sizes) ≡ true }
         requires returned { is_register self.old.working.types returned IntegerType.Int ≡ true }
         ensures { self.new ≡ record self.old { working = record self.old.working { memory = received self.old.working.memory into returned given } } }
     {
-        self.space.receive(into, returned, given);
+        self.frame.receive(into, returned, given);
     }
 }

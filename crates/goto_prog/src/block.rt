@@ -1,3 +1,5 @@
+//! The bytes of a block.
+
 ghost use Rattle.std.specs.Prelude.{◌≡◌, ◌+◌, ◌≤◌, length, take, drop, IfOk};
 ghost use Rattle.c_values.specs.Variables.{low_bytes, put_at, zeros, number_at};
 ghost use Rattle.c_values.specs.Numbers.{typed};
@@ -7,7 +9,7 @@ use c_values::{Number, read_block, write_block};
 use std::alloc::{AllocError, Global};
 use std::marker::Model;
 
-// The bytes of a block.
+/// The bytes of a block.
 #[derive(Drop)]
 pub struct Block {
     bytes: Vec<u8>,
@@ -22,7 +24,7 @@ impl Model for Block {
 }
 
 impl Block {
-    // So many bytes that are 0.
+    /// So many bytes that are 0.
     pub fn new(alloc: Global, size: u32) -> Result<Block, AllocError>
         ensures { IfOk result (λ b. b ≡ zeros size) }
     {
@@ -31,14 +33,14 @@ impl Block {
         })
     }
 
-    // The number of a type at an offset.
+    /// The number of a type at an offset.
     pub fn number(&self, offset: u32, type_: IntegerType) -> Number
         ensures { result ≡ typed type_ (number_at type_ offset self.now) }
     {
         read_block(&self.bytes, offset as usize, type_)
     }
 
-    // Writes the lowest bytes of a word, so many, from an offset on.
+    /// Writes the lowest bytes of a word, so many, from an offset on.
     pub fn write(&mut self, offset: u32, count: u32, bits: u64)
         requires few { count ≤ 8 }
         requires within { offset + count ≤ length self.old }
@@ -47,7 +49,7 @@ impl Block {
         write_block(&mut self.bytes, offset as usize, count as usize, bits);
     }
 
-    // A copy of so many bytes, from an offset on.
+    /// A copy of so many bytes, from an offset on.
     pub fn part(&self, alloc: Global, offset: u32, count: u32) -> Result<Vec<u8>, AllocError>
         requires { offset + count ≤ length self.now }
         ensures { IfOk result (λ part. part.items ≡ take count (drop offset self.now)) }
@@ -56,7 +58,7 @@ impl Block {
         Vec::from_slice(alloc, &self.bytes[start..start + count as usize])
     }
 
-    // A copy of all bytes.
+    /// A copy of all bytes.
     pub fn copied(&self, alloc: Global) -> Result<Block, AllocError>
         ensures { IfOk result (λ b. b ≡ self.now) }
     {
@@ -65,7 +67,7 @@ impl Block {
         })
     }
 
-    // Puts as many of these bytes as there is room for, from the first on.
+    /// Puts as many of these bytes as there is room for, from the first on.
     #[tactic(auto, using(crate::proofs::Blocks::take_min))]
     pub fn fill(&mut self, new: &Block)
         ensures { self.new ≡ put_at 0 (take (length self.old) new.now) self.old }
@@ -74,7 +76,7 @@ impl Block {
         self.put(0, &new.bytes[..count]);
     }
 
-    // Writes bytes in the place of as many, from an offset on.
+    /// Writes bytes in the place of as many, from an offset on.
     pub fn put(&mut self, at: u32, new: &[u8])
         requires { at + length new.now ≤ length self.old }
         ensures { self.new ≡ put_at at new.now self.old }
@@ -83,7 +85,7 @@ impl Block {
         self.bytes[start..start + new.len()].copy_from_slice(new);
     }
 
-    // Sets each byte to 0.
+    /// Sets each byte to 0.
     pub fn clear(&mut self)
         ensures { self.new ≡ zeros (length self.old) }
     {

@@ -1,10 +1,12 @@
+//! Instructions: operations on registers and blocks, checks, actions and jumps.
+
 use c_types::IntegerType;
 use core_tree::{ArithmeticOperator, Comparison, SignOperator};
 use words::Class;
 
 /// What an explicit check asks of registers; it breaks where that isn't so (C11 6.5). Values are read at
 /// the types that stand beside the operators.
-#[derive(Clone, Copy, PartialEq, Eq)]
+#[derive(Clone, Copy)]
 pub enum Condition {
     /// The divisor isn't 0: class division.
     Divisor {
@@ -49,7 +51,7 @@ pub enum Condition {
 }
 
 /// What an instruction does. Registers hold words and blocks hold bytes, both are numbered from 0.
-#[derive(Clone, Copy, PartialEq, Eq)]
+#[derive(Clone, Copy)]
 pub enum Operation {
     /// Sets a register to these bits.
     Constant {
@@ -193,7 +195,7 @@ pub enum Operation {
 }
 
 /// An instruction: what it does, and the line and the function in whose name it breaks or acts.
-#[derive(Clone, Copy, PartialEq, Eq)]
+#[derive(Clone, Copy)]
 pub struct Instruction {
     pub line: u32,
     pub function: u32,

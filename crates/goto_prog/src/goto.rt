@@ -1,3 +1,5 @@
+//! Programs with loops and calls, and programs without.
+
 ghost use Rattle.std.specs.Prelude.{◌≡◌, ◌<◌, true, length};
 ghost use Rattle.std.specs.List.{list_all};
 ghost use Rattle.goto_prog.specs.Flat.{main_code};

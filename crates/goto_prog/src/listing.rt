@@ -1,3 +1,5 @@
+//! Flat code: a list of instructions with its registers and blocks.
+
 ghost use Rattle.std.specs.Prelude.{◌≡◌, true};
 ghost use Rattle.goto_prog.specs.Fitting.{code_fits};
 ghost use Rattle.goto_prog.specs.UnrolledCode.{is_flat, is_flat_code};
@@ -31,6 +33,7 @@ impl Model for Code {
 }
 
 impl Code {
+    /// Code with these registers, blocks and instructions.
     pub fn new(
         registers: Vec<IntegerType>,
         blocks: Vec<u32>,
@@ -62,6 +65,7 @@ impl Code {
         &self.blocks
     }
 
+    /// The instructions, in order.
     pub fn instructions(&self) -> &[Instruction]
         ensures is { result.now ≡ self.now.instructions }
         ensures fits { code_fits self.now.registers self.now.blocks self.now.instructions ≡ true }
@@ -95,14 +99,8 @@ fn is_flat(operation: Operation) -> bool
     ensures { result ≡ is_flat operation }
 {
     match operation {
-        Operation::Call {
-            callee: _,
-            first: _,
-            count: _,
-            into: _,
-            returned: _,
-        } => false,
-        Operation::Return { value: _ } => false,
+        Operation::Call { .. } => false,
+        Operation::Return { .. } => false,
         _ => true,
     }
 }

@@ -1,3 +1,5 @@
+//! The machines of strict, of checked and of unrolled code.
+
 ghost use Rattle.std.specs.Prelude.{◌≡◌, false, IfOk};
 ghost use Rattle.goto_prog.specs.Flat.{main_code};
 ghost use Rattle.goto_prog.specs.GotoThreads.{strict_thread, plain_thread};

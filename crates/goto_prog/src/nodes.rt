@@ -1,3 +1,9 @@
+//! The code of a function as nodes: instructions, and loops with nodes of their own.
+
+ghost use Rattle.std.specs.Prelude.{◌≡◌};
+ghost use Rattle.goto_prog.specs.Kinds.{with_kind};
+ghost use Rattle.goto_prog.specs.Nodes.{Nodes, with_node};
+
 use crate::code::Instruction;
 use c_types::IntegerType;
 use core_tree::Name;
@@ -33,4 +39,39 @@ pub struct Procedure {
     pub blocks: Vec<u32>,
     pub nodes: Vec<Node>,
     pub startable: bool,
+}
+
+/// What a node is.
+#[derive(Clone, Copy)]
+pub enum Kind<'a> {
+    Plain(Instruction),
+    Loop {
+        line: u32,
+        function: u32,
+        number: u32,
+        rotated: bool,
+        nodes: &'a [Node],
+    },
+}
+
+/// What a node is, which is lent on.
+pub fn kind_of<'a>(node: &'a Node) -> Kind<'a>
+    ensures { (rest : Nodes) → with_node node.now rest ≡ with_kind result rest }
+{
+    match node {
+        Node::Plain { instruction } => Kind::Plain(*instruction),
+        Node::Loop {
+            line,
+            function,
+            number,
+            rotated,
+            nodes,
+        } => Kind::Loop {
+            line: *line,
+            function: *function,
+            number: *number,
+            rotated: *rotated,
+            nodes: nodes.as_slice(),
+        },
+    }
 }

@@ -1,3 +1,5 @@
+//! The functions of a program, by number.
+
 ghost use Rattle.std.specs.Prelude.{◌≡◌, if◌then◌else◌};
 ghost use Rattle.std.specs.Str.{bytes_eq};
 ghost use Rattle.std.specs.Prelude.{slice_get, option_map};
@@ -11,8 +13,8 @@ use actions::Next;
 use core_tree::{Bounds, LoopBound};
 use words::Class;
 
-// The functions by their numbers, and the bounds of a command; where `strict` stands, an operation that is
-// undefined breaks by itself.
+/// The functions by their numbers, and the bounds of a command; where `strict` stands, an operation that is
+/// undefined breaks by itself.
 #[derive(Clone, Copy)]
 pub struct Program<'a> {
     pub strict: bool,
@@ -26,7 +28,7 @@ fn tests_in(set: &[LoopBound], others: u32, function: &[u8], number: u32) -> u32
     ensures { result ≡ tests_in (loop_limits set.now) others function.now number }
 {
     for bound in set {
-        if bound.function.bytes.as_slice() == function && bound.number == number {
+        if bound.function.bytes.as_slice() == function && bound.number == number as u64 {
             return bound.unwind;
         }
     }
@@ -34,7 +36,7 @@ fn tests_in(set: &[LoopBound], others: u32, function: &[u8], number: u32) -> u32
 }
 
 impl<'a> Program<'a> {
-    // The function with this number, where there is one.
+    /// The function with this number, where there is one.
     pub fn procedure(&self, function: u32) -> Option<&'a Procedure>
         ensures { option_map (λ p. p.now) result ≡ slice_get (self.now).procedures.now function }
     {
@@ -51,7 +53,7 @@ impl<'a> Program<'a> {
         }
     }
 
-    // How many times the test of a loop of a function may be evaluated at an arrival.
+    /// How many times the test of a loop of a function may be evaluated at an arrival.
     pub fn tests(&self, function: u32, number: u32) -> u32
         ensures { result ≡ tests (bounded_by self.now) function number }
     {
@@ -59,7 +61,7 @@ impl<'a> Program<'a> {
         tests_in(self.bounds.set(), self.bounds.unwind(), name, number)
     }
 
-    // How many rounds it has then.
+    /// How many rounds it has then.
     pub fn round_count(&self, rotated: bool, function: u32, number: u32) -> u32
         ensures { result ≡ round_count rotated (tests (bounded_by self.now) function number) }
     {
@@ -71,7 +73,7 @@ impl<'a> Program<'a> {
         }
     }
 
-    // What is next where a bound is passed.
+    /// What is next where a bound is passed.
     pub fn passed(&self, class: Class, line: u32, function: u32) -> Next
         ensures { result ≡ (if (self.now).bounds.now.assertions then Next.Broken class line function else Next.Blocked) }
     {

@@ -1,3 +1,5 @@
+//! A run of flat code.
+
 ghost use Rattle.std.specs.Prelude.{◌≡◌, ◌==◌, ◌+◌, ◌<◌, ◌≤◌, ◌^◌, true, length, slice_index_or, slice_get, IfOk, OnOk, OnErr};
 ghost use Rattle.c_types.specs.Integers.{width};
 ghost use Rattle.c_values.specs.Variables.{put_bytes};
@@ -7,14 +9,14 @@ ghost use Rattle.goto_prog.specs.Fitting.{code_fits, is_there, check_fits, opera
 ghost use Rattle.goto_prog.specs.Running.{begun, is_calculation};
 
 use crate::code::{Condition, Instruction, Operation};
+use crate::frame::Frame;
 use crate::listing::Code;
-use crate::space::Space;
 use c_types::IntegerType;
 use std::alloc::{AllocError, Global};
 use std::marker::Model;
 use words::Class;
 
-// Code that runs: the place of the next instruction, the registers' words and the blocks' bytes.
+/// Code that runs: the place of the next instruction, the registers' words and the blocks' bytes.
 #[derive(Drop)]
 pub struct Runner<'a> {
     pub(crate) alloc: Global,
@@ -22,7 +24,7 @@ pub struct Runner<'a> {
     pub(crate) code: &'a Code,
     pub(crate) strict: bool,
     pub(crate) place: usize,
-    space: Space<'a>,
+    frame: Frame<'a>,
 }
 
 impl<'a> Model for Runner<'a> {
@@ -32,13 +34,13 @@ impl<'a> Model for Runner<'a> {
 
     ghost Value = { Running };
 
-    ghost view = { λ r. record { functions = r.functions.now; code = r.code.now; strict = r.strict; place = r.place; memory = r.space.memory } };
+    ghost view = { λ r. record { functions = r.functions.now; code = r.code.now; strict = r.strict; place = r.place; memory = r.frame.memory } };
 
-    ghost invariant = { λ r. (code_fits r.code.now.registers r.code.now.blocks r.code.now.instructions ≡ true) × (r.space.types ≡ r.code.now.registers) × (r.space.sizes ≡ r.code.now.blocks) };
+    ghost invariant = { λ r. (code_fits r.code.now.registers r.code.now.blocks r.code.now.instructions ≡ true) × (r.frame.types ≡ r.code.now.registers) × (r.frame.sizes ≡ r.code.now.blocks) };
 }
 
 impl<'a> Runner<'a> {
-    // At the start of code.
+    /// At the start of code.
     pub fn new(
         alloc: Global,
         functions: &'a [Code],
@@ -47,7 +49,7 @@ impl<'a> Runner<'a> {
     ) -> Result<Runner<'a>, AllocError>
         ensures { IfOk result (λ r. r ≡ begun functions.now code.now strict) }
     {
-        let space = Space::new(alloc, code.registers(), code.blocks())?;
+        let frame = Frame::new(alloc, code.registers(), code.blocks())?;
         let _fits = code.instructions();
         Ok(Runner {
             alloc,
@@ -55,71 +57,71 @@ impl<'a> Runner<'a> {
             code,
             strict,
             place: 0,
-            space,
+            frame,
         })
     }
 
-    // Whether the word of a register is 0.
+    /// Whether the word of a register is 0.
     pub fn is_zero(&self, from: usize) -> bool
         requires { is_there self.now.code.registers from ≡ true }
         ensures { result ≡ (register self.now.memory from == 0) }
     {
-        self.space.is_zero(from)
+        self.frame.is_zero(from)
     }
 
-    // A copy of so many bytes of a block, from an offset on.
+    /// A copy of so many bytes of a block, from an offset on.
     pub(crate) fn part(&self, block: usize, offset: u32, count: u32) -> Result<Vec<u8>, AllocError>
         requires { is_within self.now.code.blocks block offset count ≡ true }
         ensures { IfOk result (λ part. part.items ≡ bytes_of self.now.memory.blocks block offset count) }
     {
-        self.space.part(block, offset, count)
+        self.frame.part(block, offset, count)
     }
 
-    // Writes bytes into a block, from an offset on.
+    /// Writes bytes into a block, from an offset on.
     pub(crate) fn put_bytes(&mut self, block: usize, at: u32, new: &[u8])
         requires { is_within self.old.code.blocks block at (length new.now) ≡ true }
         ensures { self.new ≡ record self.old { memory = with_blocks self.old.memory (put_bytes self.old.memory.blocks block at new.now) } }
     {
-        self.space.put_bytes(block, at, new);
+        self.frame.put_bytes(block, at, new);
     }
 
-    // Sets a register to these bits.
+    /// Sets a register to these bits.
     pub(crate) fn put(&mut self, into: usize, bits: u64)
         requires into { is_there self.old.code.registers into ≡ true }
         requires bits { bits < 2 ^ width (slice_index_or self.old.code.registers into IntegerType.Int) }
         ensures { self.new ≡ record self.old { memory = with_register self.old.memory into bits } }
     {
-        self.space.put(into, bits);
+        self.frame.put(into, bits);
     }
 
-    // Sets the register or the block that an operation sets.
+    /// Sets the register or the block that an operation sets.
     pub fn calculate(&mut self, operation: Operation) -> Result<(), AllocError>
         requires calculation { is_calculation operation ≡ true }
         requires fits { operation_fits self.old.code.registers self.old.code.blocks 0 operation ≡ true }
         ensures ok { OnOk result (self.new ≡ record self.old { memory = calculated operation self.old.memory }) }
         ensures err { OnErr result (self.new ≡ self.old) }
     {
-        self.space.calculate(operation)?;
+        self.frame.calculate(operation)?;
         Ok(())
     }
 
-    // The check that an operation of strict code breaks by itself.
+    /// The check that an operation of strict code breaks by itself.
     pub fn own_class(&self, operation: Operation) -> Option<Class>
         requires fits { operation_fits self.now.code.registers self.now.code.blocks 0 operation ≡ true }
         ensures { result ≡ own_class operation self.now.memory }
     {
-        self.space.own_class(operation)
+        self.frame.own_class(operation)
     }
 
-    // The class that a check breaks, if it breaks one.
+    /// The class that a check breaks, if it breaks one.
     pub fn condition_class(&self, condition: Condition) -> Option<Class>
         requires { check_fits self.now.code.registers condition ≡ true }
         ensures { result ≡ check_class condition self.now.memory }
     {
-        self.space.condition_class(condition)
+        self.frame.condition_class(condition)
     }
 
-    // The instruction at the place, if there is one.
+    /// The instruction at the place, if there is one.
     pub(crate) fn instruction(&self) -> Option<Instruction>
         ensures found { result ≡ slice_get self.now.code.instructions self.now.place }
         ensures fits { code_fits self.now.code.registers self.now.code.blocks self.now.code.instructions ≡ true }
@@ -127,7 +129,7 @@ impl<'a> Runner<'a> {
         self.code.instructions().get(self.place).copied()
     }
 
-    // Goes to the place behind `count` others.
+    /// Goes to the place behind `count` others.
     pub(crate) fn pass(&mut self, count: usize)
         requires { self.old.place + 1 + count ≤ length self.old.code.instructions }
         ensures { self.new ≡ record self.old { place = self.old.place + 1 + count } }
@@ -136,7 +138,7 @@ impl<'a> Runner<'a> {
         self.place = self.place + 1 + count;
     }
 
-    // Goes behind the last place.
+    /// Goes behind the last place.
     pub(crate) fn end(&mut self)
         ensures { self.new ≡ record self.old { place = length self.old.code.instructions } }
     {

@@ -1,3 +1,5 @@
+//! What an instruction does: what is checked, asked, calculated, and where it leads.
+
 ghost use Rattle.std.specs.Prelude.{◌≡◌, true, false, IfOk, OnErr, slice_get, Some, None, if◌then◌else◌};
 ghost use Rattle.goto_prog.specs.Meaning.{own_class};
 ghost use Rattle.goto_prog.specs.Fitting.{code_fits};
@@ -120,7 +122,7 @@ impl<'a> Runner<'a> {
         None
     }
 
-    // One step: it goes on, or this is next.
+    /// One step: it goes on, or this is next.
     pub fn step(&mut self) -> Result<Option<Next>, AllocError>
         ensures steps { IfOk result (Steps self.old self.new) }
         ensures err { OnErr result (self.new ≡ self.old) }
@@ -160,63 +162,18 @@ impl<'a> Runner<'a> {
                 count,
             } => { Ok(Some(self.write_object(i, (object, offset), (block, at), count)?)) }
             Operation::Exit => Ok(Some(self.exit(i))),
-            Operation::Constant { into: _, bits: _ } => self.calculation(i),
-            Operation::Copy {
-                into: _,
-                operand: _,
-            } => self.calculation(i),
-            Operation::Load {
-                into: _,
-                type_: _,
-                block: _,
-                offset: _,
-            } => self.calculation(i),
-            Operation::Store {
-                block: _,
-                offset: _,
-                count: _,
-                operand: _,
-            } => self.calculation(i),
-            Operation::Clear { block: _, size: _ } => self.calculation(i),
-            Operation::CopyBytes {
-                into: _,
-                at: _,
-                from: _,
-                offset: _,
-                count: _,
-            } => self.calculation(i),
-            Operation::Convert {
-                into: _,
-                from: _,
-                to: _,
-                operand: _,
-            } => self.calculation(i),
-            Operation::Sign {
-                into: _,
-                operator: _,
-                type_: _,
-                operand: _,
-            } => self.calculation(i),
-            Operation::Arithmetic {
-                into: _,
-                operator: _,
-                type_: _,
-                right_type: _,
-                left: _,
-                right: _,
-            } => { self.calculation(i) }
-            Operation::Compare {
-                into: _,
-                operator: _,
-                type_: _,
-                left: _,
-                right: _,
-            } => { self.calculation(i) }
-            Operation::IsZero {
-                into: _,
-                operand: _,
-            } => self.calculation(i),
-            Operation::Use { returned: _ } => self.calculation(i),
+            Operation::Constant { .. } => self.calculation(i),
+            Operation::Copy { .. } => self.calculation(i),
+            Operation::Load { .. } => self.calculation(i),
+            Operation::Store { .. } => self.calculation(i),
+            Operation::Clear { .. } => self.calculation(i),
+            Operation::CopyBytes { .. } => self.calculation(i),
+            Operation::Convert { .. } => self.calculation(i),
+            Operation::Sign { .. } => self.calculation(i),
+            Operation::Arithmetic { .. } => { self.calculation(i) }
+            Operation::Compare { .. } => { self.calculation(i) }
+            Operation::IsZero { .. } => self.calculation(i),
+            Operation::Use { .. } => self.calculation(i),
             Operation::Fail { class } => Ok(Some(self.fail(i, class))),
             Operation::Call {
                 callee,

@@ -1,3 +1,5 @@
+//! The threads that a program starts.
+
 ghost use Rattle.std.specs.Prelude.{◌≡◌, ℕ, true, [], IfOk, OnOk, OnErr, slice_get, Some};
 ghost use Rattle.actions.specs.Behaviour.{accepts, answered, started};
 ghost use Rattle.goto_prog.specs.Meaning.{word_of, bytes_in};
@@ -13,7 +15,7 @@ use actions::{Answer, Next};
 use std::alloc::AllocError;
 
 impl<'a> Runner<'a> {
-    // Goes on to what is next.
+    /// Goes on to what is next.
     pub fn settle(&mut self) -> Result<Next, AllocError>
         ensures same { thread_of self.new ≡ thread_of self.old }
         ensures next { IfOk result (λ next. next ≡ (thread_of self.old).behaves []) }
@@ -26,7 +28,7 @@ impl<'a> Runner<'a> {
         }
     }
 
-    // Takes the answer to the action that is next.
+    /// Takes the answer to the action that is next.
     pub fn take(&mut self, answer: &Answer) -> Result<(), AllocError>
         requires { accepts ((thread_of self.old).behaves []) answer.now ≡ true }
         ensures ok { OnOk result (thread_of self.new ≡ answered (thread_of self.old) answer.now) }
@@ -130,7 +132,7 @@ impl<'a> Runner<'a> {
         self.end();
     }
 
-    // A thread of the same program that starts in a function.
+    /// A thread of the same program that starts in a function.
     pub fn started(&self, function: u32) -> Result<Runner<'a>, AllocError>
         requires { is_startable (slice_get self.now.functions function) ≡ true }
         ensures { IfOk result (λ r. (v : ℕ) → thread_of r ≡ started (thread_of self.now) function v) }

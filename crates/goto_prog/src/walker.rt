@@ -1,3 +1,5 @@
+//! A run of code with loops and calls.
+
 ghost use Rattle.std.specs.Prelude.{◌≡◌, ◌<◌, ◌-◌, ◌∷◌, ℕ, replicate, [], if◌then◌else◌, true, length, IfOk, OnOk, OnErr, Some, None, slice_get, slice_index, slice_set, option_map};
 ghost use Rattle.actions.specs.Behaviour.{accepts, answered, started};
 ghost use Rattle.goto_prog.specs.Meaning.{arguments_of, received};
@@ -21,7 +23,7 @@ use std::marker::Model;
 use std::mem::replace;
 use words::{Class, Word};
 
-// Whether a thread runs, is about to leave its first function with a value, or has left it.
+/// Whether a thread runs, is about to leave its first function with a value, or has left it.
 #[derive(Clone, Copy)]
 pub enum Status {
     Running,
@@ -55,9 +57,9 @@ impl<'a> Model for Waiting<'a> {
     ghost invariant = { λ w. specs.is_waiting (record { activation = w.activation; function = w.function; count = w.count; into = w.into; returned = w.returned }) ≡ true };
 }
 
-// A thread that walks through code of functions: how many activations of each function may still be opened,
-// the activation that runs, and those that wait, the innermost last; and the function that it called first,
-// with the line of its name.
+/// A thread that walks through code of functions: how many activations of each function may still be opened,
+/// the activation that runs, and those that wait, the innermost last; and the function that it called first,
+/// with the line of its name.
 #[derive(Drop)]
 pub struct Walker<'a> {
     alloc: Global,
@@ -289,7 +291,7 @@ impl<'a> Walker<'a> {
         }
     }
 
-    // Goes on to what is next.
+    /// Goes on to what is next.
     pub fn settle(&mut self) -> Result<Next, AllocError>
         ensures same { thread_of self.new ≡ thread_of self.old }
         ensures next { IfOk result (λ next. next ≡ walks self.old []) }
@@ -342,7 +344,7 @@ impl<'a> Walker<'a> {
         })
     }
 
-    // A thread that calls the function with this number; thread 0 is the first.
+    /// A thread that calls the function with this number; thread 0 is the first.
     pub fn new(
         alloc: Global,
         program: Program<'a>,
@@ -360,7 +362,7 @@ impl<'a> Walker<'a> {
         }
     }
 
-    // A thread of the same program that starts in a function.
+    /// A thread of the same program that starts in a function.
     pub fn started(&self, function: u32) -> Result<Walker<'a>, AllocError>
         requires { can_start (slice_get (view_procedures self.now.functions) function) ≡ true }
         ensures { IfOk result (λ w. (v : ℕ) → thread_of w ≡ started (thread_of self.now) function v) }
@@ -368,7 +370,7 @@ impl<'a> Walker<'a> {
         Walker::new(self.alloc, self.program, false, function)
     }
 
-    // Takes the answer to the action that is next.
+    /// Takes the answer to the action that is next.
     pub fn take(&mut self, answer: &Answer) -> Result<(), AllocError>
         requires { accepts (walks self.old []) answer.now ≡ true }
         ensures ok { OnOk result (thread_of self.new ≡ answered (thread_of self.old) answer.now) }

@@ -7,7 +7,7 @@ use Rattle.core_tree.specs.Ranges.{Limits}
 use Rattle.core_tree.specs.Trees.{Statement, Procedure}
 use Rattle.goto_prog.specs.Structured.{tests_in, opened}
 use Rattle.goto_prog.specs.Walks.{total}
-use Rattle.goto_unwind.specs.declared.tally.Called.{Called}
+use Rattle.goto_unwind.specs.declared.linear_count.Called.{Called}
 use Rattle.goto_unwind.specs.Places.{name_of, tests, body_places, body_of, call_places, main_number, places}
 use Rattle.goto_unwind.specs.Linear.{cut, Linear, nothing, body_linear, function_linear, calls_value, value, or_nothing, linear_of, linear_places, added}
 use Rattle.goto_unwind.proofs.TreeSums.{statement_adds, cut_front, cut_both, cut_factor}

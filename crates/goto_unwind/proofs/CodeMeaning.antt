@@ -25,7 +25,7 @@ use Rattle.goto_prog.specs.Meaning as flat_meaning
 use Rattle.goto_prog.specs.Threads.{Calls, acting, behaving, final, ask}
 use Rattle.goto_prog.specs.Nodes.{Nodes, done, plain, repeats, node_count, nodes_fit, Routine}
 use Rattle.goto_prog.specs.Structured.{Bounded, tests, round_count, rounds, passed, nodes_before}
-use Rattle.goto_unwind.specs.Unrolled.{Space, Site, Piece, at, jump, moved, passed_code, hand_code, Inline, round_codes, instruction_code, nodes_code}
+use Rattle.goto_unwind.specs.Unrolled.{Space, Site, Piece, at, jump, renumbered, passed_code, hand_code, Inline, round_codes, instruction_code, nodes_code}
 use Rattle.goto_unwind.proofs.Frames.{left_of, right_of, test_less, test_most, Shows, Elsewhere, sets_register, puts, calculates, checks_same, on, begin, from_end, InFront, from_end_front, from_end_begin, front_length, then_front, Below, Good, Grows, good_before, good_does}
 use Rattle.goto_unwind.proofs.Growth.{Extends, then_space, register_room, block_room, Within, within_less, Grown, InlineGrows, operation_grows, rounds_grow, nodes_grow}
 
@@ -158,7 +158,7 @@ module _ (all : List ℕ) (site : Site) (Holds : Memory → Type 0) (kept : (m m
       jumped n m sm fits good = let most = test_most n behind fits in jumps code s ws ps n m sm leads (omega (arith, most, count_is)) good
 
       calc : (op : Operation) → operation_fits types sizes behind op ≡ true → (m sm : Memory) → G s m sm
-          → begin code (calculated (moved site.register site.block op) m) ≡ flat_meaning.at o ps 0 (calculated op sm)
+          → begin code (calculated (renumbered site.register site.block op) m) ≡ flat_meaning.at o ps 0 (calculated op sm)
       calc op fits m sm good = go _ _ (does s m _ sm _ good (calculates types sizes site.register site.block behind op fits m sm good.shows))
 
       operand_same : (a : ℕ) → nat_lt a (length types) ≡ true → (m sm : Memory) → G s m sm → register m (site.register + a) ≡ register sm a

@@ -21,7 +21,7 @@ use Rattle.goto_prog.specs.Fitting.{is_there, is_register, is_wide, is_ranged, c
 use Rattle.goto_prog.specs.Nodes.{Nodes, done, plain, repeats, node_count, nodes_fit, Routine, routine_fits, routines_fit}
 use Rattle.goto_prog.specs.Structured.{Bounded, tests, round_count, opened, first_left, first_fuel}
 use Rattle.goto_prog.specs.UnrolledCode.{is_flat}
-use Rattle.goto_unwind.specs.Unrolled.{Space, Handing, Site, Piece, Inline, piece, at, jump, moved_check, moved, passed_code, hand_code, argument_code, round_codes, instruction_code, nodes_code, body_code, first_space, with_frame, inlined, inline_at}
+use Rattle.goto_unwind.specs.Unrolled.{Space, Handing, Site, Piece, Inline, piece, at, jump, renumbered_check, renumbered, passed_code, hand_code, argument_code, round_codes, instruction_code, nodes_code, body_code, first_space, with_frame, inlined, inline_at}
 use Rattle.goto_unwind.specs.Program.{first_site, first_piece}
 
 -- ---- tests
@@ -103,7 +103,7 @@ module _ (r0 b0 : ℕ) (rs : List IntegerType) (bs : List ℕ) (t : Space) (lies
   within : (v offset count : ℕ) → is_within bs v offset count ≡ true → is_within t.blocks (b0 + v) offset count ≡ true
   within v offset count h = sized (λ n. nat_le (offset + count) n) v h
 
-  check_moved : (c : Condition) → check_fits rs c ≡ true → check_fits t.registers (moved_check r0 c) ≡ true
+  check_moved : (c : Condition) → check_fits rs c ≡ true → check_fits t.registers (renumbered_check r0 c) ≡ true
   check_moved (checks.Divisor b) h = there b h
   check_moved (checks.Quotient u a b) h = both_true (both_true (left_of _ _ (left_of _ _ h)) (register u a (right_of _ _ (left_of _ _ h)))) (wide u b (right_of _ _ h))
   check_moved (checks.Range op u a b) h = four (is_signed u) (is_ranged op) (is_register rs a u) (is_wide rs b u) (is_register t.registers (r0 + a) u) (is_wide t.registers (r0 + b) u) (register u a) (wide u b) h
@@ -118,32 +118,32 @@ module _ (r0 b0 : ℕ) (rs : List IntegerType) (bs : List ℕ) (t : Space) (lies
       both_true (there a one) (subst (λ u. is_register t.registers (r0 + r) u ≡ true) (same_type a one) (register (type_at rs a) r (right_of (is_there rs a) (is_register rs r (type_at rs a)) h)))
 
   -- an operation but a jump, a call and a return
-  moved_fits : (o : Operation) (n k : ℕ) → operation_fits rs bs n o ≡ true → (plain_is : is_plain o ≡ true) → operation_fits t.registers t.blocks k (moved r0 b0 o) ≡ true
-  moved_fits (operations.Constant r x) n k h p = typed (λ u. nat_lt x (2 ^ width u)) r h
-  moved_fits (operations.Copy r a) n k h p = copied r a h
-  moved_fits (operations.Load r u v offset) n k h p = both_true (register u r (left_of _ _ h)) (within v offset (bytes u) (right_of _ _ h))
-  moved_fits (operations.Store v offset count a) n k h p = both_true (typed_by (nat_le 1 count) (λ u. nat_le (8 * count) (width u)) a (left_of _ _ h)) (within v offset count (right_of _ _ h))
-  moved_fits (operations.Clear v size) n k h p = sized (λ x. size == x) v h
-  moved_fits (operations.CopyBytes into to from offset count) n k h p = both_true (within into to count (left_of _ _ h)) (within from offset count (right_of _ _ h))
-  moved_fits (operations.Convert r from to a) n k h p = both_true (register to r (left_of _ _ h)) (register from a (right_of _ _ h))
-  moved_fits (operations.Sign r op u a) n k h p = both_true (register u r (left_of _ _ h)) (register u a (right_of _ _ h))
-  moved_fits (operations.Arithmetic r op u c a b) n k h p =
+  renumbered_fits : (o : Operation) (n k : ℕ) → operation_fits rs bs n o ≡ true → (plain_is : is_plain o ≡ true) → operation_fits t.registers t.blocks k (renumbered r0 b0 o) ≡ true
+  renumbered_fits (operations.Constant r x) n k h p = typed (λ u. nat_lt x (2 ^ width u)) r h
+  renumbered_fits (operations.Copy r a) n k h p = copied r a h
+  renumbered_fits (operations.Load r u v offset) n k h p = both_true (register u r (left_of _ _ h)) (within v offset (bytes u) (right_of _ _ h))
+  renumbered_fits (operations.Store v offset count a) n k h p = both_true (typed_by (nat_le 1 count) (λ u. nat_le (8 * count) (width u)) a (left_of _ _ h)) (within v offset count (right_of _ _ h))
+  renumbered_fits (operations.Clear v size) n k h p = sized (λ x. size == x) v h
+  renumbered_fits (operations.CopyBytes into to from offset count) n k h p = both_true (within into to count (left_of _ _ h)) (within from offset count (right_of _ _ h))
+  renumbered_fits (operations.Convert r from to a) n k h p = both_true (register to r (left_of _ _ h)) (register from a (right_of _ _ h))
+  renumbered_fits (operations.Sign r op u a) n k h p = both_true (register u r (left_of _ _ h)) (register u a (right_of _ _ h))
+  renumbered_fits (operations.Arithmetic r op u c a b) n k h p =
       both_true (both_true (both_true (left_of _ _ (left_of _ _ (left_of _ _ h))) (register u r (right_of _ _ (left_of _ _ (left_of _ _ h))))) (register u a (right_of _ _ (left_of _ _ h)))) (register c b (right_of _ _ h))
-  moved_fits (operations.Compare r op u a b) n k h p = both_true (both_true (register types.Int r (left_of _ _ (left_of _ _ h))) (register u a (right_of _ _ (left_of _ _ h)))) (register u b (right_of _ _ h))
-  moved_fits (operations.IsZero r a) n k h p = both_true (register types.Int r (left_of _ _ h)) (there a (right_of _ _ h))
-  moved_fits (operations.Skip m) n k h p = absurd (false≢true p)
-  moved_fits (operations.SkipIfZero a m) n k h p = absurd (false≢true p)
-  moved_fits (operations.Check c) n k h p = check_moved c h
-  moved_fits (operations.Assert a) n k h p = there a h
-  moved_fits (operations.Assume a) n k h p = there a h
-  moved_fits (operations.Draw r x) n k h p = typed_by (nat_le 1 x) (λ u. nat_le x (width u)) r h
-  moved_fits (operations.ReadObject v to j offset count) n k h p = within v to count h
-  moved_fits (operations.WriteObject j offset v from count) n k h p = within v from count h
-  moved_fits operations.Exit n k h p = refl
-  moved_fits (operations.Fail class) n k h p = refl
-  moved_fits (operations.Use a) n k h p = there a h
-  moved_fits (operations.Call g first count into r) n k h p = absurd (false≢true p)
-  moved_fits (operations.Return v) n k h p = absurd (false≢true p)
+  renumbered_fits (operations.Compare r op u a b) n k h p = both_true (both_true (register types.Int r (left_of _ _ (left_of _ _ h))) (register u a (right_of _ _ (left_of _ _ h)))) (register u b (right_of _ _ h))
+  renumbered_fits (operations.IsZero r a) n k h p = both_true (register types.Int r (left_of _ _ h)) (there a (right_of _ _ h))
+  renumbered_fits (operations.Skip m) n k h p = absurd (false≢true p)
+  renumbered_fits (operations.SkipIfZero a m) n k h p = absurd (false≢true p)
+  renumbered_fits (operations.Check c) n k h p = check_moved c h
+  renumbered_fits (operations.Assert a) n k h p = there a h
+  renumbered_fits (operations.Assume a) n k h p = there a h
+  renumbered_fits (operations.Draw r x) n k h p = typed_by (nat_le 1 x) (λ u. nat_le x (width u)) r h
+  renumbered_fits (operations.ReadObject v to j offset count) n k h p = within v to count h
+  renumbered_fits (operations.WriteObject j offset v from count) n k h p = within v from count h
+  renumbered_fits operations.Exit n k h p = refl
+  renumbered_fits (operations.Fail class) n k h p = refl
+  renumbered_fits (operations.Use a) n k h p = there a h
+  renumbered_fits (operations.Call g first count into r) n k h p = absurd (false≢true p)
+  renumbered_fits (operations.Return v) n k h p = absurd (false≢true p)
 
 -- ---- spaces that grow
 
@@ -390,26 +390,26 @@ module _ (b : Bounded) (t : Space) (zero_there : 0 < length t.registers) where
   module _ (inline : Inline) (fine : Fine inline) (site : Site) where
     instruction_good : Sited site → (line f : ℕ) (o : Operation) (n : ℕ) → operation_fits site.routine.registers site.routine.blocks n o ≡ true → (marks : List ℕ) (rest : List Instruction) (space : Space)
         → Within (instruction_code b inline site (at line f o) marks rest space).space t → Good rest → Good (instruction_code b inline site (at line f o) marks rest space).code
-    instruction_good sited line f (operations.Constant into bits) n h marks rest space inside good = more (at line f (moved site.register site.block (operations.Constant into bits))) rest (moved_fits site.register site.block site.routine.registers site.routine.blocks t sited.lies (operations.Constant into bits) n (length rest) h refl) refl good
-    instruction_good sited line f (operations.Copy into a) n h marks rest space inside good = more (at line f (moved site.register site.block (operations.Copy into a))) rest (moved_fits site.register site.block site.routine.registers site.routine.blocks t sited.lies (operations.Copy into a) n (length rest) h refl) refl good
-    instruction_good sited line f (operations.Load into u block offset) n h marks rest space inside good = more (at line f (moved site.register site.block (operations.Load into u block offset))) rest (moved_fits site.register site.block site.routine.registers site.routine.blocks t sited.lies (operations.Load into u block offset) n (length rest) h refl) refl good
-    instruction_good sited line f (operations.Store block offset count a) n h marks rest space inside good = more (at line f (moved site.register site.block (operations.Store block offset count a))) rest (moved_fits site.register site.block site.routine.registers site.routine.blocks t sited.lies (operations.Store block offset count a) n (length rest) h refl) refl good
-    instruction_good sited line f (operations.Clear block size) n h marks rest space inside good = more (at line f (moved site.register site.block (operations.Clear block size))) rest (moved_fits site.register site.block site.routine.registers site.routine.blocks t sited.lies (operations.Clear block size) n (length rest) h refl) refl good
-    instruction_good sited line f (operations.CopyBytes into to from offset count) n h marks rest space inside good = more (at line f (moved site.register site.block (operations.CopyBytes into to from offset count))) rest (moved_fits site.register site.block site.routine.registers site.routine.blocks t sited.lies (operations.CopyBytes into to from offset count) n (length rest) h refl) refl good
-    instruction_good sited line f (operations.Convert into from to a) n h marks rest space inside good = more (at line f (moved site.register site.block (operations.Convert into from to a))) rest (moved_fits site.register site.block site.routine.registers site.routine.blocks t sited.lies (operations.Convert into from to a) n (length rest) h refl) refl good
-    instruction_good sited line f (operations.Sign into op u a) n h marks rest space inside good = more (at line f (moved site.register site.block (operations.Sign into op u a))) rest (moved_fits site.register site.block site.routine.registers site.routine.blocks t sited.lies (operations.Sign into op u a) n (length rest) h refl) refl good
-    instruction_good sited line f (operations.Arithmetic into op u c x y) n h marks rest space inside good = more (at line f (moved site.register site.block (operations.Arithmetic into op u c x y))) rest (moved_fits site.register site.block site.routine.registers site.routine.blocks t sited.lies (operations.Arithmetic into op u c x y) n (length rest) h refl) refl good
-    instruction_good sited line f (operations.Compare into op u x y) n h marks rest space inside good = more (at line f (moved site.register site.block (operations.Compare into op u x y))) rest (moved_fits site.register site.block site.routine.registers site.routine.blocks t sited.lies (operations.Compare into op u x y) n (length rest) h refl) refl good
-    instruction_good sited line f (operations.IsZero into a) n h marks rest space inside good = more (at line f (moved site.register site.block (operations.IsZero into a))) rest (moved_fits site.register site.block site.routine.registers site.routine.blocks t sited.lies (operations.IsZero into a) n (length rest) h refl) refl good
-    instruction_good sited line f (operations.Check c) n h marks rest space inside good = more (at line f (moved site.register site.block (operations.Check c))) rest (moved_fits site.register site.block site.routine.registers site.routine.blocks t sited.lies (operations.Check c) n (length rest) h refl) refl good
-    instruction_good sited line f (operations.Assert a) n h marks rest space inside good = more (at line f (moved site.register site.block (operations.Assert a))) rest (moved_fits site.register site.block site.routine.registers site.routine.blocks t sited.lies (operations.Assert a) n (length rest) h refl) refl good
-    instruction_good sited line f (operations.Assume a) n h marks rest space inside good = more (at line f (moved site.register site.block (operations.Assume a))) rest (moved_fits site.register site.block site.routine.registers site.routine.blocks t sited.lies (operations.Assume a) n (length rest) h refl) refl good
-    instruction_good sited line f (operations.Draw into bits) n h marks rest space inside good = more (at line f (moved site.register site.block (operations.Draw into bits))) rest (moved_fits site.register site.block site.routine.registers site.routine.blocks t sited.lies (operations.Draw into bits) n (length rest) h refl) refl good
-    instruction_good sited line f (operations.ReadObject block to k offset count) n h marks rest space inside good = more (at line f (moved site.register site.block (operations.ReadObject block to k offset count))) rest (moved_fits site.register site.block site.routine.registers site.routine.blocks t sited.lies (operations.ReadObject block to k offset count) n (length rest) h refl) refl good
-    instruction_good sited line f (operations.WriteObject k offset block from count) n h marks rest space inside good = more (at line f (moved site.register site.block (operations.WriteObject k offset block from count))) rest (moved_fits site.register site.block site.routine.registers site.routine.blocks t sited.lies (operations.WriteObject k offset block from count) n (length rest) h refl) refl good
-    instruction_good sited line f operations.Exit n h marks rest space inside good = more (at line f (moved site.register site.block operations.Exit)) rest (moved_fits site.register site.block site.routine.registers site.routine.blocks t sited.lies operations.Exit n (length rest) h refl) refl good
-    instruction_good sited line f (operations.Fail class) n h marks rest space inside good = more (at line f (moved site.register site.block (operations.Fail class))) rest (moved_fits site.register site.block site.routine.registers site.routine.blocks t sited.lies (operations.Fail class) n (length rest) h refl) refl good
-    instruction_good sited line f (operations.Use a) n h marks rest space inside good = more (at line f (moved site.register site.block (operations.Use a))) rest (moved_fits site.register site.block site.routine.registers site.routine.blocks t sited.lies (operations.Use a) n (length rest) h refl) refl good
+    instruction_good sited line f (operations.Constant into bits) n h marks rest space inside good = more (at line f (renumbered site.register site.block (operations.Constant into bits))) rest (renumbered_fits site.register site.block site.routine.registers site.routine.blocks t sited.lies (operations.Constant into bits) n (length rest) h refl) refl good
+    instruction_good sited line f (operations.Copy into a) n h marks rest space inside good = more (at line f (renumbered site.register site.block (operations.Copy into a))) rest (renumbered_fits site.register site.block site.routine.registers site.routine.blocks t sited.lies (operations.Copy into a) n (length rest) h refl) refl good
+    instruction_good sited line f (operations.Load into u block offset) n h marks rest space inside good = more (at line f (renumbered site.register site.block (operations.Load into u block offset))) rest (renumbered_fits site.register site.block site.routine.registers site.routine.blocks t sited.lies (operations.Load into u block offset) n (length rest) h refl) refl good
+    instruction_good sited line f (operations.Store block offset count a) n h marks rest space inside good = more (at line f (renumbered site.register site.block (operations.Store block offset count a))) rest (renumbered_fits site.register site.block site.routine.registers site.routine.blocks t sited.lies (operations.Store block offset count a) n (length rest) h refl) refl good
+    instruction_good sited line f (operations.Clear block size) n h marks rest space inside good = more (at line f (renumbered site.register site.block (operations.Clear block size))) rest (renumbered_fits site.register site.block site.routine.registers site.routine.blocks t sited.lies (operations.Clear block size) n (length rest) h refl) refl good
+    instruction_good sited line f (operations.CopyBytes into to from offset count) n h marks rest space inside good = more (at line f (renumbered site.register site.block (operations.CopyBytes into to from offset count))) rest (renumbered_fits site.register site.block site.routine.registers site.routine.blocks t sited.lies (operations.CopyBytes into to from offset count) n (length rest) h refl) refl good
+    instruction_good sited line f (operations.Convert into from to a) n h marks rest space inside good = more (at line f (renumbered site.register site.block (operations.Convert into from to a))) rest (renumbered_fits site.register site.block site.routine.registers site.routine.blocks t sited.lies (operations.Convert into from to a) n (length rest) h refl) refl good
+    instruction_good sited line f (operations.Sign into op u a) n h marks rest space inside good = more (at line f (renumbered site.register site.block (operations.Sign into op u a))) rest (renumbered_fits site.register site.block site.routine.registers site.routine.blocks t sited.lies (operations.Sign into op u a) n (length rest) h refl) refl good
+    instruction_good sited line f (operations.Arithmetic into op u c x y) n h marks rest space inside good = more (at line f (renumbered site.register site.block (operations.Arithmetic into op u c x y))) rest (renumbered_fits site.register site.block site.routine.registers site.routine.blocks t sited.lies (operations.Arithmetic into op u c x y) n (length rest) h refl) refl good
+    instruction_good sited line f (operations.Compare into op u x y) n h marks rest space inside good = more (at line f (renumbered site.register site.block (operations.Compare into op u x y))) rest (renumbered_fits site.register site.block site.routine.registers site.routine.blocks t sited.lies (operations.Compare into op u x y) n (length rest) h refl) refl good
+    instruction_good sited line f (operations.IsZero into a) n h marks rest space inside good = more (at line f (renumbered site.register site.block (operations.IsZero into a))) rest (renumbered_fits site.register site.block site.routine.registers site.routine.blocks t sited.lies (operations.IsZero into a) n (length rest) h refl) refl good
+    instruction_good sited line f (operations.Check c) n h marks rest space inside good = more (at line f (renumbered site.register site.block (operations.Check c))) rest (renumbered_fits site.register site.block site.routine.registers site.routine.blocks t sited.lies (operations.Check c) n (length rest) h refl) refl good
+    instruction_good sited line f (operations.Assert a) n h marks rest space inside good = more (at line f (renumbered site.register site.block (operations.Assert a))) rest (renumbered_fits site.register site.block site.routine.registers site.routine.blocks t sited.lies (operations.Assert a) n (length rest) h refl) refl good
+    instruction_good sited line f (operations.Assume a) n h marks rest space inside good = more (at line f (renumbered site.register site.block (operations.Assume a))) rest (renumbered_fits site.register site.block site.routine.registers site.routine.blocks t sited.lies (operations.Assume a) n (length rest) h refl) refl good
+    instruction_good sited line f (operations.Draw into bits) n h marks rest space inside good = more (at line f (renumbered site.register site.block (operations.Draw into bits))) rest (renumbered_fits site.register site.block site.routine.registers site.routine.blocks t sited.lies (operations.Draw into bits) n (length rest) h refl) refl good
+    instruction_good sited line f (operations.ReadObject block to k offset count) n h marks rest space inside good = more (at line f (renumbered site.register site.block (operations.ReadObject block to k offset count))) rest (renumbered_fits site.register site.block site.routine.registers site.routine.blocks t sited.lies (operations.ReadObject block to k offset count) n (length rest) h refl) refl good
+    instruction_good sited line f (operations.WriteObject k offset block from count) n h marks rest space inside good = more (at line f (renumbered site.register site.block (operations.WriteObject k offset block from count))) rest (renumbered_fits site.register site.block site.routine.registers site.routine.blocks t sited.lies (operations.WriteObject k offset block from count) n (length rest) h refl) refl good
+    instruction_good sited line f operations.Exit n h marks rest space inside good = more (at line f (renumbered site.register site.block operations.Exit)) rest (renumbered_fits site.register site.block site.routine.registers site.routine.blocks t sited.lies operations.Exit n (length rest) h refl) refl good
+    instruction_good sited line f (operations.Fail class) n h marks rest space inside good = more (at line f (renumbered site.register site.block (operations.Fail class))) rest (renumbered_fits site.register site.block site.routine.registers site.routine.blocks t sited.lies (operations.Fail class) n (length rest) h refl) refl good
+    instruction_good sited line f (operations.Use a) n h marks rest space inside good = more (at line f (renumbered site.register site.block (operations.Use a))) rest (renumbered_fits site.register site.block site.routine.registers site.routine.blocks t sited.lies (operations.Use a) n (length rest) h refl) refl good
     instruction_good sited line f (operations.Skip m) n h marks rest space inside good = more (at line f (operations.Skip (jump rest (slice_index marks m)))) rest (jump_fits rest (slice_index marks m)) refl good
     instruction_good sited line f (operations.SkipIfZero a m) n h marks rest space inside good =
         more (at line f (operations.SkipIfZero (site.register + a) (jump rest (slice_index marks m)))) rest (both_true (there site.register site.block site.routine.registers site.routine.blocks t sited.lies a (left_of _ _ h)) (jump_fits rest (slice_index marks m))) refl good

@@ -22,7 +22,7 @@ use Rattle.goto_prog.specs.Threads.{behaving}
 use Rattle.goto_prog.specs.Meaning.{Memory, Reading, register, with_register, with_blocks, bytes_of, calculated, check_class, return_check, operates}
 use Rattle.goto_prog.specs.Meaning as flat_meaning
 use Rattle.std.specs.Int.{to_le_bytes, w64}
-use Rattle.goto_unwind.specs.Unrolled.{Space, moved, moved_check}
+use Rattle.goto_unwind.specs.Unrolled.{Space, renumbered, renumbered_check}
 
 pub left_of : (a b : Bool) → (a && b) ≡ true → a ≡ true
 left_of true b h = refl
@@ -192,7 +192,7 @@ module _ (types : List IntegerType) (sizes : List ℕ) (r0 b0 : ℕ) where
   operand a rest h = test_less a (length types) (left_of (nat_lt a (length types)) rest h)
 
   abbrev Calculates : Operation → Type 0
-  Calculates o = (m sm : Memory) → Shows m sm → Does m (calculated (moved r0 b0 o) m) (calculated o sm)
+  Calculates o = (m sm : Memory) → Shows m sm → Does m (calculated (renumbered r0 b0 o) m) (calculated o sm)
 
   pub calculates : (behind : ℕ) (o : Operation) → operation_fits types sizes behind o ≡ true → Calculates o
   calculates behind (operations.Constant r bits) fits m sm shows = sets_register r bits m sm (operand r _ fits) shows
@@ -251,7 +251,7 @@ module _ (types : List IntegerType) (sizes : List ℕ) (r0 b0 : ℕ) where
   calculates behind (operations.Return v) fits m sm shows = (shows, nowhere m)
 
   -- a condition is broken there where it is on the activation's own registers
-  pub checks_same : (c : Condition) → check_fits types c ≡ true → (m sm : Memory) → Shows m sm → check_class (moved_check r0 c) m ≡ check_class c sm
+  pub checks_same : (c : Condition) → check_fits types c ≡ true → (m sm : Memory) → Shows m sm → check_class (renumbered_check r0 c) m ≡ check_class c sm
   checks_same (checks.Divisor b) fits m sm shows = λ i. unless (not (shows.registers b (test_less b (length types) fits) i == 0)) classes.Division
   checks_same (checks.Quotient t a b) fits m sm shows =
       let first = shows.registers a (operand a _ (right_of _ _ (left_of _ _ fits))) in

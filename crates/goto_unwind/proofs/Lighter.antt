@@ -10,12 +10,13 @@ use Rattle.goto_prog.specs.Nodes.{Nodes, done, plain, repeats, Routine, nodes_of
 use Rattle.goto_prog.specs.Structured.{Bounded, tests, round_count, opened}
 use Rattle.goto_prog.specs.Walks.{total}
 use Rattle.goto_prog.proofs.WalkerSteps.{set_back, sum_opened}
-use Rattle.goto_unwind.specs.declared.level.Kind.{Kind}
-use Rattle.goto_unwind.specs.declared.level.Kind.TheVariants as kinds
+use Rattle.goto_prog.specs.declared.nodes.Kind.{Kind}
+use Rattle.goto_prog.specs.declared.nodes.Kind.TheVariants as kinds
 use Rattle.goto_unwind.specs.declared.level.Turn.{Turn}
 use Rattle.goto_unwind.specs.declared.level.Turn.TheVariants as turns
 use Rattle.goto_unwind.specs.Unrolled.{at, passed_code}
-use Rattle.goto_unwind.specs.Unroller.{Level, Making, bounded, placed, taken, with_level, own_marks, front_of, opens, calls_by, calls, does, loops, puts, closes, followed, with_kind, nodes_weight, turn_weight, routine_weight, call_weight, calls_weight, left_after, levels_weight, weight}
+use Rattle.goto_prog.specs.Kinds.{with_kind}
+use Rattle.goto_unwind.specs.Unroller.{Level, Making, bounded, placed, taken, with_level, own_marks, front_of, opens, calls_by, calls, does, loops, puts, closes, followed, nodes_weight, turn_weight, routine_weight, call_weight, calls_weight, left_after, levels_weight, weight}
 
 module _ (b : Bounded) (w : ℕ → ℕ) where
   followed_weight : (ns more : Nodes) → nodes_weight b w (followed ns more) ≡ nodes_weight b w ns + nodes_weight b w more

@@ -5,7 +5,7 @@ use Rattle.std.proofs.lemmas.Bool.Decides.{nat_tests}
 use Rattle.std.proofs.Math.Nat.{mul_comm}
 use Rattle.std.proofs.lemmas.Bool.{cases_lt}
 use Rattle.core_tree.specs.Trees.{call, function_name, give, Arguments, no_argument, number_argument, structure_argument, returns_structure, returns_nothing, for_loop, do_loop, switch, breaks, continues, jumps, stray, label, case_at, default_at, Expression, constant, read, convert, sign, is_zero, arithmetic, compare, logical, choice, assign, update, step, comma, assertion, assumption, draw, part, discard, discard_structure, Structure, copy, load, choose, put, store, follow, section, list, string, Parts, no_part, number_part, structure_part, Statement, block, if_then, if_else, evaluate, returns, Items, done, declares, initializes, initializes_structure, does}
-use Rattle.goto_unwind.specs.declared.tally.Called.{Called}
+use Rattle.goto_unwind.specs.declared.linear_count.Called.{Called}
 use Rattle.goto_unwind.specs.Places.{optional, expression_places, structure_places, parts_places, argument_places, statement_places, items_places}
 use Rattle.goto_unwind.specs.Linear.{cut, Linear, counted, called, expression_linear, structure_linear, parts_linear, arguments_linear, optional_linear, statement_linear, items_linear, calls_value, value}
 

@@ -12,12 +12,13 @@ use Rattle.goto_prog.specs.Nodes.{Nodes, done, plain, repeats, Routine, nodes_of
 use Rattle.goto_prog.specs.Structured.{Bounded, tests, round_count, opened}
 use Rattle.goto_prog.specs.Walks.{total}
 use Rattle.goto_prog.proofs.WalkerSteps.{set_back, sum_opened}
-use Rattle.goto_unwind.specs.declared.level.Kind.{Kind}
-use Rattle.goto_unwind.specs.declared.level.Kind.TheVariants as kinds
+use Rattle.goto_prog.specs.declared.nodes.Kind.{Kind}
+use Rattle.goto_prog.specs.declared.nodes.Kind.TheVariants as kinds
 use Rattle.goto_unwind.specs.declared.level.Turn.{Turn}
 use Rattle.goto_unwind.specs.declared.level.Turn.TheVariants as turns
 use Rattle.goto_unwind.specs.Unrolled.{Space, Site, Piece, Inline, piece, at, jump, passed_code, hand_code, round_codes, instruction_code, nodes_code, inlined, inline_at}
-use Rattle.goto_unwind.specs.Unroller.{Level, Making, bounded, placed, taken, with_level, own_marks, front_of, function_level, opens, calls_by, calls, does, loops, puts, closes, followed, with_kind, inline_of, more_rounds, Ended, level_code, turn_ends, finish, outcome}
+use Rattle.goto_prog.specs.Kinds.{with_kind}
+use Rattle.goto_unwind.specs.Unroller.{Level, Making, bounded, placed, taken, with_level, own_marks, front_of, function_level, opens, calls_by, calls, does, loops, puts, closes, followed, inline_of, more_rounds, Ended, level_code, turn_ends, finish, outcome}
 
 -- ---- nodes behind others
 

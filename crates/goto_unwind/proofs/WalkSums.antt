@@ -5,7 +5,7 @@ use Rattle.std.proofs.lemmas.Bool.Decides.{nat_tests}
 use Rattle.std.proofs.lemmas.Option.{none-some}
 use Rattle.goto_prog.specs.Structured.{opened}
 use Rattle.goto_prog.proofs.WalkerSteps.{set_back, sum_opened}
-use Rattle.goto_unwind.specs.declared.tally.Called.{Called}
+use Rattle.goto_unwind.specs.declared.linear_count.Called.{Called}
 use Rattle.goto_unwind.specs.declared.walk.Visit.{Visit}
 use Rattle.goto_unwind.specs.Linear.{cut, Linear, calls_value, value, linear_of, linear_places, added, pending, calls_steps, linear_steps, steps_added, pending_steps, Walking, outcome, steps_left, opens, arrives, starting, walked_by, walked}
 use Rattle.goto_unwind.proofs.TreeSums.{cut_times, cut_front, cut_back}

@@ -4,7 +4,7 @@ use Rattle.core_tree.specs.Ranges.{Limits}
 use Rattle.core_tree.specs.Trees.{call, function_name, give, Arguments, no_argument, number_argument, structure_argument, returns_structure, returns_nothing, for_loop, do_loop, switch, breaks, continues, jumps, stray, label, case_at, default_at, Expression, constant, read, convert, sign, is_zero, arithmetic, compare, logical, choice, assign, update, step, comma, assertion, assumption, draw, part, discard, discard_structure, Structure, copy, load, choose, put, store, follow, section, list, string, Parts, no_part, number_part, structure_part, Statement, block, if_then, if_else, evaluate, returns, Items, done, declares, initializes, initializes_structure, does, Procedure}
 use Rattle.goto_prog.specs.Structured.{tests_in, opened}
 use Rattle.goto_prog.specs.Walks.{total}
-use Rattle.goto_unwind.specs.declared.tally.Called.{Called}
+use Rattle.goto_unwind.specs.declared.linear_count.Called.{Called}
 use Rattle.goto_unwind.specs.declared.walk.Visit.{Visit}
 
 -- one more than the limit stands for all greater numbers

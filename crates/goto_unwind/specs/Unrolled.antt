@@ -55,36 +55,36 @@ at line f o = record { line = line; function = f; operation = o }
 abbrev pub jump : List Instruction → ℕ → ℕ
 jump code mark = length code - mark
 
-abbrev pub moved_check : (register : ℕ) → Condition → Condition
-moved_check r (checks.Divisor b) = checks.Divisor (r + b)
-moved_check r (checks.Quotient t a b) = checks.Quotient t (r + a) (r + b)
-moved_check r (checks.Range op t a b) = checks.Range op t (r + a) (r + b)
-moved_check r (checks.Negation t a) = checks.Negation t (r + a)
-moved_check r (checks.Count t u a) = checks.Count t u (r + a)
-moved_check r (checks.LeftShift t u a b) = checks.LeftShift t u (r + a) (r + b)
-moved_check r (checks.Returned a) = checks.Returned (r + a)
+abbrev pub renumbered_check : (register : ℕ) → Condition → Condition
+renumbered_check r (checks.Divisor b) = checks.Divisor (r + b)
+renumbered_check r (checks.Quotient t a b) = checks.Quotient t (r + a) (r + b)
+renumbered_check r (checks.Range op t a b) = checks.Range op t (r + a) (r + b)
+renumbered_check r (checks.Negation t a) = checks.Negation t (r + a)
+renumbered_check r (checks.Count t u a) = checks.Count t u (r + a)
+renumbered_check r (checks.LeftShift t u a b) = checks.LeftShift t u (r + a) (r + b)
+renumbered_check r (checks.Returned a) = checks.Returned (r + a)
 
 -- an operation on the registers and blocks of an activation, which begin with these
-abbrev pub moved : (register block : ℕ) → Operation → Operation
-moved r b (operations.Constant into bits) = operations.Constant (r + into) bits
-moved r b (operations.Copy into a) = operations.Copy (r + into) (r + a)
-moved r b (operations.Load into t block offset) = operations.Load (r + into) t (b + block) offset
-moved r b (operations.Store block offset count a) = operations.Store (b + block) offset count (r + a)
-moved r b (operations.Clear block size) = operations.Clear (b + block) size
-moved r b (operations.CopyBytes into to from offset count) = operations.CopyBytes (b + into) to (b + from) offset count
-moved r b (operations.Convert into from to a) = operations.Convert (r + into) from to (r + a)
-moved r b (operations.Sign into op t a) = operations.Sign (r + into) op t (r + a)
-moved r b (operations.Arithmetic into op t u x y) = operations.Arithmetic (r + into) op t u (r + x) (r + y)
-moved r b (operations.Compare into op t x y) = operations.Compare (r + into) op t (r + x) (r + y)
-moved r b (operations.IsZero into a) = operations.IsZero (r + into) (r + a)
-moved r b (operations.Check c) = operations.Check (moved_check r c)
-moved r b (operations.Assert a) = operations.Assert (r + a)
-moved r b (operations.Assume a) = operations.Assume (r + a)
-moved r b (operations.Draw into bits) = operations.Draw (r + into) bits
-moved r b (operations.ReadObject block to k offset count) = operations.ReadObject (b + block) to k offset count
-moved r b (operations.WriteObject k offset block from count) = operations.WriteObject k offset (b + block) from count
-moved r b (operations.Use a) = operations.Use (r + a)
-moved r b o = o
+abbrev pub renumbered : (register block : ℕ) → Operation → Operation
+renumbered r b (operations.Constant into bits) = operations.Constant (r + into) bits
+renumbered r b (operations.Copy into a) = operations.Copy (r + into) (r + a)
+renumbered r b (operations.Load into t block offset) = operations.Load (r + into) t (b + block) offset
+renumbered r b (operations.Store block offset count a) = operations.Store (b + block) offset count (r + a)
+renumbered r b (operations.Clear block size) = operations.Clear (b + block) size
+renumbered r b (operations.CopyBytes into to from offset count) = operations.CopyBytes (b + into) to (b + from) offset count
+renumbered r b (operations.Convert into from to a) = operations.Convert (r + into) from to (r + a)
+renumbered r b (operations.Sign into op t a) = operations.Sign (r + into) op t (r + a)
+renumbered r b (operations.Arithmetic into op t u x y) = operations.Arithmetic (r + into) op t u (r + x) (r + y)
+renumbered r b (operations.Compare into op t x y) = operations.Compare (r + into) op t (r + x) (r + y)
+renumbered r b (operations.IsZero into a) = operations.IsZero (r + into) (r + a)
+renumbered r b (operations.Check c) = operations.Check (renumbered_check r c)
+renumbered r b (operations.Assert a) = operations.Assert (r + a)
+renumbered r b (operations.Assume a) = operations.Assume (r + a)
+renumbered r b (operations.Draw into bits) = operations.Draw (r + into) bits
+renumbered r b (operations.ReadObject block to k offset count) = operations.ReadObject (b + block) to k offset count
+renumbered r b (operations.WriteObject k offset block from count) = operations.WriteObject k offset (b + block) from count
+renumbered r b (operations.Use a) = operations.Use (r + a)
+renumbered r b o = o
 
 -- passing a bound breaks a class, or blocks by the register that stays 0
 abbrev pub passed_code : Bool → Class → (line function : ℕ) → Instruction
@@ -131,7 +131,7 @@ module _ (b : Bounded) (inline : Inline) where
       by_operation (operations.SkipIfZero a n) = piece (at i.line i.function (operations.SkipIfZero (site.register + a) (jump rest (slice_index marks n))) ∷ rest) [] space
       by_operation (operations.Call g first count into r) = inline site i.line i.function g first count into r rest space
       by_operation (operations.Return v) = piece (hand_code site i.line i.function v ++ at i.line i.function (operations.Skip (jump rest site.back)) ∷ rest) [] space
-      by_operation o = piece (at i.line i.function (moved site.register site.block o) ∷ rest) [] space
+      by_operation o = piece (at i.line i.function (renumbered site.register site.block o) ∷ rest) [] space
 
   -- nodes in front of code; `later` are the marks of the places behind them
   abbrev pub nodes_code : Site → Nodes → (later : List ℕ) → List Instruction → Space → Piece

@@ -5,6 +5,7 @@ use Rattle.core_tree.specs.Ranges.{Limits}
 use Rattle.goto_prog.specs.declared.code.Operation.{Operation}
 use Rattle.goto_prog.specs.declared.code.Operation.TheVariants as operations
 use Rattle.goto_prog.specs.declared.code.Instruction.{Instruction}
+use Rattle.goto_prog.specs.Kinds.{with_kind}
 use Rattle.goto_prog.specs.Nodes.{Nodes, done, plain, repeats, Routine, nodes_of, view_procedure, view_procedures}
 use Rattle.goto_prog.specs.Structured.{Bounded, tests, round_count, opened}
 use Rattle.goto_prog.specs.Walks.{total}
@@ -12,12 +13,12 @@ use Rattle.goto_unwind.specs.declared.level.Handing as code_handing
 use Rattle.goto_unwind.specs.declared.level.Site as code_site
 use Rattle.goto_unwind.specs.declared.level.Level as code_level
 use Rattle.goto_unwind.specs.declared.unroller.Unroller as code_unroller
-use Rattle.goto_unwind.specs.declared.level.Kind.{Kind}
-use Rattle.goto_unwind.specs.declared.level.Kind.TheVariants as kinds
+use Rattle.goto_prog.specs.declared.nodes.Kind.{Kind}
+use Rattle.goto_prog.specs.declared.nodes.Kind.TheVariants as kinds
 use Rattle.goto_unwind.specs.declared.level.Turn.{Turn}
 use Rattle.goto_unwind.specs.declared.level.Turn.TheVariants as turns
 use Rattle.goto_unwind.specs.Program.{first_site}
-use Rattle.goto_unwind.specs.Unrolled.{Space, first_space, Handing, Site, Piece, Inline, piece, at, jump, moved, passed_code, hand_code, argument_code, nodes_code, with_frame, inline_at}
+use Rattle.goto_unwind.specs.Unrolled.{Space, first_space, Handing, Site, Piece, Inline, piece, at, jump, renumbered, passed_code, hand_code, argument_code, nodes_code, with_frame, inline_at}
 
 -- ---- levels as the code has them
 
@@ -93,7 +94,7 @@ abbrev pub front_of : Site → (line function : ℕ) → Operation → (marks : 
 front_of site line f (operations.Skip n) marks rest = at line f (operations.Skip (jump rest (slice_index marks n))) ∷ []
 front_of site line f (operations.SkipIfZero a n) marks rest = at line f (operations.SkipIfZero (site.register + a) (jump rest (slice_index marks n))) ∷ []
 front_of site line f (operations.Return v) marks rest = hand_code site line f v ++ at line f (operations.Skip (jump rest site.back)) ∷ []
-front_of site line f o marks rest = at line f (moved site.register site.block o) ∷ []
+front_of site line f o marks rest = at line f (renumbered site.register site.block o) ∷ []
 
 abbrev pub function_site : Site → Space → (into register back : ℕ) → Routine → Site
 function_site caller space into register back p = record {
@@ -192,10 +193,6 @@ followed (plain i rest) more = plain i (followed rest more)
 followed (repeats line f n rotated body rest) more = repeats line f n rotated body (followed rest more)
 
 -- a node by what it is
-abbrev pub with_kind : Kind → Nodes → Nodes
-with_kind (kinds.Plain i) rest = plain i rest
-with_kind (kinds.Loop line f n rotated body) rest = repeats line f n rotated (nodes_of body.now) rest
-
 abbrev pub inline_of : Bounded → (left : List ℕ) → Inline
 inline_of b left = inline_at b (suc (total left)) left
 

@@ -1,3 +1,5 @@
+//! How many places each function has when its calls are unrolled.
+
 ghost use Rattle.std.specs.Prelude.{◌≡◌, ◌<◌, ◌^◌, codes, length, map, min, nat_lt, if◌then◌else◌, IfOk};
 ghost use Rattle.std.specs.Str.{bytes_eq};
 ghost use Rattle.core_tree.specs.Trees.{view_functions, view_core};
@@ -5,8 +7,8 @@ ghost use Rattle.goto_unwind.specs.Counts.{quantities, cut_counts, counts_list};
 ghost use Rattle.goto_unwind.specs.Linear.{function_linear};
 ghost use Rattle.goto_unwind.specs.Places.{main_number, places};
 
+use crate::linear_count::{LinearCount, MOST_PLACES};
 use crate::objects::MOST_OBJECTS;
-use crate::tally::{MOST_PLACES, Tally};
 use crate::trees::body;
 use crate::walk;
 use c_profile::Admitted;
@@ -46,7 +48,11 @@ fn main_number(functions: &[Function]) -> u32
 }
 
 // The places of each function.
-fn tallies(alloc: Global, functions: &[Function], bounds: &Bounds) -> Result<Vec<Tally>, AllocError>
+fn tallies(
+    alloc: Global,
+    functions: &[Function],
+    bounds: &Bounds,
+) -> Result<Vec<LinearCount>, AllocError>
     ensures { IfOk result (λ v. v.items ≡ map (function_linear bounds.now) (view_functions functions.now)) }
 {
     let mut table = Vec::with_capacity(alloc, functions.len())?;
@@ -57,7 +63,7 @@ fn tallies(alloc: Global, functions: &[Function], bounds: &Bounds) -> Result<Vec
     Ok(table)
 }
 
-// The places of these functions, at most one more than the greatest number.
+/// The places of these functions, at most one more than the greatest number.
 pub(crate) fn file_places(
     alloc: Global,
     functions: &[Function],

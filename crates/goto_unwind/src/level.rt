@@ -1,8 +1,11 @@
-ghost use Rattle.goto_prog.specs.Nodes.{Nodes, done, nodes_of, with_node};
-ghost use Rattle.std.specs.Prelude.{◌≡◌, MatchOption};
-ghost use Rattle.goto_unwind.specs.Unroller.{followed, with_kind};
+//! Nodes that are being unrolled: of a function, or of a round of a loop.
 
-use goto_prog::{Instruction, Node, Procedure};
+ghost use Rattle.goto_prog.specs.Kinds.{with_kind};
+ghost use Rattle.goto_prog.specs.Nodes.{done, nodes_of};
+ghost use Rattle.std.specs.Prelude.{◌≡◌, MatchOption};
+ghost use Rattle.goto_unwind.specs.Unroller.{followed};
+
+use goto_prog::{Kind, Node, Procedure, kind_of};
 
 /// Where a function that is called hands over: a block of so many bytes, and a register that tells whether
 /// anything is handed over.
@@ -65,40 +68,6 @@ pub(crate) struct Level<'a> {
     pub outer: usize,
     pub turn: Turn,
     pub arguments: &'a [u32],
-}
-
-/// What a node is.
-#[derive(Clone, Copy)]
-pub(crate) enum Kind<'a> {
-    Plain(Instruction),
-    Loop {
-        line: u32,
-        function: u32,
-        number: u32,
-        rotated: bool,
-        nodes: &'a [Node],
-    },
-}
-
-pub(crate) fn kind_of<'a>(node: &'a Node) -> Kind<'a>
-    ensures { (rest : Nodes) → with_node node.now rest ≡ with_kind result rest }
-{
-    match node {
-        Node::Plain { instruction } => Kind::Plain(*instruction),
-        Node::Loop {
-            line,
-            function,
-            number,
-            rotated,
-            nodes,
-        } => Kind::Loop {
-            line: *line,
-            function: *function,
-            number: *number,
-            rotated: *rotated,
-            nodes: nodes.as_slice(),
-        },
-    }
 }
 
 /// The last of these nodes, and those before it.

@@ -4,10 +4,10 @@
 
 mod counting;
 mod level;
+mod linear_count;
 mod loop_bounds;
-mod moving;
 mod objects;
-mod tally;
+mod renumbering;
 mod trees;
 mod unroller;
 mod unrolling;

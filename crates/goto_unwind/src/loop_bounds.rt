@@ -1,3 +1,5 @@
+//! How often the test of a loop is evaluated.
+
 ghost use Rattle.std.specs.Prelude.{◌≡◌};
 ghost use Rattle.core_tree.specs.Ranges.{loop_limits};
 ghost use Rattle.goto_prog.specs.Structured.{tests_in};
@@ -10,7 +12,7 @@ fn tests_in(set: &[LoopBound], others: u32, function: &[u8], number: u32) -> u32
     ensures { result ≡ tests_in (loop_limits set.now) others function.now number }
 {
     for bound in set {
-        if bound.function.bytes.as_slice() == function && bound.number == number {
+        if bound.function.bytes.as_slice() == function && bound.number == number as u64 {
             return bound.unwind;
         }
     }

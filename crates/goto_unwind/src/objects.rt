@@ -1,3 +1,5 @@
+//! The objects of a program, and the bytes that they begin with.
+
 ghost use Rattle.std.specs.Prelude.{◌≡◌};
 ghost use Rattle.core_tree.specs.Trees.{view_functions, view_statics, view_core};
 ghost use Rattle.core_tree.specs.Typed.{sizes_of_objects};

@@ -1,170 +1,119 @@
+//! How many places typed trees have.
+
 ghost use Rattle.std.specs.Prelude.{◌≡◌, IfOk, OnOk, option_map};
 ghost use Rattle.core_tree.specs.Trees.{view, boxed, view_structure, parts_of, with_part, arguments_of, with_argument, view_statement, boxed_statement, items_of, with_item};
 ghost use Rattle.goto_prog.specs.Structured.{tests_in};
 ghost use Rattle.goto_unwind.specs.Linear.{expression_linear, structure_linear, parts_linear, arguments_linear, optional_linear, statement_linear, items_linear, body_linear, nothing};
 
+use crate::linear_count::{LinearCount, product};
 use crate::loop_bounds::tests;
-use crate::tally::{Tally, product};
 use core_tree::{Bounds, CoreArgument, CoreExpr, CoreItem, CorePart, CoreStatement, CoreStructure};
 use std::alloc::{AllocError, Global};
 
 /// Adds the places of an expression that counts so many times.
 #[cycle(expression)]
-pub(crate) fn expression(tally: &mut Tally, tree: &CoreExpr, times: u32) -> Result<(), AllocError>
-    ensures { OnOk result (tally.new ≡ expression_linear times (view tree.now) tally.old) }
+pub(crate) fn expression(
+    linear_count: &mut LinearCount,
+    tree: &CoreExpr,
+    times: u32,
+) -> Result<(), AllocError>
+    ensures { OnOk result (linear_count.new ≡ expression_linear times (view tree.now) linear_count.old) }
 {
     match tree {
-        CoreExpr::Constant {
-            line: _,
-            type_: _,
-            bits: _,
-        } => {
-            tally.add(times);
+        CoreExpr::Constant { .. } => {
+            linear_count.add(times);
             Ok(())
         }
-        CoreExpr::Read { place: _ } => {
-            tally.add(times);
-            tally.add(times);
+        CoreExpr::Read { .. } => {
+            linear_count.add(times);
+            linear_count.add(times);
             Ok(())
         }
-        CoreExpr::Convert { to: _, operand } => {
-            tally.add(times);
-            expression(tally, operand, times)
+        CoreExpr::Convert { operand, .. } => {
+            linear_count.add(times);
+            expression(linear_count, operand, times)
         }
-        CoreExpr::Sign {
-            line: _,
-            operator: _,
-            operand,
-        } => {
-            tally.add(times);
-            expression(tally, operand, times)
+        CoreExpr::Sign { operand, .. } => {
+            linear_count.add(times);
+            expression(linear_count, operand, times)
         }
-        CoreExpr::IsZero { line: _, operand } => {
-            tally.add(times);
-            expression(tally, operand, times)
+        CoreExpr::IsZero { operand, .. } => {
+            linear_count.add(times);
+            expression(linear_count, operand, times)
         }
-        CoreExpr::Arithmetic {
-            line: _,
-            operator: _,
-            left,
-            right,
-        } => {
-            tally.add(times);
-            expression(tally, left, times)?;
-            expression(tally, right, times)
+        CoreExpr::Arithmetic { left, right, .. } => {
+            linear_count.add(times);
+            expression(linear_count, left, times)?;
+            expression(linear_count, right, times)
         }
-        CoreExpr::Compare {
-            line: _,
-            operator: _,
-            left,
-            right,
-        } => {
-            tally.add(times);
-            expression(tally, left, times)?;
-            expression(tally, right, times)
+        CoreExpr::Compare { left, right, .. } => {
+            linear_count.add(times);
+            expression(linear_count, left, times)?;
+            expression(linear_count, right, times)
         }
-        CoreExpr::Logical {
-            line: _,
-            operator: _,
-            left,
-            right,
-        } => {
-            tally.add(times);
-            expression(tally, left, times)?;
-            expression(tally, right, times)
+        CoreExpr::Logical { left, right, .. } => {
+            linear_count.add(times);
+            expression(linear_count, left, times)?;
+            expression(linear_count, right, times)
         }
-        CoreExpr::Choice {
-            line: _,
-            test,
-            yes,
-            no,
-        } => {
-            tally.add(times);
-            expression(tally, test, times)?;
-            expression(tally, yes, times)?;
-            expression(tally, no, times)
+        CoreExpr::Choice { test, yes, no, .. } => {
+            linear_count.add(times);
+            expression(linear_count, test, times)?;
+            expression(linear_count, yes, times)?;
+            expression(linear_count, no, times)
         }
-        CoreExpr::Assign {
-            line: _,
-            place: _,
-            value,
-        } => {
-            tally.add(times);
-            tally.add(times);
-            expression(tally, value, times)
+        CoreExpr::Assign { value, .. } => {
+            linear_count.add(times);
+            linear_count.add(times);
+            expression(linear_count, value, times)
         }
-        CoreExpr::Update {
-            line: _,
-            place: _,
-            operator: _,
-            type_: _,
-            value,
-        } => {
-            tally.add(times);
-            tally.add(times);
-            expression(tally, value, times)
+        CoreExpr::Update { value, .. } => {
+            linear_count.add(times);
+            linear_count.add(times);
+            expression(linear_count, value, times)
         }
-        CoreExpr::Step {
-            line: _,
-            place: _,
-            operator: _,
-            before: _,
-        } => {
-            tally.add(times);
-            tally.add(times);
+        CoreExpr::Step { .. } => {
+            linear_count.add(times);
+            linear_count.add(times);
             Ok(())
         }
-        CoreExpr::Comma {
-            line: _,
-            left,
-            right,
-        } => {
-            tally.add(times);
-            expression(tally, left, times)?;
-            expression(tally, right, times)
+        CoreExpr::Comma { left, right, .. } => {
+            linear_count.add(times);
+            expression(linear_count, left, times)?;
+            expression(linear_count, right, times)
         }
-        CoreExpr::Assertion { line: _, condition } => {
-            tally.add(times);
-            expression(tally, condition, times)
+        CoreExpr::Assertion { condition, .. } => {
+            linear_count.add(times);
+            expression(linear_count, condition, times)
         }
-        CoreExpr::Assumption { line: _, condition } => {
-            tally.add(times);
-            expression(tally, condition, times)
+        CoreExpr::Assumption { condition, .. } => {
+            linear_count.add(times);
+            expression(linear_count, condition, times)
         }
-        CoreExpr::Draw { line: _, type_: _ } => {
-            tally.add(times);
+        CoreExpr::Draw { .. } => {
+            linear_count.add(times);
             Ok(())
         }
-        CoreExpr::Member {
-            line: _,
-            type_: _,
-            offset: _,
-            value,
-        } => {
-            tally.add(times);
-            structure(tally, value, times)
+        CoreExpr::Member { value, .. } => {
+            linear_count.add(times);
+            structure(linear_count, value, times)
         }
-        CoreExpr::Discard { line: _, operand } => {
-            tally.add(times);
-            expression(tally, operand, times)
+        CoreExpr::Discard { operand, .. } => {
+            linear_count.add(times);
+            expression(linear_count, operand, times)
         }
-        CoreExpr::DiscardStructure { value } => { structure(tally, value, times) }
+        CoreExpr::DiscardStructure { value } => { structure(linear_count, value, times) }
         CoreExpr::Call {
-            line: _,
             function,
-            used: _,
-            type_: _,
             arguments,
+            ..
         } => {
-            tally.add(times);
-            arguments_of_call(tally, arguments, times)?;
-            tally.call(*function, times)
+            linear_count.add(times);
+            arguments_of_call(linear_count, arguments, times)?;
+            linear_count.call(*function, times)
         }
-        CoreExpr::FunctionName {
-            line: _,
-            function: _,
-        } => {
-            tally.add(times);
+        CoreExpr::FunctionName { .. } => {
+            linear_count.add(times);
             Ok(())
         }
     }
@@ -173,170 +122,134 @@ pub(crate) fn expression(tally: &mut Tally, tree: &CoreExpr, times: u32) -> Resu
 /// Adds the places of a structure value.
 #[cycle(expression)]
 pub(crate) fn structure(
-    tally: &mut Tally,
+    linear_count: &mut LinearCount,
     tree: &CoreStructure,
     times: u32,
 ) -> Result<(), AllocError>
-    ensures { OnOk result (tally.new ≡ structure_linear times (view_structure tree.now) tally.old) }
+    ensures { OnOk result (linear_count.new ≡ structure_linear times (view_structure tree.now) linear_count.old) }
 {
     match tree {
-        CoreStructure::Read {
-            line: _,
-            variable: _,
-            offset: _,
-            size: _,
-        } => {
-            tally.add(times);
-            tally.add(times);
+        CoreStructure::Read { .. } => {
+            linear_count.add(times);
+            linear_count.add(times);
             Ok(())
         }
-        CoreStructure::Load {
-            line: _,
-            object: _,
-            offset: _,
-            size: _,
-        } => {
-            tally.add(times);
-            tally.add(times);
+        CoreStructure::Load { .. } => {
+            linear_count.add(times);
+            linear_count.add(times);
             Ok(())
         }
-        CoreStructure::Choice {
-            line: _,
-            test,
-            yes,
-            no,
-        } => {
-            tally.add(times);
-            expression(tally, test, times)?;
-            structure(tally, yes, times)?;
-            structure(tally, no, times)
+        CoreStructure::Choice { test, yes, no, .. } => {
+            linear_count.add(times);
+            expression(linear_count, test, times)?;
+            structure(linear_count, yes, times)?;
+            structure(linear_count, no, times)
         }
-        CoreStructure::Assign {
-            line: _,
-            variable: _,
-            offset: _,
-            value,
-        } => {
-            tally.add(times);
-            tally.add(times);
-            structure(tally, value, times)
+        CoreStructure::Assign { value, .. } => {
+            linear_count.add(times);
+            linear_count.add(times);
+            structure(linear_count, value, times)
         }
-        CoreStructure::Store {
-            line: _,
-            object: _,
-            offset: _,
-            value,
-        } => {
-            tally.add(times);
-            tally.add(times);
-            structure(tally, value, times)
+        CoreStructure::Store { value, .. } => {
+            linear_count.add(times);
+            linear_count.add(times);
+            structure(linear_count, value, times)
         }
-        CoreStructure::Comma {
-            line: _,
-            left,
-            right,
-        } => {
-            tally.add(times);
-            expression(tally, left, times)?;
-            structure(tally, right, times)
+        CoreStructure::Comma { left, right, .. } => {
+            linear_count.add(times);
+            expression(linear_count, left, times)?;
+            structure(linear_count, right, times)
         }
-        CoreStructure::Member {
-            line: _,
-            offset: _,
-            size: _,
-            value,
-        } => {
-            tally.add(times);
-            structure(tally, value, times)
+        CoreStructure::Member { value, .. } => {
+            linear_count.add(times);
+            structure(linear_count, value, times)
         }
-        CoreStructure::List {
-            line: _,
-            size: _,
-            parts,
-        } => { parts_of_list(tally, parts, times) }
-        CoreStructure::String {
-            line: _,
-            size: _,
-            bytes: _,
-        } => {
-            tally.add(times);
+        CoreStructure::List { parts, .. } => { parts_of_list(linear_count, parts, times) }
+        CoreStructure::String { .. } => {
+            linear_count.add(times);
             Ok(())
         }
         CoreStructure::Call {
-            line: _,
             function,
-            used: _,
-            size: _,
             arguments,
+            ..
         } => {
-            tally.add(times);
-            arguments_of_call(tally, arguments, times)?;
-            tally.call(*function, times)
+            linear_count.add(times);
+            arguments_of_call(linear_count, arguments, times)?;
+            linear_count.call(*function, times)
         }
     }
 }
 
 #[cycle(expression)]
-fn parts_of_list(tally: &mut Tally, parts: &[CorePart], times: u32) -> Result<(), AllocError>
-    ensures { OnOk result (tally.new ≡ parts_linear times (parts_of parts.now) tally.old) }
+fn parts_of_list(
+    linear_count: &mut LinearCount,
+    parts: &[CorePart],
+    times: u32,
+) -> Result<(), AllocError>
+    ensures { OnOk result (linear_count.new ≡ parts_linear times (parts_of parts.now) linear_count.old) }
 {
     for part in parts {
-        part_of_list(tally, part, times)?;
+        part_of_list(linear_count, part, times)?;
     }
     Ok(())
 }
 
 #[cycle(expression)]
-fn part_of_list(tally: &mut Tally, part: &CorePart, times: u32) -> Result<(), AllocError>
-    ensures { OnOk result ((rest : _) → parts_linear times rest tally.new ≡ parts_linear times (with_part part.now rest) tally.old) }
+fn part_of_list(
+    linear_count: &mut LinearCount,
+    part: &CorePart,
+    times: u32,
+) -> Result<(), AllocError>
+    ensures { OnOk result ((rest : _) → parts_linear times rest linear_count.new ≡ parts_linear times (with_part part.now rest) linear_count.old) }
 {
     match part {
-        CorePart::Number { offset: _, value } => expression(tally, value, times),
-        CorePart::Structure { offset: _, value } => structure(tally, value, times),
+        CorePart::Number { value, .. } => expression(linear_count, value, times),
+        CorePart::Structure { value, .. } => structure(linear_count, value, times),
     }
 }
 
 #[cycle(expression)]
 fn arguments_of_call(
-    tally: &mut Tally,
+    linear_count: &mut LinearCount,
     arguments: &[CoreArgument],
     times: u32,
 ) -> Result<(), AllocError>
-    ensures { OnOk result (tally.new ≡ arguments_linear times (arguments_of arguments.now) tally.old) }
+    ensures { OnOk result (linear_count.new ≡ arguments_linear times (arguments_of arguments.now) linear_count.old) }
 {
     for argument in arguments {
-        argument_of_call(tally, argument, times)?;
+        argument_of_call(linear_count, argument, times)?;
     }
     Ok(())
 }
 
 #[cycle(expression)]
 fn argument_of_call(
-    tally: &mut Tally,
+    linear_count: &mut LinearCount,
     argument: &CoreArgument,
     times: u32,
 ) -> Result<(), AllocError>
-    ensures { OnOk result ((rest : _) → arguments_linear times rest tally.new ≡ arguments_linear times (with_argument argument.now rest) tally.old) }
+    ensures { OnOk result ((rest : _) → arguments_linear times rest linear_count.new ≡ arguments_linear times (with_argument argument.now rest) linear_count.old) }
 {
     match argument {
-        CoreArgument::Number { value } => expression(tally, value, times),
-        CoreArgument::Structure { value } => structure(tally, value, times),
+        CoreArgument::Number { value } => expression(linear_count, value, times),
+        CoreArgument::Structure { value } => structure(linear_count, value, times),
     }
 }
 
 // An expression that may be missing, and then counts so many.
 fn optional(
-    tally: &mut Tally,
+    linear_count: &mut LinearCount,
     expr: &Option<Box<CoreExpr>>,
     times: u32,
     missing: u32,
 ) -> Result<(), AllocError>
-    ensures { OnOk result (tally.new ≡ optional_linear times missing (option_map boxed expr.now) tally.old) }
+    ensures { OnOk result (linear_count.new ≡ optional_linear times missing (option_map boxed expr.now) linear_count.old) }
 {
     match expr {
-        Some(found) => expression(tally, found, times),
+        Some(found) => expression(linear_count, found, times),
         None => {
-            tally.add(missing);
+            linear_count.add(missing);
             Ok(())
         }
     }
@@ -345,177 +258,153 @@ fn optional(
 /// Adds the places of a statement of the function with this name.
 #[cycle(statement)]
 pub(crate) fn statement(
-    tally: &mut Tally,
+    linear_count: &mut LinearCount,
     bounds: &Bounds,
     name: &[u8],
     code: &CoreStatement,
     times: u32,
 ) -> Result<(), AllocError>
-    ensures { OnOk result (tally.new ≡ statement_linear (tests_in bounds.now.set bounds.now.unwind name.now) times (view_statement code.now) tally.old) }
+    ensures { OnOk result (linear_count.new ≡ statement_linear (tests_in bounds.now.set bounds.now.unwind name.now) times (view_statement code.now) linear_count.old) }
 {
     match code {
         CoreStatement::Block { items } => {
-            tally.add(times);
-            items_of_block(tally, bounds, name, items, times)
+            linear_count.add(times);
+            items_of_block(linear_count, bounds, name, items, times)
         }
-        CoreStatement::If { line: _, test, yes } => {
-            tally.add(times);
-            expression(tally, test, times)?;
-            statement(tally, bounds, name, yes, times)
+        CoreStatement::If { test, yes, .. } => {
+            linear_count.add(times);
+            expression(linear_count, test, times)?;
+            statement(linear_count, bounds, name, yes, times)
         }
-        CoreStatement::IfElse {
-            line: _,
-            test,
-            yes,
-            no,
-        } => {
-            tally.add(times);
-            expression(tally, test, times)?;
-            statement(tally, bounds, name, yes, times)?;
-            statement(tally, bounds, name, no, times)
+        CoreStatement::IfElse { test, yes, no, .. } => {
+            linear_count.add(times);
+            expression(linear_count, test, times)?;
+            statement(linear_count, bounds, name, yes, times)?;
+            statement(linear_count, bounds, name, no, times)
         }
         CoreStatement::Evaluate { expression: value } => {
-            tally.add(times);
-            expression(tally, value, times)
+            linear_count.add(times);
+            expression(linear_count, value, times)
         }
-        CoreStatement::Return { line: _, value } => {
-            tally.add(times);
-            expression(tally, value, times)
+        CoreStatement::Return { value, .. } => {
+            linear_count.add(times);
+            expression(linear_count, value, times)
         }
-        CoreStatement::ReturnStructure { line: _, value } => {
-            tally.add(times);
-            structure(tally, value, times)
+        CoreStatement::ReturnStructure { value, .. } => {
+            linear_count.add(times);
+            structure(linear_count, value, times)
         }
-        CoreStatement::ReturnNothing { line: _ } => {
-            tally.add(times);
+        CoreStatement::ReturnNothing { .. } => {
+            linear_count.add(times);
             Ok(())
         }
         CoreStatement::For {
-            line: _,
             number,
             first,
             test,
             last,
             body,
+            ..
         } => {
-            tally.add(times);
-            optional(tally, first, times, 0)?;
+            linear_count.add(times);
+            optional(linear_count, first, times, 0)?;
             let count = tests(bounds, name, *number);
             let tested = product(times, count);
-            optional(tally, test, tested, tested)?;
+            optional(linear_count, test, tested, tested)?;
             let round = product(times, count.saturating_sub(1));
-            statement(tally, bounds, name, body, round)?;
-            optional(tally, last, round, 0)
+            statement(linear_count, bounds, name, body, round)?;
+            optional(linear_count, last, round, 0)
         }
         CoreStatement::Do {
-            line: _,
             number,
             body,
             test,
+            ..
         } => {
-            tally.add(times);
+            linear_count.add(times);
             let round = product(times, tests(bounds, name, *number));
-            statement(tally, bounds, name, body, round)?;
-            expression(tally, test, round)
+            statement(linear_count, bounds, name, body, round)?;
+            expression(linear_count, test, round)
         }
-        CoreStatement::Switch {
-            line: _,
-            value,
-            items,
-        } => {
-            tally.add(times);
-            expression(tally, value, times)?;
-            items_of_block(tally, bounds, name, items, times)
+        CoreStatement::Switch { value, items, .. } => {
+            linear_count.add(times);
+            expression(linear_count, value, times)?;
+            items_of_block(linear_count, bounds, name, items, times)
         }
-        CoreStatement::Break { line: _ } => {
-            tally.add(times);
+        CoreStatement::Break { .. } => {
+            linear_count.add(times);
             Ok(())
         }
-        CoreStatement::Continue { line: _ } => {
-            tally.add(times);
+        CoreStatement::Continue { .. } => {
+            linear_count.add(times);
             Ok(())
         }
-        CoreStatement::Goto { line: _, label: _ } => {
-            tally.add(times);
+        CoreStatement::Goto { .. } => {
+            linear_count.add(times);
             Ok(())
         }
         CoreStatement::Stray {
-            line: _,
             statement: labelled,
+            ..
         } => {
-            tally.add(times);
-            statement(tally, bounds, name, labelled, times)
+            linear_count.add(times);
+            statement(linear_count, bounds, name, labelled, times)
         }
     }
 }
 
 #[cycle(statement)]
 fn items_of_block(
-    tally: &mut Tally,
+    linear_count: &mut LinearCount,
     bounds: &Bounds,
     name: &[u8],
     items: &[CoreItem],
     times: u32,
 ) -> Result<(), AllocError>
-    ensures { OnOk result (tally.new ≡ items_linear (tests_in bounds.now.set bounds.now.unwind name.now) times (items_of items.now) tally.old) }
+    ensures { OnOk result (linear_count.new ≡ items_linear (tests_in bounds.now.set bounds.now.unwind name.now) times (items_of items.now) linear_count.old) }
 {
     for item in items {
-        item_of_block(tally, bounds, name, item, times)?;
+        item_of_block(linear_count, bounds, name, item, times)?;
     }
     Ok(())
 }
 
 #[cycle(statement)]
 fn item_of_block(
-    tally: &mut Tally,
+    linear_count: &mut LinearCount,
     bounds: &Bounds,
     name: &[u8],
     item: &CoreItem,
     times: u32,
 ) -> Result<(), AllocError>
-    ensures { OnOk result ((rest : _) → items_linear (tests_in bounds.now.set bounds.now.unwind name.now) times rest tally.new ≡ items_linear (tests_in bounds.now.set bounds.now.unwind name.now) times (with_item item.now rest) tally.old) }
+    ensures { OnOk result ((rest : _) → items_linear (tests_in bounds.now.set bounds.now.unwind name.now) times rest linear_count.new ≡ items_linear (tests_in bounds.now.set bounds.now.unwind name.now) times (with_item item.now rest) linear_count.old) }
 {
     match item {
-        CoreItem::Declare {
-            line: _,
-            variable: _,
-        } => {
-            tally.add(times);
+        CoreItem::Declare { .. } => {
+            linear_count.add(times);
             Ok(())
         }
-        CoreItem::Initialize {
-            line: _,
-            variable: _,
-            drawn: _,
-            value,
-        } => {
-            tally.add(times);
-            expression(tally, value, times)
+        CoreItem::Initialize { value, .. } => {
+            linear_count.add(times);
+            expression(linear_count, value, times)
         }
-        CoreItem::InitializeStructure {
-            line: _,
-            variable: _,
-            drawn: _,
-            value,
-        } => {
-            tally.add(times);
-            structure(tally, value, times)
+        CoreItem::InitializeStructure { value, .. } => {
+            linear_count.add(times);
+            structure(linear_count, value, times)
         }
-        CoreItem::Statement { statement: code } => { statement(tally, bounds, name, code, times) }
-        CoreItem::Label { label: _ } => {
-            tally.add(times);
+        CoreItem::Statement { statement: code } => {
+            statement(linear_count, bounds, name, code, times)
+        }
+        CoreItem::Label { .. } => {
+            linear_count.add(times);
             Ok(())
         }
-        CoreItem::Case {
-            line: _,
-            type_: _,
-            bits: _,
-        } => {
-            tally.add(times);
+        CoreItem::Case { .. } => {
+            linear_count.add(times);
             Ok(())
         }
-        CoreItem::Default { line: _ } => {
-            tally.add(times);
+        CoreItem::Default { .. } => {
+            linear_count.add(times);
             Ok(())
         }
     }
@@ -527,12 +416,12 @@ pub(crate) fn body(
     bounds: &Bounds,
     name: &[u8],
     code: &Option<Box<CoreStatement>>,
-) -> Result<Tally, AllocError>
+) -> Result<LinearCount, AllocError>
     ensures { IfOk result (λ t. t ≡ body_linear (tests_in bounds.now.set bounds.now.unwind name.now) (option_map boxed_statement code.now)) }
 {
-    let mut tally = Tally::new(alloc);
+    let mut linear_count = LinearCount::new(alloc);
     if let Some(found) = code {
-        statement(&mut tally, bounds, name, found, 1)?;
+        statement(&mut linear_count, bounds, name, found, 1)?;
     }
-    Ok(tally)
+    Ok(linear_count)
 }

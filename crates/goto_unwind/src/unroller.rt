@@ -1,3 +1,5 @@
+//! Unrolled code while it is made, from its end to its front.
+
 ghost use Rattle.std.specs.Prelude.{◌≡◌, ◌+◌, ◌<◌, ◌∷◌, ◌++◌, [], true, false, min, drop, IfOk, OnOk, length, option_map, slice_get, slice_index, slice_set};
 ghost use Rattle.goto_prog.specs.Nodes.{nodes_of, view_procedure, view_procedures};
 ghost use Rattle.goto_prog.specs.Fitting.{code_fits};
@@ -8,12 +10,12 @@ ghost use Rattle.goto_unwind.specs.Unrolled.{argument_code, at, hand_code, jump,
 ghost use Rattle.goto_unwind.specs.Program.{unrolled};
 ghost use Rattle.goto_unwind.specs.Unroller.{Pops, again, bounded, calls, closes, does, function_level, function_site, level_of, loops, opens, outcome, making, own_marks, placed, puts, site_of, starting, taken, weight, with_level};
 
-use crate::level::{CallPlan, Handing, Kind, Level, Site, Turn, last};
+use crate::level::{CallPlan, Handing, Level, Site, Turn, last};
 use crate::loop_bounds::tests;
-use crate::moving::{moved, number};
+use crate::renumbering::{number, renumbered};
 use c_types::IntegerType;
 use core_tree::Bounds;
-use goto_prog::{Code, Goto, Instruction, Node, Operation, Procedure};
+use goto_prog::{Code, Goto, Instruction, Kind, Node, Operation, Procedure};
 use std::alloc::{AllocError, Global};
 use words::Class;
 
@@ -397,7 +399,7 @@ impl<'a> Unroller<'a> {
                 self.put(level, rest, i, Operation::SkipIfZero { operand, count })
             }
             _ => {
-                let operation = moved(level.site.register, level.site.block, i.operation)?;
+                let operation = renumbered(level.site.register, level.site.block, i.operation)?;
                 self.put(level, rest, i, operation)
             }
         }
@@ -638,14 +640,10 @@ fn finished(unroller: Unroller) -> Code
     ensures { result ≡ record { registers = (making unroller.entry).space.registers; blocks = (making unroller.entry).space.blocks; instructions = (making unroller.entry).code; startable = false } }
 {
     let Unroller {
-        procedures: _,
-        bounds: _,
-        left: _,
-        levels: _,
-        marks: _,
         mut code,
         registers,
         blocks,
+        ..
     } = unroller;
     code.reverse();
     Code::new(registers, blocks, code, false)

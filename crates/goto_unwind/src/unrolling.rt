@@ -1,3 +1,5 @@
+//! The unrolled program, or which limit it breaks.
+
 ghost use Rattle.std.specs.Prelude.{◌≡◌, ◌≤◌, length, true, None, IfOk, IfErr};
 ghost use Rattle.core_tree.specs.Trees.{view_core};
 ghost use Rattle.goto_prog.specs.Flat as flat;
@@ -10,8 +12,8 @@ ghost use Rattle.goto_unwind.specs.Program.{starts_none, unrolled};
 ghost use Rattle.goto_unwind.specs.declared.unrolling.UnwindError.TheVariants as errors;
 
 use crate::counting::file_places;
+use crate::linear_count::MOST_PLACES;
 use crate::objects::{MOST_OBJECT_BYTES, MOST_OBJECTS, object_bytes};
-use crate::tally::MOST_PLACES;
 use crate::unroller::unrolled_main;
 use c_profile::Admitted;
 use core_tree::{Bounds, Limit};

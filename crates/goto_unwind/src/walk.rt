@@ -1,8 +1,10 @@
+//! The functions that a file reaches, each behind those that it calls.
+
 ghost use Rattle.std.specs.Prelude.{◌≡◌, ◌+◌, ◌<◌, ◌∷◌, IfOk, OnOk, length, nat_lt, replicate, slice_get, slice_index, slice_set};
 ghost use Rattle.goto_unwind.specs.Linear.{Pops, added, cut, arrives, linear_of, opens, outcome, starting, walked};
 
-use crate::moving::number;
-use crate::tally::{Called, MOST_PLACES, Tally, product, sum};
+use crate::linear_count::{Called, LinearCount, MOST_PLACES, product, sum};
+use crate::renumbering::number;
 use std::alloc::{AllocError, Global};
 use std::marker::Model;
 
@@ -20,7 +22,7 @@ pub(crate) struct Visit {
 /// that are open, the innermost last, and how many places are counted.
 #[derive(Drop)]
 pub(crate) struct Walk<'a> {
-    table: &'a [Tally],
+    table: &'a [LinearCount],
     left: Vec<u32>,
     visits: Vec<Visit>,
     counted: u32,
@@ -37,7 +39,11 @@ impl<'a> Model for Walk<'a> {
 
 impl<'a> Walk<'a> {
     // Before the first call, where so many activations of each function may be opened.
-    fn new(alloc: Global, table: &'a [Tally], activations: u32) -> Result<Walk<'a>, AllocError>
+    fn new(
+        alloc: Global,
+        table: &'a [LinearCount],
+        activations: u32,
+    ) -> Result<Walk<'a>, AllocError>
         ensures { IfOk result (λ w. w ≡ starting table.now activations) }
     {
         let left = vec![in alloc; activations; table.len()]?;
@@ -75,7 +81,7 @@ impl<'a> Walk<'a> {
         ensures { result ≡ (linear_of self.now.table function).places }
     {
         match self.table.get(function as usize) {
-            Some(tally) => tally.places(),
+            Some(linear_count) => linear_count.places(),
             None => 0,
         }
     }
@@ -85,7 +91,7 @@ impl<'a> Walk<'a> {
         ensures { result ≡ slice_get (linear_of self.now.table function).calls number }
     {
         match self.table.get(function as usize) {
-            Some(tally) => tally.calls().get(number).copied(),
+            Some(linear_count) => linear_count.calls().get(number).copied(),
             None => None,
         }
     }
@@ -199,7 +205,7 @@ impl<'a> Walk<'a> {
 #[tactic(auto, using(crate::proofs::WalkSums::first_outcome))]
 pub(crate) fn places(
     alloc: Global,
-    table: &[Tally],
+    table: &[LinearCount],
     activations: u32,
     function: u32,
 ) -> Result<u32, AllocError>

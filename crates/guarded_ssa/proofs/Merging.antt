@@ -27,15 +27,15 @@ use Rattle.guarded_ssa.specs.Results.{into_of, result_of}
 use Rattle.goto_prog.specs.CodeThread.{Listing, first_memory}
 use Rattle.guarded_ssa.specs.declared.registers.Live.{Live}
 use Rattle.guarded_ssa.specs.declared.slots.Slot.{Slot}
-use Rattle.guarded_ssa.specs.Ways.{either, kept}
+use Rattle.guarded_ssa.specs.Arrivals.{either, kept}
 use Rattle.guarded_ssa.specs.Reads.{IsRead, Agree, Alike}
 use Rattle.guarded_ssa.specs.Registers.{ZerosIn, IsLive, AreLive, Merged, Rises, find, word_or_0, words_from, bytes_from, zero_of}
 use Rattle.guarded_ssa.proofs.Sorted.{kept_rise, kept_found, all_words, words_first, words_behind, words_joined, found, past, are_same}
 use Rattle.guarded_ssa.proofs.Joining.{zero_is}
 use Rattle.guarded_ssa.proofs.Blocks.{stored_zeros, stored_length, no_block, no_bytes, bytes_alike, block_words}
 use Rattle.guarded_ssa.proofs.Numbering.{cells_length, register_type, all_owners, register_owner, byte_owner, owner_there}
-use Rattle.guarded_ssa.proofs.Stays.{slot_stays, held_stays, gone_stays, found_stays}
-use Rattle.guarded_ssa.specs.Held.{total, cells, owners, SlotIn, stored, held, gone}
+use Rattle.guarded_ssa.proofs.Stays.{slot_stays, held_stays, guarded_stays, found_stays}
+use Rattle.guarded_ssa.specs.Held.{total, cells, owners, SlotIn, stored, held, guarded}
 
 pub holds_bit : (b : Bool) → holds (bit_value b) ≡ b
 holds_bit true = refl
@@ -67,8 +67,8 @@ module _ (d e : List Node) (code : Listing) (first second s : Slot)
     live = live.live;
   }
 
-  merged_gone : (v : ℕ → ℕ) → gone v e code s ≡ either (gone v d code first) (gone v d code second)
-  merged_gone v =
+  merged_guarded : (v : ℕ → ℕ) → guarded v e code s ≡ either (guarded v d code first) (guarded v d code second)
+  merged_guarded v =
       let f = value v d in
       let h1 = holds (f first.guard) in
       let h2 = holds (f second.guard) in
@@ -111,14 +111,14 @@ same_held v d code s t p = λ i. record {
   blocks = stored code.blocks (bytes_from (value v d) (p i) (length code.registers) (total code.blocks));
 }
 
-pub narrowed_gone : (d e : List Node) (code : Listing) (s t : Slot) (test : Id) → Extends d e → SlotIn d code s → IsTest e t.guard (λ v. holds (value v d s.guard) && holds (value v d test))
-    → t.live ≡ s.live → (v : ℕ → ℕ) → gone v e code t ≡ (if holds (value v d test) then gone v d code s else None)
-narrowed_gone d e code s t test x h made p v =
+pub narrowed_guarded : (d e : List Node) (code : Listing) (s t : Slot) (test : Id) → Extends d e → SlotIn d code s → IsTest e t.guard (λ v. holds (value v d s.guard) && holds (value v d test))
+    → t.live ≡ s.live → (v : ℕ → ℕ) → guarded v e code t ≡ (if holds (value v d test) then guarded v d code s else None)
+narrowed_guarded d e code s t test x h made p v =
     let g = holds (value v d s.guard) in
     let k = holds (value v d test) in
     let a : holds (value v e t.guard) ≡ (g && k) = ap holds (made.value_is v) ∙ holds_bit (g && k) in
     let b = same_held v e code s t p ∙ held_stays d e x v code s h in
-    let same : gone v e code t ≡ (if (g && k) then Some (held v d code s) else None) = (λ i. if a i then Some (b i) else None) in
+    let same : guarded v e code t ≡ (if (g && k) then Some (held v d code s) else None) = (λ i. if a i then Some (b i) else None) in
     same ∙ under g k (held v d code s)
 
 -- the same memory elsewhere
@@ -129,12 +129,12 @@ copied_in d code s t g z p h = record {
   live = subst (AreLive d (cells code)) (sym p) h.live;
 }
 
-pub copied_gone : (v : ℕ → ℕ) (d : List Node) (code : Listing) (s t : Slot) → t.guard ≡ s.guard → t.live ≡ s.live → gone v d code t ≡ gone v d code s
-copied_gone v d code s t g p = let q = same_held v d code s t p in λ i. if holds (value v d (g i)) then Some (q i) else None
+pub copied_guarded : (v : ℕ → ℕ) (d : List Node) (code : Listing) (s t : Slot) → t.guard ≡ s.guard → t.live ≡ s.live → guarded v d code t ≡ guarded v d code s
+copied_guarded v d code s t g p = let q = same_held v d code s t p in λ i. if holds (value v d (g i)) then Some (q i) else None
 
 -- the memory where a test of it holds too
-pub kept_gone : (v : ℕ → ℕ) (d : List Node) (code : Listing) (s : Slot) (test : Memory → Bool) (b : Bool) → b ≡ test (held v d code s) → (if b then gone v d code s else None) ≡ kept test (gone v d code s)
-kept_gone v d code s test b e = kept_by (holds (value v d s.guard)) (held v d code s) test b e
+pub kept_guarded : (v : ℕ → ℕ) (d : List Node) (code : Listing) (s : Slot) (test : Memory → Bool) (b : Bool) → b ≡ test (held v d code s) → (if b then guarded v d code s else None) ≡ kept test (guarded v d code s)
+kept_guarded v d code s test b e = kept_by (holds (value v d s.guard)) (held v d code s) test b e
 
 -- ---- at the start
 
@@ -150,8 +150,8 @@ module _ (d e f : List Node) (code : Listing) (s : Slot) (y : Extends e f) (made
     live = subst (AreLive f (cells code)) (sym live) (record { rise = omega arith; words = All-nil (IsLive f (cells code)) });
   }
 
-  pub started_gone : (v : ℕ → ℕ) → gone v f code s ≡ Some (first_memory code)
-  started_gone v =
+  pub started_guarded : (v : ℕ → ℕ) → guarded v f code s ≡ Some (first_memory code)
+  started_guarded v =
       let n = total code.blocks in
       let a = y.value_stays v s.guard made.there ∙ made.value_is v in
       let b = ap (λ ls. words_from (value v f) ls 0 code.registers) live ∙ no_words (value v f) 0 code.registers in
@@ -167,13 +167,13 @@ zero_holds v d e f code s operand node test x made is = ap holds (x.value_stays 
 pub other_holds : (v : ℕ → ℕ) (d e f : List Node) (test other : Id) (b : Bool) → Extends e f → holds (value v d test) ≡ b → IsTest e other (λ v. not (holds (value v d test))) → holds (value v f other) ≡ not b
 other_holds v d e f test other b x is made = ap holds (x.value_stays v other made.there ∙ made.value_is v) ∙ holds_bit (not (holds (value v d test))) ∙ ap not is
 
-pub side_gone : (v : ℕ → ℕ) (d e f g : List Node) (code : Listing) (s copy t : Slot) (test : Id) (keeps : Memory → Bool) → Extends d e → Extends f g → SlotIn d code s → SlotIn f code t → copy.guard ≡ s.guard → copy.live ≡ s.live
-    → holds (value v e test) ≡ keeps (held v d code s) → gone v f code t ≡ (if holds (value v e test) then gone v e code copy else None) → gone v g code t ≡ kept keeps (gone v d code s)
-side_gone v d e f g code s copy t test keeps x y h k p q is so =
-    let a : gone v e code copy ≡ gone v d code s = copied_gone v e code s copy p q ∙ gone_stays d e x v code s h in
+pub side_guarded : (v : ℕ → ℕ) (d e f g : List Node) (code : Listing) (s copy t : Slot) (test : Id) (keeps : Memory → Bool) → Extends d e → Extends f g → SlotIn d code s → SlotIn f code t → copy.guard ≡ s.guard → copy.live ≡ s.live
+    → holds (value v e test) ≡ keeps (held v d code s) → guarded v f code t ≡ (if holds (value v e test) then guarded v e code copy else None) → guarded v g code t ≡ kept keeps (guarded v d code s)
+side_guarded v d e f g code s copy t test keeps x y h k p q is so =
+    let a : guarded v e code copy ≡ guarded v d code s = copied_guarded v e code s copy p q ∙ guarded_stays d e x v code s h in
     let b : Bool = holds (value v e test) in
-    let chosen : (if b then gone v e code copy else None) ≡ (if b then gone v d code s else None) = ap (λ w. if b then w else None) a in
-    gone_stays f g y v code t k ∙ so ∙ chosen ∙ kept_gone v d code s keeps b is
+    let chosen : (if b then guarded v e code copy else None) ≡ (if b then guarded v d code s else None) = ap (λ w. if b then w else None) a in
+    guarded_stays f g y v code t k ∙ so ∙ chosen ∙ kept_guarded v d code s keeps b is
 
 -- ---- slots that meet, as the graph grows for the guard and the cells
 
@@ -205,8 +205,8 @@ module _ (d0 d1 d2 : List Node) (code : Listing) (first second s : Slot) (ts : L
   pub merged_from_in : SlotIn d2 code s
   merged_from_in = merged_in d0 d2 code first second s grown_guard grown_zeros grown_live
 
-  pub merged_from_gone : (v : ℕ → ℕ) → gone v d2 code s ≡ either (gone v d0 code first) (gone v d0 code second)
-  merged_from_gone = merged_gone d0 d2 code first second s grown_guard grown_zeros grown_live
+  pub merged_from_guarded : (v : ℕ → ℕ) → guarded v d2 code s ≡ either (guarded v d0 code first) (guarded v d0 code second)
+  merged_from_guarded = merged_guarded d0 d2 code first second s grown_guard grown_zeros grown_live
 
 -- ---- the registers and blocks that are needed
 
@@ -273,8 +273,8 @@ module _ (d : List Node) (code : Listing) (until owner : List ℕ) (place : ℕ)
   both_alike v true = needed_agree v
   both_alike v false = tt
 
-  pub needed_alike : (v : ℕ → ℕ) → Alike (length code.registers) until place (gone v d code t) (gone v d code s)
-  needed_alike v = subst (λ g. Alike (length code.registers) until place (if holds (value v d g) then Some (held v d code t) else None) (gone v d code s)) (sym guard) (both_alike v (holds (value v d s.guard)))
+  pub needed_alike : (v : ℕ → ℕ) → Alike (length code.registers) until place (guarded v d code t) (guarded v d code s)
+  needed_alike v = subst (λ g. Alike (length code.registers) until place (if holds (value v d g) then Some (held v d code t) else None) (guarded v d code s)) (sym guard) (both_alike v (holds (value v d s.guard)))
 
 -- ---- the nodes of registers
 

@@ -15,7 +15,7 @@ use Rattle.goto_prog.specs.declared.code.Operation.TheVariants as operations
 use Rattle.goto_prog.specs.declared.code.Instruction.{Instruction}
 use Rattle.goto_prog.specs.Meaning.{Memory, register, with_register, with_blocks, bytes_of, word_of, bytes_in, check_class, calculated, return_check}
 use Rattle.guarded_ssa.specs.Runs.{answer_at}
-use Rattle.guarded_ssa.specs.Ways.{asked, stopped, Ways, either, arrived, updated, kept, on, breaks, tells, leaves, first_way, later_ways, told}
+use Rattle.guarded_ssa.specs.Arrivals.{asked, stopped, Arrivals, either, arrived, updated, kept, on, breaks, tells, leaves, first_arrival, later_arrivals, told}
 use Rattle.guarded_ssa.specs.Reads.{IsRead, AreRead, Covers, Agree, Alike, AllAlike}
 
 module _ (registers : ℕ) (until : List ℕ) where
@@ -28,7 +28,7 @@ module _ (registers : ℕ) (until : List ℕ) where
   alike_itself place None = tt
   alike_itself place (Some m) = agree_itself place m
 
-  pub all_alike_itself : (place : ℕ) (ws : Ways) → AllAlike registers until place ws ws
+  pub all_alike_itself : (place : ℕ) (ws : Arrivals) → AllAlike registers until place ws ws
   all_alike_itself place [] = tt
   all_alike_itself place (w ∷ ws) = (alike_itself place w, all_alike_itself (suc place) ws)
 
@@ -40,7 +40,7 @@ module _ (registers : ℕ) (until : List ℕ) where
   alike_more place (Some w) (Some x) None h k = absurd k
   alike_more place (Some w) (Some x) (Some y) h k = record { size = h.size ∙ k.size; needed = λ r n. h.needed r n ∙ k.needed r n; count = h.count ∙ k.count; blocks = λ b n. h.blocks b n ∙ k.blocks b n }
 
-  pub all_alike_more : (place : ℕ) (ws xs ys : Ways) → AllAlike registers until place ws xs → AllAlike registers until place xs ys → AllAlike registers until place ws ys
+  pub all_alike_more : (place : ℕ) (ws xs ys : Arrivals) → AllAlike registers until place ws xs → AllAlike registers until place xs ys → AllAlike registers until place ws ys
   all_alike_more place [] [] [] h k = tt
   all_alike_more place [] [] (y ∷ ys) h k = absurd k
   all_alike_more place [] (x ∷ xs) ys h k = absurd h
@@ -60,7 +60,7 @@ module _ (registers : ℕ) (until : List ℕ) where
   alike_later place (Some m) None h = absurd h
   alike_later place (Some m) (Some n) h = agree_later place m n h
 
-  -- ---- ways that arrive
+  -- ---- what arrives
 
   pub either_alike : (place : ℕ) (w x y z : Option Memory) → Alike registers until place w x → Alike registers until place y z → Alike registers until place (either w y) (either x z)
   either_alike place None None y z h k = k
@@ -68,7 +68,7 @@ module _ (registers : ℕ) (until : List ℕ) where
   either_alike place (Some m) None y z h k = absurd h
   either_alike place (Some m) (Some n) y z h k = h
 
-  pub arrived_alike : (place n : ℕ) (w x : Option Memory) (ws xs : Ways) → Alike registers until place w x → AllAlike registers until place ws xs → AllAlike registers until place (arrived n w ws) (arrived n x xs)
+  pub arrived_alike : (place n : ℕ) (w x : Option Memory) (ws xs : Arrivals) → Alike registers until place w x → AllAlike registers until place ws xs → AllAlike registers until place (arrived n w ws) (arrived n x xs)
   arrived_alike place n w x [] [] h k = tt
   arrived_alike place n w x [] (y ∷ xs) h k = absurd k
   arrived_alike place n w x (y ∷ ws) [] h k = absurd k
@@ -177,7 +177,7 @@ module _ (registers : ℕ) (until : List ℕ) where
   alike_kept place (Some m) None test same h = absurd h
   alike_kept place (Some m) (Some n) test same h = kept_by place (test m) (test n) m n (same m n h) (agree_later place m n h)
 
-  module _ (v : ℕ → ℕ) (apart place : ℕ) (w x : Option Memory) (ws xs : Ways) (h : Alike registers until place w x) (k : AllAlike registers until (suc place) ws xs) where
+  module _ (v : ℕ → ℕ) (apart place : ℕ) (w x : Option Memory) (ws xs : Arrivals) (h : Alike registers until place w x) (k : AllAlike registers until (suc place) ws xs) where
     goes_on : (o : Operation) → AreRead registers until place o → AllAlike registers until (suc place) (arrived 0 (updated (calculated o) w) ws) (arrived 0 (updated (calculated o) x) xs)
     goes_on o read = arrived_alike (suc place) 0 _ _ ws xs (alike_updated place w x (calculated o) (λ m n agree. agree_calculated place m n agree o read) h) k
 
@@ -223,28 +223,28 @@ module _ (registers : ℕ) (until : List ℕ) where
     same_on place line f o (Some m) None read h = absurd h
     same_on place line f o (Some m) (Some n) read h = same_told place m n h v apart line f o read
 
-    first_alike : (place : ℕ) (ws xs : Ways) → AllAlike registers until place ws xs → Alike registers until place (first_way v apart ws) (first_way v apart xs)
+    first_alike : (place : ℕ) (ws xs : Arrivals) → AllAlike registers until place ws xs → Alike registers until place (first_arrival v apart ws) (first_arrival v apart xs)
     first_alike place [] [] h = tt
     first_alike place [] (x ∷ xs) h = absurd h
     first_alike place (w ∷ ws) [] h = absurd h
     first_alike place (w ∷ ws) (x ∷ xs) h = h.0
 
-    later_alike : (place : ℕ) (ws xs : Ways) → AllAlike registers until place ws xs → AllAlike registers until (suc place) (later_ways v apart ws) (later_ways v apart xs)
+    later_alike : (place : ℕ) (ws xs : Arrivals) → AllAlike registers until place ws xs → AllAlike registers until (suc place) (later_arrivals v apart ws) (later_arrivals v apart xs)
     later_alike place [] [] h = tt
     later_alike place [] (x ∷ xs) h = absurd h
     later_alike place (w ∷ ws) [] h = absurd h
     later_alike place (w ∷ ws) (x ∷ xs) h = h.1
 
-    pub told_alike : (place : ℕ) (code : List Instruction) (ws xs : Ways) → Covers registers until place code → AllAlike registers until place ws xs → told v apart place code ws ≡ told v apart place code xs
+    pub told_alike : (place : ℕ) (code : List Instruction) (ws xs : Arrivals) → Covers registers until place code → AllAlike registers until place ws xs → told v apart place code ws ≡ told v apart place code xs
     told_alike place [] ws xs covers h = refl
     told_alike place (i ∷ code) ws xs covers h =
-        let p = same_on place i.line i.function i.operation (first_way v apart ws) (first_way v apart xs) covers.0 (first_alike place ws xs h) in
-        let q = told_alike (suc place) code (leaves v apart place i.operation (first_way v apart ws) (later_ways v apart ws)) (leaves v apart place i.operation (first_way v apart xs) (later_ways v apart xs)) covers.1
-        (leaves_alike v apart place (first_way v apart ws) (first_way v apart xs) (later_ways v apart ws) (later_ways v apart xs) (first_alike place ws xs h) (later_alike place ws xs h) i.operation covers.0) in
+        let p = same_on place i.line i.function i.operation (first_arrival v apart ws) (first_arrival v apart xs) covers.0 (first_alike place ws xs h) in
+        let q = told_alike (suc place) code (leaves v apart place i.operation (first_arrival v apart ws) (later_arrivals v apart ws)) (leaves v apart place i.operation (first_arrival v apart xs) (later_arrivals v apart xs)) covers.1
+        (leaves_alike v apart place (first_arrival v apart ws) (first_arrival v apart xs) (later_arrivals v apart ws) (later_arrivals v apart xs) (first_alike place ws xs h) (later_alike place ws xs h) i.operation covers.0) in
         λ k. p k ++ q k
 
     -- the same, one instruction on
-    pub told_step : (place : ℕ) (i : Instruction) (code : List Instruction) (w : Option Memory) (ws xs : Ways) → Covers registers until (suc place) code → AllAlike registers until (suc place) xs (leaves v apart place i.operation w ws)
+    pub told_step : (place : ℕ) (i : Instruction) (code : List Instruction) (w : Option Memory) (ws xs : Arrivals) → Covers registers until (suc place) code → AllAlike registers until (suc place) xs (leaves v apart place i.operation w ws)
         → on w (tells v apart place i.line i.function i.operation) ++ told v apart (suc place) code xs ≡ told v apart place (i ∷ code) (w ∷ ws)
     told_step place i code w ws xs covers h =
         ap (λ ys. on w (tells v apart place i.line i.function i.operation) ++ ys) (told_alike (suc place) code xs (leaves v apart place i.operation w ws) covers h)

@@ -41,16 +41,16 @@ use Rattle.guarded_ssa.specs.declared.forms.Event.{Event}
 use Rattle.guarded_ssa.specs.declared.forms.EventKind.TheVariants.{Draw, Read, Write, Exit, Check, Assume}
 use Rattle.guarded_ssa.specs.declared.slots.Slot.{Slot}
 use Rattle.guarded_ssa.specs.declared.pass.Pass.{Pass}
-use Rattle.guarded_ssa.specs.Ways.{Seen, asked, stopped, Ways, arrived, updated, kept, on, breaks, tells, leaves}
+use Rattle.guarded_ssa.specs.Arrivals.{Seen, asked, stopped, Arrivals, arrived, updated, kept, on, breaks, tells, leaves}
 use Rattle.guarded_ssa.specs.Forms.{IsBit, AreWords, EventIn, FormIn, kind_seen, event_seen, seen}
 use Rattle.guarded_ssa.specs.Reads.{AllAlike}
-use Rattle.guarded_ssa.specs.Held.{SlotIn, PendingIn, PassIn, Arrives, Tells, Passes, total, cells, held, stored, gone, ways}
+use Rattle.guarded_ssa.specs.Held.{SlotIn, PendingIn, PassIn, Arrives, Tells, Passes, total, cells, held, stored, guarded, arrivals}
 use Rattle.guarded_ssa.specs.Registers.{ZerosIn, AreLive, Written, find, word_or_0}
 use Rattle.guarded_ssa.proofs.Sorted.{registers_set, if_true, if_false, is_below}
 use Rattle.guarded_ssa.proofs.Blocks.{bytes_alike}
 use Rattle.guarded_ssa.specs.Results.{sets_register, into_of, result_of, class_of}
 use Rattle.guarded_ssa.proofs.Needs.{all_alike_itself, all_alike_more, arrived_alike, alike_itself}
-use Rattle.guarded_ssa.proofs.Stays.{slot_stays, gone_stays, seen_stays, ways_stay}
+use Rattle.guarded_ssa.proofs.Stays.{slot_stays, guarded_stays, seen_stays, arrivals_stay}
 use Rattle.std.proofs.lemmas.Bool.{false≢true}
 use Rattle.goto_prog.proofs.Registers.{both, test_below}
 use Rattle.word_dag.specs.declared.nodes.Node.TheVariants.{Variable, ZeroExtend}
@@ -73,16 +73,16 @@ put_in d code s t ts r id same h written g z = record {
   live = subst (λ us. AreLive d us t.live) same written.live;
 }
 
-pub put_gone : (v : ℕ → ℕ) (d : List Node) (code : Listing) (s t : Slot) (r : ℕ) (id : Id) → is_there code.registers r ≡ true → t.guard ≡ s.guard → ((k : ℕ) → find t.live k ≡ (if r == k then Some id else find s.live k))
-    → gone v d code t ≡ updated (λ m. with_register m r (value v d id)) (gone v d code s)
-put_gone v d code s t r id there g p =
+pub put_guarded : (v : ℕ → ℕ) (d : List Node) (code : Listing) (s t : Slot) (r : ℕ) (id : Id) → is_there code.registers r ≡ true → t.guard ≡ s.guard → ((k : ℕ) → find t.live k ≡ (if r == k then Some id else find s.live k))
+    → guarded v d code t ≡ updated (λ m. with_register m r (value v d id)) (guarded v d code s)
+put_guarded v d code s t r id there g p =
     let f = value v d in
     let at : 0 + r ≡ r = omega arith in
     let a = registers_set f s.live t.live 0 r (value v d id) code.registers
     (λ k. ap (word_or_0 f) (p k) ∙ set_word f (r == k) id (find s.live k) ∙ ap (λ (n : ℕ). if n == k then f id else word_or_0 f (find s.live k)) (sym at)) in
     let b = bytes_alike f s.live t.live (length code.registers) (total code.blocks)
     (λ c le lt. p c ∙ if_false (r == c) (Some id) (find s.live c) (is_below r c (omega (arith, le, test_below r (length code.registers) there)))) in
-    let same : gone v d code t ≡ (if holds (value v d s.guard) then Some (with_register (held v d code s) r (value v d id)) else None) =
+    let same : guarded v d code t ≡ (if holds (value v d s.guard) then Some (with_register (held v d code s) r (value v d id)) else None) =
     (λ i. if holds (value v d (g i)) then Some (record { registers = a i; blocks = stored code.blocks (b i) }) else None) in
     same ∙ updated_by (holds (value v d s.guard)) (held v d code s) (with_register (held v d code s) r (value v d id)) (λ m. with_register m r (value v d id)) refl
 
@@ -117,19 +117,19 @@ into_there rs bs (operations.Compare r op t a b) h fits =
 into_there rs bs (operations.IsZero r a) h fits = register_there rs r types.Int (both (is_register rs r types.Int) (is_there rs a) fits).0
 into_there rs bs _ h fits = absurd (false≢true h)
 
-pub assigned_gone : (v : ℕ → ℕ) (d e : List Node) (code : Listing) (s t : Slot) (o : Operation) (r : ℕ) (id : Id) → Extends d e → SlotIn d code s → sets_register o ≡ true → r ≡ into_of o → value v e id ≡ result_of o (held v d code s)
-    → gone v e code t ≡ updated (λ m. with_register m r (value v e id)) (gone v e code s) → gone v e code t ≡ updated (calculated o) (gone v d code s)
-assigned_gone v d e code s t o r id x h sets is value_is so =
+pub assigned_guarded : (v : ℕ → ℕ) (d e : List Node) (code : Listing) (s t : Slot) (o : Operation) (r : ℕ) (id : Id) → Extends d e → SlotIn d code s → sets_register o ≡ true → r ≡ into_of o → value v e id ≡ result_of o (held v d code s)
+    → guarded v e code t ≡ updated (λ m. with_register m r (value v e id)) (guarded v e code s) → guarded v e code t ≡ updated (calculated o) (guarded v d code s)
+assigned_guarded v d e code s t o r id x h sets is value_is so =
     let m = held v d code s in
     let b = holds (value v d s.guard) in
-    let a : updated (λ k. with_register k r (value v e id)) (gone v e code s) ≡ updated (λ k. with_register k (into_of o) (result_of o m)) (gone v d code s) =
-    (let w = gone_stays d e x v code s h in λ i. updated (λ k. with_register k (is i) (value_is i)) (w i)) in
+    let a : updated (λ k. with_register k r (value v e id)) (guarded v e code s) ≡ updated (λ k. with_register k (into_of o) (result_of o m)) (guarded v d code s) =
+    (let w = guarded_stays d e x v code s h in λ i. updated (λ k. with_register k (is i) (value_is i)) (w i)) in
     so ∙ a ∙ sym (updated_by b m (with_register m (into_of o) (result_of o m)) (λ k. with_register k (into_of o) (result_of o m)) refl)
     ∙ updated_by b m (with_register m (into_of o) (result_of o m)) (calculated o) (sym (result_is o m sets))
 
 -- ---- passing without an event
 
-leads_on : (o : Operation) → is_calculation o ≡ true → (v : ℕ → ℕ) (apart place : ℕ) (w : Option Memory) (ws : Ways) → leaves v apart place o w ws ≡ arrived 0 (updated (calculated o) w) ws
+leads_on : (o : Operation) → is_calculation o ≡ true → (v : ℕ → ℕ) (apart place : ℕ) (w : Option Memory) (ws : Arrivals) → leaves v apart place o w ws ≡ arrived 0 (updated (calculated o) w) ws
 leads_on (operations.Constant r bits) h v apart place w ws = refl
 leads_on (operations.Copy r a) h v apart place w ws = refl
 leads_on (operations.Load r t b offset) h v apart place w ws = refl
@@ -168,30 +168,30 @@ append_nil [] = refl
 append_nil (x ∷ xs) = ap (λ ys. x ∷ ys) (append_nil xs)
 
 module _ (until : List ℕ) (code : Listing) (place line f : ℕ) (o : Operation) (d d1 e : List Node) (s s1 : Slot) (p q : Pass) (x : Extends d d1) (within : PassIn d code p) where
-  pub passes_by_slot : (n : ℕ) → Extends d1 e → ((v : ℕ → ℕ) (m : Memory) → tells v (length code.instructions) place line f o m ≡ []) → ((v : ℕ → ℕ) (ws : Ways) → leaves v (length code.instructions) place o (gone v d code s) ws ≡ arrived n (gone v d1 code s1) ws)
+  pub passes_by_slot : (n : ℕ) → Extends d1 e → ((v : ℕ → ℕ) (m : Memory) → tells v (length code.instructions) place line f o m ≡ []) → ((v : ℕ → ℕ) (ws : Arrivals) → leaves v (length code.instructions) place o (guarded v d code s) ws ≡ arrived n (guarded v d1 code s1) ws)
       → Arrives until code place n s1 d1 e p q → Passes until code place line f o s d e p q
   passes_by_slot n y none leads arrives = record {
     within = arrives.within;
     size = arrives.size;
     told = λ v. ap (seen v e) arrives.told ∙ seen_stays d e (extends_more d d1 e x y) v p.events.items within.events ∙ sym (append_nil (seen v d p.events.items))
-        ∙ ap (λ ys. seen v d p.events.items ++ ys) (sym (nothing_on (gone v d code s) (tells v (length code.instructions) place line f o) (none v)));
-    leads = λ v. subst (AllAlike (length code.registers) until (suc place) (ways v e code q.pending.items)) (ap (arrived n (gone v d1 code s1)) (ways_stay d d1 x v code p.pending.items within.pending) ∙ sym (leads v (ways v d code p.pending.items))) (arrives.leads v);
+        ∙ ap (λ ys. seen v d p.events.items ++ ys) (sym (nothing_on (guarded v d code s) (tells v (length code.instructions) place line f o) (none v)));
+    leads = λ v. subst (AllAlike (length code.registers) until (suc place) (arrivals v e code q.pending.items)) (ap (arrived n (guarded v d1 code s1)) (arrivals_stay d d1 x v code p.pending.items within.pending) ∙ sym (leads v (arrivals v d code p.pending.items))) (arrives.leads v);
   }
 
-  pub passes_by_event : (event : Event) → ((v : ℕ → ℕ) → event_seen v d1 event ≡ on (gone v d code s) (tells v (length code.instructions) place line f o)) → ((v : ℕ → ℕ) (ws : Ways) → leaves v (length code.instructions) place o (gone v d code s) ws ≡ arrived 0 (gone v d1 code s1) ws)
+  pub passes_by_event : (event : Event) → ((v : ℕ → ℕ) → event_seen v d1 event ≡ on (guarded v d code s) (tells v (length code.instructions) place line f o)) → ((v : ℕ → ℕ) (ws : Arrivals) → leaves v (length code.instructions) place o (guarded v d code s) ws ≡ arrived 0 (guarded v d1 code s1) ws)
       → Tells until code place event s1 d1 e p q → Passes until code place line f o s d e p q
   passes_by_event event same leads tells_it = record {
     within = tells_it.within;
     size = tells_it.size;
     told = λ v. let a = seen_stays d d1 x v p.events.items within.events in let b = same v in tells_it.told v ∙ (λ i. a i ++ b i);
-    leads = λ v. subst (AllAlike (length code.registers) until (suc place) (ways v e code q.pending.items)) (ap (arrived 0 (gone v d1 code s1)) (ways_stay d d1 x v code p.pending.items within.pending) ∙ sym (leads v (ways v d code p.pending.items))) (tells_it.leads v);
+    leads = λ v. subst (AllAlike (length code.registers) until (suc place) (arrivals v e code q.pending.items)) (ap (arrived 0 (guarded v d1 code s1)) (arrivals_stay d d1 x v code p.pending.items within.pending) ∙ sym (leads v (arrivals v d code p.pending.items))) (tells_it.leads v);
   }
 
 -- a slot goes on behind an operation that sets a register or a block
 pub passes_calculated : (until : List ℕ) (code : Listing) (place line f : ℕ) (o : Operation) (d d1 e : List Node) (s s1 : Slot) (p q : Pass) → Extends d d1 → PassIn d code p → Extends d1 e → is_calculation o ≡ true
-    → ((v : ℕ → ℕ) → gone v d1 code s1 ≡ updated (calculated o) (gone v d code s)) → Arrives until code place 0 s1 d1 e p q → Passes until code place line f o s d e p q
+    → ((v : ℕ → ℕ) → guarded v d1 code s1 ≡ updated (calculated o) (guarded v d code s)) → Arrives until code place 0 s1 d1 e p q → Passes until code place line f o s d e p q
 passes_calculated until code place line f o d d1 e s s1 p q x within y calculation same arrives =
-    passes_by_slot until code place line f o d d1 e s s1 p q x within 0 y (λ v m. silent o calculation v (length code.instructions) place line f m) (λ v ws. leads_on o calculation v (length code.instructions) place (gone v d code s) ws ∙ ap (λ w. arrived 0 w ws) (sym (same v))) arrives
+    passes_by_slot until code place line f o d d1 e s s1 p q x within 0 y (λ v m. silent o calculation v (length code.instructions) place line f m) (λ v ws. leads_on o calculation v (length code.instructions) place (guarded v d code s) ws ∙ ap (λ w. arrived 0 w ws) (sym (same v))) arrives
 
 pub passes_skip : (until : List ℕ) (code : Listing) (place line f n : ℕ) (d e : List Node) (s : Slot) (p q : Pass) → PassIn d code p → Extends d e → Arrives until code place n s d e p q → Passes until code place line f (operations.Skip n) s d e p q
 passes_skip until code place line f n d e s p q within y arrives =
@@ -199,24 +199,24 @@ passes_skip until code place line f n d e s p q within y arrives =
 
 -- two slots go on
 pub passes_branch : (until : List ℕ) (code : Listing) (place line f a n : ℕ) (d d1 d2 e : List Node) (s first second : Slot) (p p1 q : Pass) → Extends d d1 → Extends d1 d2 → Extends d2 e → PassIn d code p → SlotIn d1 code first
-    → ((v : ℕ → ℕ) → gone v d1 code first ≡ kept (λ m. register m a == 0) (gone v d code s)) → ((v : ℕ → ℕ) → gone v d1 code second ≡ kept (λ m. not (register m a == 0)) (gone v d code s))
+    → ((v : ℕ → ℕ) → guarded v d1 code first ≡ kept (λ m. register m a == 0) (guarded v d code s)) → ((v : ℕ → ℕ) → guarded v d1 code second ≡ kept (λ m. not (register m a == 0)) (guarded v d code s))
     → Arrives until code place 0 second d1 d2 p p1 → Arrives until code place n first d2 e p1 q → Passes until code place line f (operations.SkipIfZero a n) s d e p q
 passes_branch until code place line f a n d d1 d2 e s first second p p1 q x y z within slot zero_is other_is one two = record {
   within = two.within;
   size = two.size ∙ one.size;
   told = λ v. ap (seen v e) (two.told ∙ one.told) ∙ seen_stays d e (extends_more d d2 e (extends_more d d1 d2 x y) z) v p.events.items within.events ∙ sym (append_nil (seen v d p.events.items))
-      ∙ ap (λ ys. seen v d p.events.items ++ ys) (sym (nothing_on (gone v d code s) (tells v (length code.instructions) place line f (operations.SkipIfZero a n)) (λ m. refl)));
+      ∙ ap (λ ys. seen v d p.events.items ++ ys) (sym (nothing_on (guarded v d code s) (tells v (length code.instructions) place line f (operations.SkipIfZero a n)) (λ m. refl)));
   leads = λ v.
-      let w0 = kept (λ m. register m a == 0) (gone v d code s) in
-      let w1 = kept (λ m. not (register m a == 0)) (gone v d code s) in
-      let ws = ways v d code p.pending.items in
-      let g : gone v d2 code first ≡ w0 = gone_stays d1 d2 y v code first slot ∙ zero_is v in
-      let h : AllAlike (length code.registers) until (suc place) (ways v d2 code p1.pending.items) (arrived 0 w1 ws) =
-      subst (AllAlike (length code.registers) until (suc place) (ways v d2 code p1.pending.items)) (let a' = other_is v in let b' = ways_stay d d1 x v code p.pending.items within.pending in λ i. arrived 0 (a' i) (b' i)) (one.leads v) in
-      let k : AllAlike (length code.registers) until (suc place) (ways v e code q.pending.items) (arrived n w0 (ways v d2 code p1.pending.items)) =
-      subst (λ w. AllAlike (length code.registers) until (suc place) (ways v e code q.pending.items) (arrived n w (ways v d2 code p1.pending.items))) g (two.leads v) in
-      all_alike_more (length code.registers) until (suc place) (ways v e code q.pending.items) (arrived n w0 (ways v d2 code p1.pending.items)) (arrived n w0 (arrived 0 w1 ws)) k
-      (arrived_alike (length code.registers) until (suc place) n w0 w0 (ways v d2 code p1.pending.items) (arrived 0 w1 ws) (alike_itself (length code.registers) until (suc place) w0) h);
+      let w0 = kept (λ m. register m a == 0) (guarded v d code s) in
+      let w1 = kept (λ m. not (register m a == 0)) (guarded v d code s) in
+      let ws = arrivals v d code p.pending.items in
+      let g : guarded v d2 code first ≡ w0 = guarded_stays d1 d2 y v code first slot ∙ zero_is v in
+      let h : AllAlike (length code.registers) until (suc place) (arrivals v d2 code p1.pending.items) (arrived 0 w1 ws) =
+      subst (AllAlike (length code.registers) until (suc place) (arrivals v d2 code p1.pending.items)) (let a' = other_is v in let b' = arrivals_stay d d1 x v code p.pending.items within.pending in λ i. arrived 0 (a' i) (b' i)) (one.leads v) in
+      let k : AllAlike (length code.registers) until (suc place) (arrivals v e code q.pending.items) (arrived n w0 (arrivals v d2 code p1.pending.items)) =
+      subst (λ w. AllAlike (length code.registers) until (suc place) (arrivals v e code q.pending.items) (arrived n w (arrivals v d2 code p1.pending.items))) g (two.leads v) in
+      all_alike_more (length code.registers) until (suc place) (arrivals v e code q.pending.items) (arrived n w0 (arrivals v d2 code p1.pending.items)) (arrived n w0 (arrived 0 w1 ws)) k
+      (arrived_alike (length code.registers) until (suc place) n w0 w0 (arrivals v d2 code p1.pending.items) (arrived 0 w1 ws) (alike_itself (length code.registers) until (suc place) w0) h);
 }
 
 -- ---- events
@@ -238,7 +238,7 @@ tells_one until code place event s d e p p1 q x within events pending arrives = 
   within = arrives.within;
   size = arrives.size ∙ ap length pending;
   told = λ v. ap (seen v e) arrives.told ∙ seen_stays d e x v p1.events.items within.events ∙ ap (seen v d) events ∙ seen_push v d p.events.items event;
-  leads = λ v. subst (λ ps. AllAlike (length code.registers) until (suc place) (ways v e code q.pending.items) (arrived 0 (gone v d code s) (ways v d code ps))) pending (arrives.leads v);
+  leads = λ v. subst (λ ps. AllAlike (length code.registers) until (suc place) (arrivals v e code q.pending.items) (arrived 0 (guarded v d code s) (arrivals v d code ps))) pending (arrives.leads v);
 }
 
 on_by : (b : Bool) (m : Memory) (tell : Memory → List Seen) (ks : List Seen) → ks ≡ tell m → (if b then ks else []) ≡ on (if b then Some m else None) tell
@@ -247,14 +247,14 @@ on_by false m tell ks e = refl
 
 -- an event under the slot's guard
 pub event_by : (v : ℕ → ℕ) (d d1 : List Node) (code : Listing) (s : Slot) (event : Event) (tell : Memory → List Seen) → Extends d d1 → SlotIn d code s → event.guard ≡ s.guard
-    → kind_seen v d1 event.line event.function event.kind ≡ tell (held v d code s) → event_seen v d1 event ≡ on (gone v d code s) tell
+    → kind_seen v d1 event.line event.function event.kind ≡ tell (held v d code s) → event_seen v d1 event ≡ on (guarded v d code s) tell
 event_by v d d1 code s event tell x h g k =
     let a = ap (value v d1) g ∙ x.value_stays v s.guard h.guard.there in
     ap (λ n. if holds n then kind_seen v d1 event.line event.function event.kind else []) a ∙ on_by (holds (value v d s.guard)) (held v d code s) tell (kind_seen v d1 event.line event.function event.kind) k
 
-same_way : (w : Option Memory) → updated (λ m. m) w ≡ w
-same_way None = refl
-same_way (Some m) = refl
+same_arrival : (w : Option Memory) → updated (λ m. m) w ≡ w
+same_arrival None = refl
+same_arrival (Some m) = refl
 
 -- ---- checks
 
@@ -302,8 +302,8 @@ test_holds : (v : ℕ → ℕ) (d : List Node) (i : Id) (f : (ℕ → ℕ) → B
 test_holds v d i f made = ap holds (made.value_is v) ∙ holds_bit (f v)
 
 module _ (until : List ℕ) (code : Listing) (place line f : ℕ) (d d1 e : List Node) (s : Slot) (p q : Pass) (x : Extends d d1) (within : PassIn d code p) (slot : SlotIn d code s) where
-  goes_same : (v : ℕ → ℕ) (ws : Ways) → arrived 0 (updated (λ m. m) (gone v d code s)) ws ≡ arrived 0 (gone v d1 code s) ws
-  goes_same v ws = ap (λ w. arrived 0 w ws) (same_way (gone v d code s) ∙ sym (gone_stays d d1 x v code s slot))
+  goes_same : (v : ℕ → ℕ) (ws : Arrivals) → arrived 0 (updated (λ m. m) (guarded v d code s)) ws ≡ arrived 0 (guarded v d1 code s) ws
+  goes_same v ws = ap (λ w. arrived 0 w ws) (same_arrival (guarded v d code s) ∙ sym (guarded_stays d d1 x v code s slot))
 
   pub passes_checked : (c : Condition) (failing : Id) (class : Class) → IsTest d1 failing (λ v. is_some (check_class c (held v d code s))) → check_fits code.registers c ≡ true → class ≡ class_of c
       → Tells until code place (record { guard = s.guard; line = line; function = f; kind = Check class failing }) s d1 e p q → Passes until code place line f (operations.Check c) s d e p q
@@ -356,8 +356,8 @@ pub stopped_in : (d : List Node) (code : Listing) (s : Slot) (line f : ℕ) → 
 stopped_in d code s line f h = record { guard = bit_of_word d s.guard h.guard; kind = bit_of_word d s.guard h.guard }
 
 module _ (until : List ℕ) (code : Listing) (place line f : ℕ) (d e : List Node) (s : Slot) (p q : Pass) (within : PassIn d code p) (slot : SlotIn d code s) where
-  stays_same : (v : ℕ → ℕ) (ws : Ways) → arrived 0 (updated (λ m. m) (gone v d code s)) ws ≡ arrived 0 (gone v d code s) ws
-  stays_same v ws = ap (λ w. arrived 0 w ws) (same_way (gone v d code s))
+  stays_same : (v : ℕ → ℕ) (ws : Arrivals) → arrived 0 (updated (λ m. m) (guarded v d code s)) ws ≡ arrived 0 (guarded v d code s) ws
+  stays_same v ws = ap (λ w. arrived 0 w ws) (same_arrival (guarded v d code s))
 
   pub passes_failed : (class : Class) → Tells until code place (record { guard = s.guard; line = line; function = f; kind = Check class s.guard }) s d e p q → Passes until code place line f (operations.Fail class) s d e p q
   passes_failed class tells_it =
@@ -384,17 +384,17 @@ draw_in d d1 d2 code s answer place line f bits x y h made = record {
 }
 
 pub passes_draw : (until : List ℕ) (code : Listing) (place line f r bits w : ℕ) (d d1 d2 e : List Node) (s next : Slot) (answer result : Id) (p q : Pass) → Extends d d1 → Extends d1 d2 → PassIn d code p → SlotIn d code s
-    → Makes d d1 (Variable place bits) answer → Makes d1 d2 (ZeroExtend answer w) result → ((v : ℕ → ℕ) → gone v d2 code next ≡ updated (λ m. with_register m r (value v d2 result)) (gone v d2 code s))
+    → Makes d d1 (Variable place bits) answer → Makes d1 d2 (ZeroExtend answer w) result → ((v : ℕ → ℕ) → guarded v d2 code next ≡ updated (λ m. with_register m r (value v d2 result)) (guarded v d2 code s))
     → Tells until code place (record { guard = s.guard; line = line; function = f; kind = Draw bits answer }) next d2 e p q → Passes until code place line f (operations.Draw r bits) s d e p q
-passes_draw until code place line f r bits w d d1 d2 e s next answer result p q x y within slot made wide gone_is tells_it =
+passes_draw until code place line f r bits w d d1 d2 e s next answer result p q x y within slot made wide guarded_is tells_it =
     let z = extends_more d d1 d2 x y in
     passes_by_event until code place line f (operations.Draw r bits) d d2 e s next p q z within (record { guard = s.guard; line = line; function = f; kind = Draw bits answer })
     (λ v. event_by v d d2 code s (record { guard = s.guard; line = line; function = f; kind = Draw bits answer }) (tells v (length code.instructions) place line f (operations.Draw r bits)) z slot refl
     (ap (λ n. asked (actions.Draw bits) line f (answers.Word (word bits n)) ∷ []) (y.value_stays v answer made.there ∙ made.value_is v)))
     (λ v ws.
     let n : value v d2 result ≡ low_bits bits (v place) = wide.value_is v ∙ made.value_is v in
-    let g = gone_stays d d2 z v code s slot in
-    ap (λ w'. arrived 0 w' ws) (sym (gone_is v ∙ (λ i. updated (λ m. with_register m r (n i)) (g i)))))
+    let g = guarded_stays d d2 z v code s slot in
+    ap (λ w'. arrived 0 w' ws) (sym (guarded_is v ∙ (λ i. updated (λ m. with_register m r (n i)) (g i)))))
     tells_it
 
 pub exit_in : (d : List Node) (code : Listing) (s : Slot) (line f : ℕ) → SlotIn d code s → EventIn d (record { guard = s.guard; line = line; function = f; kind = Exit })
@@ -409,16 +409,16 @@ passes_exit until code place line f d s p q within slot events pending =
       size = ap length pending;
       told = λ v. ap (seen v d) events ∙ seen_push v d p.events.items event
           ∙ ap (λ ys. seen v d p.events.items ++ ys) (event_by v d d code s event (tells v (length code.instructions) place line f operations.Exit) (extends_itself d) slot refl refl);
-      leads = λ v. subst (AllAlike (length code.registers) until (suc place) (ways v d code q.pending.items)) (ap (ways v d code) pending) (all_alike_itself (length code.registers) until (suc place) (ways v d code q.pending.items));
+      leads = λ v. subst (AllAlike (length code.registers) until (suc place) (arrivals v d code q.pending.items)) (ap (arrivals v d code) pending) (all_alike_itself (length code.registers) until (suc place) (arrivals v d code q.pending.items));
     }
 
 -- ---- accesses
 
 pub passes_read : (until : List ℕ) (code : Listing) (place line f b to object offset count : ℕ) (d d1 d2 e : List Node) (s next : Slot) (answer bytes : List Id) (p q : Pass) → Extends d d1 → Extends d1 d2 → PassIn d code p → SlotIn d code s
     → AreWords d1 count answer → ((v : ℕ → ℕ) → map (value v d1) answer ≡ words_by v (length code.instructions) (word_count count) place count) → AreBytesOf d2 bytes (λ v. bytes_of_words count (map (value v d1) answer))
-    → ((v : ℕ → ℕ) → gone v d2 code next ≡ updated (λ m. with_blocks m (put_bytes m.blocks b to (map (value v d2) bytes))) (gone v d2 code s))
+    → ((v : ℕ → ℕ) → guarded v d2 code next ≡ updated (λ m. with_blocks m (put_bytes m.blocks b to (map (value v d2) bytes))) (guarded v d2 code s))
     → Tells until code place (record { guard = s.guard; line = line; function = f; kind = Read object offset count answer }) next d2 e p q → Passes until code place line f (operations.ReadObject b to object offset count) s d e p q
-passes_read until code place line f b to object offset count d d1 d2 e s next answer bytes p q x y within slot words made wide gone_is tells_it =
+passes_read until code place line f b to object offset count d d1 d2 e s next answer bytes p q x y within slot words made wide guarded_is tells_it =
     let z = extends_more d d1 d2 x y in
     let event : Event = record { guard = s.guard; line = line; function = f; kind = Read object offset count answer } in
     passes_by_event until code place line f (operations.ReadObject b to object offset count) d d2 e s next p q z within event
@@ -426,8 +426,8 @@ passes_read until code place line f b to object offset count d d1 d2 e s next an
     (ap (λ (ws : List ℕ). asked (actions.Read (pointer_to object offset) count) line f (answers.Bytes (bytes_of_words count ws)) ∷ []) (map_stays v d1 d2 answer y words.there ∙ made v)))
     (λ v ws.
     let n : map (value v d2) bytes ≡ bytes_of_words count (words_by v (length code.instructions) (word_count count) place count) = wide.values_are v ∙ ap (bytes_of_words count) (made v) in
-    let g = gone_stays d d2 z v code s slot in
-    ap (λ w'. arrived 0 w' ws) (sym (gone_is v ∙ (λ i. updated (λ m. with_blocks m (put_bytes m.blocks b to (n i))) (g i)))))
+    let g = guarded_stays d d2 z v code s slot in
+    ap (λ w'. arrived 0 w' ws) (sym (guarded_is v ∙ (λ i. updated (λ m. with_blocks m (put_bytes m.blocks b to (n i))) (g i)))))
     tells_it
 
 -- the same nodes, by other names

@@ -27,11 +27,11 @@ use Rattle.guarded_ssa.specs.declared.registers.Live.{Live}
 use Rattle.guarded_ssa.specs.declared.registers.Zeros.{Zeros}
 use Rattle.guarded_ssa.specs.declared.slots.Slot.{Slot}
 use Rattle.guarded_ssa.specs.declared.pass.Pass.{Pass}
-use Rattle.guarded_ssa.specs.Ways.{asked, stopped}
+use Rattle.guarded_ssa.specs.Arrivals.{asked, stopped}
 use Rattle.guarded_ssa.specs.Forms.{IsBit, KindIn, EventIn, FormIn, kind_seen, event_seen, seen}
 use Rattle.guarded_ssa.specs.Registers.{ZerosIn, IsLive, AreLive, find, word_or_0, words_from}
 use Rattle.guarded_ssa.proofs.Sorted.{found, past, words_same}
-use Rattle.guarded_ssa.specs.Held.{SlotIn, PendingIn, PassIn, cells, total, stored, held, gone, way, ways}
+use Rattle.guarded_ssa.specs.Held.{SlotIn, PendingIn, PassIn, cells, total, stored, held, guarded, arrival, arrivals}
 
 module _ (d e : List Node) (x : Extends d e) where
   pub word_stays : (i : Id) (w : ℕ) → IsWord d i w → IsWord e i w
@@ -75,8 +75,8 @@ module _ (d e : List Node) (x : Extends d e) where
       let r = words_of_stay v (cells code) (replicate (total code.blocks) types.Char) (length code.registers) s.live h.live.words in
       λ i. record { registers = q i; blocks = stored code.blocks (r i) }
 
-  pub gone_stays : (v : ℕ → ℕ) (code : Listing) (s : Slot) → SlotIn d code s → gone v e code s ≡ gone v d code s
-  gone_stays v code s h =
+  pub guarded_stays : (v : ℕ → ℕ) (code : Listing) (s : Slot) → SlotIn d code s → guarded v e code s ≡ guarded v d code s
+  guarded_stays v code s h =
       let p = x.value_stays v s.guard h.guard.there in
       let q = held_stays v code s h in
       λ i. if holds (p i) then Some (q i) else None
@@ -85,15 +85,15 @@ module _ (d e : List Node) (x : Extends d e) where
   pending_stays code None h = tt
   pending_stays code (Some s) h = slot_stays code s h
 
-  way_stays : (v : ℕ → ℕ) (code : Listing) (s : Option Slot) → PendingIn d code s → way v e code s ≡ way v d code s
-  way_stays v code None h = refl
-  way_stays v code (Some s) h = gone_stays v code s h
+  arrival_stays : (v : ℕ → ℕ) (code : Listing) (s : Option Slot) → PendingIn d code s → arrival v e code s ≡ arrival v d code s
+  arrival_stays v code None h = refl
+  arrival_stays v code (Some s) h = guarded_stays v code s h
 
-  pub ways_stay : (v : ℕ → ℕ) (code : Listing) (pending : List (Option Slot)) → All (PendingIn d code) pending → ways v e code pending ≡ ways v d code pending
-  ways_stay v code [] h = refl
-  ways_stay v code (s ∷ pending) h =
-      let p = way_stays v code s (All-head (PendingIn d code) s pending h) in
-      let q = ways_stay v code pending (All-tail (PendingIn d code) s pending h) in
+  pub arrivals_stay : (v : ℕ → ℕ) (code : Listing) (pending : List (Option Slot)) → All (PendingIn d code) pending → arrivals v e code pending ≡ arrivals v d code pending
+  arrivals_stay v code [] h = refl
+  arrivals_stay v code (s ∷ pending) h =
+      let p = arrival_stays v code s (All-head (PendingIn d code) s pending h) in
+      let q = arrivals_stay v code pending (All-tail (PendingIn d code) s pending h) in
       λ i. p i ∷ q i
 
   pub all_pending_stay : (code : Listing) (pending : List (Option Slot)) → All (PendingIn d code) pending → All (PendingIn e code) pending

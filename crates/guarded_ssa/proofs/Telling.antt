@@ -14,25 +14,25 @@ use Rattle.goto_prog.specs.declared.code.Operation.TheVariants as operations
 use Rattle.goto_prog.specs.declared.code.Instruction.{Instruction}
 use Rattle.goto_prog.specs.Meaning.{Memory, register, with_register, with_blocks, bytes_of, word_of, bytes_in, check_class, calculated, or_else, at, operates, places}
 use Rattle.guarded_ssa.specs.Runs.{Run, stops, asks, answer_at, running}
-use Rattle.guarded_ssa.specs.Ways.{stopped, read, Ways, arrived, breaks, tells, leaves, told}
+use Rattle.guarded_ssa.specs.Arrivals.{stopped, read, Arrivals, arrived, breaks, tells, leaves, told}
 
 abbrev pub end : Run
 end = stops (Ended (word_64 0))
 
 -- no place is reached
-abbrev pub Nowhere : Ways → Type 0
+abbrev pub Nowhere : Arrivals → Type 0
 Nowhere [] = Unit {0}
 Nowhere (None ∷ ws) = Nowhere ws
 Nowhere (Some m ∷ ws) = ⊥
 
 -- at most one place is reached
-abbrev pub Single : Ways → Type 0
+abbrev pub Single : Arrivals → Type 0
 Single [] = Unit {0}
 Single (None ∷ ws) = Single ws
 Single (Some m ∷ ws) = Nowhere ws
 
 -- what is done from the place that is reached
-abbrev pub remaining : Ways → List (Memory → Run) → Run
+abbrev pub remaining : Arrivals → List (Memory → Run) → Run
 remaining [] ps = end
 remaining (Some m ∷ ws) [] = end
 remaining (Some m ∷ ws) (p ∷ ps) = p m
@@ -43,24 +43,24 @@ module _ (v : ℕ → ℕ) (apart : ℕ) where
   abbrev Places : Type 0
   Places = List (Memory → Run)
 
-  remaining_none : (ws : Ways) → remaining ws [] ≡ end
+  remaining_none : (ws : Arrivals) → remaining ws [] ≡ end
   remaining_none [] = refl
   remaining_none (Some m ∷ ws) = refl
   remaining_none (None ∷ ws) = refl
 
-  nowhere : (ws : Ways) (ps : Places) → Nowhere ws → remaining ws ps ≡ end
+  nowhere : (ws : Arrivals) (ps : Places) → Nowhere ws → remaining ws ps ≡ end
   nowhere [] ps none = refl
   nowhere (None ∷ ws) [] none = refl
   nowhere (None ∷ ws) (p ∷ ps) none = nowhere ws ps none
   nowhere (Some m ∷ ws) ps none = absurd none
 
-  single_nowhere : (ws : Ways) → Nowhere ws → Single ws
+  single_nowhere : (ws : Arrivals) → Nowhere ws → Single ws
   single_nowhere [] none = tt
   single_nowhere (None ∷ ws) none = single_nowhere ws none
   single_nowhere (Some m ∷ ws) none = absurd none
 
-  -- one way arrives where there was none
-  arrives : (n : ℕ) (m : Memory) (ws : Ways) (ps : Places) → Nowhere ws → length ps ≤ length ws → remaining (arrived n (Some m) ws) ps ≡ at (running v apart) ps n m
+  -- one arrives where none did
+  arrives : (n : ℕ) (m : Memory) (ws : Arrivals) (ps : Places) → Nowhere ws → length ps ≤ length ws → remaining (arrived n (Some m) ws) ps ≡ at (running v apart) ps n m
   arrives n m [] [] none room = refl
   arrives n m [] (p ∷ ps) none room = absurd (omega (arith, room))
   arrives zero m (w ∷ ws) [] none room = refl
@@ -70,7 +70,7 @@ module _ (v : ℕ → ℕ) (apart : ℕ) where
   arrives (suc n) m (None ∷ ws) (p ∷ ps) none room = arrives n m ws ps none (omega (arith, room))
   arrives (suc n) m (Some x ∷ ws) ps none room = absurd none
 
-  single_arrived : (n : ℕ) (m : Memory) (ws : Ways) → Nowhere ws → Single (arrived n (Some m) ws)
+  single_arrived : (n : ℕ) (m : Memory) (ws : Arrivals) → Nowhere ws → Single (arrived n (Some m) ws)
   single_arrived n m [] none = tt
   single_arrived zero m (None ∷ ws) none = none
   single_arrived zero m (Some x ∷ ws) none = absurd none
@@ -78,17 +78,17 @@ module _ (v : ℕ → ℕ) (apart : ℕ) where
   single_arrived (suc n) m (Some x ∷ ws) none = absurd none
 
   -- what isn't reached changes nothing
-  arrived_none : (n : ℕ) (ws : Ways) → arrived n None ws ≡ ws
+  arrived_none : (n : ℕ) (ws : Arrivals) → arrived n None ws ≡ ws
   arrived_none n [] = refl
   arrived_none zero (w ∷ ws) = refl
   arrived_none (suc n) (w ∷ ws) = ap (λ xs. w ∷ xs) (arrived_none n ws)
 
-  length_arrived : (n : ℕ) (x : Option Memory) (ws : Ways) → length (arrived n x ws) ≡ length ws
+  length_arrived : (n : ℕ) (x : Option Memory) (ws : Arrivals) → length (arrived n x ws) ≡ length ws
   length_arrived n x [] = refl
   length_arrived zero x (w ∷ ws) = refl
   length_arrived (suc n) x (w ∷ ws) = ap suc (length_arrived n x ws)
 
-  pub leaves_none : (place : ℕ) (o : Operation) (ws : Ways) → leaves v apart place o None ws ≡ ws
+  pub leaves_none : (place : ℕ) (o : Operation) (ws : Arrivals) → leaves v apart place o None ws ≡ ws
   leaves_none place (operations.Constant r bits) ws = arrived_none 0 ws
   leaves_none place (operations.Copy r a) ws = arrived_none 0 ws
   leaves_none place (operations.Load r t b offset) ws = arrived_none 0 ws
@@ -117,13 +117,13 @@ module _ (v : ℕ → ℕ) (apart : ℕ) where
   -- ---- one step from a place that is reached
 
   abbrev Tells : ℕ → List Instruction → Type 0
-  Tells place code = (ws : Ways) → Single ws → length code ≤ length ws → read (told v apart place code ws) end ≡ remaining ws (places (running v apart) false place code)
+  Tells place code = (ws : Arrivals) → Single ws → length code ≤ length ws → read (told v apart place code ws) end ≡ remaining ws (places (running v apart) false place code)
 
   length_places : (place : ℕ) (code : List Instruction) → length (places (running v apart) false place code) ≡ length code
   length_places place [] = refl
   length_places place (i ∷ code) = ap suc (length_places (suc place) code)
 
-  module _ (place : ℕ) (code : List Instruction) (tell : Tells place code) (m : Memory) (ws : Ways) (none : Nowhere ws) (room : length code ≤ length ws) where
+  module _ (place : ℕ) (code : List Instruction) (tell : Tells place code) (m : Memory) (ws : Arrivals) (none : Nowhere ws) (room : length code ≤ length ws) where
     goes : (n : ℕ) (m' : Memory) → read (told v apart place code (arrived n (Some m') ws)) end ≡ at (running v apart) (places (running v apart) false place code) n m'
     goes n m' =
         tell (arrived n (Some m') ws) (single_arrived n m' ws none) (omega (arith, room, length_arrived n (Some m') ws))

@@ -19,11 +19,11 @@ use Rattle.guarded_ssa.specs.declared.forms.Event.{Event}
 use Rattle.guarded_ssa.specs.declared.slots.Slot.{Slot}
 use Rattle.guarded_ssa.specs.declared.pass.Pass.{Pass}
 use Rattle.guarded_ssa.specs.Runs.{stops, running}
-use Rattle.guarded_ssa.specs.Ways.{Ways, read, on, tells, told}
+use Rattle.guarded_ssa.specs.Arrivals.{Arrivals, read, on, tells, told}
 use Rattle.actions.specs.Objects.{Objects}
 use Rattle.guarded_ssa.specs.Forms.{Form, FormIn, IsForm, AreForms, seen}
 use Rattle.guarded_ssa.specs.Reads.{Covers}
-use Rattle.guarded_ssa.specs.Held.{SlotIn, PendingIn, PassIn, Passes, Visits, gone, way, ways}
+use Rattle.guarded_ssa.specs.Held.{SlotIn, PendingIn, PassIn, Passes, Visits, guarded, arrival, arrivals}
 use Rattle.guarded_ssa.proofs.Telling.{Nowhere, remaining, leaves_none, tells_all}
 use Rattle.guarded_ssa.proofs.Needs.{told_step}
 use Rattle.guarded_ssa.proofs.Valuations.{is_form}
@@ -36,14 +36,14 @@ visits_slot until code place i d e p p1 q s pending events passes = record {
   within = passes.within;
   size = ap suc passes.size ∙ ap length (sym pending);
   goes = λ v rest covers.
-      let w = gone v d code s in
-      let ws = ways v d code p1.pending.items in
-      let xs = ways v e code q.pending.items in
+      let w = guarded v d code s in
+      let ws = arrivals v d code p1.pending.items in
+      let xs = arrivals v e code q.pending.items in
       let before = seen v d p1.events.items in
       let told_here = on w (tells v (length code.instructions) place i.line i.function i.operation) in
       let step : told_here ++ told v (length code.instructions) (suc place) rest xs ≡ told v (length code.instructions) place (i ∷ rest) (w ∷ ws) = told_step (length code.registers) until v (length code.instructions) place i rest w ws xs covers (passes.leads v) in
       ap (λ ys. ys ++ told v (length code.instructions) (suc place) rest xs) (passes.told v) ∙ append_assoc before told_here (told v (length code.instructions) (suc place) rest xs) ∙ ap (λ ys. before ++ ys) step
-      ∙ (let a = ap (seen v d) events in let b = ap (λ ps. told v (length code.instructions) place (i ∷ rest) (ways v d code ps)) (sym pending) in λ k. a k ++ b k);
+      ∙ (let a = ap (seen v d) events in let b = ap (λ ps. told v (length code.instructions) place (i ∷ rest) (arrivals v d code ps)) (sym pending) in λ k. a k ++ b k);
 }
 
 -- one that isn't
@@ -52,10 +52,10 @@ visits_none until code place i d p q within pending events = record {
   within = within;
   size = ap length (sym pending);
   goes = λ v rest covers.
-      let ws = ways v d code q.pending.items in
+      let ws = arrivals v d code q.pending.items in
       let a = ap (seen v d) events in
       let b : told v (length code.instructions) (suc place) rest ws ≡ told v (length code.instructions) place (i ∷ rest) (None ∷ ws) = ap (told v (length code.instructions) (suc place) rest) (sym (leaves_none v (length code.instructions) place i.operation ws)) in
-      let c = ap (λ ps. told v (length code.instructions) place (i ∷ rest) (ways v d code ps)) (sym pending) in
+      let c = ap (λ ps. told v (length code.instructions) place (i ∷ rest) (arrivals v d code ps)) (sym pending) in
       λ k. a k ++ ((b ∙ c) k);
 }
 
@@ -77,18 +77,18 @@ covers_drop registers until p zero q code e h = (let f : q ≡ p = omega (arith,
 covers_drop registers until p (suc k) q [] e h = tt
 covers_drop registers until p (suc k) q (i ∷ code) e h = covers_drop registers until (suc p) k q code (omega (arith, e)) h.1
 
-pub visited : (until : List ℕ) (code : Listing) (place : ℕ) (z : Instruction) (all : (ℕ → ℕ) → Ways) (d e : List Node) (p q : Pass) → place < length code.instructions → Covers (length code.registers) until 0 code.instructions
+pub visited : (until : List ℕ) (code : Listing) (place : ℕ) (z : Instruction) (all : (ℕ → ℕ) → Arrivals) (d e : List Node) (p q : Pass) → place < length code.instructions → Covers (length code.registers) until 0 code.instructions
     → Visits until code place (get_or code.instructions place z) d e p q
-    → ((v : ℕ → ℕ) → seen v d p.events.items ++ told v (length code.instructions) place (drop place code.instructions) (ways v d code p.pending.items) ≡ told v (length code.instructions) 0 code.instructions (all v))
-    → (v : ℕ → ℕ) → seen v e q.events.items ++ told v (length code.instructions) (place + 1) (drop (place + 1) code.instructions) (ways v e code q.pending.items) ≡ told v (length code.instructions) 0 code.instructions (all v)
+    → ((v : ℕ → ℕ) → seen v d p.events.items ++ told v (length code.instructions) place (drop place code.instructions) (arrivals v d code p.pending.items) ≡ told v (length code.instructions) 0 code.instructions (all v))
+    → (v : ℕ → ℕ) → seen v e q.events.items ++ told v (length code.instructions) (place + 1) (drop (place + 1) code.instructions) (arrivals v e code q.pending.items) ≡ told v (length code.instructions) 0 code.instructions (all v)
 visited until code place z all d e p q lt covers visits so v =
     let i = get_or code.instructions place z in
     let rest = drop (suc place) code.instructions in
     let n : place + 1 ≡ suc place = omega arith in
     let front : drop place code.instructions ≡ i ∷ rest = drop-cons code.instructions place z lt in
-    ap (λ m. seen v e q.events.items ++ told v (length code.instructions) m (drop m code.instructions) (ways v e code q.pending.items)) n
+    ap (λ m. seen v e q.events.items ++ told v (length code.instructions) m (drop m code.instructions) (arrivals v e code q.pending.items)) n
     ∙ visits.goes v rest (covers_drop (length code.registers) until 0 (suc place) (suc place) code.instructions (omega arith) covers)
-    ∙ ap (λ xs. seen v d p.events.items ++ told v (length code.instructions) place xs (ways v d code p.pending.items)) (sym front) ∙ so v
+    ∙ ap (λ xs. seen v d p.events.items ++ told v (length code.instructions) place xs (arrivals v d code p.pending.items)) (sym front) ∙ so v
 
 drop_all : (n : ℕ) (xs : List Instruction) → length xs ≤ n → drop n xs ≡ []
 drop_all zero [] l = refl
@@ -96,14 +96,14 @@ drop_all zero (x ∷ xs) l = absurd (omega (arith, l))
 drop_all (suc n) [] l = refl
 drop_all (suc n) (x ∷ xs) l = drop_all n xs (omega (arith, l))
 
-pub visited_all : (code : Listing) (place : ℕ) (all : (ℕ → ℕ) → Ways) (d : List Node) (p : Pass) → length code.instructions ≤ place
-    → ((v : ℕ → ℕ) → seen v d p.events.items ++ told v (length code.instructions) place (drop place code.instructions) (ways v d code p.pending.items) ≡ told v (length code.instructions) 0 code.instructions (all v))
+pub visited_all : (code : Listing) (place : ℕ) (all : (ℕ → ℕ) → Arrivals) (d : List Node) (p : Pass) → length code.instructions ≤ place
+    → ((v : ℕ → ℕ) → seen v d p.events.items ++ told v (length code.instructions) place (drop place code.instructions) (arrivals v d code p.pending.items) ≡ told v (length code.instructions) 0 code.instructions (all v))
     → (v : ℕ → ℕ) → seen v d p.events.items ≡ told v (length code.instructions) 0 code.instructions (all v)
 visited_all code place all d p le so v =
-    sym (ap (λ xs. seen v d p.events.items ++ told v (length code.instructions) place xs (ways v d code p.pending.items)) (drop_all place code.instructions le) ∙ append_nil (seen v d p.events.items)) ∙ so v
+    sym (ap (λ xs. seen v d p.events.items ++ told v (length code.instructions) place xs (arrivals v d code p.pending.items)) (drop_all place code.instructions le) ∙ append_nil (seen v d p.events.items)) ∙ so v
 
-pub visited_none : (code : Listing) (all : (ℕ → ℕ) → Ways) (d : List Node) (p : Pass) → p.events.items ≡ [] → ((v : ℕ → ℕ) → ways v d code p.pending.items ≡ all v)
-    → (v : ℕ → ℕ) → seen v d p.events.items ++ told v (length code.instructions) 0 code.instructions (ways v d code p.pending.items) ≡ told v (length code.instructions) 0 code.instructions (all v)
+pub visited_none : (code : Listing) (all : (ℕ → ℕ) → Arrivals) (d : List Node) (p : Pass) → p.events.items ≡ [] → ((v : ℕ → ℕ) → arrivals v d code p.pending.items ≡ all v)
+    → (v : ℕ → ℕ) → seen v d p.events.items ++ told v (length code.instructions) 0 code.instructions (arrivals v d code p.pending.items) ≡ told v (length code.instructions) 0 code.instructions (all v)
 visited_none code all d p none same v = let a = ap (seen v d) none in let b = same v in λ i. a i ++ told v (length code.instructions) 0 code.instructions (b i)
 
 -- ---- the form
@@ -116,7 +116,7 @@ length_none : (n : ℕ) → length (replicate {A = Option Memory} n None) ≡ n
 length_none zero = refl
 length_none (suc n) = ap suc (length_none n)
 
-first_run : (v : ℕ → ℕ) (apart : ℕ) (code : List Instruction) (m : Memory) (ws : Ways) → remaining (Some m ∷ ws) (places (running v apart) false 0 code) ≡ does (running v apart) false 0 code m
+first_run : (v : ℕ → ℕ) (apart : ℕ) (code : List Instruction) (m : Memory) (ws : Arrivals) → remaining (Some m ∷ ws) (places (running v apart) false 0 code) ≡ does (running v apart) false 0 code m
 first_run v apart [] m ws = refl
 first_run v apart (i ∷ code) m ws = refl
 
@@ -130,10 +130,10 @@ pub one_form : (d : List Node) (g : List Form) (es : List Event) (objects : Obje
     → ((v : ℕ → ℕ) → seen v d es ≡ told v (length code.instructions) 0 code.instructions (Some m ∷ replicate (length code.instructions) None)) → AreForms (does behaving false 0 code.instructions m) objects d g
 one_form d g es objects code m is within same = subst (AreForms (does behaving false 0 code.instructions m) objects d) (sym is) (form_of d es code.instructions m same, within, refl)
 
-pub start_size : (d : List Node) (code : Listing) (pending : List (Option Slot)) (m : Memory) (n : ℕ) → ((v : ℕ → ℕ) → ways v d code pending ≡ Some m ∷ replicate n None) → length pending + 0 ≡ n + 1
+pub start_size : (d : List Node) (code : Listing) (pending : List (Option Slot)) (m : Memory) (n : ℕ) → ((v : ℕ → ℕ) → arrivals v d code pending ≡ Some m ∷ replicate n None) → length pending + 0 ≡ n + 1
 start_size d code pending m n is =
     let v : ℕ → ℕ = λ x. 0 in
-    omega (arith, length-map pending (way v d code), ap length (is v), length_none n)
+    omega (arith, length-map pending (arrival v d code), ap length (is v), length_none n)
 
 pub fits_in : (code own : Listing) (is : List Instruction) (place : ℕ) (z : Instruction) → own ≡ code → is ≡ code.instructions → code_fits code.registers code.blocks code.instructions ≡ true → place < length is
     → operation_fits own.registers own.blocks (length (drop (place + 1) own.instructions)) (get_or is place z).operation ≡ true

@@ -24,10 +24,10 @@ use Rattle.goto_prog.specs.CodeThread.{Listing}
 use Rattle.goto_prog.proofs.Blocks.{bytes_few}
 use Rattle.guarded_ssa.specs.declared.registers.Live.{Live}
 use Rattle.guarded_ssa.specs.declared.slots.Slot.{Slot}
-use Rattle.guarded_ssa.specs.Ways.{updated}
-use Rattle.guarded_ssa.specs.Held.{total, cells, SlotIn, held, stored, gone}
+use Rattle.guarded_ssa.specs.Arrivals.{updated}
+use Rattle.guarded_ssa.specs.Held.{total, cells, SlotIn, held, stored, guarded}
 use Rattle.guarded_ssa.specs.Registers.{ZerosIn, IsLive, Replaced, find, bytes_from, id_or, ids_from, lives_from}
-use Rattle.guarded_ssa.proofs.Stays.{gone_stays}
+use Rattle.guarded_ssa.proofs.Stays.{guarded_stays}
 use Rattle.guarded_ssa.proofs.Spans.{ids_length}
 use Rattle.guarded_ssa.proofs.Numbering.{cells_length, byte_type}
 use Rattle.guarded_ssa.proofs.Blocks.{lies, is_whole, block_ends, block_length, byte_words, stored_put, put_zeros, words_alike, put_words, some_words, ids_words}
@@ -70,8 +70,8 @@ module _ (d : List Node) (code : Listing) (s t : Slot) (b offset start count : �
   pub replaced_in : SlotIn d code s → t.zeros ≡ s.zeros → SlotIn d code t
   replaced_in h z = record { guard = subst (λ i. IsWord d i 1) (sym g) h.guard; zeros = subst (ZerosIn d) (sym z) h.zeros; live = own.live }
 
-  pub replaced_gone : (v : ℕ → ℕ) → gone v d code t ≡ updated (λ m. with_blocks m (put_bytes m.blocks b offset (map (value v d) ids ++ zeros (count - length ids)))) (gone v d code s)
-  replaced_gone v =
+  pub replaced_guarded : (v : ℕ → ℕ) → guarded v d code t ≡ updated (λ m. with_blocks m (put_bytes m.blocks b offset (map (value v d) ids ++ zeros (count - length ids)))) (guarded v d code s)
+  replaced_guarded v =
       let f = value v d in
       let n = total code.blocks in
       let W = map f ids ++ zeros (count - length ids) in
@@ -84,33 +84,33 @@ module _ (d : List Node) (code : Listing) (s t : Slot) (b offset start count : �
       let c = ap (stored code.blocks) bytes ∙ stored_put code.blocks old W b offset parts.0 (omega (arith, parts.1, long)) (omega (arith, byte_words f s.live first n)) in
       let m = held v d code s in
       let new : Memory = with_blocks m (put_bytes m.blocks b offset W) in
-      let same : gone v d code t ≡ (if holds (f s.guard) then Some new else None) = (λ i. if holds (f (g i)) then Some (record { registers = a i; blocks = c i }) else None) in
+      let same : guarded v d code t ≡ (if holds (f s.guard) then Some new else None) = (λ i. if holds (f (g i)) then Some (record { registers = a i; blocks = c i }) else None) in
       same ∙ updated_by (holds (f s.guard)) m new (λ k. with_blocks k (put_bytes k.blocks b offset W)) refl
 
 -- as many bytes as nodes
-pub written_gone : (v : ℕ → ℕ) (d : List Node) (code : Listing) (s t : Slot) (b offset n : ℕ) (ids : List Id) → n ≡ length ids
-    → gone v d code t ≡ updated (λ m. with_blocks m (put_bytes m.blocks b offset (map (value v d) ids ++ zeros (n - length ids)))) (gone v d code s) → gone v d code t ≡ updated (λ m. with_blocks m (put_bytes m.blocks b offset (map (value v d) ids))) (gone v d code s)
-written_gone v d code s t b offset n ids same so =
+pub written_guarded : (v : ℕ → ℕ) (d : List Node) (code : Listing) (s t : Slot) (b offset n : ℕ) (ids : List Id) → n ≡ length ids
+    → guarded v d code t ≡ updated (λ m. with_blocks m (put_bytes m.blocks b offset (map (value v d) ids ++ zeros (n - length ids)))) (guarded v d code s) → guarded v d code t ≡ updated (λ m. with_blocks m (put_bytes m.blocks b offset (map (value v d) ids))) (guarded v d code s)
+written_guarded v d code s t b offset n ids same so =
     let none : n - length ids ≡ 0 = omega (arith, same) in
-    so ∙ ap (λ (ys : List ℕ). updated (λ m. with_blocks m (put_bytes m.blocks b offset ys)) (gone v d code s)) (ap (λ k. map (value v d) ids ++ zeros k) none ∙ append-nil (map (value v d) ids))
+    so ∙ ap (λ (ys : List ℕ). updated (λ m. with_blocks m (put_bytes m.blocks b offset ys)) (guarded v d code s)) (ap (λ k. map (value v d) ids ++ zeros k) none ∙ append-nil (map (value v d) ids))
 
 -- what an update does to the one memory of a slot
-same_update : (v : ℕ → ℕ) (d : List Node) (code : Listing) (s : Slot) (f g : Memory → Memory) → f (held v d code s) ≡ g (held v d code s) → updated f (gone v d code s) ≡ updated g (gone v d code s)
+same_update : (v : ℕ → ℕ) (d : List Node) (code : Listing) (s : Slot) (f g : Memory → Memory) → f (held v d code s) ≡ g (held v d code s) → updated f (guarded v d code s) ≡ updated g (guarded v d code s)
 same_update v d code s f g e =
     let m = held v d code s in
     let b = holds (value v d s.guard) in
     sym (updated_by b m (f m) f refl) ∙ updated_by b m (f m) g e
 
-pub store_gone : (v : ℕ → ℕ) (d e : List Node) (code : Listing) (s t : Slot) (b offset count operand : ℕ) (id : Id) (ids nodes : List Id) → Extends d e → SlotIn d code s → value v d id ≡ register (held v d code s) operand → AreBytesOf e ids (λ u. low_bytes count (value u d id)) → nodes ≡ ids
-    → gone v e code t ≡ updated (λ m. with_blocks m (put_bytes m.blocks b offset (map (value v e) nodes))) (gone v e code s) → gone v e code t ≡ updated (calculated (operations.Store b offset count operand)) (gone v d code s)
-store_gone v d e code s t b offset count operand id ids nodes x h is made nodes_are so =
+pub store_guarded : (v : ℕ → ℕ) (d e : List Node) (code : Listing) (s t : Slot) (b offset count operand : ℕ) (id : Id) (ids nodes : List Id) → Extends d e → SlotIn d code s → value v d id ≡ register (held v d code s) operand → AreBytesOf e ids (λ u. low_bytes count (value u d id)) → nodes ≡ ids
+    → guarded v e code t ≡ updated (λ m. with_blocks m (put_bytes m.blocks b offset (map (value v e) nodes))) (guarded v e code s) → guarded v e code t ≡ updated (calculated (operations.Store b offset count operand)) (guarded v d code s)
+store_guarded v d e code s t b offset count operand id ids nodes x h is made nodes_are so =
     let bytes = ap (map (value v e)) nodes_are ∙ made.values_are v ∙ ap (low_bytes count) is in
-    so ∙ (let w = gone_stays d e x v code s h in λ i. updated (λ m. with_blocks m (put_bytes m.blocks b offset (bytes i))) (w i))
+    so ∙ (let w = guarded_stays d e x v code s h in λ i. updated (λ m. with_blocks m (put_bytes m.blocks b offset (bytes i))) (w i))
     ∙ same_update v d code s (λ m. with_blocks m (put_bytes m.blocks b offset (low_bytes count (register (held v d code s) operand)))) (calculated (operations.Store b offset count operand)) refl
 
-pub clear_gone : (v : ℕ → ℕ) (d : List Node) (code : Listing) (s t : Slot) (b size n : ℕ) (ids : List Id) → is_block code.blocks b size ≡ true → n ≡ size → ids ≡ []
-    → gone v d code t ≡ updated (λ m. with_blocks m (put_bytes m.blocks b 0 (map (value v d) ids ++ zeros (n - length ids)))) (gone v d code s) → gone v d code t ≡ updated (calculated (operations.Clear b size)) (gone v d code s)
-clear_gone v d code s t b size n ids there n_is none so =
+pub clear_guarded : (v : ℕ → ℕ) (d : List Node) (code : Listing) (s t : Slot) (b size n : ℕ) (ids : List Id) → is_block code.blocks b size ≡ true → n ≡ size → ids ≡ []
+    → guarded v d code t ≡ updated (λ m. with_blocks m (put_bytes m.blocks b 0 (map (value v d) ids ++ zeros (n - length ids)))) (guarded v d code s) → guarded v d code t ≡ updated (calculated (operations.Clear b size)) (guarded v d code s)
+clear_guarded v d code s t b size n ids there n_is none so =
     let f = value v d in
     let parts = is_whole code.blocks b size there in
     let total_bytes = total code.blocks in
@@ -191,9 +191,9 @@ load_same t blocks b offset n xs n_is is = ap (number_at t 0) (is ∙ ap (bytes_
 pub within_by_size : (sizes : List ℕ) (b offset count size : ℕ) → is_within sizes b offset count ≡ true → size ≡ count → is_within sizes b offset size ≡ true
 within_by_size sizes b offset count size there same = subst (λ n. is_within sizes b offset n ≡ true) (sym same) there
 
-pub copy_gone : (v : ℕ → ℕ) (d : List Node) (code : Listing) (s t : Slot) (into to from offset count : ℕ) (ids nodes : List Id) → nodes ≡ ids → map (value v d) ids ≡ bytes_of (held v d code s).blocks from offset count
-    → gone v d code t ≡ updated (λ m. with_blocks m (put_bytes m.blocks into to (map (value v d) nodes))) (gone v d code s) → gone v d code t ≡ updated (calculated (operations.CopyBytes into to from offset count)) (gone v d code s)
-copy_gone v d code s t into to from offset count ids nodes nodes_are values so =
+pub copy_guarded : (v : ℕ → ℕ) (d : List Node) (code : Listing) (s t : Slot) (into to from offset count : ℕ) (ids nodes : List Id) → nodes ≡ ids → map (value v d) ids ≡ bytes_of (held v d code s).blocks from offset count
+    → guarded v d code t ≡ updated (λ m. with_blocks m (put_bytes m.blocks into to (map (value v d) nodes))) (guarded v d code s) → guarded v d code t ≡ updated (calculated (operations.CopyBytes into to from offset count)) (guarded v d code s)
+copy_guarded v d code s t into to from offset count ids nodes nodes_are values so =
     let f = value v d in
     let m = held v d code s in
     let bytes : map f nodes ≡ bytes_of m.blocks from offset count = ap (map f) nodes_are ∙ values in

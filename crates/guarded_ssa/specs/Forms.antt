@@ -18,7 +18,7 @@ use Rattle.guarded_ssa.specs.declared.forms.Event.{Event}
 use Rattle.guarded_ssa.specs.declared.forms.EventKind.{EventKind}
 use Rattle.guarded_ssa.specs.declared.forms.EventKind.TheVariants.{Draw, Read, Write, Exit, Check, Assume}
 use Rattle.guarded_ssa.specs.Runs.{Run, stops, asks, bytes_of_words, word_widths}
-use Rattle.guarded_ssa.specs.Ways.{Seen, asked, stopped, read}
+use Rattle.guarded_ssa.specs.Arrivals.{Seen, asked, stopped, read}
 
 -- ---- under one valuation
 

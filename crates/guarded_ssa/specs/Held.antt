@@ -14,7 +14,7 @@ use Rattle.guarded_ssa.specs.declared.forms.Event.{Event}
 use Rattle.guarded_ssa.specs.declared.pass.Pass.{Pass}
 use Rattle.goto_prog.specs.declared.code.Operation.{Operation}
 use Rattle.goto_prog.specs.declared.code.Instruction.{Instruction}
-use Rattle.guarded_ssa.specs.Ways.{arrived, on, tells, leaves, told}
+use Rattle.guarded_ssa.specs.Arrivals.{arrived, on, tells, leaves, told}
 use Rattle.guarded_ssa.specs.Reads.{AllAlike, Covers}
 use Rattle.guarded_ssa.specs.Registers.{ZerosIn, AreLive, words_from, bytes_from}
 use Rattle.guarded_ssa.specs.Forms.{FormIn, event_seen, seen}
@@ -70,15 +70,15 @@ module _ (v : ℕ → ℕ) (d : List Node) (code : Listing) where
   }
 
   -- the memory with which the slot is reached, if it is
-  abbrev pub gone : Slot → Option Memory
-  gone s = if holds (value v d s.guard) then Some (held s) else None
+  abbrev pub guarded : Slot → Option Memory
+  guarded s = if holds (value v d s.guard) then Some (held s) else None
 
-  abbrev pub way : Option Slot → Option Memory
-  way None = None
-  way (Some s) = gone s
+  abbrev pub arrival : Option Slot → Option Memory
+  arrival None = None
+  arrival (Some s) = guarded s
 
-  abbrev pub ways : List (Option Slot) → List (Option Memory)
-  ways pending = map way pending
+  abbrev pub arrivals : List (Option Slot) → List (Option Memory)
+  arrivals pending = map arrival pending
 
 pub record SlotIn (d : List Node) (code : Listing) (s : Slot) : Type 0 where
   pub guard : IsWord d s.guard 1
@@ -100,25 +100,25 @@ pub record Arrives (until : List ℕ) (code : Listing) (place n : ℕ) (s : Slot
   pub within : PassIn e code q
   pub size : length q.pending.items ≡ length p.pending.items
   pub told : q.events.items ≡ p.events.items
-  pub leads : (v : ℕ → ℕ) → AllAlike (length code.registers) until (suc place) (ways v e code q.pending.items) (arrived n (gone v d code s) (ways v d code p.pending.items))
+  pub leads : (v : ℕ → ℕ) → AllAlike (length code.registers) until (suc place) (arrivals v e code q.pending.items) (arrived n (guarded v d code s) (arrivals v d code p.pending.items))
 
 -- an event is told, and a slot has arrived at the next place
 pub record Tells (until : List ℕ) (code : Listing) (place : ℕ) (event : Event) (s : Slot) (d e : List Node) (p q : Pass) : Type 0 where
   pub within : PassIn e code q
   pub size : length q.pending.items ≡ length p.pending.items
   pub told : (v : ℕ → ℕ) → seen v e q.events.items ≡ seen v d p.events.items ++ event_seen v d event
-  pub leads : (v : ℕ → ℕ) → AllAlike (length code.registers) until (suc place) (ways v e code q.pending.items) (arrived 0 (gone v d code s) (ways v d code p.pending.items))
+  pub leads : (v : ℕ → ℕ) → AllAlike (length code.registers) until (suc place) (arrivals v e code q.pending.items) (arrived 0 (guarded v d code s) (arrivals v d code p.pending.items))
 
 -- an operation reached with a slot has told its events, and has led to other places
 pub record Passes (until : List ℕ) (code : Listing) (place line function : ℕ) (o : Operation) (s : Slot) (d e : List Node) (p q : Pass) : Type 0 where
   pub within : PassIn e code q
   pub size : length q.pending.items ≡ length p.pending.items
-  pub told : (v : ℕ → ℕ) → seen v e q.events.items ≡ seen v d p.events.items ++ on (gone v d code s) (tells v (length code.instructions) place line function o)
-  pub leads : (v : ℕ → ℕ) → AllAlike (length code.registers) until (suc place) (ways v e code q.pending.items) (leaves v (length code.instructions) place o (gone v d code s) (ways v d code p.pending.items))
+  pub told : (v : ℕ → ℕ) → seen v e q.events.items ≡ seen v d p.events.items ++ on (guarded v d code s) (tells v (length code.instructions) place line function o)
+  pub leads : (v : ℕ → ℕ) → AllAlike (length code.registers) until (suc place) (arrivals v e code q.pending.items) (leaves v (length code.instructions) place o (guarded v d code s) (arrivals v d code p.pending.items))
 
 -- an instruction has been passed over: what the events and the rest of the code tell is the same as before it
 pub record Visits (until : List ℕ) (code : Listing) (place : ℕ) (i : Instruction) (d e : List Node) (p q : Pass) : Type 0 where
   pub within : PassIn e code q
   pub size : suc (length q.pending.items) ≡ length p.pending.items
   pub goes : (v : ℕ → ℕ) (rest : List Instruction) → Covers (length code.registers) until (suc place) rest
-      → seen v e q.events.items ++ told v (length code.instructions) (suc place) rest (ways v e code q.pending.items) ≡ seen v d p.events.items ++ told v (length code.instructions) place (i ∷ rest) (ways v d code p.pending.items)
+      → seen v e q.events.items ++ told v (length code.instructions) (suc place) rest (arrivals v e code q.pending.items) ≡ seen v d p.events.items ++ told v (length code.instructions) place (i ∷ rest) (arrivals v d code p.pending.items)

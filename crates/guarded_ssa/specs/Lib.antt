@@ -1,5 +1,5 @@
 pub mod Runs
-pub mod Ways
+pub mod Arrivals
 pub mod Forms
 pub mod Reads
 pub mod Registers

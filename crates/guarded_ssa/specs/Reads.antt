@@ -147,7 +147,7 @@ module _ (registers : ℕ) where
   Alike until place (Some m) None = ⊥
   Alike until place (Some m) (Some n) = Agree registers until place m n
 
-  -- the ways from this place on
+  -- the arrivals from this place on
   abbrev pub AllAlike : List ℕ → ℕ → List (Option Memory) → List (Option Memory) → Type 0
   AllAlike until place [] [] = Unit {0}
   AllAlike until place [] (x ∷ xs) = ⊥

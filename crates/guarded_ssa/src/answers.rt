@@ -13,8 +13,8 @@ use std::alloc::{AllocError, Global};
 use value_nodes::bytes_of_word;
 use word_dag::{Dag, Id, Node};
 
-// The words that answer a read of so many bytes, the first of them a variable with this number, and each
-// other one with the number so many behind that of the one before.
+/// The words that answer a read of so many bytes, the first of them a variable with this number, and each
+/// other one with the number so many behind that of the one before.
 pub fn answer_words(
     alloc: Global,
     dag: &mut Dag,
@@ -42,7 +42,7 @@ pub fn answer_words(
     Ok(words)
 }
 
-// So many bytes of words of 8 bytes each, the last of the bytes that are left.
+/// So many bytes of words of 8 bytes each, the last of the bytes that are left.
 pub fn bytes_of_words(
     alloc: Global,
     dag: &mut Dag,

@@ -1,3 +1,5 @@
+//! The bytes of blocks as nodes: what operations read and write of them.
+
 ghost use Rattle.std.specs.Prelude.{◌≡◌, ℕ, true, ◌+◌, ◌-◌, ◌<◌, ◌≤◌, ◌++◌, length, map, take, replicate, IfOk};
 ghost use Rattle.c_types.specs.Integers.{width as type_width, bytes};
 ghost use Rattle.core_tree.specs.Typed.{is_within};
@@ -8,8 +10,8 @@ ghost use Rattle.value_nodes.specs.Values.{IsValue, AreBytes};
 ghost use Rattle.value_nodes.specs.Bytes.{AreBytesOf};
 ghost use Rattle.goto_prog.specs.Fitting.{is_block, has_bytes};
 ghost use Rattle.goto_prog.specs.Meaning.{with_blocks, bytes_of, calculated};
-ghost use Rattle.guarded_ssa.specs.Ways.{updated};
-ghost use Rattle.guarded_ssa.specs.Held.{SlotIn, IsPlan, held, gone, total, counted, owners_from, starts_from};
+ghost use Rattle.guarded_ssa.specs.Arrivals.{updated};
+ghost use Rattle.guarded_ssa.specs.Held.{SlotIn, IsPlan, held, guarded, total, counted, owners_from, starts_from};
 
 use crate::liveness::Plan;
 use crate::registers::{ids_from, replaced};
@@ -20,7 +22,7 @@ use std::alloc::{AllocError, Global};
 use value_nodes::{loaded, stored};
 use word_dag::{Dag, Id};
 
-// How many bytes blocks of these sizes have.
+/// How many bytes blocks of these sizes have.
 pub fn size_of_all(sizes: &[u32]) -> Result<usize, AllocError>
     ensures { IfOk result (λ n. n ≡ total sizes.now) }
 {
@@ -34,7 +36,7 @@ pub fn size_of_all(sizes: &[u32]) -> Result<usize, AllocError>
     Ok(bytes)
 }
 
-// The types of the cells of registers and blocks.
+/// The types of the cells of registers and blocks.
 pub fn cell_types(
     alloc: Global,
     registers: &[IntegerType],
@@ -49,7 +51,7 @@ pub fn cell_types(
     Ok(types)
 }
 
-// The first cell of each block that has one of these sizes, one block behind the other, from a cell on.
+/// The first cell of each block that has one of these sizes, one block behind the other, from a cell on.
 pub fn starts(alloc: Global, first: usize, sizes: &[u32]) -> Result<Vec<usize>, AllocError>
     ensures { IfOk result (λ r. r.items ≡ starts_from first sizes.now) }
 {
@@ -86,7 +88,7 @@ fn repeated(mut numbers: Vec<usize>, number: usize, count: usize) -> Result<Vec<
     Ok(numbers)
 }
 
-// For each cell of so many registers and of blocks of these sizes the number of its register or block.
+/// For each cell of so many registers and of blocks of these sizes the number of its register or block.
 pub fn owners(alloc: Global, registers: usize, sizes: &[u32]) -> Result<Vec<usize>, AllocError>
     ensures { IfOk result (λ r. r.items ≡ counted 0 registers ++ owners_from registers sizes.now) }
 {
@@ -114,7 +116,7 @@ impl<'a> Plan<'a> {
 }
 
 impl Slot {
-    // The nodes of so many bytes of a block, from an offset on.
+    /// The nodes of so many bytes of a block, from an offset on.
     pub fn bytes(
         &self,
         dag: &Dag,
@@ -143,7 +145,7 @@ impl Slot {
         Ok(ids)
     }
 
-    // What a load from a block gives.
+    /// What a load from a block gives.
     pub fn loaded(
         &self,
         dag: &mut Dag,
@@ -179,7 +181,7 @@ impl Slot {
         requires few { length new.now ≤ count }
         requires new { AreBytes dag.now new.now }
         ensures within { IfOk result (SlotIn dag.now plan.now.code.now) }
-        ensures gone { IfOk result (λ s. (v : ℕ → ℕ) → gone v dag.now plan.now.code.now s ≡ updated (λ m. with_blocks m (put_bytes m.blocks block offset (map (value v dag.now) new.now ++ zeros (count - length new.now)))) (gone v dag.now plan.now.code.now self)) }
+        ensures guarded { IfOk result (λ s. (v : ℕ → ℕ) → guarded v dag.now plan.now.code.now s ≡ updated (λ m. with_blocks m (put_bytes m.blocks block offset (map (value v dag.now) new.now ++ zeros (count - length new.now)))) (guarded v dag.now plan.now.code.now self)) }
     {
         let _ = dag.nodes();
         let start = plan.start_of(block) + offset as usize;
@@ -192,7 +194,7 @@ impl Slot {
         })
     }
 
-    // The memory with bytes of a block replaced, from an offset on.
+    /// The memory with bytes of a block replaced, from an offset on.
     pub fn written(
         self,
         dag: &Dag,
@@ -206,13 +208,13 @@ impl Slot {
         requires block { is_within plan.now.code.now.blocks block offset (length new.now) ≡ true }
         requires new { AreBytes dag.now new.now }
         ensures within { IfOk result (SlotIn dag.now plan.now.code.now) }
-        ensures gone { IfOk result (λ s. (v : ℕ → ℕ) → gone v dag.now plan.now.code.now s ≡ updated (λ m. with_blocks m (put_bytes m.blocks block offset (map (value v dag.now) new.now))) (gone v dag.now plan.now.code.now self)) }
+        ensures guarded { IfOk result (λ s. (v : ℕ → ℕ) → guarded v dag.now plan.now.code.now s ≡ updated (λ m. with_blocks m (put_bytes m.blocks block offset (map (value v dag.now) new.now))) (guarded v dag.now plan.now.code.now self)) }
     {
         let next = self.replaced(dag, plan, block, offset, new.len(), new)?;
         Ok(next)
     }
 
-    // The memory with the lowest bytes of a register's word written into a block.
+    /// The memory with the lowest bytes of a register's word written into a block.
     pub fn stored(
         self,
         dag: &mut Dag,
@@ -228,7 +230,7 @@ impl Slot {
         requires block { is_within plan.now.code.now.blocks block offset count ≡ true }
         ensures extends { Extends dag.old dag.new }
         ensures within { IfOk result (SlotIn dag.new plan.now.code.now) }
-        ensures gone { IfOk result (λ s. (v : ℕ → ℕ) → gone v dag.new plan.now.code.now s ≡ updated (calculated (Operation.Store block offset count operand)) (gone v dag.old plan.now.code.now self)) }
+        ensures guarded { IfOk result (λ s. (v : ℕ → ℕ) → guarded v dag.new plan.now.code.now s ≡ updated (calculated (Operation.Store block offset count operand)) (guarded v dag.old plan.now.code.now self)) }
     {
         let id = self.register(dag, plan, operand);
         let type_ = plan.code.registers()[operand];
@@ -237,7 +239,7 @@ impl Slot {
         Ok(next)
     }
 
-    // The memory with each byte of a block 0.
+    /// The memory with each byte of a block 0.
     pub fn cleared(
         self,
         dag: &Dag,
@@ -249,15 +251,15 @@ impl Slot {
         requires within { SlotIn dag.now plan.now.code.now self }
         requires block { is_block plan.now.code.now.blocks block size ≡ true }
         ensures within { IfOk result (SlotIn dag.now plan.now.code.now) }
-        ensures gone { IfOk result (λ s. (v : ℕ → ℕ) → gone v dag.now plan.now.code.now s ≡ updated (calculated (Operation.Clear block size)) (gone v dag.now plan.now.code.now self)) }
+        ensures guarded { IfOk result (λ s. (v : ℕ → ℕ) → guarded v dag.now plan.now.code.now s ≡ updated (calculated (Operation.Clear block size)) (guarded v dag.now plan.now.code.now self)) }
     {
         let none: Vec<Id> = Vec::new(plan.alloc);
         let next = self.replaced(dag, plan, block, 0, size as usize, &none)?;
         Ok(next)
     }
 
-    // The memory with the bytes of a block from an offset on, so many, copied to an offset of a block: their
-    // nodes are the same.
+    /// The memory with the bytes of a block from an offset on, so many, copied to an offset of a block: their
+    /// nodes are the same.
     pub fn with_bytes_copied(
         self,
         dag: &Dag,
@@ -271,7 +273,7 @@ impl Slot {
         requires into { is_within plan.now.code.now.blocks into.0 into.1 count ≡ true }
         requires from { is_within plan.now.code.now.blocks from.0 from.1 count ≡ true }
         ensures within { IfOk result (SlotIn dag.now plan.now.code.now) }
-        ensures gone { IfOk result (λ s. (v : ℕ → ℕ) → gone v dag.now plan.now.code.now s ≡ updated (calculated (Operation.CopyBytes into.0 into.1 from.0 from.1 count)) (gone v dag.now plan.now.code.now self)) }
+        ensures guarded { IfOk result (λ s. (v : ℕ → ℕ) → guarded v dag.now plan.now.code.now s ≡ updated (calculated (Operation.CopyBytes into.0 into.1 from.0 from.1 count)) (guarded v dag.now plan.now.code.now self)) }
     {
         let bytes = self.bytes(dag, plan, from.0, from.1, count)?;
         let next = self.written(dag, plan, into.0, into.1, &bytes)?;

@@ -1,3 +1,6 @@
+//! Registers and bytes by their numbers, each with its node (static single assignment: a cell has
+//! one node at each place).
+
 ghost use Rattle.std.specs.Prelude.{◌≡◌, ◌+◌, ◌<◌, ◌≤◌, ◌++◌, [], length, take, drop, slice_index_or, slice_set, IfOk};
 ghost use Rattle.std.specs.List.{insert};
 
@@ -5,8 +8,8 @@ use crate::registers::Live;
 use std::alloc::{AllocError, Global};
 use std::marker::Model;
 
-// Cells in rising order. The first of them stand the other way round in a list of their own: a new register, whose number is
-// lower than those before it, is then put in front of all others without moving them.
+/// Cells in rising order. The first of them stand the other way round in a list of their own: a new register, whose number is
+/// lower than those before it, is then put in front of all others without moving them.
 #[derive(Drop)]
 pub struct Cells {
     front: Vec<Live>,
@@ -70,7 +73,7 @@ fn changed(
 }
 
 impl Cells {
-    // None.
+    /// None.
     pub fn new(alloc: Global) -> Cells
         ensures { result ≡ [] }
     {
@@ -80,7 +83,7 @@ impl Cells {
         }
     }
 
-    // These.
+    /// These.
     pub fn of(alloc: Global, cells: Vec<Live>) -> Cells
         ensures { result ≡ cells.items }
     {
@@ -90,7 +93,7 @@ impl Cells {
         }
     }
 
-    // The same.
+    /// The same.
     pub fn copied(&self, alloc: Global) -> Result<Cells, AllocError>
         ensures { IfOk result (λ r. r ≡ self.now) }
     {
@@ -100,14 +103,14 @@ impl Cells {
         })
     }
 
-    // How many there are.
+    /// How many there are.
     pub fn len(&self) -> usize
         ensures { result ≡ length self.now }
     {
         self.front.len() + self.back.len()
     }
 
-    // The one at a place.
+    /// The one at a place.
     pub fn get(&self, place: usize) -> Live
         requires { place < length self.now }
         ensures { result ≡ slice_index_or self.now place result }
@@ -119,7 +122,7 @@ impl Cells {
         }
     }
 
-    // With another one at a place.
+    /// With another one at a place.
     #[tactic(auto, using(crate::proofs::Turning::turned_set_front, crate::proofs::Turning::turned_set_back))]
     pub fn with_set(self, place: usize, cell: Live) -> Cells
         requires { place < length self }
@@ -137,7 +140,7 @@ impl Cells {
         Cells { front, back }
     }
 
-    // With one more at a place.
+    /// With one more at a place.
     #[tactic(auto, using(crate::proofs::Turning::turned_insert_front, crate::proofs::Turning::turned_insert_back))]
     pub fn with_inserted(self, place: usize, cell: Live) -> Result<Cells, AllocError>
         requires { place ≤ length self }
@@ -165,7 +168,7 @@ impl Cells {
         Ok(all)
     }
 
-    // With those from one place on to before another replaced.
+    /// With those from one place on to before another replaced.
     #[tactic(auto, using(crate::proofs::Turning::turned_replaced))]
     pub fn with_replaced(
         self,

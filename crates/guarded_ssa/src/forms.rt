@@ -1,3 +1,5 @@
+//! The form of a thread: its guarded events, in order.
+
 ghost use Rattle.std.specs.Prelude.{◌≡◌, IfOk};
 
 use actions::Store;
@@ -29,6 +31,7 @@ impl Nodes {
         Nodes { ids }
     }
 
+    /// The events, in order.
     pub fn as_slice(&self) -> &[Id]
         ensures { result.now ≡ self.now }
     {

@@ -1,3 +1,5 @@
+//! Up to which place each register and each byte is read.
+
 ghost use Rattle.std.specs.Prelude.{◌≡◌, ℕ, ◌<◌, ◌^◌, ◌+◌, length, IfOk};
 ghost use Rattle.guarded_ssa.specs.Held.{IsPlan};
 ghost use Rattle.guarded_ssa.specs.Reads.{first_checked, second_checked, first_read, second_read, block_read, IsRead, IsBlockRead, Later, Covers};
@@ -7,9 +9,9 @@ use c_types::IntegerType;
 use goto_prog::{Code, Condition, Operation};
 use std::alloc::{AllocError, Global};
 
-// Code; for each of its registers, and then for each of its blocks, the place behind the last instruction that
-// reads it; the types of its cells; the first cell of each block; and for each cell the number of its register
-// or block, the registers numbered first.
+/// Code; for each of its registers, and then for each of its blocks, the place behind the last instruction that
+/// reads it; the types of its cells; the first cell of each block; and for each cell the number of its register
+/// or block, the registers numbered first.
 #[derive(Drop)]
 pub struct Plan<'a> {
     pub alloc: Global,
@@ -26,29 +28,11 @@ fn checked(condition: Condition) -> (Option<usize>, Option<usize>)
 {
     match condition {
         Condition::Divisor { divisor } => (Some(divisor), None),
-        Condition::Quotient {
-            type_: _,
-            left,
-            right,
-        } => (Some(left), Some(right)),
-        Condition::Range {
-            operator: _,
-            type_: _,
-            left,
-            right,
-        } => (Some(left), Some(right)),
-        Condition::Negation { type_: _, operand } => (Some(operand), None),
-        Condition::Count {
-            type_: _,
-            count_type: _,
-            count,
-        } => (Some(count), None),
-        Condition::LeftShift {
-            type_: _,
-            count_type: _,
-            left,
-            count,
-        } => (Some(left), Some(count)),
+        Condition::Quotient { left, right, .. } => (Some(left), Some(right)),
+        Condition::Range { left, right, .. } => (Some(left), Some(right)),
+        Condition::Negation { operand, .. } => (Some(operand), None),
+        Condition::Count { count, .. } => (Some(count), None),
+        Condition::LeftShift { left, count, .. } => (Some(left), Some(count)),
         Condition::Returned { returned } => (Some(returned), None),
     }
 }
@@ -58,87 +42,30 @@ fn reads(operation: Operation) -> (Option<usize>, Option<usize>)
     ensures { (result.0 ≡ first_read operation) × (result.1 ≡ second_read operation) }
 {
     match operation {
-        Operation::Copy { into: _, operand } | Operation::IsZero { into: _, operand } => {
+        Operation::Copy { operand, .. } | Operation::IsZero { operand, .. } => {
             (Some(operand), None)
         }
-        Operation::Store {
-            block: _,
-            offset: _,
-            count: _,
-            operand,
-        } => (Some(operand), None),
-        Operation::Convert {
-            into: _,
-            from: _,
-            to: _,
-            operand,
-        } => (Some(operand), None),
-        Operation::Sign {
-            into: _,
-            operator: _,
-            type_: _,
-            operand,
-        } => (Some(operand), None),
-        Operation::Arithmetic {
-            into: _,
-            operator: _,
-            type_: _,
-            right_type: _,
-            left,
-            right,
-        } => (Some(left), Some(right)),
-        Operation::Compare {
-            into: _,
-            operator: _,
-            type_: _,
-            left,
-            right,
-        } => (Some(left), Some(right)),
-        Operation::SkipIfZero { operand, count: _ } => (Some(operand), None),
+        Operation::Store { operand, .. } => (Some(operand), None),
+        Operation::Convert { operand, .. } => (Some(operand), None),
+        Operation::Sign { operand, .. } => (Some(operand), None),
+        Operation::Arithmetic { left, right, .. } => (Some(left), Some(right)),
+        Operation::Compare { left, right, .. } => (Some(left), Some(right)),
+        Operation::SkipIfZero { operand, .. } => (Some(operand), None),
         Operation::Check { condition } => checked(condition),
         Operation::Assert { operand } | Operation::Assume { operand } => (Some(operand), None),
-        Operation::Constant { into: _, bits: _ }
-        | Operation::Load {
-            into: _,
-            type_: _,
-            block: _,
-            offset: _,
-        }
-        | Operation::Clear { block: _, size: _ }
-        | Operation::CopyBytes {
-            into: _,
-            at: _,
-            from: _,
-            offset: _,
-            count: _,
-        }
-        | Operation::Skip { count: _ }
-        | Operation::Draw { into: _, bits: _ }
-        | Operation::ReadObject {
-            block: _,
-            at: _,
-            object: _,
-            offset: _,
-            count: _,
-        }
-        | Operation::WriteObject {
-            object: _,
-            offset: _,
-            block: _,
-            at: _,
-            count: _,
-        }
+        Operation::Constant { .. }
+        | Operation::Load { .. }
+        | Operation::Clear { .. }
+        | Operation::CopyBytes { .. }
+        | Operation::Skip { .. }
+        | Operation::Draw { .. }
+        | Operation::ReadObject { .. }
+        | Operation::WriteObject { .. }
         | Operation::Exit
-        | Operation::Fail { class: _ }
-        | Operation::Use { returned: _ }
-        | Operation::Call {
-            callee: _,
-            first: _,
-            count: _,
-            into: _,
-            returned: _,
-        }
-        | Operation::Return { value: _ } => (None, None),
+        | Operation::Fail { .. }
+        | Operation::Use { .. }
+        | Operation::Call { .. }
+        | Operation::Return { .. } => (None, None),
     }
 }
 
@@ -147,26 +74,9 @@ fn block_read(operation: Operation) -> Option<usize>
     ensures { result ≡ block_read operation }
 {
     match operation {
-        Operation::Load {
-            into: _,
-            type_: _,
-            block,
-            offset: _,
-        } => Some(block),
-        Operation::CopyBytes {
-            into: _,
-            at: _,
-            from,
-            offset: _,
-            count: _,
-        } => Some(from),
-        Operation::WriteObject {
-            object: _,
-            offset: _,
-            block,
-            at: _,
-            count: _,
-        } => Some(block),
+        Operation::Load { block, .. } => Some(block),
+        Operation::CopyBytes { from, .. } => Some(from),
+        Operation::WriteObject { block, .. } => Some(block),
         _ => None,
     }
 }
@@ -217,6 +127,7 @@ fn reading(alloc: Global, code: &Code) -> Result<Vec<usize>, AllocError>
 }
 
 impl<'a> Plan<'a> {
+    /// The plan of this code: up to which place each register and each byte is read.
     pub fn new(alloc: Global, code: &'a Code) -> Result<Plan<'a>, AllocError>
         ensures code { IfOk result (λ p. p.code.now ≡ code.now) }
         ensures plan { IfOk result IsPlan }

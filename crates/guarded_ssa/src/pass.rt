@@ -1,3 +1,5 @@
+//! One pass over unrolled code, in order: events, and the slots of places that lie ahead.
+
 ghost use Rattle.std.specs.Prelude.{
   ◌≡◌,
   ◌==◌,
@@ -32,7 +34,7 @@ ghost use Rattle.goto_prog.specs.Running.{is_calculation};
 ghost use Rattle.goto_prog.specs.UnrolledCode.{is_flat};
 ghost use Rattle.guarded_ssa.specs.Forms.{EventIn};
 ghost use Rattle.goto_prog.specs.CodeThread.{first_memory};
-ghost use Rattle.guarded_ssa.specs.Held.{SlotIn, PassIn, Arrives, Tells, Passes, Visits, IsPlan, ways};
+ghost use Rattle.guarded_ssa.specs.Held.{SlotIn, PassIn, Arrives, Tells, Passes, Visits, IsPlan, arrivals};
 
 use crate::answers::{answer_words, bytes_of_words};
 use crate::forms::{Event, EventKind, Nodes};
@@ -48,8 +50,8 @@ use value_nodes::zero_test;
 use word_dag::{Dag, Node};
 use words::Class;
 
-// A pass over code: the events that were told so far, and for each place from the next on the memory with
-// which it is reached.
+/// A pass over code: the events that were told so far, and for each place from the next on the memory with
+/// which it is reached.
 #[derive(Drop)]
 pub struct Pass {
     pub events: Vec<Event>,
@@ -69,12 +71,12 @@ fn followed(alloc: Global, first: Slot, count: usize) -> Result<VecDeque<Option<
 }
 
 impl Pass {
-    // At the start of code.
+    /// At the start of code.
     pub fn start(alloc: Global, dag: &mut Dag, code: &Code) -> Result<Pass, AllocError>
         ensures extends { Extends dag.old dag.new }
         ensures within { IfOk result (PassIn dag.new code.now) }
         ensures events { IfOk result (λ p. p.events.items ≡ []) }
-        ensures ways { IfOk result (λ p. (v : ℕ → ℕ) → ways v dag.new code.now p.pending.items ≡ Some (first_memory code.now) ∷ replicate (length code.now.instructions) None) }
+        ensures arrivals { IfOk result (λ p. (v : ℕ → ℕ) → arrivals v dag.new code.now p.pending.items ≡ Some (first_memory code.now) ∷ replicate (length code.now.instructions) None) }
     {
         let slot = Slot::start(alloc, dag, code)?;
         let pending = followed(alloc, slot, code.instructions().len())?;
@@ -84,7 +86,7 @@ impl Pass {
         })
     }
 
-    // A slot arrives n places behind the next.
+    /// A slot arrives n places behind the next.
     pub fn arrive(
         &mut self,
         dag: &mut Dag,
@@ -565,75 +567,25 @@ impl Pass {
             }
             Operation::Exit => self.exit(dag, plan, place, i, slot),
             Operation::Fail { class } => self.fail(dag, plan, place, i, slot, class),
-            Operation::Call {
-                callee: _,
-                first: _,
-                count: _,
-                into: _,
-                returned: _,
-            }
-            | Operation::Return { value: _ } => self.stop(dag, plan, place, i, slot),
-            Operation::Constant { into: _, bits: _ }
-            | Operation::Copy {
-                into: _,
-                operand: _,
-            }
-            | Operation::Load {
-                into: _,
-                type_: _,
-                block: _,
-                offset: _,
-            }
-            | Operation::Store {
-                block: _,
-                offset: _,
-                count: _,
-                operand: _,
-            }
-            | Operation::Clear { block: _, size: _ }
-            | Operation::CopyBytes {
-                into: _,
-                at: _,
-                from: _,
-                offset: _,
-                count: _,
-            }
-            | Operation::Convert {
-                into: _,
-                from: _,
-                to: _,
-                operand: _,
-            }
-            | Operation::Sign {
-                into: _,
-                operator: _,
-                type_: _,
-                operand: _,
-            }
-            | Operation::Arithmetic {
-                into: _,
-                operator: _,
-                type_: _,
-                right_type: _,
-                left: _,
-                right: _,
-            }
-            | Operation::Compare {
-                into: _,
-                operator: _,
-                type_: _,
-                left: _,
-                right: _,
-            }
-            | Operation::IsZero {
-                into: _,
-                operand: _,
-            }
-            | Operation::Use { returned: _ } => { self.calculate(dag, plan, place, i, slot) }
+            Operation::Call { .. } | Operation::Return { .. } => self.stop(
+                dag, plan, place, i, slot,
+            ),
+            Operation::Constant { .. }
+            | Operation::Copy { .. }
+            | Operation::Load { .. }
+            | Operation::Store { .. }
+            | Operation::Clear { .. }
+            | Operation::CopyBytes { .. }
+            | Operation::Convert { .. }
+            | Operation::Sign { .. }
+            | Operation::Arithmetic { .. }
+            | Operation::Compare { .. }
+            | Operation::IsZero { .. }
+            | Operation::Use { .. } => { self.calculate(dag, plan, place, i, slot) }
         }
     }
 
-    // One instruction, which may be reached.
+    /// One instruction, which may be reached.
     pub fn visit(
         &mut self,
         dag: &mut Dag,

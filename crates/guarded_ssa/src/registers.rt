@@ -1,3 +1,5 @@
+//! Cells of two slots that meet (the phi functions of SSA).
+
 ghost use Rattle.std.specs.Prelude.{◌≡◌, ◌==◌, ℕ, ◌+◌, ◌^◌, ◌<◌, ◌≤◌, ◌⊎◌, ◌++◌, true, Some, All, length, take, drop, slice_index, nat_lt, IfOk, if◌then◌else◌};
 ghost use Rattle.std.specs.List.{filter};
 ghost use Rattle.word_dag.specs.Growth.{Extends};
@@ -11,15 +13,15 @@ use std::alloc::{AllocError, Global};
 use value_nodes::{chosen, constant};
 use word_dag::{Dag, Id};
 
-// A cell that is set, and its node. The cells are the registers, and then the bytes of the blocks, one block
-// behind the other.
+/// A cell that is set, and its node. The cells are the registers, and then the bytes of the blocks, one block
+/// behind the other.
 #[derive(Clone, Copy)]
 pub struct Live {
     pub cell: usize,
     pub id: Id,
 }
 
-// The nodes that are 0, one for each width of a type.
+/// The nodes that are 0, one for each width of a type.
 #[derive(Clone, Copy)]
 pub struct Zeros {
     pub byte: Id,
@@ -29,6 +31,7 @@ pub struct Zeros {
 }
 
 impl Zeros {
+    /// The constant 0 of each type.
     pub fn new(dag: &mut Dag) -> Result<Zeros, AllocError>
         ensures extends { Extends dag.old dag.new }
         ensures zeros { IfOk result (ZerosIn dag.new) }
@@ -45,7 +48,7 @@ impl Zeros {
         })
     }
 
-    // The node that is 0 for a type.
+    /// The node that is 0 for a type.
     pub fn of(self, type_: IntegerType) -> Id
         ensures { result ≡ zero_of self type_ }
     {
@@ -83,7 +86,7 @@ fn place_of(live: &Cells, cell: usize) -> usize
     low
 }
 
-// The node of a cell, if it is set.
+/// The node of a cell, if it is set.
 pub fn find(live: &Cells, cell: usize) -> Option<Id>
     requires { (n : ℕ) × Rises 0 live.now n }
     ensures { result ≡ find live.now cell }
@@ -98,7 +101,7 @@ pub fn find(live: &Cells, cell: usize) -> Option<Id>
     None
 }
 
-// The cells with one of them set.
+/// The cells with one of them set.
 pub fn written(
     live: Cells,
     types: &[IntegerType],
@@ -122,7 +125,7 @@ pub fn written(
     Ok(cells)
 }
 
-// The cells whose register or block an instruction from the place on reads.
+/// The cells whose register or block an instruction from the place on reads.
 pub fn needed(
     alloc: Global,
     until: &[usize],
@@ -144,7 +147,7 @@ pub fn needed(
     Ok(Cells::of(alloc, kept))
 }
 
-// The nodes of so many cells from one on, of which those that aren't set have the other node.
+/// The nodes of so many cells from one on, of which those that aren't set have the other node.
 pub fn ids_from(
     alloc: Global,
     live: &Cells,
@@ -182,7 +185,7 @@ fn followed(mut live: Vec<Live>, at: usize, ids: &[Id]) -> Result<Vec<Live>, All
     Ok(live)
 }
 
-// The cells with so many from one on replaced: the first of them are set to these nodes, and no others.
+/// The cells with so many from one on replaced: the first of them are set to these nodes, and no others.
 pub fn replaced(
     alloc: Global,
     live: Cells,
@@ -231,8 +234,8 @@ fn taken(live: &Cells, i: usize, cell: usize, other: Id) -> (Id, usize)
     }
 }
 
-// The cells that are set on one of two sides, or on both: of the first side where the test is true,
-// else of the second. On a side where a cell isn't set, it is 0.
+/// The cells that are set on one of two sides, or on both: of the first side where the test is true,
+/// else of the second. On a side where a cell isn't set, it is 0.
 pub fn merged(
     alloc: Global,
     dag: &mut Dag,

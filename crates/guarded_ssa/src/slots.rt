@@ -1,3 +1,5 @@
+//! A slot: under which guard a place is reached, and the nodes of its live cells there.
+
 ghost use Rattle.std.specs.Prelude.{◌≡◌, ◌==◌, ℕ, true, ◌<◌, not, Some, length, slice_index_or, None, IfOk, if◌then◌else◌};
 ghost use Rattle.word_dag.specs.Growth.{Extends};
 ghost use Rattle.word_dag.specs.Meaning.{value, holds};
@@ -8,9 +10,9 @@ ghost use Rattle.c_types.specs.Integers.{width as type_width};
 ghost use Rattle.guarded_ssa.specs.Results.{sets_register, into_of};
 ghost use Rattle.goto_prog.specs.Meaning.{register, with_register, calculated};
 ghost use Rattle.goto_prog.specs.CodeThread.{first_memory};
-ghost use Rattle.guarded_ssa.specs.Ways.{either as either_way, kept, updated};
+ghost use Rattle.guarded_ssa.specs.Arrivals.{either as either_arrival, kept, updated};
 ghost use Rattle.guarded_ssa.specs.Reads.{Alike};
-ghost use Rattle.guarded_ssa.specs.Held.{SlotIn, PendingIn, IsPlan, gone, way};
+ghost use Rattle.guarded_ssa.specs.Held.{SlotIn, PendingIn, IsPlan, guarded, arrival};
 
 use crate::cells::Cells;
 use crate::liveness::Plan;
@@ -22,9 +24,9 @@ use std::alloc::{AllocError, Global};
 use value_nodes::{both, chosen, either, inverse, zero_test};
 use word_dag::{Dag, Id, Node};
 
-// The memory with which a place is reached, where the guard is true: the cells that are set, in rising order,
-// and how many of them there were when those that nobody reads later were last dropped. A cell that isn't among
-// them is 0, or no instruction from the place on reads its register or block.
+/// The memory with which a place is reached, where the guard is true: the cells that are set, in rising order,
+/// and how many of them there were when those that nobody reads later were last dropped. A cell that isn't among
+/// them is 0, or no instruction from the place on reads its register or block.
 #[derive(Drop)]
 pub struct Slot {
     pub guard: Id,
@@ -34,11 +36,11 @@ pub struct Slot {
 }
 
 impl Slot {
-    // The memory at the start of code, with which it is reached always.
+    /// The memory at the start of code, with which it is reached always.
     pub fn start(alloc: Global, dag: &mut Dag, code: &Code) -> Result<Slot, AllocError>
         ensures extends { Extends dag.old dag.new }
         ensures within { IfOk result (SlotIn dag.new code.now) }
-        ensures gone { IfOk result (λ s. (v : ℕ → ℕ) → gone v dag.new code.now s ≡ Some (first_memory code.now)) }
+        ensures guarded { IfOk result (λ s. (v : ℕ → ℕ) → guarded v dag.new code.now s ≡ Some (first_memory code.now)) }
     {
         let guard = dag.make(Node::Constant(1, 1))?;
         let zeros = Zeros::new(dag)?;
@@ -51,14 +53,14 @@ impl Slot {
         })
     }
 
-    // The memory where two ways meet.
+    // The memory where two arrivals meet.
     fn merged(dag: &mut Dag, plan: &Plan, first: &Slot, second: &Slot) -> Result<Slot, AllocError>
         requires plan { IsPlan plan.now }
         requires first { SlotIn dag.old plan.now.code.now first.now }
         requires second { SlotIn dag.old plan.now.code.now second.now }
         ensures extends { Extends dag.old dag.new }
         ensures within { IfOk result (SlotIn dag.new plan.now.code.now) }
-        ensures gone { IfOk result (λ s. (v : ℕ → ℕ) → gone v dag.new plan.now.code.now s ≡ either_way (gone v dag.old plan.now.code.now first.now) (gone v dag.old plan.now.code.now second.now)) }
+        ensures guarded { IfOk result (λ s. (v : ℕ → ℕ) → guarded v dag.new plan.now.code.now s ≡ either_arrival (guarded v dag.old plan.now.code.now first.now) (guarded v dag.old plan.now.code.now second.now)) }
     {
         let guard = either(dag, first.guard, second.guard)?;
         let live = registers::merged(
@@ -78,14 +80,14 @@ impl Slot {
         })
     }
 
-    // The memory where it meets another way, if there is one.
+    /// The memory where it meets another arrival, if there is one.
     pub fn met(self, dag: &mut Dag, plan: &Plan, there: Option<Slot>) -> Result<Slot, AllocError>
         requires plan { IsPlan plan.now }
         requires within { SlotIn dag.old plan.now.code.now self }
         requires there { PendingIn dag.old plan.now.code.now there }
         ensures extends { Extends dag.old dag.new }
         ensures within { IfOk result (SlotIn dag.new plan.now.code.now) }
-        ensures gone { IfOk result (λ s. (v : ℕ → ℕ) → gone v dag.new plan.now.code.now s ≡ either_way (gone v dag.old plan.now.code.now self) (way v dag.old plan.now.code.now there)) }
+        ensures guarded { IfOk result (λ s. (v : ℕ → ℕ) → guarded v dag.new plan.now.code.now s ≡ either_arrival (guarded v dag.old plan.now.code.now self) (arrival v dag.old plan.now.code.now there)) }
     {
         match there {
             Some(other) => Slot::merged(dag, plan, &self, &other),
@@ -98,7 +100,7 @@ impl Slot {
         requires plan { IsPlan plan.now }
         requires within { SlotIn dag.now plan.now.code.now self }
         ensures within { IfOk result (SlotIn dag.now plan.now.code.now) }
-        ensures alike { IfOk result (λ s. (v : ℕ → ℕ) → Alike (length plan.now.code.now.registers) plan.now.until.items place (gone v dag.now plan.now.code.now s) (gone v dag.now plan.now.code.now self)) }
+        ensures alike { IfOk result (λ s. (v : ℕ → ℕ) → Alike (length plan.now.code.now.registers) plan.now.until.items place (guarded v dag.now plan.now.code.now s) (guarded v dag.now plan.now.code.now self)) }
     {
         let live = registers::needed(plan.alloc, &plan.until, &plan.owner, place, &self.live)?;
         Ok(Slot {
@@ -109,8 +111,8 @@ impl Slot {
         })
     }
 
-    // The same, but a memory that goes straight on to the next place keeps them until it has twice the cells that
-    // it had when they were last dropped.
+    /// The same, but a memory that goes straight on to the next place keeps them until it has twice the cells that
+    /// it had when they were last dropped.
     pub fn needed(
         self,
         dag: &Dag,
@@ -121,7 +123,7 @@ impl Slot {
         requires plan { IsPlan plan.now }
         requires within { SlotIn dag.now plan.now.code.now self }
         ensures within { IfOk result (SlotIn dag.now plan.now.code.now) }
-        ensures alike { IfOk result (λ s. (v : ℕ → ℕ) → Alike (length plan.now.code.now.registers) plan.now.until.items place (gone v dag.now plan.now.code.now s) (gone v dag.now plan.now.code.now self)) }
+        ensures alike { IfOk result (λ s. (v : ℕ → ℕ) → Alike (length plan.now.code.now.registers) plan.now.until.items place (guarded v dag.now plan.now.code.now s) (guarded v dag.now plan.now.code.now self)) }
     {
         if straight && self.live.len() / 2 <= self.kept {
             return Ok(self);
@@ -150,7 +152,7 @@ impl Slot {
         requires test { IsWord dag.old test 1 }
         ensures extends { Extends dag.old dag.new }
         ensures within { IfOk result (SlotIn dag.new plan.now.code.now) }
-        ensures gone { IfOk result (λ s. (v : ℕ → ℕ) → gone v dag.new plan.now.code.now s ≡ (if holds (value v dag.old test) then gone v dag.old plan.now.code.now self else None)) }
+        ensures guarded { IfOk result (λ s. (v : ℕ → ℕ) → guarded v dag.new plan.now.code.now s ≡ (if holds (value v dag.old test) then guarded v dag.old plan.now.code.now self else None)) }
     {
         let guard = both(dag, self.guard, test)?;
         Ok(Slot {
@@ -161,7 +163,7 @@ impl Slot {
         })
     }
 
-    // The memory where a register is 0, and where it isn't.
+    /// The memory where a register is 0, and where it isn't.
     pub fn split(
         self,
         dag: &mut Dag,
@@ -173,8 +175,8 @@ impl Slot {
         ensures extends { Extends dag.old dag.new }
         ensures first_within { IfOk result (λ r. SlotIn dag.new plan.now.code.now r.0) }
         ensures second_within { IfOk result (λ r. SlotIn dag.new plan.now.code.now r.1) }
-        ensures first { IfOk result (λ r. (v : ℕ → ℕ) → gone v dag.new plan.now.code.now r.0 ≡ kept (λ m. register m operand == 0) (gone v dag.old plan.now.code.now self)) }
-        ensures second { IfOk result (λ r. (v : ℕ → ℕ) → gone v dag.new plan.now.code.now r.1 ≡ kept (λ m. not (register m operand == 0)) (gone v dag.old plan.now.code.now self)) }
+        ensures first { IfOk result (λ r. (v : ℕ → ℕ) → guarded v dag.new plan.now.code.now r.0 ≡ kept (λ m. register m operand == 0) (guarded v dag.old plan.now.code.now self)) }
+        ensures second { IfOk result (λ r. (v : ℕ → ℕ) → guarded v dag.new plan.now.code.now r.1 ≡ kept (λ m. not (register m operand == 0)) (guarded v dag.old plan.now.code.now self)) }
     {
         let node = self.register(dag, plan, operand);
         let zero = zero_test(dag, node)?;
@@ -185,14 +187,14 @@ impl Slot {
         Ok((first, second))
     }
 
-    // The memory with a register set.
+    /// The memory with a register set.
     pub fn put(self, dag: &Dag, plan: &Plan, into: usize, id: Id) -> Result<Slot, AllocError>
         requires plan { IsPlan plan.now }
         requires within { SlotIn dag.now plan.now.code.now self }
         requires into { is_there plan.now.code.now.registers into ≡ true }
         requires id { IsWord dag.now id (type_width (slice_index_or plan.now.code.now.registers into IntegerType.Int)) }
         ensures within { IfOk result (SlotIn dag.now plan.now.code.now) }
-        ensures gone { IfOk result (λ s. (v : ℕ → ℕ) → gone v dag.now plan.now.code.now s ≡ updated (λ m. with_register m into (value v dag.now id)) (gone v dag.now plan.now.code.now self)) }
+        ensures guarded { IfOk result (λ s. (v : ℕ → ℕ) → guarded v dag.now plan.now.code.now s ≡ updated (λ m. with_register m into (value v dag.now id)) (guarded v dag.now plan.now.code.now self)) }
     {
         let live = registers::written(self.live, &plan.types, dag, into, id)?;
         Ok(Slot {
@@ -211,7 +213,7 @@ impl Slot {
         requires sets { sets_register operation ≡ true }
         ensures extends { Extends dag.old dag.new }
         ensures within { IfOk result (SlotIn dag.new plan.now.code.now) }
-        ensures gone { IfOk result (λ s. (v : ℕ → ℕ) → gone v dag.new plan.now.code.now s ≡ updated (calculated operation) (gone v dag.old plan.now.code.now self)) }
+        ensures guarded { IfOk result (λ s. (v : ℕ → ℕ) → guarded v dag.new plan.now.code.now s ≡ updated (calculated operation) (guarded v dag.old plan.now.code.now self)) }
     {
         let id = self.result(dag, plan, operation)?;
         let into = into_of(operation);
@@ -219,7 +221,7 @@ impl Slot {
         Ok(next)
     }
 
-    // The memory behind an operation that sets a register or a block.
+    /// The memory behind an operation that sets a register or a block.
     pub fn calculated(
         self,
         dag: &mut Dag,
@@ -232,7 +234,7 @@ impl Slot {
         requires calculation { is_calculation operation ≡ true }
         ensures extends { Extends dag.old dag.new }
         ensures within { IfOk result (SlotIn dag.new plan.now.code.now) }
-        ensures gone { IfOk result (λ s. (v : ℕ → ℕ) → gone v dag.new plan.now.code.now s ≡ updated (calculated operation) (gone v dag.old plan.now.code.now self)) }
+        ensures guarded { IfOk result (λ s. (v : ℕ → ℕ) → guarded v dag.new plan.now.code.now s ≡ updated (calculated operation) (guarded v dag.old plan.now.code.now self)) }
     {
         match operation {
             Operation::Store {
@@ -249,49 +251,15 @@ impl Slot {
                 offset,
                 count,
             } => self.with_bytes_copied(dag, plan, (into, at), (from, offset), count),
-            Operation::Constant { into: _, bits: _ }
-            | Operation::Copy {
-                into: _,
-                operand: _,
-            }
-            | Operation::Load {
-                into: _,
-                type_: _,
-                block: _,
-                offset: _,
-            }
-            | Operation::Convert {
-                into: _,
-                from: _,
-                to: _,
-                operand: _,
-            }
-            | Operation::Sign {
-                into: _,
-                operator: _,
-                type_: _,
-                operand: _,
-            }
-            | Operation::Arithmetic {
-                into: _,
-                operator: _,
-                type_: _,
-                right_type: _,
-                left: _,
-                right: _,
-            }
-            | Operation::Compare {
-                into: _,
-                operator: _,
-                type_: _,
-                left: _,
-                right: _,
-            }
-            | Operation::IsZero {
-                into: _,
-                operand: _,
-            } => self.assigned(dag, plan, operation),
-            Operation::Use { returned: _ } => Ok(self),
+            Operation::Constant { .. }
+            | Operation::Copy { .. }
+            | Operation::Load { .. }
+            | Operation::Convert { .. }
+            | Operation::Sign { .. }
+            | Operation::Arithmetic { .. }
+            | Operation::Compare { .. }
+            | Operation::IsZero { .. } => self.assigned(dag, plan, operation),
+            Operation::Use { .. } => Ok(self),
             _ => unreachable!(),
         }
     }
@@ -302,42 +270,14 @@ fn into_of(operation: Operation) -> usize
     ensures { result ≡ into_of operation }
 {
     match operation {
-        Operation::Constant { into, bits: _ } => into,
-        Operation::Copy { into, operand: _ } => into,
-        Operation::Load {
-            into,
-            type_: _,
-            block: _,
-            offset: _,
-        } => into,
-        Operation::Convert {
-            into,
-            from: _,
-            to: _,
-            operand: _,
-        } => into,
-        Operation::Sign {
-            into,
-            operator: _,
-            type_: _,
-            operand: _,
-        } => into,
-        Operation::Arithmetic {
-            into,
-            operator: _,
-            type_: _,
-            right_type: _,
-            left: _,
-            right: _,
-        } => into,
-        Operation::Compare {
-            into,
-            operator: _,
-            type_: _,
-            left: _,
-            right: _,
-        } => into,
-        Operation::IsZero { into, operand: _ } => into,
+        Operation::Constant { into, .. } => into,
+        Operation::Copy { into, .. } => into,
+        Operation::Load { into, .. } => into,
+        Operation::Convert { into, .. } => into,
+        Operation::Sign { into, .. } => into,
+        Operation::Arithmetic { into, .. } => into,
+        Operation::Compare { into, .. } => into,
+        Operation::IsZero { into, .. } => into,
         _ => 0,
     }
 }

@@ -1,3 +1,5 @@
+//! The nodes of what operations calculate.
+
 ghost use Rattle.std.specs.Prelude.{◌≡◌, ℕ, true, ◌+◌, slice_index_or, is_some, IfOk};
 ghost use Rattle.c_types.specs.Integers.{width as type_width};
 ghost use Rattle.core_tree.specs.Operations.{converted, sign_value, arithmetic_value};
@@ -25,7 +27,7 @@ use word_dag::{Dag, Id};
 use words::Class;
 
 impl Slot {
-    // The node of a register.
+    /// The node of a register.
     pub fn register(&self, dag: &Dag, plan: &Plan, r: usize) -> Id
         requires within { SlotIn dag.now plan.now.code.now self.now }
         requires there { is_there plan.now.code.now.registers r ≡ true }
@@ -39,7 +41,7 @@ impl Slot {
         }
     }
 
-    // The node of a register of a type.
+    /// The node of a register of a type.
     pub fn number(&self, dag: &Dag, plan: &Plan, r: usize, type_: IntegerType) -> Id
         requires within { SlotIn dag.now plan.now.code.now self.now }
         requires there { is_register plan.now.code.now.registers r type_ ≡ true }
@@ -49,7 +51,7 @@ impl Slot {
         self.register(dag, plan, r)
     }
 
-    // The node of a register as wide as a type.
+    /// The node of a register as wide as a type.
     pub fn wide(&self, dag: &Dag, plan: &Plan, r: usize, type_: IntegerType) -> Id
         requires within { SlotIn dag.now plan.now.code.now self.now }
         requires there { is_wide plan.now.code.now.registers r type_ ≡ true }
@@ -128,7 +130,7 @@ impl Slot {
         Ok(id)
     }
 
-    // What an operation gives a register.
+    /// What an operation gives a register.
     pub fn result(&self, dag: &mut Dag, plan: &Plan, operation: Operation) -> Result<Id, AllocError>
         requires plan { IsPlan plan.now }
         requires within { SlotIn dag.old plan.now.code.now self.now }
@@ -143,12 +145,12 @@ impl Slot {
                 let id = constant(dag, bits, type_)?;
                 Ok(id)
             }
-            Operation::Copy { into: _, operand } => Ok(self.register(dag, plan, operand)),
+            Operation::Copy { operand, .. } => Ok(self.register(dag, plan, operand)),
             Operation::Load {
-                into: _,
                 type_,
                 block,
                 offset,
+                ..
             } => self.loaded(dag, plan, block, offset, type_),
             Operation::Convert {
                 into,
@@ -180,17 +182,17 @@ impl Slot {
                 )
             }
             Operation::Compare {
-                into: _,
                 operator,
                 type_,
                 left,
                 right,
+                ..
             } => {
                 let a = self.number(dag, plan, left, type_);
                 let b = self.number(dag, plan, right, type_);
                 compared(dag, operator, type_, a, b)
             }
-            Operation::IsZero { into: _, operand } => {
+            Operation::IsZero { operand, .. } => {
                 let a = self.register(dag, plan, operand);
                 is_zero(dag, a)
             }
@@ -198,7 +200,7 @@ impl Slot {
         }
     }
 
-    // Whether a check is broken.
+    /// Whether a check is broken.
     #[tactic(auto, using(crate::proofs::Ranged::ranged_same))]
     pub fn fails(&self, dag: &mut Dag, plan: &Plan, condition: Condition) -> Result<Id, AllocError>
         requires within { SlotIn dag.old plan.now.code.now self.now }
@@ -256,38 +258,15 @@ impl Slot {
     }
 }
 
-// The class that a check breaks.
+/// The class that a check breaks.
 pub fn class_of(condition: Condition) -> Class
     ensures { result ≡ class_of condition }
 {
     match condition {
-        Condition::Divisor { divisor: _ } => Class::Division,
-        Condition::Quotient {
-            type_: _,
-            left: _,
-            right: _,
-        }
-        | Condition::Range {
-            operator: _,
-            type_: _,
-            left: _,
-            right: _,
-        }
-        | Condition::Negation {
-            type_: _,
-            operand: _,
-        } => Class::Overflow,
-        Condition::Count {
-            type_: _,
-            count_type: _,
-            count: _,
-        }
-        | Condition::LeftShift {
-            type_: _,
-            count_type: _,
-            left: _,
-            count: _,
-        } => Class::Shift,
-        Condition::Returned { returned: _ } => Class::Return,
+        Condition::Divisor { .. } => Class::Division,
+        Condition::Quotient { .. } | Condition::Range { .. } | Condition::Negation { .. } =>
+            Class::Overflow,
+        Condition::Count { .. } | Condition::LeftShift { .. } => Class::Shift,
+        Condition::Returned { .. } => Class::Return,
     }
 }

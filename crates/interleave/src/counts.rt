@@ -1,3 +1,5 @@
+//! How many threads and objects a run has.
+
 ghost use Rattle.std.specs.Prelude.{◌≡◌, ◌+◌, nat_lt, length, if◌then◌else◌, ◌<◌, ◌≤◌, ◌^◌};
 ghost use Rattle.interleave.specs.Own.{own_part, counted, next_word, NumberFits};
 ghost use Rattle.words.specs.Operators.{low_bits};
@@ -5,8 +7,8 @@ ghost use Rattle.words.specs.Operators.{low_bits};
 use actions::Action;
 use words::Word;
 
-// A thread's own record: how many threads it created, how many objects it made, and how many of its
-// input words it used.
+/// A thread's own record: how many threads it created, how many objects it made, and how many of its
+/// input words it used.
 #[derive(Clone, Copy, PartialEq, Eq)]
 pub(crate) struct Counts {
     pub(crate) creations: u64,
@@ -15,7 +17,7 @@ pub(crate) struct Counts {
 }
 
 impl Counts {
-    // What the record of thread t gives to an action.
+    /// What the record of thread t gives to an action.
     pub(crate) fn own_part(&self, t: u32, words: &[u64], action: &Action) -> u64
         requires { NumberFits t self.now action.now }
         ensures { result ≡ own_part t words.now self.now action.now }
@@ -28,7 +30,7 @@ impl Counts {
         }
     }
 
-    // The record once the action is made.
+    /// The record once the action is made.
     pub(crate) fn after(self, t: u32, words: &[u64], action: &Action) -> Counts
         requires { NumberFits t self action.now }
         ensures { result ≡ counted words.now self action.now }
@@ -51,7 +53,7 @@ fn used_after(words: &[u64], used: usize) -> usize
     if used < words.len() { used + 1 } else { used }
 }
 
-// The lowest bits of the next input word.
+/// The lowest bits of the next input word.
 pub(crate) fn draw(words: &[u64], used: usize, bits: u32) -> u64
     requires positive { 1 ≤ bits }
     requires at_most_64 { bits ≤ 64 }

@@ -1,3 +1,5 @@
+//! The words that threads draw.
+
 ghost use Rattle.std.specs.Prelude.{◌≡◌, [], OnOk, OnErr};
 ghost use Rattle.std.specs.Ordering.{nat_cmp};
 ghost use Rattle.std.specs.BTreeMap.{insert_entry};
@@ -30,6 +32,7 @@ impl Words {
         Words { items }
     }
 
+    /// The words, in the order in which they are drawn.
     pub fn as_slice(&self) -> &[u64]
         ensures { result.now ≡ self.now }
     {
@@ -110,6 +113,7 @@ impl Schedule {
         Schedule { threads }
     }
 
+    /// The words, in the order in which they are drawn.
     pub fn as_slice(&self) -> &[u32]
         ensures { result.now ≡ self.now }
     {

@@ -1,3 +1,5 @@
+//! That threads with the same local runs have the same runs together.
+
 ghost use Rattle.actions.specs.LocalRun.{SameThreads};
 ghost use Rattle.interleave.specs.Law.{Law, SameSystems};
 

@@ -1,3 +1,5 @@
+//! A run: turns by a schedule.
+
 ghost use Rattle.std.specs.Prelude.{◌≡◌, ◌<◌, ◌^◌, true, [], Some, option_map, IfOk, OnOk};
 ghost use Rattle.std.specs.Ordering.{nat_cmp};
 ghost use Rattle.std.specs.BTreeMap.{insert_entry};
@@ -11,7 +13,7 @@ use std::alloc::AllocError;
 use std::collections::BTreeMap;
 use words::Word;
 
-// A thread of a run: its machine and its own record.
+/// A thread of a run: its machine and its own record.
 #[derive(Drop)]
 pub(crate) struct Runner<M> {
     pub(crate) machine: M,
@@ -53,7 +55,7 @@ impl<M: Machine> Runner<M> {
     }
 }
 
-// What thread t does next, if it is there.
+/// What thread t does next, if it is there.
 pub(crate) fn next_of<M: Machine>(
     runners: &mut BTreeMap<u32, Runner<M>>,
     t: u32,
@@ -70,7 +72,7 @@ pub(crate) fn next_of<M: Machine>(
     }
 }
 
-// Gives thread t the answer to its next action, and the record after it.
+/// Gives thread t the answer to its next action, and the record after it.
 pub(crate) fn tell<M: Machine>(
     runners: &mut BTreeMap<u32, Runner<M>>,
     t: u32,
@@ -90,7 +92,7 @@ pub(crate) fn tell<M: Machine>(
     }
 }
 
-// Starts the thread with this number for a Create of thread t, and gives it the number.
+/// Starts the thread with this number for a Create of thread t, and gives it the number.
 pub(crate) fn start<M: Machine>(
     runners: &mut BTreeMap<u32, Runner<M>>,
     t: u32,

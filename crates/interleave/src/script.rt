@@ -1,3 +1,5 @@
+//! Inputs and a schedule.
+
 ghost use Rattle.std.specs.Prelude.{◌≡◌, [], true, false, length, IfOk};
 ghost use Rattle.actions.specs.StoredObject.{stored};
 ghost use Rattle.interleave.specs.Script as script;

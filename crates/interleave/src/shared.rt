@@ -1,3 +1,5 @@
+//! What threads share: the store, locks, sections, and which threads there are.
+
 ghost use Rattle.std.specs.Prelude.{◌≡◌, ◌↔◌, IsTrue, ◌+◌, ◌<◌, ◌^◌, true, length, None, IfOk, OnOk};
 ghost use Rattle.std.specs.Int.{w32, to_le_bytes};
 ghost use Rattle.actions.specs.AccessRows.{read_row, write_row, look_row};
@@ -21,7 +23,7 @@ use std::collections::BTreeMap;
 use std::marker::Model;
 use words::{Class, Word};
 
-// What the threads of a run share.
+/// What the threads of a run share.
 #[derive(Drop)]
 pub(crate) struct Shared {
     store: Store,
@@ -39,7 +41,7 @@ impl Model for Shared {
 }
 
 impl Shared {
-    // Thread 0 alone runs, on this store.
+    /// Thread 0 alone runs, on this store.
     pub(crate) fn new(alloc: Global, store: Store) -> Result<Shared, AllocError>
         ensures { IfOk result (λ s. s ≡ first_common store) }
     {
@@ -67,7 +69,7 @@ impl Shared {
         !self.ended && free && running
     }
 
-    // Whether the number that an action of thread t takes from its record is small and unused.
+    /// Whether the number that an action of thread t takes from its record is small and unused.
     pub(crate) fn has_number(&self, t: u32, counts: &Counts, action: &Action) -> bool
         ensures { IsTrue result ↔ HasNumber (self.now).memory t counts.now action.now }
     {
@@ -98,7 +100,7 @@ impl Shared {
         number < 65536 && !self.threads.contains_key(&number)
     }
 
-    // Makes an action of thread t. `own` is the part of it that comes from the thread's own record.
+    /// Makes an action of thread t. `own` is the part of it that comes from the thread's own record.
     pub(crate) fn act(&mut self, t: u32, own: u64, action: Action) -> Result<Effect, AllocError>
         requires { OwnFits (self.old).memory action own }
         ensures effect { IfOk result (λ e. e ≡ effect_in self.old (row t own action)) }

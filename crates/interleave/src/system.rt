@@ -1,3 +1,5 @@
+//! The threads of a run, and what they share.
+
 ghost use Rattle.std.specs.Prelude.{◌≡◌, ◌↔◌, IsTrue, true, false, Some, IfOk, OnOk, OnErr, IsErr};
 ghost use Rattle.actions.specs.declared.action.Next.TheVariants.{Act};
 ghost use Rattle.interleave.specs.Inputs.{words_of};

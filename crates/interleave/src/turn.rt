@@ -1,3 +1,5 @@
+//! What a turn comes to.
+
 use words::Check;
 
 /// What comes of a turn.

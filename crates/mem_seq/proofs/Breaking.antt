@@ -41,7 +41,7 @@ use Rattle.guarded_ssa.specs.declared.forms.Event.{Event}
 use Rattle.guarded_ssa.specs.declared.forms.EventKind.{EventKind}
 use Rattle.guarded_ssa.specs.declared.forms.EventKind.TheVariants as kinds
 use Rattle.guarded_ssa.specs.Runs.{Run, stops, asks, bytes_of_words}
-use Rattle.guarded_ssa.specs.Ways.{Seen, asked, stopped, read}
+use Rattle.guarded_ssa.specs.Arrivals.{Seen, asked, stopped, read}
 use Rattle.guarded_ssa.specs.Forms.{kind_seen, event_seen, seen, run_read, Begins, IsForm, EventIn, KindIn, FormIn}
 use Rattle.mem_seq.specs.Accesses.{AreObjects, access_class, same_bytes, is_given, stored_by, unless, checked, agrees}
 use Rattle.mem_seq.specs.Runs.{is_break, breaks, drawn_words, inputs_for, turns, end_check, broken_check}

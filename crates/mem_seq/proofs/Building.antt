@@ -24,7 +24,7 @@ use Rattle.guarded_ssa.specs.declared.forms.Event.{Event}
 use Rattle.guarded_ssa.specs.declared.forms.EventKind.{EventKind}
 use Rattle.guarded_ssa.specs.declared.forms.EventKind.TheVariants as kinds
 use Rattle.guarded_ssa.specs.Runs.{Run, stops, asks}
-use Rattle.guarded_ssa.specs.Ways.{Seen, asked, stopped, read}
+use Rattle.guarded_ssa.specs.Arrivals.{Seen, asked, stopped, read}
 use Rattle.guarded_ssa.specs.Forms.{kind_seen, event_seen, seen, run_read, Begins, Form, IsForm, IsBit, EventIn, KindIn, FormIn}
 use Rattle.mem_seq.specs.declared.formula.Formula.{Formula}
 use Rattle.mem_seq.specs.declared.memory.Note.{Note}

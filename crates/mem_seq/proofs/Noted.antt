@@ -16,7 +16,7 @@ use Rattle.word_dag.proofs.Grown.{extends_itself, extends_more, map_stays}
 use Rattle.guarded_ssa.specs.declared.forms.Event.{Event}
 use Rattle.guarded_ssa.specs.declared.forms.EventKind.{EventKind}
 use Rattle.guarded_ssa.specs.declared.forms.EventKind.TheVariants as kinds
-use Rattle.guarded_ssa.specs.Ways.{Seen, stopped}
+use Rattle.guarded_ssa.specs.Arrivals.{Seen, stopped}
 use Rattle.guarded_ssa.specs.Runs.{bytes_of_words}
 use Rattle.guarded_ssa.specs.Forms.{kind_seen, event_seen, seen, EventIn, FormIn}
 use Rattle.actions.specs.declared.action.Next.{Next}

@@ -10,7 +10,7 @@ use Rattle.actions.specs.declared.action.Answer.{Answer}
 use Rattle.actions.specs.declared.action.Answer.TheVariants as answers
 use Rattle.actions.specs.declared.action.Next.TheVariants.{Broken}
 use Rattle.guarded_ssa.specs.Runs.{Run, stops, asks}
-use Rattle.guarded_ssa.specs.Ways.{Seen, asked, stopped}
+use Rattle.guarded_ssa.specs.Arrivals.{Seen, asked, stopped}
 
 -- each object of a store has as many bytes as its size says
 pub record HoldsBytes (o : StoredObject) : Type 0 where

@@ -2,7 +2,7 @@
 use Rattle.std.specs.Prelude.{Bool, true, ◌&&◌, List, [], ◌∷◌, Option, Some, None}
 use Rattle.words.specs.declared.check.Class.{Class}
 use Rattle.actions.specs.Objects.{Objects}
-use Rattle.guarded_ssa.specs.Ways.{Seen, asked, stopped}
+use Rattle.guarded_ssa.specs.Arrivals.{Seen, asked, stopped}
 use Rattle.mem_seq.specs.Accesses.{access_class, is_given, stored_by}
 use Rattle.mem_seq.specs.Runs.{is_break}
 

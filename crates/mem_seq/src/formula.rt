@@ -1,3 +1,5 @@
+//! The formula of one thread: its form, its goal, and what each answer has to be.
+
 ghost use Rattle.std.specs.Prelude.{◌≡◌, ℕ, ◌&&◌, [], not, All, IfOk};
 ghost use Rattle.actions.specs.Behaviour.{Thread};
 ghost use Rattle.actions.specs.Objects.{Objects};
@@ -67,21 +69,12 @@ fn breaks_alone(dag: &mut Dag, event: &Event, later: Id) -> Result<Id, AllocErro
 {
     let _ = dag.nodes();
     match &event.kind {
-        EventKind::Draw { bits: _, answer: _ } => Ok(later),
-        EventKind::Read {
-            object: _,
-            offset: _,
-            count: _,
-            answer: _,
-        } => {
+        EventKind::Draw { .. } => Ok(later),
+        EventKind::Read { .. } => {
             let id = either(dag, event.guard, later)?;
             Ok(id)
         }
-        EventKind::Write {
-            object: _,
-            offset: _,
-            bytes: _,
-        } => {
+        EventKind::Write { .. } => {
             let id = either(dag, event.guard, later)?;
             Ok(id)
         }
@@ -90,7 +83,7 @@ fn breaks_alone(dag: &mut Dag, event: &Event, later: Id) -> Result<Id, AllocErro
             let id = both(dag, goes_on, later)?;
             Ok(id)
         }
-        EventKind::Check { class: _, failing } => {
+        EventKind::Check { failing, .. } => {
             let broken = under(dag, event.guard, *failing)?;
             let id = either(dag, broken, later)?;
             Ok(id)

@@ -211,7 +211,7 @@ impl<'a> Memory<'a> {
         ensures behind { IfOk result (λ note. (v : ℕ → ℕ) (objects : Objects) → StandsFor v dag.old self.old objects → StandsFor v dag.new self.new (behind objects (event_seen v dag.old event.now))) }
     {
         match &event.kind {
-            EventKind::Draw { bits: _, answer: _ } => Ok(Note::Passes),
+            EventKind::Draw { .. } => Ok(Note::Passes),
             EventKind::Read {
                 object,
                 offset,
@@ -239,11 +239,8 @@ impl<'a> Memory<'a> {
                 Ok(Note::Passes)
             }
             EventKind::Exit => Ok(Note::Alone),
-            EventKind::Check {
-                class: _,
-                failing: _,
-            } => Ok(Note::Alone),
-            EventKind::Assume { failing: _ } => Ok(Note::Alone),
+            EventKind::Check { .. } => Ok(Note::Alone),
+            EventKind::Assume { .. } => Ok(Note::Alone),
         }
     }
 }

@@ -1,3 +1,5 @@
+//! Calls of the operating system that may fail.
+
 // The numbers of the calls that are to fail, and a count that stays at its last value.
 
 ghost use Rattle.std.specs.Prelude.{◌≡◌, ◌↔◌, IsTrue};

@@ -1,3 +1,5 @@
+//! How a reading or a writing ended.
+
 // The two ends that the checker reads from and writes to.
 
 ghost use Rattle.std.specs.Prelude.{◌≡◌, ◌≢◌, ◌≤◌, ℕ, List, Option, IfOk, IsErrOf, OnOk, length};

@@ -1,3 +1,5 @@
+//! Faults that are put on purpose, for tests.
+
 // The names whose reads failed, each with its count.
 
 ghost use Rattle.std.specs.Prelude.{◌≡◌, ◌≢◌, ℕ, List, OnOk, OnErr, IsOk};

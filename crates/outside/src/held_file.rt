@@ -1,3 +1,5 @@
+//! A file that is open.
+
 // Files in memory.
 
 ghost use Rattle.std.specs.Prelude.{◌≡◌, min};

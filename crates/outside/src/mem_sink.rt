@@ -1,3 +1,5 @@
+//! A sink that keeps what it takes.
+
 // A sink in memory.
 
 ghost use Rattle.std.specs.Prelude.{◌≡◌, ◌≤◌, ◌↔◌, ℕ, List, [], ◌++◌, Some, IfOk, IsErr, length, vec_capacity};

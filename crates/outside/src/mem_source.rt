@@ -1,3 +1,5 @@
+//! A source whose files are in memory.
+
 // A source over files in memory.
 
 ghost use Rattle.std.specs.Prelude.{◌≡◌, ◌≢◌, ◌↔◌, ℕ, List, IfOk, IfSome, IsOk, IsSome, IsErrOf, OnOk};

@@ -1,3 +1,5 @@
+//! Sources and sinks that never fail.
+
 // Ends that never fail.
 
 ghost use Rattle.std.specs.Prelude.{◌≡◌, ℕ, List, [], Option, Some, None, IsOkAnd, IfSome, unwrap_or, length};

@@ -1,3 +1,5 @@
+//! The files and the standard output of the operating system.
+
 // The ends at a real file and at standard output.
 
 ghost use Rattle.std.specs.Prelude.{◌≡◌, ◌≢◌, ◌≤◌, ◌⊎◌, ℕ, List, None, IfOk, IfErr, IsErr, IsErrOf, IsSome, OnOk, length};

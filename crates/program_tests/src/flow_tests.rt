@@ -1,3 +1,5 @@
+//! Tests of jumps, loops and switches.
+
 // Programs with functions, loops, switches and jumps: their runs on the machines of all stages, and their places.
 
 use crate::machines::{admitted, outcomes_under, outcomes_within};
@@ -8,9 +10,11 @@ use std::alloc::{AllocError, Global};
 use std::test::*;
 use words::{Check, Class};
 
-// Texts with the greatest number of tests of a loop and of activations of a function, the word that they
-// draw, and the class, the line and the function of the check that breaks.
-static RUNS: [(&str, u32, i32, Option<(Class, u32, u32)>); 44] = [
+// A text with the greatest number of tests of a loop and of activations of a function, the word that it
+// draws, and the class, the line and the function of the check that breaks.
+type Run = (&'static str, u32, i32, Option<(Class, u32, u32)>);
+
+static RUNS: [Run; 44] = [
     (
         "int main(void){int i=0;while(i<3)i++;\nassert(i!=3);return 0;}",
         4,
@@ -272,21 +276,33 @@ static RUNS: [(&str, u32, i32, Option<(Class, u32, u32)>); 44] = [
     ),
 ];
 
+// How a run ends that breaks this check of a function, or none.
+fn ending(check: Option<(Class, u32, u32)>) -> Outcome {
+    match check {
+        Some((class, line, function)) => Outcome::Broken(Check {
+            class,
+            line,
+            function,
+            thread: 0,
+        }),
+        None => Outcome::Fine,
+    }
+}
+
+// The first row whose run ends otherwise.
+fn wrong_run(alloc: Global, rows: &[Run]) -> Result<Option<usize>, Fail> {
+    for (i, (text, unwind, word, check)) in rows.iter().enumerate() {
+        let found = outcomes_within(alloc, text.as_bytes(), &[*word, 0, 0], *unwind)?;
+        if found != [ending(*check); 4] {
+            return Ok(Some(i));
+        }
+    }
+    Ok(None)
+}
+
 #[test]
 fn programs_have_their_runs(rt: HostRuntime) -> Result<(), Fail> {
-    for (text, unwind, word, check) in RUNS {
-        let found = outcomes_within(rt.alloc(), text.as_bytes(), &[word, 0, 0], unwind)?;
-        let wanted = match check {
-            Some((class, line, function)) => Outcome::Broken(Check {
-                class,
-                line,
-                function,
-                thread: 0,
-            }),
-            None => Outcome::Fine,
-        };
-        assert!(rt; found == [wanted; 4], "{text} with {word} within {unwind}");
-    }
+    assert_eq!(rt; wrong_run(rt.alloc(), &RUNS)?, None);
     Ok(())
 }
 
@@ -337,12 +353,19 @@ fn places_of(alloc: Global, text: &str, unwind: u32) -> Result<u32, Fail> {
     Ok(count(alloc, &file, &bounds)?.places)
 }
 
+// The first row that counts other places.
+fn wrong_count(alloc: Global, rows: &[(&str, u32, u32)]) -> Result<Option<usize>, Fail> {
+    for (i, (text, unwind, places)) in rows.iter().enumerate() {
+        if places_of(alloc, text, *unwind)? != *places {
+            return Ok(Some(i));
+        }
+    }
+    Ok(None)
+}
+
 #[test]
 fn places_are_counted(rt: HostRuntime) -> Result<(), Fail> {
-    for (text, unwind, places) in PLACES {
-        let found = places_of(rt.alloc(), text, unwind)?;
-        assert_eq!(rt; found, places, "{text} within {unwind}");
-    }
+    assert_eq!(rt; wrong_count(rt.alloc(), &PLACES)?, None);
     Ok(())
 }
 
@@ -369,12 +392,7 @@ fn loops_have_bounds_of_their_own(rt: HostRuntime) -> Result<(), Fail> {
     ];
     for (function, class, line) in rows {
         let bounds = loop_bounds(alloc, function)?;
-        let wanted = Outcome::Broken(Check {
-            class,
-            line,
-            function: 0,
-            thread: 0,
-        });
+        let wanted = ending(Some((class, line, 0)));
         let found = outcomes_under(alloc, text, &[0], &bounds)?;
         assert!(rt; found == [wanted; 4], "line {line}");
     }

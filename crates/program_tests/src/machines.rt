@@ -1,11 +1,14 @@
+//! The machines of all stages, run side by side.
+
 // Runs of C text on the machine of the typed source and on those of its flat code.
 
 use actions::{Machine, Store};
 use c_elab_decl::elaborate;
-use c_interp::{are_storable, run};
+use c_interp::run;
 use c_lexer::lex;
 use c_parse_decl::parse;
 use c_profile::{Admitted, admit};
+use c_tasks::are_storable;
 use core_tree::Bounds;
 use goto_checks::insert;
 use goto_lower::lower;

@@ -1,3 +1,5 @@
+//! Tests of runs.
+
 // C text with its values, its checks and its runs, on the machines of all stages.
 
 use crate::machines::outcomes;
@@ -344,7 +346,7 @@ x=0,y=0,z=2@enum{A=1?2:1/0,B=0&&1/0};#@A+B
 x=0,y=0,z=7@enum{A}f;enum{B=7};@B+f*0";
 
 // An expression over x and y, their numbers, and the check that it breaks.
-const BREAKS: [(&str, i32, i32, Class); 22] = [
+static BREAKS: [(&str, i32, i32, Class); 22] = [
     ("x+y", 2147483647, 1, Class::Overflow),
     ("x-y", -2147483648, 1, Class::Overflow),
     ("x*y", 65536, 32768, Class::Overflow),
@@ -370,7 +372,9 @@ const BREAKS: [(&str, i32, i32, Class); 22] = [
 ];
 
 // A text, what it draws, and the check that it breaks, with its line.
-const RUNS: [(&str, i32, i32, i32, Option<(Class, u32)>); 28] = [
+type Run = (&'static str, i32, i32, i32, Option<(Class, u32)>);
+
+static RUNS: [Run; 28] = [
     (
         "int main(void){int x=nondet_int();assert(x!=7);return 0;}",
         7,
@@ -616,26 +620,45 @@ fn expressions_have_their_values(rt: HostRuntime) -> Result<(), Fail> {
     Ok(())
 }
 
+// The first row whose operation breaks another check, or none.
+fn wrong_break(alloc: Global, rows: &[(&str, i32, i32, Class)]) -> Result<Option<usize>, Fail> {
+    for (i, (expression, x, y, class)) in rows.iter().enumerate() {
+        let text = equation(alloc, expression)?;
+        let found = outcomes(alloc, text.as_str().as_bytes(), &[*x, *y, 0])?;
+        if found != [broken(*class, 1); 4] {
+            return Ok(Some(i));
+        }
+    }
+    Ok(None)
+}
+
 #[test]
 fn operations_break_their_checks(rt: HostRuntime) -> Result<(), Fail> {
-    for (expression, x, y, class) in BREAKS {
-        let text = equation(rt.alloc(), expression)?;
-        let found = outcomes(rt.alloc(), text.as_str().as_bytes(), &[x, y, 0])?;
-        let wanted = broken(class, 1);
-        assert!(rt; found == [wanted; 4], "{expression} at {x}, {y}");
-    }
+    assert_eq!(rt; wrong_break(rt.alloc(), &BREAKS)?, None);
     Ok(())
+}
+
+// How a run ends that breaks this check, or none.
+fn ending(check: Option<(Class, u32)>) -> Outcome {
+    match check {
+        Some((class, line)) => broken(class, line),
+        None => Outcome::Fine,
+    }
+}
+
+// The first row whose run ends otherwise.
+fn wrong_run(alloc: Global, rows: &[Run]) -> Result<Option<usize>, Fail> {
+    for (i, (text, x, y, z, check)) in rows.iter().enumerate() {
+        let found = outcomes(alloc, text.as_bytes(), &[*x, *y, *z])?;
+        if found != [ending(*check); 4] {
+            return Ok(Some(i));
+        }
+    }
+    Ok(None)
 }
 
 #[test]
 fn texts_have_their_runs(rt: HostRuntime) -> Result<(), Fail> {
-    for (text, x, y, z, check) in RUNS {
-        let found = outcomes(rt.alloc(), text.as_bytes(), &[x, y, z])?;
-        let wanted = match check {
-            Some((class, line)) => broken(class, line),
-            None => Outcome::Fine,
-        };
-        assert!(rt; found == [wanted; 4], "{text} with {x}, {y}, {z}");
-    }
+    assert_eq!(rt; wrong_run(rt.alloc(), &RUNS)?, None);
     Ok(())
 }

@@ -1,3 +1,5 @@
+//! Tests of typing.
+
 // C text that is typed, or breaks a rule of typing on a line.
 
 use c_elab_decl::elaborate;

@@ -1,3 +1,5 @@
+//! The check of a refutation: each clause of a log follows by unit propagation.
+
 ghost use Rattle.std.specs.Prelude.{◌≡◌, ◌≤◌, ◌↔◌, IsTrue, IfOk};
 ghost use Rattle.sat_form.specs.Satisfaction.{AreWithin};
 ghost use Rattle.sat_form.specs.Databases.{IsEntryWithin, AreEntriesWithin};

@@ -1,3 +1,5 @@
+//! Which literals hold while a clause is checked.
+
 ghost use Rattle.std.specs.Prelude.{◌≡◌, ◌≢◌, ◌<◌, ◌≤◌, IsTrue, IfOk, false, All, length};
 ghost use Rattle.sat_form.specs.Satisfaction.{Literal};
 ghost use Rattle.refutation_check.specs.Sets.{holds};

@@ -1,3 +1,5 @@
+//! Where the check of a log stands.
+
 ghost use Rattle.std.specs.Prelude.{◌≡◌, ◌<◌, ◌^◌, ◌+◌, length};
 ghost use Rattle.std.specs.Option.{option_copied};
 ghost use Rattle.sat_form.specs.Databases.{deleted_numbers, numbered_clauses, is_among, live_clause};

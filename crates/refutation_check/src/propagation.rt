@@ -1,3 +1,5 @@
+//! Unit propagation over the clauses that are live.
+
 ghost use Rattle.std.specs.Prelude.{◌≡◌, ◌≢◌, ◌∷◌, [], ◌↔◌, false, List, Contains, IsTrue, IsSomeAnd};
 ghost use Rattle.std.specs.Bool.{OnTrue, OnFalse};
 ghost use Rattle.sat_form.specs.Satisfaction.{Literal, inverse_of, IsWithin};

@@ -1,6 +1,6 @@
 pub mod Satisfaction
 pub mod Numbers
-pub mod Codes
+pub mod inner
 pub mod Propagation
 pub mod Databases
 pub mod Refutation

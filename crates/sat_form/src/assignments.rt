@@ -1,3 +1,5 @@
+//! Assignments of truth values to variables.
+
 ghost use Rattle.std.specs.Prelude.{◌≡◌, ◌↔◌, IsTrue};
 ghost use Rattle.std.specs.List.{list_all};
 ghost use Rattle.sat_form.specs.Satisfaction.{literal_value, clause_value, Satisfies, assignment_of};

@@ -1,3 +1,5 @@
+//! Clauses: lists of literals.
+
 ghost use Rattle.std.specs.Prelude.{◌≡◌, ◌↔◌, [], ◌∷◌, ◌++◌, IsTrue, IfOk, OnOk, OnErr};
 ghost use Rattle.sat_form.specs.Satisfaction.{IsWithin};
 

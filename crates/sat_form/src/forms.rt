@@ -1,3 +1,5 @@
+//! Forms: lists of clauses (CNF).
+
 ghost use Rattle.std.specs.Prelude.{◌≡◌, ◌+◌, ◌^◌, ◌≤◌, false, [], ◌∷◌, ◌++◌, IfOk, OnOk, OnErr};
 ghost use Rattle.sat_form.specs.Satisfaction.{IsWithin, AreWithin};
 

@@ -1,3 +1,5 @@
+//! What models and refutations say of a form, as functions that do nothing.
+
 ghost use Rattle.std.specs.Prelude.{◌≡◌, ◌∷◌, ◌++◌, ℕ, Bool, List};
 ghost use Rattle.sat_form.specs.Satisfaction.{Literal, Satisfies};
 ghost use Rattle.sat_form.specs.Refutation.{IsDerivation, IsRefutation};

@@ -1,3 +1,5 @@
+//! Literals: a variable or its negation.
+
 ghost use Rattle.std.specs.Prelude.{◌≡◌, ◌^◌, ◌<◌};
 ghost use Rattle.sat_form.specs.Satisfaction.{inverse_of, index_of};
 
@@ -12,7 +14,7 @@ pub struct Lit {
 impl Model for Lit {
     ghost use Rattle.std.specs.Prelude.{◌+◌, ◌*◌, ◌/◌, ◌%◌, nat_eq, if◌then◌else◌};
     ghost use Rattle.sat_form.specs.Satisfaction.{Literal};
-    ghost use Rattle.sat_form.specs.Codes.{code_of_parts};
+    ghost use Rattle.sat_form.specs.inner.Codes.{code_of_parts};
 
     ghost Value = { Literal };
 

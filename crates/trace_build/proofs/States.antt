@@ -11,7 +11,7 @@ use Rattle.actions.specs.Access.{access_break}
 use Rattle.actions.specs.Objects.{Objects, object_at, state_at, with_object, changed_to, with_bytes, with_bytes_at, break_in, write_break, unless_changed}
 use Rattle.actions.specs.declared.action.Action.{Action}
 use Rattle.actions.specs.declared.action.Action.TheVariants.{Write}
-use Rattle.guarded_ssa.specs.Ways.{Seen, asked, stopped}
+use Rattle.guarded_ssa.specs.Arrivals.{Seen, asked, stopped}
 use Rattle.mem_seq.specs.Accesses.{stored_by, behind}
 use Rattle.trace_build.specs.Walking.{SameStates}
 

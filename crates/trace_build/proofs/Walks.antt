@@ -21,7 +21,7 @@ use Rattle.guarded_ssa.specs.declared.forms.Event.{Event}
 use Rattle.guarded_ssa.specs.declared.forms.EventKind.{EventKind}
 use Rattle.guarded_ssa.specs.declared.forms.EventKind.TheVariants as kinds
 use Rattle.guarded_ssa.specs.Runs.{Run, stops, asks, bytes_of_words}
-use Rattle.guarded_ssa.specs.Ways.{Seen, stopped, read}
+use Rattle.guarded_ssa.specs.Arrivals.{Seen, stopped, read}
 use Rattle.guarded_ssa.specs.Forms.{kind_seen, event_seen, seen, run_read}
 use Rattle.mem_seq.specs.Accesses.{unless, checked, behind}
 use Rattle.mem_seq.specs.Runs.{answer_words, drawn_words, turns}

@@ -1,3 +1,5 @@
+//! From a valuation of the formula to the inputs and the schedule of a run.
+
 ghost use Rattle.std.specs.Prelude.{◌≡◌, ℕ, true, List, [], ◌∷◌, ◌++◌, IfOk, OnOk, option_map, map, slice_index};
 ghost use Rattle.words.specs.BitVector.{BitVector};
 ghost use Rattle.word_dag.specs.Meaning.{value, values, valuation_of, holds};
@@ -5,11 +7,11 @@ ghost use Rattle.word_dag.specs.Growth.{Within};
 ghost use Rattle.actions.specs.Behaviour.{word_64};
 ghost use Rattle.actions.specs.declared.action.Next.TheVariants.{Ended};
 ghost use Rattle.core_tree.specs.Trees.{view_core};
-ghost use Rattle.c_interp.specs.Source.{source_world};
+ghost use Rattle.c_tasks.specs.Source.{source_world};
 ghost use Rattle.interleave.specs.Turn.{check_of};
 ghost use Rattle.interleave.specs.Replay.{Replays};
 ghost use Rattle.guarded_ssa.specs.Runs.{Run, stops};
-ghost use Rattle.guarded_ssa.specs.Ways.{Seen, read};
+ghost use Rattle.guarded_ssa.specs.Arrivals.{Seen, read};
 ghost use Rattle.guarded_ssa.specs.Forms.{event_seen, EventIn, FormIn};
 ghost use Rattle.actions.specs.Objects.{Objects};
 ghost use Rattle.mem_seq.specs.Accesses.{checked, behind};
@@ -126,7 +128,7 @@ impl Walk {
             return Ok(None);
         }
         match &event.kind {
-            EventKind::Draw { bits: _, answer } => {
+            EventKind::Draw { answer, .. } => {
                 self.draw(values.bits(*answer))?;
                 Ok(None)
             }
@@ -134,7 +136,7 @@ impl Walk {
                 object,
                 offset,
                 count,
-                answer: _,
+                ..
             } => {
                 let pointer = pointer_to(*object, *offset);
                 self.turn_at(event, store.break_of(false, pointer, *count as usize))
@@ -155,7 +157,7 @@ impl Walk {
                 }
                 self.turn_at(event, Some(*class))
             }
-            EventKind::Assume { failing: _ } => Ok(None),
+            EventKind::Assume { .. } => Ok(None),
         }
     }
 }

@@ -1,3 +1,5 @@
+//! Nodes of the bytes of a number.
+
 ghost use Rattle.std.specs.Prelude.{◌≡◌, ◌+◌, ◌*◌, ◌<◌, ◌≤◌, ℕ, true, IfOk, IfSome, map, length, take, drop};
 ghost use Rattle.std.specs.Int.{byte_at, to_le_bytes, from_le_bytes};
 ghost use Rattle.c_types.specs.Integers.{width as type_width, bytes as object_bytes, same_integer};

@@ -1,3 +1,5 @@
+//! Nodes of what checks ask.
+
 ghost use Rattle.std.specs.Prelude.{◌≡◌, ◌==◌, ◌≤◌, ℕ, true, not, ◌&&◌, is_some, IfOk, if◌then◌else◌, None};
 ghost use Rattle.c_types.specs.Integers.{width as type_width, is_signed};
 ghost use Rattle.core_tree.specs.Operations.{is_true, arithmetic_check, count_check, division_check, left_shift_check, sign_check};

@@ -1,3 +1,5 @@
+//! Nodes of numbers of an integer type.
+
 ghost use Rattle.std.specs.Prelude.{◌≡◌, ◌==◌, ◌<◌, ◌≤◌, ◌^◌, ℕ, IfOk, if◌then◌else◌};
 ghost use Rattle.c_types.specs.Integers.{width as type_width, is_signed, same_integer};
 ghost use Rattle.core_tree.specs.Operations as operations;
@@ -58,7 +60,7 @@ pub(crate) fn is_bool(type_: IntegerType) -> bool
     matches!(type_, IntegerType::Bool)
 }
 
-// The number converted to _Bool.
+/// The number converted to _Bool.
 #[tactic(auto, using(crate::proofs::Made::number_of_test))]
 pub(crate) fn truth_of(dag: &mut Dag, a: Id) -> Result<Id, AllocError>
     requires { Within dag.old a }

@@ -1,3 +1,5 @@
+//! Nodes of C's operations on numbers.
+
 ghost use Rattle.std.specs.Prelude.{◌≡◌, ◌<◌, ◌≤◌, ℕ, true, nat_lt, IfOk};
 ghost use Rattle.c_types.specs.Integers.{width as type_width};
 ghost use Rattle.core_tree.specs.Operations.{arithmetic_value};
@@ -29,7 +31,7 @@ fn binary(
     Ok(id)
 }
 
-// A count of another width, as a word of this one: the same number where it is below the width.
+/// A count of another width, as a word of this one: the same number where it is below the width.
 pub(crate) fn count_word(
     dag: &mut Dag,
     count: Id,
@@ -51,7 +53,7 @@ pub(crate) fn count_word(
     Ok(id)
 }
 
-// Whether a count is below a width, as numbers without a sign.
+/// Whether a count is below a width, as numbers without a sign.
 pub(crate) fn count_test(
     dag: &mut Dag,
     count: Id,

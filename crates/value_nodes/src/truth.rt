@@ -1,3 +1,5 @@
+//! Nodes of one bit: and, or, not, choice.
+
 ghost use Rattle.std.specs.Prelude.{◌≡◌, ◌==◌, ◌≤◌, ℕ, not, ◌&&◌, ◌||◌, IfOk, if◌then◌else◌};
 ghost use Rattle.core_tree.specs.Operations.{is_true, truth_bits};
 ghost use Rattle.word_dag.specs.Growth.{Within, Extends};

@@ -1,3 +1,5 @@
+//! The values of all nodes under a valuation.
+
 ghost use Rattle.std.specs.Prelude.{◌≡◌, ◌+◌, ◌≤◌, ◌<◌, IsTrue, length, map, if◌then◌else◌};
 ghost use Rattle.words.specs.BitVector.{BitVector, word};
 ghost use Rattle.words.specs.Operators.{low_bits, logical_shift};
@@ -20,7 +22,7 @@ use crate::nodes::{BinaryOperator, Comparison, FitsTest, Id, Node, ShiftKind};
 use crate::valuations::Valuation;
 use words::Word;
 
-// The word of a node that fits behind nodes with these words.
+/// The word of a node that fits behind nodes with these words.
 pub fn word_of(node: Node, words: &[Word], valuation: &Valuation) -> Word
     requires { IsTrue (fits (map (λ (w : BitVector). w.width) words.now) node) }
     ensures width { result.width ≡ node_width (map (λ (w : BitVector). w.width) words.now) node }
@@ -56,7 +58,7 @@ fn read(words: &[Word], id: Id) -> Word
     words[id.index]
 }
 
-// The word of this operation.
+/// The word of this operation.
 pub fn binary(operator: BinaryOperator, a: Word, b: Word) -> Word
     requires { a.width ≡ b.width }
     ensures { result ≡ word a.width (binary_value operator a.width a.bits b.bits) }
@@ -77,7 +79,7 @@ pub fn binary(operator: BinaryOperator, a: Word, b: Word) -> Word
     }
 }
 
-// The word shifted by the count; 0 where the count is at least the width.
+/// The word shifted by the count; 0 where the count is at least the width.
 pub fn shift(kind: ShiftKind, a: Word, count: Word) -> Word
     requires { a.width ≡ count.width }
     ensures { result ≡ word a.width (shift_value kind a.width a.bits count.bits) }
@@ -94,7 +96,7 @@ pub fn shift(kind: ShiftKind, a: Word, count: Word) -> Word
     }
 }
 
-// Whether the comparison holds.
+/// Whether the comparison holds.
 pub fn compare(comparison: Comparison, a: Word, b: Word) -> bool
     requires { a.width ≡ b.width }
     ensures { result ≡ comparison_value comparison a.width a.bits b.bits }
@@ -106,7 +108,7 @@ pub fn compare(comparison: Comparison, a: Word, b: Word) -> bool
     }
 }
 
-// Whether the result is in range.
+/// Whether the result is in range.
 pub fn result_fits(test: FitsTest, a: Word, b: Word) -> bool
     requires { a.width ≡ b.width }
     ensures { result ≡ fits_value test a.width a.bits b.bits }
@@ -131,21 +133,21 @@ fn left_shift_fits(a: Word, count: Word) -> bool
     }
 }
 
-// A truth value as a word.
+/// A truth value as a word.
 pub fn bit(truth: bool) -> Word
     ensures { result ≡ word 1 (bit_value truth) }
 {
     Word::new(u64::from(truth), 1)
 }
 
-// The second word where the condition holds, else the third.
+/// The second word where the condition holds, else the third.
 pub fn choose(condition: Word, a: Word, b: Word) -> Word
     ensures { result ≡ (if holds condition.bits then a else b) }
 {
     if condition.bits() > 0 { a } else { b }
 }
 
-// As many bits as `width` says, from the bit `low` on.
+/// As many bits as `width` says, from the bit `low` on.
 pub fn cut(a: Word, low: u32, width: u32) -> Word
     requires positive { 1 ≤ width }
     requires within { low + width ≤ a.width }
@@ -154,7 +156,7 @@ pub fn cut(a: Word, low: u32, width: u32) -> Word
     a.lshr(low).cut(width)
 }
 
-// The bits of the first word above those of the second.
+/// The bits of the first word above those of the second.
 pub fn join(high: Word, low: Word) -> Word
     requires { high.width + low.width ≤ 64 }
     ensures { result ≡ word (high.width + low.width) (joined low.width high.bits low.bits) }

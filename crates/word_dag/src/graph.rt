@@ -1,3 +1,5 @@
+//! The graph of words: nodes, operands before their users.
+
 ghost use Rattle.std.specs.Prelude.{
   ◌≡◌,
   ℕ,

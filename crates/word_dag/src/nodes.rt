@@ -1,3 +1,5 @@
+//! What a node is.
+
 /// The place of a node among the nodes of its graph, from 0.
 #[derive(Clone, Copy, Debug, PartialEq, Eq)]
 pub struct Id {

@@ -1,3 +1,5 @@
+//! Values of the variables.
+
 ghost use Rattle.std.specs.Prelude.{◌≡◌};
 ghost use Rattle.word_dag.specs.Meaning.{valuation_of};
 

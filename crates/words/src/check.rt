@@ -1,3 +1,5 @@
+//! The checks that a run may break, by class.
+
 /// What kind of check a run breaks. Each variant says when its checks break.
 #[derive(Clone, Copy, Debug, PartialEq, Eq)]
 pub enum Class {

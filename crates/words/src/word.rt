@@ -1,3 +1,5 @@
+//! Words: bits of a width from 1 to 64, and operations on them.
+
 ghost use Rattle.std.specs.Prelude.{◌≡◌, ℤ, ◌+◌, ◌-◌, ◌%◌, ◌^◌, ◌<◌, ◌≤◌, bit_and, bit_or, bit_xor, nat_lt};
 ghost use Rattle.words.specs.BitVector.{IsWord, signed_value, word};
 ghost use Rattle.words.specs.Operators.{

@@ -3,12 +3,12 @@ use Rattle.c_lexer.specs.Kinds.{AllSpelled}
 use Rattle.c_lexer.proofs.Steps.{Completes}
 use Rattle.c_lexer.proofs.lexing.cut.Given as goal
 
-abbrev pub invariant-loop-place : goal.invariant-loop-place
-invariant-loop-place l = record {
-  within : l.place.at ≤ length l.bytes;
-  completes : Completes l.bytes l.lines l.tokens.items l.place;
+abbrev pub invariant-loop-position : goal.invariant-loop-position
+invariant-loop-position l = record {
+  within : l.position.at ≤ length l.bytes;
+  completes : Completes l.bytes l.lines l.tokens.items l.position;
   spelled : AllSpelled l.bytes l.tokens.items;
 }
 
-abbrev pub decreases-loop-place : goal.decreases-loop-place
-decreases-loop-place l = length l.bytes - l.place.at
+abbrev pub decreases-loop-position : goal.decreases-loop-position
+decreases-loop-position l = length l.bytes - l.position.at

@@ -1,6 +1,6 @@
 use Rattle.c_tree.specs.Names.{built_in_names}
 use Rattle.c_tree.specs.Statements.{externals_of}
-use Rattle.c_parse_decl.proofs.Outers.{no_file, none_here, one_more, more_names, whole_file, empty_by, some_left}
+use Rattle.c_parse_decl.proofs.Externals.{no_file, none_here, one_more, more_names, whole_file, empty_by, some_left}
 use Rattle.c_parse_decl.proofs.file.externals.Goals as goal
 
 pub returns-in-Err-clause-none : goal.returns-in-Err-clause-none

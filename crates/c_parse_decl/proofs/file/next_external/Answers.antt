@@ -1,7 +1,7 @@
 use Rattle.c_parse_expr.proofs.Loops.{fails_none}
 use Rattle.c_parse_decl.specs.Standing.{outer_of}
-use Rattle.c_parse_decl.specs.Reading.{outer_at}
-use Rattle.c_parse_decl.proofs.Outers.{outer_takes, none_stands}
+use Rattle.c_parse_decl.specs.inner.Reading.{outer_at}
+use Rattle.c_parse_decl.proofs.Externals.{outer_takes, none_stands}
 use Rattle.c_parse_decl.proofs.file.next_external.Goals as goal
 
 pub returns-in-Ok-clause-found : goal.returns-in-Ok-clause-found

@@ -1,4 +1,4 @@
-use Rattle.c_parse_decl.proofs.Outers.{no_longer}
+use Rattle.c_parse_decl.proofs.Externals.{no_longer}
 use Rattle.c_parse_decl.proofs.file.no_proper_prefix.Goals as goal
 
 pub returns : goal.returns

@@ -1,4 +1,4 @@
-use Rattle.c_parse_decl.proofs.Outers.{file_same}
+use Rattle.c_parse_decl.proofs.Externals.{file_same}
 use Rattle.c_parse_decl.proofs.file.one_file.Goals as goal
 
 pub returns : goal.returns

@@ -1,5 +1,5 @@
 use Rattle.c_tree.specs.Names.{built_in_names}
-use Rattle.c_parse_decl.proofs.Outers.{same_end}
+use Rattle.c_parse_decl.proofs.Externals.{same_end}
 use Rattle.c_parse_decl.proofs.file.one_place.Goals as goal
 
 pub returns : goal.returns

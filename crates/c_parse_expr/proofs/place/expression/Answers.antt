@@ -4,7 +4,7 @@ use Rattle.c_tree.specs.Tree.{view}
 use Rattle.c_parse_expr.specs.Standing.{number_of}
 use Rattle.c_parse_expr.specs.Reading.{reader}
 use Rattle.c_parse_expr.proofs.Loops.{fails_none}
-use Rattle.c_parse_expr.proofs.Again.{no_tree}
+use Rattle.c_parse_expr.proofs.Complete.{no_tree}
 use Rattle.c_parse_expr.proofs.Places.{same_reading, place_found}
 use Rattle.c_parse_expr.proofs.place.expression.Goals as goal
 

@@ -1,4 +1,4 @@
-use Rattle.c_parse_expr.proofs.Again.{one_declared}
+use Rattle.c_parse_expr.proofs.Complete.{one_declared}
 use Rattle.c_parse_expr.proofs.place.one_declarator.Goals as goal
 
 pub returns : goal.returns

@@ -1,4 +1,4 @@
-use Rattle.c_parse_expr.proofs.Again.{one_tree}
+use Rattle.c_parse_expr.proofs.Complete.{one_tree}
 use Rattle.c_parse_expr.proofs.place.one_expression.Goals as goal
 
 pub returns : goal.returns

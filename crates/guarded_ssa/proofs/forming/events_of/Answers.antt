@@ -11,8 +11,8 @@ pub loop-place-init : goal.loop-place-init
 loop-place-init c = record {
   extends = c.start.ensures.extends;
   within = c.in_ok-pass.ensures.within;
-  size = start_size c.start.new.dag c.args.code.now c.in_ok-pass.pass.pending.items (first_memory c.args.code.now) (length c.args.code.now.instructions) c.in_ok-pass.ensures.ways;
-  goes = visited_none c.args.code.now (λ v. Some (first_memory c.args.code.now) ∷ replicate (length c.args.code.now.instructions) None) c.start.new.dag c.in_ok-pass.pass c.in_ok-pass.ensures.events c.in_ok-pass.ensures.ways;
+  size = start_size c.start.new.dag c.args.code.now c.in_ok-pass.pass.pending.items (first_memory c.args.code.now) (length c.args.code.now.instructions) c.in_ok-pass.ensures.arrivals;
+  goes = visited_none c.args.code.now (λ v. Some (first_memory c.args.code.now) ∷ replicate (length c.args.code.now.instructions) None) c.start.new.dag c.in_ok-pass.pass c.in_ok-pass.ensures.events c.in_ok-pass.ensures.arrivals;
 }
 
 pub visit-requires-clause-fits : goal.visit-requires-clause-fits

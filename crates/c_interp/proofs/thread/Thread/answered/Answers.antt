@@ -2,12 +2,12 @@ use Rattle.std.proofs.Common.{◌≡◌, true, List, ◌∷◌, ◌++◌, [], �
 use Rattle.std.specs.Prelude.{IfOk}
 use Rattle.c_values.specs.Variables.{Variables}
 use Rattle.c_values.specs.Numbers.{TypedNumber}
-use Rattle.c_interp.specs.Items.{active, Item, state}
-use Rattle.c_interp.specs.Steps.{move}
+use Rattle.c_tasks.specs.Items.{active, Item, state}
+use Rattle.c_tasks.specs.Steps.{move}
 use Rattle.c_interp.specs.View.{file_of, code_under}
-use Rattle.c_interp.specs.Fits.{fits, variables_at, types_of, sizes_of}
-use Rattle.c_interp.specs.Tasks.{items_in, item_of, values_in, structures_in, behind, Accepts, Answers, ChangesWithin}
-use Rattle.c_interp.proofs.Tops.{items_push}
+use Rattle.c_tasks.specs.Fits.{fits, variables_at, types_of, sizes_of}
+use Rattle.c_tasks.specs.Tasks.{items_in, item_of, values_in, structures_in, behind, Accepts, Answers, ChangesWithin}
+use Rattle.c_tasks.proofs.Tops.{items_push}
 use Rattle.c_interp.proofs.thread.Thread.answered.Goals as goal
 
 pub answer_task-requires-clause-fits : goal.answer_task-requires-clause-fits

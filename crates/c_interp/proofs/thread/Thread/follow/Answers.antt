@@ -1,5 +1,5 @@
 use Rattle.std.proofs.Common.{◌≡◌, refl, rules}
-use Rattle.c_interp.specs.Steps.{silent}
+use Rattle.c_tasks.specs.Steps.{silent}
 use Rattle.c_interp.specs.View.{state_of, next_move, after_change, after_cut}
 use Rattle.c_interp.proofs.Sound.{sound_kept}
 use Rattle.c_interp.proofs.Threads.{stepped_same, stepped_falls}

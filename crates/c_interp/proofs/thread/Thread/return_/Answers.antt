@@ -1,7 +1,7 @@
 use Rattle.std.proofs.Common.{◌≡◌, [], ◌∷◌, sym, subst, ◌∙◌}
-use Rattle.c_interp.specs.declared.task.Cut.TheVariants as cuts
-use Rattle.c_interp.specs.Items.{active, closed, resumes, gets, State, state}
-use Rattle.c_interp.specs.Tasks.{items_in, values_in, structures_in, want_of, how_of, after_return}
+use Rattle.c_tasks.specs.declared.task.Cut.TheVariants as cuts
+use Rattle.c_tasks.specs.Items.{active, closed, resumes, gets, State, state}
+use Rattle.c_tasks.specs.Tasks.{items_in, values_in, structures_in, want_of, how_of, after_return}
 use Rattle.c_interp.specs.View.{file_of, active_of, after_cut, IsSound}
 use Rattle.c_interp.proofs.Returns.{returned_to, returned_nowhere}
 use Rattle.c_interp.proofs.thread.Thread.return_.Goals as goal

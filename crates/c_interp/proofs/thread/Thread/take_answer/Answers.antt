@@ -1,7 +1,7 @@
 use Rattle.std.proofs.Common.{◌≡◌, ap, ◌∙◌, rules}
 use Rattle.actions.specs.Behaviour as actions
 use Rattle.actions.specs.Behaviour.{answered}
-use Rattle.c_interp.specs.Tasks.{items_in, values_in, structures_in, behind, action_of, Accepts, Answers}
+use Rattle.c_tasks.specs.Tasks.{items_in, values_in, structures_in, behind, action_of, Accepts, Answers}
 use Rattle.c_interp.specs.Halts.{asked_accepts, change_after}
 use Rattle.c_interp.specs.View.{code_under, active_of, state_of, thread_of, next_move, after_change}
 use Rattle.c_interp.proofs.Sound.{answer_fits, answer_counted}

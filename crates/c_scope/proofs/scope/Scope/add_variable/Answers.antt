@@ -2,7 +2,7 @@ use Rattle.std.proofs.Common.{◌≡◌, ◌∷◌, [], ◌++◌, List, ℕ, len
 use Rattle.std.proofs.lemmas.List.{length-append, map-append}
 use Rattle.c_scope.specs.declared.scope.QualifiedType.{QualifiedType}
 use Rattle.c_scope.specs.Types.{type_size}
-use Rattle.c_scope.specs.Scopes.{Named, Scoped, view_named, view_lasting, are_complete, sizes_of}
+use Rattle.c_scope.specs.Scopes.{Named, Scoped, view_named, view_object_entry, are_complete, sizes_of}
 use Rattle.c_scope.specs.Places.{environment}
 use Rattle.c_scope.proofs.Variables.{are_there_wider, complete_sized, complete_more, sizes_more}
 use Rattle.c_scope.proofs.scope.Scope.add_variable.Goals as goal
@@ -10,7 +10,7 @@ use Rattle.c_scope.proofs.scope.Scope.add_variable.Goals as goal
 pub invariant_of-self-2 : goal.invariant_of-self-2
 invariant_of-self-2 c =
     let env = environment c.self.inside.bounds.items in
-    let objects = length (map view_lasting c.self.inside.objects.items) in
+    let objects = length (map view_object_entry c.self.inside.objects.items) in
     let types = length (map view_named c.self.inside.types.items) in
     let records = length c.self.inside.layouts.declared in
     let done = c.self.inside.layouts.done in

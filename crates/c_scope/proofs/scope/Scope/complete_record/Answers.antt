@@ -7,7 +7,7 @@ use Rattle.c_types.specs.declared.types.RecordKind.{RecordKind}
 use Rattle.c_types.specs.Layouts.{is_completed, with_completed, kind_at}
 use Rattle.c_scope.specs.declared.members.MemberTable.{MemberTable}
 use Rattle.c_scope.specs.Members.{Members, view_fields, field_types, view_members, view_tables, members_by}
-use Rattle.c_scope.specs.Scopes.{Scoped, view_named, view_lasting, view_linked, view_flow, are_there, are_complete, sizes_of}
+use Rattle.c_scope.specs.Scopes.{Scoped, view_named, view_object_entry, view_linked, view_flow, are_there, are_complete, sizes_of}
 use Rattle.c_scope.specs.Places.{environment}
 use Rattle.c_scope.proofs.Variables.{variables_later}
 use Rattle.c_scope.proofs.scope.Scope.complete_record.Goals as goal
@@ -25,7 +25,7 @@ invariant_of-self-2 c =
     let long = length-set c.self.inside.tables.items place c.in_ok-table.table in
     let records = ap (λ (ks : List RecordKind). length ks) declared in
     let same = c.self.invariant.6 in (
-      ap (λ (ks : List RecordKind). are_there (length variables) (length (map view_lasting c.self.inside.objects.items)) (length (map view_named c.self.inside.types.items)) (length ks) (environment c.self.inside.bounds.items)) declared ∙ c.self.invariant.0,
+      ap (λ (ks : List RecordKind). are_there (length variables) (length (map view_object_entry c.self.inside.objects.items)) (length (map view_named c.self.inside.types.items)) (length ks) (environment c.self.inside.bounds.items)) declared ∙ c.self.invariant.0,
       c.self.invariant.1,
       c.self.invariant.2,
       c.self.invariant.3 ∙ sym later.1 ∙ ap (λ (ds : List Completed). sizes_of ds variables) (sym done),
@@ -47,6 +47,6 @@ returns-clause-completed c =
     map-set view_members tables place c.in_ok-table.table ∙ ap (λ (m : Members). slice_set (view_tables tables) place m) table in
     let records : c.complete.new.self ≡ with_completed rs place (kind_at rs place) (field_types fs) =
     c.in_ok-complete.ensures.completed ∙ ap (λ (ts : List CType). with_completed rs place (kind_at rs place) ts) c.in_ok-types.ensures in
-    let whole : Scoped = record { bindings = environment inside.bounds.items; types = map view_named inside.types.items; records = rs; members = view_tables tables; variables = map view_named inside.variables.items; objects = map view_lasting inside.objects.items; linked = map view_linked inside.linked.entries; functions = inside.functions; flow = view_flow inside.flow } in
+    let whole : Scoped = record { bindings = environment inside.bounds.items; types = map view_named inside.types.items; records = rs; members = view_tables tables; variables = map view_named inside.variables.items; objects = map view_object_entry inside.objects.items; linked = map view_linked inside.linked.entries; functions = inside.functions; flow = view_flow inside.flow } in
     ap₂ (λ (r : Records) (ms : List Members). record whole { records = r; members = ms }) records members
     ∙ ap (λ (s : Scoped). record s { records = with_completed s.records place (kind_at s.records place) (field_types fs); members = slice_set s.members place (members_by s.members fs) }) c.self.view_is

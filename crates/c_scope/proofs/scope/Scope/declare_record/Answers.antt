@@ -3,7 +3,7 @@ use Rattle.std.proofs.lemmas.List.{length-append}
 use Rattle.c_types.specs.Types.{Records}
 use Rattle.c_types.specs.declared.types.RecordKind.{RecordKind}
 use Rattle.c_scope.specs.declared.members.MemberTable.{MemberTable}
-use Rattle.c_scope.specs.Scopes.{view_named, view_lasting, are_complete, sizes_of}
+use Rattle.c_scope.specs.Scopes.{view_named, view_object_entry, are_complete, sizes_of}
 use Rattle.c_scope.specs.Places.{environment}
 use Rattle.c_scope.proofs.Variables.{one_record_more}
 use Rattle.c_scope.proofs.scope.Scope.declare_record.Goals as goal
@@ -19,7 +19,7 @@ invariant_of-self-2 c =
     let tables = ap (λ (ts : List MemberTable). length ts) c.put_table.ensures ∙ length-append c.reserve.new.self.items (_ ∷ []) in
     let kept = ap (λ (ts : List MemberTable). length ts) c.in_ok-reserve.ensures.items in
     let same = c.self.invariant.6 in (
-      one_record_more (length variables) (length (map view_lasting c.self.inside.objects.items)) (length (map view_named c.self.inside.types.items)) old.declared now.declared c.args.kind (environment c.self.inside.bounds.items) e c.self.invariant.0,
+      one_record_more (length variables) (length (map view_object_entry c.self.inside.objects.items)) (length (map view_named c.self.inside.types.items)) old.declared now.declared c.args.kind (environment c.self.inside.bounds.items) e c.self.invariant.0,
       c.self.invariant.1,
       c.self.invariant.2,
       c.self.invariant.3 ∙ ap (λ ds. sizes_of ds variables) (sym done),

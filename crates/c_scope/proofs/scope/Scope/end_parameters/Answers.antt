@@ -2,7 +2,7 @@ use Rattle.std.proofs.Common.{◌≡◌, ◌-◌, ℕ, length, List, map, take, 
 use Rattle.std.proofs.lemmas.List.{take-map, length-map, length-take-le}
 use Rattle.c_scope.specs.declared.scope.QualifiedType.{QualifiedType}
 use Rattle.c_scope.specs.Members.{view_tables}
-use Rattle.c_scope.specs.Scopes.{Named, Scoped, view_named, view_lasting, view_linked, view_flow, are_there, are_complete, sizes_of}
+use Rattle.c_scope.specs.Scopes.{Named, Scoped, view_named, view_object_entry, view_linked, view_flow, are_there, are_complete, sizes_of}
 use Rattle.c_scope.specs.Places.{environment}
 use Rattle.c_scope.proofs.Variables.{take_complete, take_sizes}
 use Rattle.c_scope.proofs.scope.Scope.end_parameters.Goals as goal
@@ -20,7 +20,7 @@ invariant_of-self c =
     let within = c.requires.variables in
     let long : length (map view_named c.truncate-2.new.self.items) ≡ n = ap (λ (vs : List Named). length vs) few ∙ length-take-le n (map view_named old) (omega (arith, count, within)) in
     let there = ap (λ (s : Scoped). are_there n (length s.objects) (length s.types) (length s.records.declared) s.bindings) whole ∙ c.requires.there in (
-      ap (λ (k : ℕ). are_there k (length (map view_lasting inside.objects.items)) (length (map view_named inside.types.items)) (length inside.layouts.declared) (environment inside.bounds.items)) long ∙ there,
+      ap (λ (k : ℕ). are_there k (length (map view_object_entry inside.objects.items)) (length (map view_named inside.types.items)) (length inside.layouts.declared) (environment inside.bounds.items)) long ∙ there,
       c.self.invariant.1,
       c.self.invariant.2,
       c.truncate.ensures.items ∙ ap (λ (xs : List ℕ). take n xs) c.self.invariant.3 ∙ sym (take_sizes done (map view_named old) n) ∙ ap (sizes_of done) (sym few),
@@ -36,6 +36,6 @@ returns c =
     let old = inside.variables.items in
     let few : map view_named c.truncate-2.new.self.items ≡ take n (map view_named old) =
     ap (λ (vs : List QualifiedType). map view_named vs) c.truncate-2.ensures.items ∙ sym (take-map view_named n old) in
-    let whole : Scoped = record { bindings = environment inside.bounds.items; types = map view_named inside.types.items; records = inside.layouts; members = view_tables inside.tables.items; variables = map view_named old; objects = map view_lasting inside.objects.items; linked = map view_linked inside.linked.entries; functions = inside.functions; flow = view_flow inside.flow } in
+    let whole : Scoped = record { bindings = environment inside.bounds.items; types = map view_named inside.types.items; records = inside.layouts; members = view_tables inside.tables.items; variables = map view_named old; objects = map view_object_entry inside.objects.items; linked = map view_linked inside.linked.entries; functions = inside.functions; flow = view_flow inside.flow } in
     ap (λ (vs : List Named). record whole { variables = vs }) few
     ∙ ap (λ (s : Scoped). record s { variables = take n s.variables }) (c.self.view_is ∙ c.leave.ensures)

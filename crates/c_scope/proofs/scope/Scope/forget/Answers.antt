@@ -1,5 +1,5 @@
 use Rattle.std.proofs.Common.{◌≡◌, ◌∷◌, length, map, sym, ap, ◌∙◌}
-use Rattle.c_scope.specs.Scopes.{Environment, binding, is_tag, view_named, view_lasting, is_there, are_there}
+use Rattle.c_scope.specs.Scopes.{Environment, binding, is_tag, view_named, view_object_entry, is_there, are_there}
 use Rattle.c_scope.specs.Places.{environment, place_in, hidden_in, hidden_of}
 use Rattle.c_scope.proofs.Bindings.{environment_push, hidden_push, forgotten, has_place}
 use Rattle.c_scope.proofs.Variables.{both}
@@ -12,7 +12,7 @@ invariant_of-self c =
     let bound = c.in-Some.bound in
     let b = binding bound.name.items bound.meaning in
     let variables = length (map view_named c.self.inside.variables.items) in
-    let objects = length (map view_lasting c.self.inside.objects.items) in
+    let objects = length (map view_object_entry c.self.inside.objects.items) in
     let types = length (map view_named c.self.inside.types.items) in
     let records = length c.self.inside.layouts.declared in
     let split : environment bounds ≡ b ∷ environment rest = ap environment c.in-Some.ensures.items ∙ environment_push rest bound in

@@ -1,6 +1,6 @@
 use Rattle.std.proofs.Common.{◌≡◌, ◌∷◌, [], ◌++◌, List, ℕ, None, map, ap, ◌∙◌, rules}
 use Rattle.c_scope.specs.Members.{view_tables}
-use Rattle.c_scope.specs.Scopes.{Linked, Scoped, view_named, view_lasting, view_linked, view_flow, linked_to}
+use Rattle.c_scope.specs.Scopes.{Linked, Scoped, view_named, view_object_entry, view_linked, view_flow, linked_to}
 use Rattle.c_scope.specs.Places.{environment}
 use Rattle.c_scope.proofs.Links.{new_link}
 use Rattle.c_scope.proofs.scope.Scope.link.Goals as goal
@@ -11,7 +11,7 @@ returns c =
     let es = inside.linked.entries in
     let name = c.args.name.now in
     let key = c.in_ok-to_vec.field-0 in
-    let whole : Scoped = record { bindings = environment inside.bounds.items; types = map view_named inside.types.items; records = inside.layouts; members = view_tables inside.tables.items; variables = map view_named inside.variables.items; objects = map view_lasting inside.objects.items; linked = map view_linked es; functions = inside.functions; flow = view_flow inside.flow } in
+    let whole : Scoped = record { bindings = environment inside.bounds.items; types = map view_named inside.types.items; records = inside.layouts; members = view_tables inside.tables.items; variables = map view_named inside.variables.items; objects = map view_object_entry inside.objects.items; linked = map view_linked es; functions = inside.functions; flow = view_flow inside.flow } in
     let own : key.items ≡ name = search rules in
     let absent : linked_to (map view_linked es) key.items ≡ None =
     ap (λ (n : List ℕ). linked_to (map view_linked es) n) own ∙ ap (λ (s : Scoped). linked_to s.linked name) c.self.view_is ∙ c.requires in

@@ -4,7 +4,7 @@ use Rattle.c_types.specs.Types.{Records}
 use Rattle.c_scope.specs.declared.scope.Bound.{Bound}
 use Rattle.c_scope.specs.declared.scope.QualifiedType.{QualifiedType}
 use Rattle.c_scope.specs.Members.{Members, view_members}
-use Rattle.c_scope.specs.Scopes.{Named, view_named, view_lasting, are_there, are_complete, sizes_of}
+use Rattle.c_scope.specs.Scopes.{Named, view_named, view_object_entry, are_there, are_complete, sizes_of}
 use Rattle.c_scope.specs.Places.{environment, place_in, hidden_in, hidden_of}
 use Rattle.c_scope.proofs.scope.Scope.new.Goals as goal
 
@@ -17,7 +17,7 @@ invariant_of-result c =
     let records = ap (λ (r : Records). length r.declared) c.in_ok-built_in_layouts.ensures in
     let long = length-map tables view_members in
     let one = ap (λ (ms : List Members). length ms) c.in_ok-built_in_tables.ensures in (
-      ap (λ (bs : List Bound). are_there (length (map view_named c.new-3.result.items)) (length (map view_lasting c.new-5.result.items)) (length (map view_named c.in_ok-built_in_types.field-0.items))
+      ap (λ (bs : List Bound). are_there (length (map view_named c.new-3.result.items)) (length (map view_object_entry c.new-5.result.items)) (length (map view_named c.in_ok-built_in_types.field-0.items))
           (length c.in_ok-built_in_layouts.field-0.declared) (environment bs)) bounds,
       (λ tags name. c.new-2.ensures tags name ∙ sym (ap (λ (bs : List Bound). place_in tags (environment bs) name) bounds)),
       ap hidden_of bounds ∙ sym (ap (λ (bs : List Bound). hidden_in (environment bs)) bounds),

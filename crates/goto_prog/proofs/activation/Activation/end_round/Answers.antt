@@ -1,6 +1,6 @@
 use Rattle.std.proofs.Common.{◌≡◌, ◌<◌, Some, sym, ap, ◌∙◌, arith}
 use Rattle.std.specs.Prelude.{option_map}
-use Rattle.goto_prog.specs.PlaceViews.{level_of}
+use Rattle.goto_prog.specs.CursorViews.{level_of}
 use Rattle.goto_prog.specs.ProgramViews.{bounded_by}
 use Rattle.goto_prog.specs.Walking.{first_level}
 use Rattle.goto_prog.proofs.LoopSteps.{goes_round, stops_unwind}

@@ -15,7 +15,7 @@ tell_and_go-requires-clause-event c = draw_in _ _ _ c.args.plan.now.code.now c.a
 pub returns-clause-passes : goal.returns-clause-passes
 returns-clause-passes c =
     passes_draw _ _ _ _ _ c.args.into c.args.bits _ c.args.dag.now c.make.new.self c.make-2.new.self c.tell_and_go.new.dag c.args.slot c.in_ok-next.next c.in_ok-answer.answer c.in_ok-word.word c.args.self.now _ c.make.ensures.extends c.make-2.ensures.extends c.requires.within c.requires.slot
-    c.in_ok-answer.ensures.made c.in_ok-word.ensures.made c.in_ok-next.ensures.gone c.in_ok-tell_and_go.ensures.tells
+    c.in_ok-answer.ensures.made c.in_ok-word.ensures.made c.in_ok-next.ensures.guarded c.in_ok-tell_and_go.ensures.tells
 
 pub returns-in_err-tell_and_go-clause-extends : goal.returns-in_err-tell_and_go-clause-extends
 returns-in_err-tell_and_go-clause-extends c = extends_more _ _ _ (extends_more _ _ _ c.make.ensures.extends c.make-2.ensures.extends) c.tell_and_go.ensures.extends

@@ -21,4 +21,4 @@ returns-clause-passes c =
     c.answer_words.ensures.extends c.bytes_of_words.ensures.extends c.requires.within c.requires.slot (subst (AreWords c.answer_words.new.dag c.args.count) (sym c.new.ensures) c.in_ok-answer.ensures.words)
     (λ v. read_answer v c.answer_words.new.dag c.args.place c.args.count c.in_ok-answer.answer.items c.new.result c.instructions-apart.result.now c.args.plan.now.code.now.instructions c.new.ensures c.instructions-apart.ensures.is (c.in_ok-answer.ensures.values v))
     (read_made c.answer_words.new.dag c.bytes_of_words.new.dag c.args.count c.in_ok-answer.answer.items c.deref.result.now c.new.result c.in_ok-bytes.bytes.items c.deref-2.result.now c.deref-2.ensures.value c.deref.ensures.value c.new.ensures c.in_ok-bytes.ensures.made)
-    c.in_ok-next.ensures.gone c.in_ok-tell_and_go.ensures.tells
+    c.in_ok-next.ensures.guarded c.in_ok-tell_and_go.ensures.tells

@@ -1,7 +1,7 @@
 use Rattle.std.proofs.Common.{refl, ◌∙◌}
 use Rattle.guarded_ssa.specs.declared.slots.Slot.{Slot}
 use Rattle.guarded_ssa.proofs.Stays.{slot_stays}
-use Rattle.guarded_ssa.proofs.Merging.{live_lent_by, merged_from_in, merged_from_gone}
+use Rattle.guarded_ssa.proofs.Merging.{live_lent_by, merged_from_in, merged_from_guarded}
 use Rattle.guarded_ssa.proofs.slots.Slot.merged.Goals as goal
 
 pub merged-requires-clause-first : goal.merged-requires-clause-first
@@ -16,8 +16,8 @@ returns-clause-within c =
     merged_from_in c.args.dag.now c.either.new.dag c.merged.new.dag c.args.plan.now.code.now c.args.first.now c.args.second.now t _ _ _ c.either.ensures.extends c.merged.ensures.extends c.requires.first c.requires.second
     c.in_ok-guard.ensures.made refl (c.deref.ensures.value ∙ c.requires.plan.types) refl refl c.in_ok-live.ensures.merged
 
-pub returns-clause-gone : goal.returns-clause-gone
-returns-clause-gone c =
+pub returns-clause-guarded : goal.returns-clause-guarded
+returns-clause-guarded c =
     let t : Slot = record { guard = c.in_ok-guard.guard; zeros = c.args.first.now.zeros; live = c.in_ok-live.live; kept = c.len.result } in
-    merged_from_gone c.args.dag.now c.either.new.dag c.merged.new.dag c.args.plan.now.code.now c.args.first.now c.args.second.now t _ _ _ c.either.ensures.extends c.merged.ensures.extends c.requires.first c.requires.second
+    merged_from_guarded c.args.dag.now c.either.new.dag c.merged.new.dag c.args.plan.now.code.now c.args.first.now c.args.second.now t _ _ _ c.either.ensures.extends c.merged.ensures.extends c.requires.first c.requires.second
     c.in_ok-guard.ensures.made refl (c.deref.ensures.value ∙ c.requires.plan.types) refl refl c.in_ok-live.ensures.merged

@@ -1,6 +1,6 @@
 use Rattle.std.proofs.Common.{refl}
 use Rattle.guarded_ssa.specs.declared.slots.Slot.{Slot}
-use Rattle.guarded_ssa.proofs.Merging.{narrowed_in, narrowed_gone}
+use Rattle.guarded_ssa.proofs.Merging.{narrowed_in, narrowed_guarded}
 use Rattle.guarded_ssa.proofs.slots.Slot.narrowed.Goals as goal
 
 pub returns-clause-within : goal.returns-clause-within
@@ -8,7 +8,7 @@ returns-clause-within c =
     let t : Slot = record { guard = c.in_ok-guard.guard; zeros = c.args.self.zeros; live = c.args.self.live; kept = c.args.self.kept } in
     narrowed_in _ _ _ c.args.self t _ c.both.ensures.extends c.requires.within c.in_ok-guard.ensures.made refl refl
 
-pub returns-clause-gone : goal.returns-clause-gone
-returns-clause-gone c =
+pub returns-clause-guarded : goal.returns-clause-guarded
+returns-clause-guarded c =
     let t : Slot = record { guard = c.in_ok-guard.guard; zeros = c.args.self.zeros; live = c.args.self.live; kept = c.args.self.kept } in
-    narrowed_gone _ _ c.args.plan.now.code.now c.args.self t c.args.test c.both.ensures.extends c.requires.within c.in_ok-guard.ensures.made refl
+    narrowed_guarded _ _ c.args.plan.now.code.now c.args.self t c.args.test c.both.ensures.extends c.requires.within c.in_ok-guard.ensures.made refl

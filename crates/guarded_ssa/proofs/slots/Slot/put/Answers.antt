@@ -1,7 +1,7 @@
 use Rattle.std.proofs.Common.{refl, ◌∙◌}
 use Rattle.guarded_ssa.specs.declared.slots.Slot.{Slot}
 use Rattle.guarded_ssa.proofs.Merging.{cell_there, cell_word, live_lent_by}
-use Rattle.guarded_ssa.proofs.Passing.{put_in, put_gone}
+use Rattle.guarded_ssa.proofs.Passing.{put_in, put_guarded}
 use Rattle.guarded_ssa.proofs.slots.Slot.put.Goals as goal
 
 pub written-requires-clause-live : goal.written-requires-clause-live
@@ -18,7 +18,7 @@ returns-clause-within c =
     let t : Slot = record { guard = c.args.self.guard; zeros = c.args.self.zeros; live = c.in_ok-live.live; kept = c.args.self.kept } in
     put_in c.args.dag.now c.args.plan.now.code.now c.args.self t _ _ _ (c.deref.ensures.value ∙ c.requires.plan.types) c.requires.within c.in_ok-live.ensures refl refl
 
-pub returns-clause-gone : goal.returns-clause-gone
-returns-clause-gone c = λ v.
+pub returns-clause-guarded : goal.returns-clause-guarded
+returns-clause-guarded c = λ v.
     let t : Slot = record { guard = c.args.self.guard; zeros = c.args.self.zeros; live = c.in_ok-live.live; kept = c.args.self.kept } in
-    put_gone v c.args.dag.now c.args.plan.now.code.now c.args.self t c.args.into c.args.id c.requires.into refl c.in_ok-live.ensures.finds
+    put_guarded v c.args.dag.now c.args.plan.now.code.now c.args.self t c.args.into c.args.id c.requires.into refl c.in_ok-live.ensures.finds

@@ -2,7 +2,7 @@ use Rattle.std.proofs.Common.{◌∙◌, refl, arith}
 use Rattle.guarded_ssa.specs.declared.slots.Slot.{Slot}
 use Rattle.guarded_ssa.proofs.Blocks.{lies}
 use Rattle.guarded_ssa.proofs.Merging.{live_lent_by}
-use Rattle.guarded_ssa.proofs.Writing.{bytes_there, new_live, replaced_in, replaced_gone}
+use Rattle.guarded_ssa.proofs.Writing.{bytes_there, new_live, replaced_in, replaced_guarded}
 use Rattle.guarded_ssa.proofs.slots.Slot.replaced.Goals as goal
 
 pub start_of-requires-clause-there : goal.start_of-requires-clause-there
@@ -26,7 +26,7 @@ returns-clause-within c =
     let t : Slot = record { guard = c.args.self.guard; zeros = c.args.self.zeros; live = c.in_ok-live.live; kept = c.args.self.kept } in
     replaced_in c.args.dag.now c.args.plan.now.code.now c.args.self t c.args.block c.args.offset c.start_of.result c.args.count _ _ _ c.requires.block c.requires.few c.start_of.ensures (c.deref.ensures.value ∙ c.requires.plan.types) refl c.in_ok-live.ensures refl c.requires.within refl
 
-pub returns-clause-gone : goal.returns-clause-gone
-returns-clause-gone c =
+pub returns-clause-guarded : goal.returns-clause-guarded
+returns-clause-guarded c =
     let t : Slot = record { guard = c.args.self.guard; zeros = c.args.self.zeros; live = c.in_ok-live.live; kept = c.args.self.kept } in
-    replaced_gone c.args.dag.now c.args.plan.now.code.now c.args.self t c.args.block c.args.offset c.start_of.result c.args.count _ _ _ c.requires.block c.requires.few c.start_of.ensures (c.deref.ensures.value ∙ c.requires.plan.types) refl c.in_ok-live.ensures refl
+    replaced_guarded c.args.dag.now c.args.plan.now.code.now c.args.self t c.args.block c.args.offset c.start_of.result c.args.count _ _ _ c.requires.block c.requires.few c.start_of.ensures (c.deref.ensures.value ∙ c.requires.plan.types) refl c.in_ok-live.ensures refl

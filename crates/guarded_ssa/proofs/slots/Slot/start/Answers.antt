@@ -1,5 +1,5 @@
 use Rattle.guarded_ssa.specs.declared.slots.Slot.{Slot}
-use Rattle.guarded_ssa.proofs.Merging.{started_in, started_gone}
+use Rattle.guarded_ssa.proofs.Merging.{started_in, started_guarded}
 use Rattle.guarded_ssa.proofs.slots.Slot.start.Goals as goal
 
 pub returns-clause-within : goal.returns-clause-within
@@ -7,7 +7,7 @@ returns-clause-within c =
     let s : Slot = record { guard = c.in_ok-guard.guard; zeros = c.in_ok-zeros.zeros; live = c.new-live.result; kept = 0 } in
     started_in c.args.dag.now c.make.new.self c.new.new.dag c.args.code.now s c.new.ensures.extends c.in_ok-guard.ensures.made c.in_ok-zeros.ensures.zeros c.new-live.ensures
 
-pub returns-clause-gone : goal.returns-clause-gone
-returns-clause-gone c =
+pub returns-clause-guarded : goal.returns-clause-guarded
+returns-clause-guarded c =
     let s : Slot = record { guard = c.in_ok-guard.guard; zeros = c.in_ok-zeros.zeros; live = c.new-live.result; kept = 0 } in
-    started_gone c.args.dag.now c.make.new.self c.new.new.dag c.args.code.now s c.new.ensures.extends c.in_ok-guard.ensures.made c.in_ok-zeros.ensures.zeros c.new-live.ensures
+    started_guarded c.args.dag.now c.make.new.self c.new.new.dag c.args.code.now s c.new.ensures.extends c.in_ok-guard.ensures.made c.in_ok-zeros.ensures.zeros c.new-live.ensures

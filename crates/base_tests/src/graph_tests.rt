@@ -1,0 +1,231 @@
+//! Tests of the graph of words.
+
+// Graphs of words and their values.
+
+ghost use Rattle.std.specs.Prelude.{◌≡◌, ℕ, ◌<◌, IfOk};
+ghost use Rattle.words.specs.Operators.{word_sum};
+ghost use Rattle.word_dag.specs.Meaning.{width, value};
+ghost use Rattle.word_dag.specs.Growth.{Within, Extends};
+
+use crate::node_values::{A, B, MOST, NO, NODE_VALUES, YES, ZERO};
+use std::alloc::{AllocError, Global};
+use std::test::Fail;
+use word_dag::{BinaryOperator, Comparison, Dag, FitsTest, Id, Node, ShiftKind, Valuation};
+use words::Word;
+
+const PAST: Id = Id { index: 6 };
+
+// The first nodes: A is 0x96, which is -106 with a sign, and B is 5, both of 8 bits; ZERO is 0; YES and
+// NO are truth values; MOST is 0x7f.
+static FIRST: [Node; 6] = [
+    Node::Variable(0, 8),
+    Node::Variable(1, 8),
+    Node::Variable(2, 8),
+    Node::Variable(3, 1),
+    Node::Variable(2, 1),
+    Node::Variable(4, 8),
+];
+
+// The values of the variables 0 to 4; what is above the width is cut.
+static VALUES: [u64; 5] = [0x1_0096, 5, 0, 0xffff_ffff, 0x7f];
+
+// More nodes over the first nodes.
+static ROWS: [(Node, u32, u64); 2] = [
+    (Node::Variable(0, 64), 64, 0x1_0096),
+    (Node::Variable(5, 8), 8, 0),
+];
+
+// Nodes that don't fit behind the first ones.
+static MISFITS: [Node; 13] = [
+    Node::Constant(0x100, 8),
+    Node::Constant(0, 0),
+    Node::Variable(0, 65),
+    Node::Not(PAST),
+    Node::Binary(BinaryOperator::Add, A, YES),
+    Node::Shift(ShiftKind::Left, A, PAST),
+    Node::Compare(Comparison::Equal, YES, A),
+    Node::Choice(A, A, B),
+    Node::Choice(YES, A, NO),
+    Node::ZeroExtend(A, 7),
+    Node::SignExtend(A, 65),
+    Node::Cut(A, 4, 5),
+    Node::Join(A, PAST),
+];
+
+fn made(dag: &mut Dag, node: Node) -> Option<Id> {
+    if dag.fits(node) {
+        dag.make(node).ok()
+    } else {
+        None
+    }
+}
+
+fn value_of(alloc: Global, dag: &Dag, valuation: &Valuation, id: Id) -> Option<Word> {
+    if id.index < dag.len() {
+        dag.value(alloc, valuation, id).ok()
+    } else {
+        None
+    }
+}
+
+fn node_at(dag: &Dag, id: Id) -> Option<Node> {
+    if id.index < dag.len() {
+        Some(dag.node(id))
+    } else {
+        None
+    }
+}
+
+// The sum of three words of one width.
+fn sum_of_three(dag: &mut Dag, a: Id, b: Id, c: Id) -> Result<Id, AllocError>
+    requires first { Within dag.old a }
+    requires second { Within dag.old b }
+    requires third { Within dag.old c }
+    requires widths { width dag.old a ≡ width dag.old b }
+    requires third_width { width dag.old a ≡ width dag.old c }
+    ensures extends { Extends dag.old dag.new }
+    ensures value { IfOk result (λ i. (v : ℕ → ℕ) → value v dag.new i ≡ word_sum (width dag.old a) (word_sum (width dag.old a) (value v dag.old a) (value v dag.old b)) (value v dag.old c)) }
+{
+    let both = dag.make(Node::Binary(BinaryOperator::Add, a, b))?;
+    dag.make(Node::Binary(BinaryOperator::Add, both, c))
+}
+
+// The first row whose node is made otherwise, or has another value.
+fn wrong_value(
+    alloc: Global,
+    dag: &mut Dag,
+    valuation: &Valuation,
+    rows: &[(Node, u32, u64)],
+) -> Option<usize> {
+    for (i, (node, width, bits)) in rows.iter().enumerate() {
+        let id = made(dag, *node).unwrap_or(PAST);
+        let word = value_of(alloc, dag, valuation, id);
+        let found = word.map(|word| (word.width(), word.bits()));
+        if found != Some((*width, *bits)) || node_at(dag, id) != Some(*node) {
+            return Some(i);
+        }
+    }
+    None
+}
+
+#[test]
+fn each_node_has_its_value(rt: HostRuntime) -> Result<(), Fail> {
+    let alloc = rt.alloc();
+    let valuation = Valuation::from_values(Vec::from_slice(alloc, &VALUES)?);
+    let mut dag = Dag::new(alloc);
+    for node in &FIRST {
+        assert_eq!(rt; made(&mut dag, *node).is_some(), true);
+    }
+    for (i, node) in MISFITS.iter().enumerate() {
+        assert!(rt; !dag.fits(*node), "row {i}");
+    }
+    assert_eq!(rt;
+        wrong_value(alloc, &mut dag, &valuation, &NODE_VALUES),
+        None
+    );
+    assert_eq!(rt; wrong_value(alloc, &mut dag, &valuation, &ROWS), None);
+    let count = FIRST.len() + NODE_VALUES.len() + ROWS.len();
+    assert_eq!(rt; dag.nodes().len(), count);
+    assert_eq!(rt; dag.words(alloc, &valuation)?.len(), dag.len());
+    Ok(())
+}
+
+// Nodes over SIX, SEVEN and the variable B, and the nodes that stand for them.
+const SIX: Id = Id { index: 0 };
+
+const SEVEN: Id = Id { index: 1 };
+
+const NONE: Id = Id { index: 2 };
+
+const TRUE: Id = Id { index: 3 };
+
+const FREE: Id = Id { index: 4 };
+
+static FOLDED_FIRST: [Node; 5] = [
+    Node::Constant(6, 8),
+    Node::Constant(7, 8),
+    Node::Constant(0, 8),
+    Node::Constant(1, 1),
+    Node::Variable(0, 8),
+];
+
+static FOLDED: [(Node, Node); 17] = [
+    (Node::Not(SIX), Node::Constant(0xf9, 8)),
+    (Node::Negate(SIX), Node::Constant(0xfa, 8)),
+    (
+        Node::Binary(BinaryOperator::Multiply, SIX, SEVEN),
+        Node::Constant(42, 8),
+    ),
+    (
+        Node::Binary(BinaryOperator::UnsignedDivide, SIX, NONE),
+        Node::Constant(0, 8),
+    ),
+    (
+        Node::Shift(ShiftKind::Left, SIX, SEVEN),
+        Node::Constant(0, 8),
+    ),
+    (
+        Node::Compare(Comparison::SignedLess, SIX, SEVEN),
+        Node::Constant(1, 1),
+    ),
+    (Node::Fits(FitsTest::Sum, SIX, SEVEN), Node::Constant(1, 1)),
+    (Node::Choice(TRUE, FREE, SIX), Node::Variable(0, 8)),
+    (Node::ZeroExtend(SIX, 16), Node::Constant(6, 16)),
+    (Node::SignExtend(SIX, 16), Node::Constant(6, 16)),
+    (Node::Cut(SIX, 1, 2), Node::Constant(3, 2)),
+    (Node::Join(SIX, SEVEN), Node::Constant(0x607, 16)),
+    (Node::Constant(6, 8), Node::Constant(6, 8)),
+    (Node::Not(FREE), Node::Not(FREE)),
+    (
+        Node::Binary(BinaryOperator::And, FREE, NONE),
+        Node::Binary(BinaryOperator::And, FREE, NONE),
+    ),
+    (
+        Node::Compare(Comparison::Equal, FREE, FREE),
+        Node::Compare(Comparison::Equal, FREE, FREE),
+    ),
+    (Node::Join(FREE, SIX), Node::Join(FREE, SIX)),
+];
+
+#[test]
+fn constants_are_folded_and_a_long_chain_is_evaluated(rt: HostRuntime) -> Result<(), Fail> {
+    let alloc = rt.alloc();
+    let valuation = Valuation::from_values(Vec::from_slice(alloc, &[3])?);
+    assert_eq!(rt;
+        (valuation.value(0), valuation.value(1), valuation.values()),
+        (3, 0, &[3][..])
+    );
+    let mut dag = Dag::new(alloc);
+    for node in &FOLDED_FIRST {
+        assert_eq!(rt; made(&mut dag, *node).is_some(), true);
+    }
+    for (i, (node, kept)) in FOLDED.iter().enumerate() {
+        let id = made(&mut dag, *node).unwrap_or(PAST);
+        assert!(rt; node_at(&dag, id) == Some(*kept), "row {i}");
+    }
+    assert_eq!(rt; made(&mut dag, Node::Choice(TRUE, FREE, SIX)), Some(FREE));
+    assert_eq!(rt; dag.len(), FOLDED_FIRST.len() + FOLDED.len() - 1);
+    let mut last = FREE;
+    for _ in 0..1_000_000 {
+        let next = Node::Binary(BinaryOperator::Add, last, SEVEN);
+        last = made(&mut dag, next).unwrap_or(PAST);
+    }
+    let word = value_of(alloc, &dag, &valuation, last);
+    assert_eq!(rt; word.map(|word| word.bits()), Some(0xc3));
+    let sum = sum_of_bytes(&mut dag)?;
+    let word = value_of(alloc, &dag, &valuation, sum);
+    assert_eq!(rt; word.map(|word| word.bits()), Some(16));
+    assert_eq!(rt; valuation.into_values().as_slice(), &[3][..]);
+    Ok(())
+}
+
+// SIX + SEVEN + FREE
+fn sum_of_bytes(dag: &mut Dag) -> Result<Id, AllocError> {
+    if FREE.index < dag.len() {
+        let width = dag.width(FREE);
+        if dag.width(SIX) == width && dag.width(SEVEN) == width {
+            return sum_of_three(dag, SIX, SEVEN, FREE);
+        }
+    }
+    Err(AllocError)
+}

@@ -1,5 +1,0 @@
-use Rattle.c_elab_base.proofs.Comparing.{is_small}
-use Rattle.c_elab_type.proofs.enumerating.is_small.Goals as goal
-
-pub returns : goal.returns
-returns c = is_small c.args.number

@@ -1,6 +1,0 @@
-use Rattle.std.proofs.Common.{rules}
-use Rattle.c_interp.proofs.Frames.{more_variables}
-use Rattle.c_interp.proofs.variables.add_variables.Goals as goal
-
-pub loop-place-preserved : goal.loop-place-preserved
-loop-place-preserved c = search (rules, more_variables)

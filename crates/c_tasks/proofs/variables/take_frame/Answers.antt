@@ -1,0 +1,20 @@
+use Rattle.std.proofs.Common.{◌≡◌, ◌-◌, ◌++◌, length, take, drop, ap, ◌∙◌, rules}
+use Rattle.c_values.specs.Variables.{first_variables}
+use Rattle.c_tasks.specs.Tasks.{structures_in}
+use Rattle.c_tasks.proofs.Frames.{blocks_below, frame_above}
+use Rattle.c_tasks.proofs.variables.take_frame.Goals as goal
+
+pub returns-in-Ok-clause-frame : goal.returns-in-Ok-clause-frame
+returns-in-Ok-clause-frame c =
+    let bs = c.args.structures.now.items in
+    let n = length bs - c.args.count in
+    let first : c.saturating_sub.result ≡ n = search rules in
+    let made : c.in-Ok.variables.items ≡ drop c.saturating_sub.result bs ++ first_variables (drop (length bs - c.saturating_sub.result) c.args.sizes.now) = search rules in
+    made ∙ ap (λ k. drop k bs ++ first_variables (drop (length bs - k) c.args.sizes.now)) first ∙ frame_above c.args.count bs c.args.sizes.now
+
+pub returns-in-Ok-clause-rest : goal.returns-in-Ok-clause-rest
+returns-in-Ok-clause-rest c =
+    let bs = c.args.structures.now.items in
+    let first : c.saturating_sub.result ≡ length bs - c.args.count = search rules in
+    let left : c.split_frame.new.blocks.items ≡ take c.saturating_sub.result bs = search rules in
+    ap structures_in (left ∙ ap (λ k. take k bs) first) ∙ blocks_below c.args.count bs

@@ -1,0 +1,8 @@
+pub mod Meaning
+pub mod Source
+pub mod Items
+pub mod Fits
+pub mod Steps
+pub mod Tasks
+pub mod Plans
+pub mod Answered

@@ -1,0 +1,63 @@
+//! The functions of a file, by number.
+
+ghost use Rattle.std.specs.Prelude.{◌≡◌, Some, None, option_map, slice_get, codes, MatchOption};
+ghost use Rattle.std.specs.Str.{bytes_eq};
+ghost use Rattle.core_tree.specs.Trees.{view_statement, view_functions};
+ghost use Rattle.c_tasks.specs.Source.{main_number};
+ghost use Rattle.c_tasks.specs.Items.{sizes_at};
+ghost use Rattle.c_tasks.specs.Tasks.{body_of};
+
+use core_tree::{CoreStatement, Function, Name};
+
+/// The function with this number, where there is one.
+pub fn body_of(functions: &[Function], function: u32) -> Option<&Function>
+    ensures { option_map (λ f. f.now) result ≡ slice_get functions.now function }
+{
+    match functions.get(function as usize) {
+        Some(body) => Some(body),
+        None => None,
+    }
+}
+
+/// The sizes of a function's variables, and its body.
+#[derive(Clone, Copy)]
+pub struct Body<'a> {
+    pub sizes: &'a [u32],
+    pub statement: &'a CoreStatement,
+}
+
+/// The body of the function with this number, where it has one.
+pub fn defined<'a>(functions: &'a [Function], function: u32) -> Option<Body<'a>>
+    ensures { MatchOption result (body_of (slice_get (view_functions functions.now) function) ≡ None) (λ b. (body_of (slice_get (view_functions functions.now) function) ≡ Some (view_statement b.statement.now)) × (b.sizes.now ≡ sizes_at (slice_get (view_functions functions.now) function))) }
+{
+    let Some(found) = functions.get(function as usize) else {
+        return None;
+    };
+    match &found.body {
+        Some(statement) => Some(Body {
+            sizes: found.variables.as_slice(),
+            statement,
+        }),
+        None => None,
+    }
+}
+
+fn is_main(name: &Name) -> bool
+    ensures { result ≡ bytes_eq name.now.bytes.items (codes "main") }
+{
+    name.bytes.as_slice() == b"main".as_slice()
+}
+
+/// The number of the first function named `main`, or how many functions there are.
+pub fn number_of_main(functions: &[Function]) -> usize
+    ensures { result ≡ main_number (view_functions functions.now) }
+{
+    let mut number = 0;
+    for function in functions {
+        if is_main(&function.name) {
+            return number;
+        }
+        number += 1;
+    }
+    number
+}

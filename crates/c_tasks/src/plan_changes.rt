@@ -1,0 +1,333 @@
+//! Plans as they are put together: what is pushed, put and taken, and what is looked at.
+
+ghost use Rattle.std.specs.Prelude.{◌≡◌, ◌<◌, true, false, Some, None, slice_index};
+ghost use Rattle.core_tree.specs.Trees.{view, read};
+ghost use Rattle.core_tree.specs.Typed.{place_type};
+ghost use Rattle.c_tasks.specs.Meaning as meaning;
+ghost use Rattle.c_tasks.specs.Meaning.{number_type, size_of};
+ghost use Rattle.c_tasks.specs.Items.{top, second, rest};
+ghost use Rattle.c_tasks.specs.Tasks.{values_in};
+ghost use Rattle.c_tasks.specs.Plans.{running_in};
+
+use crate::structures::evaluation;
+use crate::task::{Change, Look, Plan, Stacked, Taken, Task, Tasks, Written};
+use c_types::{IntegerType, ValueType};
+use c_values::Number;
+use core_tree::{CoreExpr, CoreStructure, LogicalOperator, Place, place_type};
+
+// ---- changes
+
+/// Other tasks come first.
+pub fn pushes<'a>(
+    taken: Taken,
+    first: Task<'a>,
+    second: Option<Task<'a>>,
+    third: Option<Task<'a>>,
+) -> Plan<'a>
+    ensures { result ≡ Plan.Goes (record {
+      tasks = record { first = Some first.entry; second = second.entry; third = third.entry };
+      taken = taken;
+      put = None;
+      stacked = Stacked.Kept;
+      written = Written.Nothing;
+    }) }
+{
+    Plan::Goes(Change {
+        tasks: Tasks {
+            first: Some(first),
+            second,
+            third,
+        },
+        taken,
+        put: None,
+        stacked: Stacked::Kept,
+        written: Written::Nothing,
+    })
+}
+
+/// A number is put on top.
+pub fn puts<'a>(taken: Taken, number: Number) -> Plan<'a>
+    ensures { result ≡ Plan.Goes (record {
+      tasks = record { first = None; second = None; third = None };
+      taken = taken;
+      put = Some number;
+      stacked = Stacked.Kept;
+      written = Written.Nothing;
+    }) }
+{
+    Plan::Goes(Change {
+        tasks: Tasks {
+            first: None,
+            second: None,
+            third: None,
+        },
+        taken,
+        put: Some(number),
+        stacked: Stacked::Kept,
+        written: Written::Nothing,
+    })
+}
+
+/// Numbers are taken.
+pub fn takes<'a>(taken: Taken) -> Plan<'a>
+    ensures { result ≡ Plan.Goes (record {
+      tasks = record { first = None; second = None; third = None };
+      taken = taken;
+      put = None;
+      stacked = Stacked.Kept;
+      written = Written.Nothing;
+    }) }
+{
+    Plan::Goes(Change {
+        tasks: Tasks {
+            first: None,
+            second: None,
+            third: None,
+        },
+        taken,
+        put: None,
+        stacked: Stacked::Kept,
+        written: Written::Nothing,
+    })
+}
+
+/// A variable is written.
+pub fn writes<'a>(
+    first: Option<Task<'a>>,
+    taken: Taken,
+    put: Option<Number>,
+    written: Written,
+) -> Plan<'a>
+    ensures { result ≡ Plan.Goes (record {
+      tasks = record { first = first.entry; second = None; third = None };
+      taken = taken;
+      put = put;
+      stacked = Stacked.Kept;
+      written = written;
+    }) }
+{
+    Plan::Goes(Change {
+        tasks: Tasks {
+            first,
+            second: None,
+            third: None,
+        },
+        taken,
+        put,
+        stacked: Stacked::Kept,
+        written,
+    })
+}
+
+// ---- tasks
+
+/// An expression is to be evaluated.
+pub fn evaluating<'a>(expression: &'a CoreExpr) -> Task<'a>
+    ensures { result ≡ Task.Expression expression.entry false }
+{
+    Task::Expression {
+        expression,
+        finish: false,
+    }
+}
+
+// Its operands are evaluated.
+fn finishing<'a>(expression: &'a CoreExpr) -> Task<'a>
+    ensures { result ≡ Task.Expression expression.entry true }
+{
+    Task::Expression {
+        expression,
+        finish: true,
+    }
+}
+
+/// An operand is evaluated, and then the expression is finished.
+pub fn operand_first<'a>(operand: &'a CoreExpr, expression: &'a CoreExpr) -> Plan<'a>
+    ensures { result ≡ Plan.Goes (record {
+      tasks = record { first = Some (Task.Expression operand.entry false); second = Some (Task.Expression expression.entry true); third = None };
+      taken = Taken.None;
+      put = None;
+      stacked = Stacked.Kept;
+      written = Written.Nothing;
+    }) }
+{
+    pushes(
+        Taken::None,
+        evaluating(operand),
+        Some(finishing(expression)),
+        None,
+    )
+}
+
+/// A structure value is evaluated, and then the expression is finished.
+pub fn structure_first<'a>(value: &'a CoreStructure, expression: &'a CoreExpr) -> Plan<'a>
+    ensures { result ≡ Plan.Goes (record {
+      tasks = record { first = Some (Task.Structure value.entry false); second = Some (Task.Expression expression.entry true); third = None };
+      taken = Taken.None;
+      put = None;
+      stacked = Stacked.Kept;
+      written = Written.Nothing;
+    }) }
+{
+    pushes(
+        Taken::None,
+        evaluation(value),
+        Some(finishing(expression)),
+        None,
+    )
+}
+
+/// Two operands are evaluated, and then the expression is finished.
+pub fn operands_first<'a>(
+    left: &'a CoreExpr,
+    right: &'a CoreExpr,
+    expression: &'a CoreExpr,
+) -> Plan<'a>
+    ensures { result ≡ Plan.Goes (record {
+      tasks = record { first = Some (Task.Expression left.entry false); second = Some (Task.Expression right.entry false); third = Some (Task.Expression expression.entry true) };
+      taken = Taken.None;
+      put = None;
+      stacked = Stacked.Kept;
+      written = Written.Nothing;
+    }) }
+{
+    pushes(
+        Taken::None,
+        evaluating(left),
+        Some(evaluating(right)),
+        Some(finishing(expression)),
+    )
+}
+
+/// A place is read, and then the expression is finished.
+pub fn place_first<'a>(place: Place, expression: &'a CoreExpr) -> Plan<'a>
+    ensures { result ≡ Plan.Goes (record {
+      tasks = record { first = Some (Task.Fetch place); second = Some (Task.Expression expression.entry true); third = None };
+      taken = Taken.None;
+      put = None;
+      stacked = Stacked.Kept;
+      written = Written.Nothing;
+    }) }
+{
+    pushes(
+        Taken::None,
+        Task::Fetch(place),
+        Some(finishing(expression)),
+        None,
+    )
+}
+
+/// An operand is evaluated and a place read, and then the expression is finished.
+pub fn operand_and_place<'a>(
+    operand: &'a CoreExpr,
+    place: Place,
+    expression: &'a CoreExpr,
+) -> Plan<'a>
+    ensures { result ≡ Plan.Goes (record {
+      tasks = record { first = Some (Task.Expression operand.entry false); second = Some (Task.Fetch place); third = Some (Task.Expression expression.entry true) };
+      taken = Taken.None;
+      put = None;
+      stacked = Stacked.Kept;
+      written = Written.Nothing;
+    }) }
+{
+    pushes(
+        Taken::None,
+        evaluating(operand),
+        Some(Task::Fetch(place)),
+        Some(finishing(expression)),
+    )
+}
+
+/// An expression takes the place of the number on top, of which something is then done.
+pub fn instead<'a>(expression: &'a CoreExpr, task: Task<'a>) -> Plan<'a>
+    ensures { result ≡ Plan.Goes (record {
+      tasks = record { first = Some (Task.Expression expression.entry false); second = Some task.entry; third = None };
+      taken = Taken.One;
+      put = None;
+      stacked = Stacked.Kept;
+      written = Written.Nothing;
+    }) }
+{
+    pushes(Taken::One, evaluating(expression), Some(task), None)
+}
+
+// ---- what is looked at
+
+#[tactic(auto, using(crate::proofs::Tops::values_push))]
+pub fn top_of(numbers: &[Number]) -> Number
+    ensures { result ≡ top (values_in numbers.now) }
+{
+    match numbers.split_last() {
+        Some((number, _)) => *number,
+        None => Number::new(IntegerType::Int, 0),
+    }
+}
+
+#[tactic(auto, using(crate::proofs::Tops::values_push))]
+pub fn second_of(numbers: &[Number]) -> Number
+    ensures { result ≡ second (values_in numbers.now) }
+{
+    match numbers.split_last() {
+        Some((_, rest)) => top_of(rest),
+        None => Number::new(IntegerType::Int, 0),
+    }
+}
+
+pub fn size_of_variable(look: &Look, variable: u32) -> u32
+    ensures { result ≡ size_of (running_in look.now) variable }
+{
+    match look.functions.get(look.function as usize) {
+        Some(function) => size_in(&function.variables, variable),
+        None => 0,
+    }
+}
+
+fn size_in(sizes: &[u32], variable: u32) -> u32
+    ensures { result ≡ slice_index sizes.now variable }
+{
+    match sizes.get(variable as usize) {
+        Some(size) => *size,
+        None => 0,
+    }
+}
+
+/// The integer type of an expression.
+pub fn number_type_of(expr: &CoreExpr) -> IntegerType
+    ensures { result ≡ number_type (view expr.now) }
+{
+    match expr {
+        CoreExpr::Constant { type_, .. } => *type_,
+        CoreExpr::Read { place } => place_type(place),
+        CoreExpr::Convert { to, .. } => *to,
+        CoreExpr::Sign { operand, .. } => number_type_of(operand),
+        CoreExpr::Arithmetic { left, .. } => number_type_of(left),
+        CoreExpr::Choice { yes, .. } => number_type_of(yes),
+        CoreExpr::Assign { place, .. } => place_type(place),
+        CoreExpr::Update { place, .. } => place_type(place),
+        CoreExpr::Step { place, .. } => place_type(place),
+        CoreExpr::Comma { right, .. } => number_type_of(right),
+        CoreExpr::Draw { type_, .. } => *type_,
+        CoreExpr::Member { type_, .. } => *type_,
+        CoreExpr::Call { type_, .. } => integer_of(*type_),
+        _ => IntegerType::Int,
+    }
+}
+
+pub fn integer_of(type_: ValueType) -> IntegerType
+    ensures { result ≡ meaning.integer_of type_ }
+{
+    match type_ {
+        ValueType::Void => IntegerType::Int,
+        ValueType::Integer(t) => t,
+    }
+}
+
+pub fn decides(operator: LogicalOperator, number: Number) -> bool
+    ensures { result ≡ meaning.decides operator number.bits }
+{
+    match operator {
+        LogicalOperator::And => !number.is_true(),
+        LogicalOperator::Or => number.is_true(),
+    }
+}

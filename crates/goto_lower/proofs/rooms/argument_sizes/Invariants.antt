@@ -1,7 +1,0 @@
-use Rattle.std.proofs.Common.{◌≡◌, ◌++◌, drop}
-use Rattle.core_tree.specs.Trees.{arguments_of}
-use Rattle.goto_lower.specs.Rooms.{argument_sizes}
-use Rattle.goto_lower.proofs.rooms.argument_sizes.Given as goal
-
-abbrev pub invariant-loop-argument : goal.invariant-loop-argument
-invariant-loop-argument l = l.sizes.items ++ argument_sizes (arguments_of (drop l.argument-index l.arguments)) ≡ argument_sizes (arguments_of l.arguments)

@@ -1,6 +1,0 @@
-use Rattle.std.proofs.Common.{◌≡◌, take}
-use Rattle.goto_lower.specs.Rooms.{greater}
-use Rattle.goto_lower.proofs.rooms.raise.Given as goal
-
-abbrev pub invariant-loop-place : goal.invariant-loop-place
-invariant-loop-place l = l.sizes ≡ greater l.initial.sizes (take l.place l.others)

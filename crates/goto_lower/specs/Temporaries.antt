@@ -1,0 +1,131 @@
+-- The blocks that the code of a tree uses for values on the way: structure values, and numbers of static objects.
+use Rattle.std.specs.Prelude.{ℕ, max, Option, Some, None, List, [], ◌∷◌, ◌++◌}
+use Rattle.c_types.specs.Integers.{bytes}
+use Rattle.core_tree.specs.declared.expression.Place.{Place}
+use Rattle.core_tree.specs.declared.expression.Place.TheVariants.{Variable, Object}
+use Rattle.core_tree.specs.Trees.{Expression, constant, read, convert, sign, is_zero, arithmetic, compare, logical, choice, assign, update, step, comma, assertion, assumption, draw, part, discard, discard_structure, call, function_name, Structure, copy, load, choose, put, store, follow, section, list, string, give, Parts, no_part, number_part, structure_part, Arguments, no_argument, number_argument, structure_argument, Statement, block, if_then, if_else, evaluate, returns, returns_structure, returns_nothing, for_loop, do_loop, switch, breaks, continues, jumps, stray, Items, done, declares, initializes, initializes_structure, does, label, case_at, default_at}
+use Rattle.c_tasks.specs.Meaning.{number_type}
+use Rattle.goto_lower.specs.Lowering.{value_size}
+use Rattle.core_tree.specs.Typed.{size_of}
+
+-- how many bytes that stay 0, and the sizes of the blocks that are free, the first of which is used first
+pub record Temporaries : Type 0 where
+  pub zeros : ℕ
+  pub sizes : List ℕ
+
+-- the greater size at each place
+abbrev pub greater : List ℕ → List ℕ → List ℕ
+greater [] ys = ys
+greater (x ∷ xs) [] = x ∷ xs
+greater (x ∷ xs) (y ∷ ys) = max x y ∷ greater xs ys
+
+abbrev pub no_temporaries : Temporaries
+no_temporaries = record { zeros = 0; sizes = [] }
+
+-- one after the other, in the same blocks
+abbrev pub both : Temporaries → Temporaries → Temporaries
+both a b = record { zeros = max a.zeros b.zeros; sizes = greater a.sizes b.sizes }
+
+-- while a block of this size is in use
+abbrev pub under : ℕ → Temporaries → Temporaries
+under size a = record a { sizes = size ∷ a.sizes }
+
+-- while blocks of these sizes are in use
+abbrev pub under_all : List ℕ → Temporaries → Temporaries
+under_all sizes a = record a { sizes = sizes ++ a.sizes }
+
+-- behind a clear of so many bytes
+abbrev pub clearing : ℕ → Temporaries → Temporaries
+clearing size a = record a { zeros = max size a.zeros }
+
+-- an access to a static object goes by a block
+abbrev pub place_temporaries : Place → Temporaries
+place_temporaries (Variable line t v offset) = no_temporaries
+place_temporaries (Object line t k offset) = under (bytes t) no_temporaries
+
+-- how many bytes each argument has
+abbrev pub argument_sizes : Arguments → List ℕ
+argument_sizes no_argument = []
+argument_sizes (number_argument e rest) = bytes (number_type e) ∷ argument_sizes rest
+argument_sizes (structure_argument a rest) = size_of a ∷ argument_sizes rest
+
+-- of a call that hands over so many bytes, with these arguments, whose blocks and the one for what is handed over are in use meanwhile
+abbrev pub call_needs : ℕ → Arguments → Temporaries → Temporaries
+call_needs size args needed = clearing size (under_all (argument_sizes args) (under size needed))
+
+abbrev mutual
+  pub temporaries : Expression → Temporaries
+  temporaries (constant line t bits) = no_temporaries
+  temporaries (read p) = place_temporaries p
+  temporaries (convert to e) = temporaries e
+  temporaries (sign line op e) = temporaries e
+  temporaries (is_zero line e) = temporaries e
+  temporaries (arithmetic line op a b) = both (temporaries a) (temporaries b)
+  temporaries (compare line op a b) = both (temporaries a) (temporaries b)
+  temporaries (logical line op a b) = both (temporaries a) (temporaries b)
+  temporaries (choice line test a b) = both (temporaries test) (both (temporaries a) (temporaries b))
+  temporaries (assign line p e) = both (temporaries e) (place_temporaries p)
+  temporaries (update line p op t e) = both (temporaries e) (place_temporaries p)
+  temporaries (step line p op before) = place_temporaries p
+  temporaries (comma line a b) = both (temporaries a) (temporaries b)
+  temporaries (assertion line e) = temporaries e
+  temporaries (assumption line e) = temporaries e
+  temporaries (draw line t) = no_temporaries
+  temporaries (part line t offset a) = under (size_of a) (structure_temporaries a)
+  temporaries (discard line e) = temporaries e
+  temporaries (discard_structure a) = under (size_of a) (structure_temporaries a)
+  temporaries (call line f used t args) = clearing (value_size t) (under_all (argument_sizes args) (under (value_size t) (arguments_temporaries args)))
+  temporaries (function_name line f) = no_temporaries
+
+  pub structure_temporaries : Structure → Temporaries
+  structure_temporaries (copy line v offset size) = no_temporaries
+  structure_temporaries (load line k offset size) = no_temporaries
+  structure_temporaries (choose line test a b) = both (temporaries test) (both (structure_temporaries a) (structure_temporaries b))
+  structure_temporaries (put line v offset a) = structure_temporaries a
+  structure_temporaries (store line k offset a) = structure_temporaries a
+  structure_temporaries (follow line e a) = both (temporaries e) (structure_temporaries a)
+  structure_temporaries (section line offset size a) = under (size_of a) (structure_temporaries a)
+  structure_temporaries (list line size ps) = clearing size (parts_temporaries ps)
+  structure_temporaries (string line size text) = clearing size no_temporaries
+  structure_temporaries (give line f used size args) = clearing size (under_all (argument_sizes args) (under size (arguments_temporaries args)))
+
+  pub parts_temporaries : Parts → Temporaries
+  parts_temporaries no_part = no_temporaries
+  parts_temporaries (number_part offset e rest) = both (temporaries e) (parts_temporaries rest)
+  parts_temporaries (structure_part offset a rest) = both (structure_temporaries a) (parts_temporaries rest)
+
+  pub arguments_temporaries : Arguments → Temporaries
+  arguments_temporaries no_argument = no_temporaries
+  arguments_temporaries (number_argument e rest) = both (temporaries e) (arguments_temporaries rest)
+  arguments_temporaries (structure_argument a rest) = both (structure_temporaries a) (arguments_temporaries rest)
+
+abbrev pub part_temporaries : Option Expression → Temporaries
+part_temporaries None = no_temporaries
+part_temporaries (Some e) = temporaries e
+
+abbrev mutual
+  pub statement_temporaries : Statement → Temporaries
+  statement_temporaries (block items) = items_temporaries items
+  statement_temporaries (if_then line test s) = both (temporaries test) (statement_temporaries s)
+  statement_temporaries (if_else line test s t) = both (temporaries test) (both (statement_temporaries s) (statement_temporaries t))
+  statement_temporaries (evaluate e) = temporaries e
+  statement_temporaries (returns line e) = temporaries e
+  statement_temporaries (returns_structure line a) = structure_temporaries a
+  statement_temporaries (returns_nothing line) = no_temporaries
+  statement_temporaries (for_loop line l first test last s) = both (part_temporaries first) (both (part_temporaries test) (both (part_temporaries last) (statement_temporaries s)))
+  statement_temporaries (do_loop line l s test) = both (statement_temporaries s) (temporaries test)
+  statement_temporaries (switch line e items) = both (temporaries e) (items_temporaries items)
+  statement_temporaries (breaks line) = no_temporaries
+  statement_temporaries (continues line) = no_temporaries
+  statement_temporaries (jumps line l) = no_temporaries
+  statement_temporaries (stray line s) = statement_temporaries s
+
+  pub items_temporaries : Items → Temporaries
+  items_temporaries done = no_temporaries
+  items_temporaries (declares line v rest) = items_temporaries rest
+  items_temporaries (initializes line v drawn e rest) = both (temporaries e) (items_temporaries rest)
+  items_temporaries (initializes_structure line v drawn a rest) = both (under (size_of a) (structure_temporaries a)) (items_temporaries rest)
+  items_temporaries (does s rest) = both (statement_temporaries s) (items_temporaries rest)
+  items_temporaries (label l rest) = items_temporaries rest
+  items_temporaries (case_at line t bits rest) = items_temporaries rest
+  items_temporaries (default_at line rest) = items_temporaries rest

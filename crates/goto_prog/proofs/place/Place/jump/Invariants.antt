@@ -1,6 +1,0 @@
-use Rattle.std.proofs.Common.{◌≡◌, ◌-◌}
-use Rattle.goto_prog.specs.Walking.{landed}
-use Rattle.goto_prog.proofs.place.Place.jump.Given as goal
-
-abbrev pub invariant-loop : goal.invariant-loop
-invariant-loop l = landed (l.count - l.counter) l.self ≡ landed l.fn.count l.fn.self

@@ -1,0 +1,2 @@
+-- What no public contract says: definitions and proofs that the others stand on.
+pub mod Codes
