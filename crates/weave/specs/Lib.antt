@@ -1,0 +1,12 @@
+pub mod Place
+pub mod Step
+pub mod Candidate
+pub mod Consistent
+pub mod Order
+pub mod RunCandidate
+pub mod Family
+pub mod Laws
+pub mod Ranks
+pub mod Words
+pub mod Tables
+pub mod Scripts
