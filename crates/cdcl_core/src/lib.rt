@@ -10,4 +10,8 @@ mod search;
 mod trail;
 mod watches;
 
+pub use analysis::{Analysis, Lesson};
+pub use lists::{Lists, Watch};
 pub use search::{Answer, solve};
+pub use trail::{Mark, Step, Trail};
+pub use watches::{Pair, Watches};

@@ -1,0 +1,4 @@
+pub mod Starting
+pub mod Entering
+pub mod Learning
+pub mod Models

@@ -1,0 +1,65 @@
+-- What a search for a model knows, how much of it is left, and what it may come to.
+use Rattle.std.specs.Prelude.{◌≡◌, ℕ, suc, ◌+◌, ◌-◌, ◌*◌, ◌<◌, ◌≤◌, List, Option, Some, None, length, slice_get, IsSomeAnd}
+use Rattle.sat_form.specs.Satisfaction.{Literal, Form}
+use Rattle.cdcl_core.specs.declared.trail.Step.{Step}
+use Rattle.cdcl_core.specs.declared.watches.Pair.{Pair}
+use Rattle.cdcl_core.specs.declared.search.Answer.{Answer}
+use Rattle.cdcl_core.specs.Steps.{oldest, decision_places}
+use Rattle.cdcl_core.specs.Settled.{AreFalse}
+use Rattle.cdcl_core.specs.Learning.{IsClear}
+use Rattle.cdcl_core.specs.Watched.{AreWatched, IsHeld}
+use Rattle.cdcl_core.specs.Jumps.{IsNewest, IsFirstFrom}
+use Rattle.cdcl_core.specs.Answers.{IsAnswer, IsLogged}
+use Rattle.cdcl_search.specs.declared.search.Search.{Search}
+
+-- what a search keeps
+pub record IsKept (s : Search) : Type 0 where
+  pub held : IsHeld s.clauses.items s.trail s.watches
+  pub clear : IsClear s.trail.variables s.analysis
+  pub places : s.decisions.items ≡ decision_places s.trail.steps
+
+-- the search is one for a model of the form
+pub record IsReady (form : Form) (n : ℕ) (s : Search) : Type 0 where
+  pub kept : IsKept s
+  pub variables : s.trail.variables ≡ form.variables
+  pub logged : IsLogged form n s.clauses.items s.log
+
+-- the clause of this number is false
+abbrev pub IsConflict : Search → ℕ → Type 0
+IsConflict s number = IsSomeAnd (slice_get s.clauses.items number) (AreFalse s.trail.steps)
+
+-- each clause is watched, as far as the steps were propagated
+pub record IsWatching (s : Search) : Type 0 where
+  pub most : s.propagated ≤ length s.trail.steps
+  pub watched : AreWatched (oldest s.propagated s.trail.steps) s.trail.steps s.clauses.items s.watches.pairs.items
+
+-- each step was propagated, and each clause is watched
+pub record IsPropagated (s : Search) : Type 0 where
+  pub all : s.propagated ≡ length s.trail.steps
+  pub watched : AreWatched s.trail.steps s.trail.steps s.clauses.items s.watches.pairs.items
+
+-- a conflict, or none as far as the steps were propagated
+abbrev pub IsAt : Search → Option ℕ → Type 0
+IsAt s None = IsWatching s
+IsAt s (Some number) = IsConflict s number
+
+-- a conflict, or none where each step was propagated
+abbrev pub IsDone : Search → Option ℕ → Type 0
+IsDone s None = IsPropagated s
+IsDone s (Some number) = IsConflict s number
+
+-- how much of a search with a budget of n units is left: the units first, and then the variables without a value
+abbrev pub left : ℕ → Search → ℕ
+left n s = (n - length s.log) * suc s.trail.variables + (s.trail.variables - length s.trail.steps)
+
+-- the index of the oldest decision before which the clause leaves the first of the pair, where the second is the other one of
+-- its literals that got its value last
+pub record IsTarget (steps : List Step) (places : List ℕ) (clause : List Literal) (p : Pair) (index : ℕ) : Type 0 where
+  pub kept : ℕ
+  pub newest : IsNewest steps clause p.first p.second kept
+  pub first : IsFirstFrom places kept index
+
+-- a search has come to an answer, or less of it is left
+abbrev pub HasAdvanced : Form → ℕ → Search → Search → Option Answer → Type 0
+HasAdvanced form n old new (Some answer) = IsAnswer form n answer
+HasAdvanced form n old new None = IsReady form n new × IsWatching new × (left n new < left n old)
