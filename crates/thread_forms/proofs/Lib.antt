@@ -1,0 +1,11 @@
+pub mod Prefixes
+pub mod Forming
+pub mod Consistent
+pub mod Exiting
+pub mod Creating
+pub mod Breaking
+pub mod Walking
+pub mod Pairing
+pub mod Joining
+pub mod Marking
+pub mod Deciding

@@ -1,0 +1,6 @@
+//! Forms of many threads: a valuation of their variables gives a consistent candidate, and a run gives a valuation.
+#![tactic(auto)]
+
+mod laws;
+
+pub use laws::{forms_exist, goals_are_candidates, meets_is_consistent, runs_give_valuations};
