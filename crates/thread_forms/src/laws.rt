@@ -1,3 +1,5 @@
+//! The laws of forms of many threads, as functions that do nothing.
+
 ghost use Rattle.std.specs.Prelude.{ℕ};
 ghost use Rattle.thread_forms.specs.Instance.{HasCreate, HasOrder, IsInstance};
 ghost use Rattle.thread_forms.specs.Meets.{MeetsIsConsistent};

@@ -1,3 +1,5 @@
+//! The laws of candidates, as functions that do nothing.
+
 ghost use Rattle.std.specs.Prelude.{ℕ};
 ghost use Rattle.weave.specs.Laws.{CandidatesReplay, ReadsAlone, ReadsByReads, RunsHaveCandidates};
 ghost use Rattle.weave.specs.Ranks.{RanksRise};
