@@ -1,0 +1,14 @@
+pub mod Splitting
+pub mod Names
+pub mod Leading
+pub mod Totals
+pub mod Once
+pub mod Carried
+pub mod Kept
+pub mod Flags
+pub mod After
+pub mod Whole
+pub mod Cut
+pub mod Lined
+pub mod Noted
+pub mod Finite

@@ -1,0 +1,9 @@
+pub mod Lines
+pub mod Macros
+pub mod Headers
+pub mod Conditionals
+pub mod Carrying
+pub mod Calls
+pub mod Views
+pub mod Waiting
+pub mod Known
