@@ -1,5 +1,5 @@
 -- What operations reached with a slot tell, and where they lead.
-use Rattle.std.proofs.Common.{◌≡◌, ℕ, suc, ◌+◌, ◌^◌, nat_lt, Bool, true, false, List, [], ◌∷◌, ◌++◌, length, map, Option, Some, None, is_some, refl, sym, ap, subst, ◌∙◌, arith, append_assoc}
+use Rattle.std.proofs.Common.{◌≡◌, ℕ, zero, suc, ◌+◌, ◌^◌, nat_lt, Bool, true, false, List, [], ◌∷◌, ◌++◌, length, map, Option, Some, None, is_some, refl, sym, ap, subst, ◌∙◌, arith, append_assoc}
 use Rattle.std.specs.Prelude.{not, ◌&&◌, ◌==◌, if◌then◌else◌, slice_index_or}
 use Rattle.std.specs.List.{All}
 use Rattle.std.proofs.lemmas.List.Elements.{All-push}
@@ -196,6 +196,37 @@ passes_calculated until code place line f o d d1 e s s1 p q x within y calculati
 pub passes_skip : (until : List ℕ) (code : Listing) (place line f n : ℕ) (d e : List Node) (s : Slot) (p q : Pass) → PassIn d code p → Extends d e → Arrives until code place n s d e p q → Passes until code place line f (operations.Skip n) s d e p q
 passes_skip until code place line f n d e s p q within y arrives =
     passes_by_slot until code place line f (operations.Skip n) d d e s s p q (extends_itself d) within n y (λ v m. refl) (λ v ws. refl) arrives
+
+-- one slot goes on where a jump's test is decided
+arrived_none : (n : ℕ) (ws : Arrivals) → arrived n None ws ≡ ws
+arrived_none n [] = refl
+arrived_none zero (w ∷ ws) = refl
+arrived_none (suc n) (w ∷ ws) = ap (λ xs. w ∷ xs) (arrived_none n ws)
+
+leads_zero : (a n : ℕ) (g : Bool) (m : Memory) (ws : Arrivals) → (register m a == 0) ≡ true
+    → arrived n (kept (λ m. register m a == 0) (if g then Some m else None)) (arrived 0 (kept (λ m. not (register m a == 0)) (if g then Some m else None)) ws) ≡ arrived n (if g then Some m else None) ws
+leads_zero a n true m ws is = (λ i. arrived n (if is i then Some m else None) (arrived 0 (if not (is i) then Some m else None) ws)) ∙ ap (arrived n (Some m)) (arrived_none 0 ws)
+leads_zero a n false m ws is = ap (arrived n None) (arrived_none 0 ws)
+
+leads_other : (a n : ℕ) (g : Bool) (m : Memory) (ws : Arrivals) → (register m a == 0) ≡ false
+    → arrived n (kept (λ m. register m a == 0) (if g then Some m else None)) (arrived 0 (kept (λ m. not (register m a == 0)) (if g then Some m else None)) ws) ≡ arrived 0 (if g then Some m else None) ws
+leads_other a n true m ws is = (λ i. arrived n (if is i then Some m else None) (arrived 0 (if not (is i) then Some m else None) ws)) ∙ arrived_none n (arrived 0 (Some m) ws)
+leads_other a n false m ws is = arrived_none n (arrived 0 None ws)
+
+passes_zero : (until : List ℕ) (code : Listing) (place line f a n : ℕ) (taken : Bool) (d e : List Node) (s : Slot) (p q : Pass) → PassIn d code p → Extends d e → ((v : ℕ → ℕ) → (register (held v d code s) a == 0) ≡ taken) → taken ≡ true → Arrives until code place n s d e p q
+    → Passes until code place line f (operations.SkipIfZero a n) s d e p q
+passes_zero until code place line f a n taken d e s p q within y decided is arrives =
+    passes_by_slot until code place line f (operations.SkipIfZero a n) d d e s s p q (extends_itself d) within n y (λ v m. refl) (λ v ws. leads_zero a n (holds (value v d s.guard)) (held v d code s) ws (decided v ∙ is)) arrives
+
+passes_other : (until : List ℕ) (code : Listing) (place line f a n : ℕ) (taken : Bool) (d e : List Node) (s : Slot) (p q : Pass) → PassIn d code p → Extends d e → ((v : ℕ → ℕ) → (register (held v d code s) a == 0) ≡ taken) → taken ≡ false → Arrives until code place 0 s d e p q
+    → Passes until code place line f (operations.SkipIfZero a n) s d e p q
+passes_other until code place line f a n taken d e s p q within y decided is arrives =
+    passes_by_slot until code place line f (operations.SkipIfZero a n) d d e s s p q (extends_itself d) within 0 y (λ v m. refl) (λ v ws. leads_other a n (holds (value v d s.guard)) (held v d code s) ws (decided v ∙ is)) arrives
+
+pub passes_decided : (until : List ℕ) (code : Listing) (place line f a count n : ℕ) (taken : Bool) (d e : List Node) (s : Slot) (p q : Pass) → PassIn d code p → Extends d e → ((v : ℕ → ℕ) → (register (held v d code s) a == 0) ≡ taken) → n ≡ (if taken then count else 0)
+    → Arrives until code place n s d e p q → Passes until code place line f (operations.SkipIfZero a count) s d e p q
+passes_decided until code place line f a count n true d e s p q within y decided is arrives = passes_zero until code place line f a count true d e s p q within y decided refl (subst (λ k. Arrives until code place k s d e p q) is arrives)
+passes_decided until code place line f a count n false d e s p q within y decided is arrives = passes_other until code place line f a count false d e s p q within y decided refl (subst (λ k. Arrives until code place k s d e p q) is arrives)
 
 -- two slots go on
 pub passes_branch : (until : List ℕ) (code : Listing) (place line f a n : ℕ) (d d1 d2 e : List Node) (s first second : Slot) (p p1 q : Pass) → Extends d d1 → Extends d1 d2 → Extends d2 e → PassIn d code p → SlotIn d1 code first

@@ -24,6 +24,7 @@ ghost use Rattle.std.specs.Prelude.{
   slice_set,
   IfOk,
   OnOk,
+  if◌then◌else◌,
 };
 ghost use Rattle.word_dag.specs.Growth.{Within, Extends};
 ghost use Rattle.word_dag.specs.Meaning.{width, value};
@@ -68,6 +69,13 @@ fn followed(alloc: Global, first: Slot, count: usize) -> Result<VecDeque<Option<
         pending.push_back(None)?;
     }
     Ok(pending)
+}
+
+// How many places a jump passes over, by whether it is taken.
+fn way(taken: bool, count: usize) -> usize
+    ensures { result ≡ (if taken then count else 0) }
+{
+    if taken { count } else { 0 }
 }
 
 impl Pass {
@@ -212,6 +220,38 @@ impl Pass {
         self.arrive(dag, plan, place, 0, other)?;
         self.arrive(dag, plan, place, count, zero)?;
         Ok(())
+    }
+
+    // The same. Where the register is a constant the slot goes one way as it is, and nothing goes the other.
+    fn jump(
+        &mut self,
+        dag: &mut Dag,
+        plan: &Plan,
+        place: usize,
+        i: Instruction,
+        slot: Slot,
+        operand: usize,
+        count: usize,
+    ) -> Result<(), AllocError>
+        requires plan { IsPlan plan.now }
+        requires room { place + length self.old.pending.items < 2 ^ 64 }
+        requires within { PassIn dag.old plan.now.code.now self.old }
+        requires slot { SlotIn dag.old plan.now.code.now slot }
+        requires operand { is_there plan.now.code.now.registers operand ≡ true }
+        ensures extends { Extends dag.old dag.new }
+        ensures passes { OnOk result (Passes plan.now.until.items plan.now.code.now place i.line i.function (Operation.SkipIfZero operand count) slot dag.old dag.new self.old self.new) }
+    {
+        match slot.decided(dag, plan, operand) {
+            Some(zero) => {
+                let n = way(zero, count);
+                self.arrive(dag, plan, place, n, slot)?;
+                Ok(())
+            }
+            None => {
+                self.branch(dag, plan, place, i, slot, operand, count)?;
+                Ok(())
+            }
+        }
     }
 
     // A check.
@@ -523,7 +563,7 @@ impl Pass {
         match i.operation {
             Operation::Skip { count } => self.skip(dag, plan, place, i, slot, count),
             Operation::SkipIfZero { operand, count } => {
-                self.branch(dag, plan, place, i, slot, operand, count)
+                self.jump(dag, plan, place, i, slot, operand, count)
             }
             Operation::Check { condition } => { self.check(dag, plan, place, i, slot, condition) }
             Operation::Assert { operand } => self.assert(dag, plan, place, i, slot, operand),

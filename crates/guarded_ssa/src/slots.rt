@@ -1,6 +1,6 @@
 //! A slot: under which guard a place is reached, and the nodes of its live cells there.
 
-ghost use Rattle.std.specs.Prelude.{◌≡◌, ◌==◌, ℕ, true, ◌<◌, not, Some, length, slice_index_or, None, IfOk, if◌then◌else◌};
+ghost use Rattle.std.specs.Prelude.{◌≡◌, ◌==◌, ℕ, true, ◌<◌, not, Some, length, slice_index_or, None, IfOk, IfSome, if◌then◌else◌};
 ghost use Rattle.word_dag.specs.Growth.{Extends};
 ghost use Rattle.word_dag.specs.Meaning.{value, holds};
 ghost use Rattle.value_nodes.specs.Values.{IsWord};
@@ -12,7 +12,7 @@ ghost use Rattle.goto_prog.specs.Meaning.{register, with_register, calculated};
 ghost use Rattle.goto_prog.specs.CodeThread.{first_memory};
 ghost use Rattle.guarded_ssa.specs.Arrivals.{either as either_arrival, kept, updated};
 ghost use Rattle.guarded_ssa.specs.Reads.{Alike};
-ghost use Rattle.guarded_ssa.specs.Held.{SlotIn, PendingIn, IsPlan, guarded, arrival};
+ghost use Rattle.guarded_ssa.specs.Held.{SlotIn, PendingIn, IsPlan, held, guarded, arrival};
 
 use crate::cells::Cells;
 use crate::liveness::Plan;
@@ -161,6 +161,20 @@ impl Slot {
             live: self.live,
             kept: self.kept,
         })
+    }
+
+    /// Whether a register is 0, where its node is a constant.
+    pub fn decided(&self, dag: &Dag, plan: &Plan, operand: usize) -> Option<bool>
+        requires within { SlotIn dag.now plan.now.code.now self.now }
+        requires operand { is_there plan.now.code.now.registers operand ≡ true }
+        ensures { IfSome result (λ zero. (v : ℕ → ℕ) → (register (held v dag.now plan.now.code.now self.now) operand == 0) ≡ zero) }
+    {
+        let _ = dag.nodes();
+        let id = self.register(dag, plan, operand);
+        match dag.node(id) {
+            Node::Constant(bits, _) => Some(bits == 0),
+            _ => None,
+        }
     }
 
     /// The memory where a register is 0, and where it isn't.

@@ -39,13 +39,17 @@ use Rattle.mem_seq.proofs.Breaking.{OnlyQuiet, kind_stays, event_stays, run_stay
 
 -- ---- one event
 
-same_test : (d : List Node) (i : Id) (x y : (ℕ → ℕ) → Bool) → ((v : ℕ → ℕ) → x v ≡ y v) → IsTest d i x → IsTest d i y
+pub same_test : (d : List Node) (i : Id) (x y : (ℕ → ℕ) → Bool) → ((v : ℕ → ℕ) → x v ≡ y v) → IsTest d i x → IsTest d i y
 same_test d i x y same test = record { there = test.there; width_is = test.width_is; value_is = λ v. test.value_is v ∙ ap bit_value (same v) }
 
 -- by whether its guard is true
 guarded : (b : Bool) (objects : Objects) (told : List Seen) (x later : Bool) → breaks_from objects told later ≡ x → (if b then x else later) ≡ breaks_from objects (if b then told else []) later
 guarded true objects told x later is = sym is
 guarded false objects told x later is = refl
+
+guarded_given : (b : Bool) (objects : Objects) (told : List Seen) (x later : Bool) → (b ≡ true → breaks_from objects told later ≡ x) → (if b then x else later) ≡ breaks_from objects (if b then told else []) later
+guarded_given true objects told x later is = sym (is refl)
+guarded_given false objects told x later is = refl
 
 if_same : (b x : Bool) → x ≡ (if b then x else x)
 if_same true x = refl
@@ -82,7 +86,7 @@ module _ (d e : List Node) (ev : Event) (later : Id) (stores : (ℕ → ℕ) →
   pub gives_test : (i t : Id) → IsNote stores d ev (notes.Gives t) → IsTest e i (λ v. (not (holds (value v d ev.guard)) || holds (value v d t)) && holds (value v d later))
       → IsTest e i (λ v. breaks_from (stores v) (event_seen v d ev) (holds (value v d later)))
   gives_test i t note test =
-      same_test e i _ _ (λ v. if_given (guard v) (holds (value v d t)) (next v) ∙ guarded (guard v) (stores v) (kind_seen v d ev.line ev.function ev.kind) (holds (value v d t) && next v) (next v) (note v (next v))) test
+      same_test e i _ _ (λ v. if_given (guard v) (holds (value v d t)) (next v) ∙ guarded_given (guard v) (stores v) (kind_seen v d ev.line ev.function ev.kind) (holds (value v d t) && next v) (next v) (note v (next v))) test
 
   alone_by : (b : Bool) (v : ℕ → ℕ) (told : List Seen) (x : Bool) → breaks_from (stores v) told x ≡ breaks_from [] told x → breaks_from [] (if b then told else []) x ≡ breaks_from (stores v) (if b then told else []) x
   alone_by true v told x is = sym is
@@ -112,7 +116,7 @@ widths_stay : (d e : List Node) (ids : List Id) → Extends d e → All (Within 
 widths_stay d e [] x there = refl
 widths_stay d e (i ∷ ids) x there = λ k. x.width_stays i (All-head (Within d) i ids there) k ∷ widths_stay d e ids x (All-tail (Within d) i ids there) k
 
-kind_in_stays : (d e : List Node) (k : EventKind) → Extends d e → KindIn d k → KindIn e k
+pub kind_in_stays : (d e : List Node) (k : EventKind) → Extends d e → KindIn d k → KindIn e k
 kind_in_stays d e (kinds.Draw bits answer) x there = (omega (arith, x.longer, there.0), x.width_stays answer there.0 ∙ there.1)
 kind_in_stays d e (kinds.Read object offset count answer) x there = record {
   there = All-weaker (Within d) (Within e) (λ i h. omega (arith, x.longer, h)) answer there.there;
@@ -141,8 +145,8 @@ note_in_stays d e notes.Alone x there = tt
 pub note_stays : (d e : List Node) (ev : Event) (n : Note) (stores : (ℕ → ℕ) → Objects) → Extends d e → EventIn d ev → NoteIn d n → IsNote stores d ev n → IsNote stores e ev n
 note_stays d e ev notes.Passes stores x there within is = λ v later. (λ k. breaks_from (stores v) (kind_stays v d e ev.line ev.function ev.kind x there.kind k) later) ∙ is v later
 note_stays d e ev notes.Breaks stores x there within is = λ v later. (λ k. breaks_from (stores v) (kind_stays v d e ev.line ev.function ev.kind x there.kind k) later) ∙ is v later
-note_stays d e ev (notes.Gives i) stores x there within is = λ v later.
-    (λ k. breaks_from (stores v) (kind_stays v d e ev.line ev.function ev.kind x there.kind k) later) ∙ is v later ∙ (λ k. holds (sym (x.value_stays v i within.there) k) && later)
+note_stays d e ev (notes.Gives i) stores x there within is = λ v later guard_is.
+    (λ k. breaks_from (stores v) (kind_stays v d e ev.line ev.function ev.kind x there.kind k) later) ∙ is v later (ap holds (sym (x.value_stays v ev.guard there.guard.there)) ∙ guard_is) ∙ (λ k. holds (sym (x.value_stays v i within.there) k) && later)
 note_stays d e ev notes.Alone stores x there within is = λ v later.
     let same = kind_stays v d e ev.line ev.function ev.kind x there.kind in
     (λ k. breaks_from (stores v) (same k) later) ∙ is v later ∙ sym (λ k. breaks_from [] (same k) later)
@@ -154,7 +158,7 @@ behind_append objects [] ys = refl
 behind_append objects (asked action line f a ∷ xs) ys = behind_append (stored_by objects action) xs ys
 behind_append objects (stopped end ∷ xs) ys = behind_append objects xs ys
 
-breaks_append : (objects : Objects) (xs ys : List Seen) (later : Bool) → breaks_from objects (xs ++ ys) later ≡ breaks_from objects xs (breaks_from (behind objects xs) ys later)
+pub breaks_append : (objects : Objects) (xs ys : List Seen) (later : Bool) → breaks_from objects (xs ++ ys) later ≡ breaks_from objects xs (breaks_from (behind objects xs) ys later)
 breaks_append objects [] ys later = refl
 breaks_append objects (asked action line f a ∷ xs) ys later = ap (λ b. breaks_or (access_class objects action) (is_given objects action a && b)) (breaks_append (stored_by objects action) xs ys later)
 breaks_append objects (stopped end ∷ xs) ys later = refl
@@ -168,13 +172,13 @@ checked_by : (c : Option Class) (objects : Objects) (action : Action) (line f : 
 checked_by None objects action line f a rest later is = both_given (is_given objects action a) (agrees (stored_by objects action) rest) (breaks rest) later is
 checked_by (Some class) objects action line f a rest later is = refl
 
-breaks_read : (objects : Objects) (told : List Seen) → (let r = checked objects (read told (stops (Ended (word_64 0)))) in (agrees objects r && breaks r) ≡ breaks_from objects told false)
+pub breaks_read : (objects : Objects) (told : List Seen) → (let r = checked objects (read told (stops (Ended (word_64 0)))) in (agrees objects r && breaks r) ≡ breaks_from objects told false)
 breaks_read objects [] = refl
 breaks_read objects (asked action line f a ∷ told) =
     checked_by (access_class objects action) objects action line f a (checked (stored_by objects action) (read told (stops (Ended (word_64 0))))) (breaks_from (stored_by objects action) told false) (breaks_read (stored_by objects action) told)
 breaks_read objects (stopped end ∷ told) = refl
 
-seen_append : (v : ℕ → ℕ) (d : List Node) (xs ys : List Event) → seen v d (xs ++ ys) ≡ seen v d xs ++ seen v d ys
+pub seen_append : (v : ℕ → ℕ) (d : List Node) (xs ys : List Event) → seen v d (xs ++ ys) ≡ seen v d xs ++ seen v d ys
 seen_append v d [] ys = refl
 seen_append v d (x ∷ xs) ys = ap (λ told. event_seen v d x ++ told) (seen_append v d xs ys) ∙ sym (append_assoc (event_seen v d x) (seen v d xs) (seen v d ys))
 
@@ -304,20 +308,12 @@ is_formula d e f t ordered x there all goal form =
           (v, is v ∙ ap goes (stays v) ∙ (λ k. bit_value (b.agreed k && b.broken k)), ap (λ (r : Run). broken_check (checked objects r)) (stays v) ∙ b.check_is);
     }
 
-test_before : (d m e : List Node) (goal : Id) (f : Form) → Extends d m → FormIn d f.events → IsTest e goal (λ v. breaks_in v m f) → IsTest e goal (λ v. breaks_in v d f)
-test_before d m e goal f x there test = same_test e goal _ _ (λ v. ap (λ (r : Run). agrees f.store (checked f.store r) && breaks (checked f.store r)) (run_stays v d m f.events x there)) test
-
 pub form_in_later : (d e : List Node) (es own : List Event) → own ≡ es → Extends d e → FormIn d es → FormIn e own
 form_in_later d e es own same x there = subst (FormIn e) (sym same) (form_in_stays d e es x there)
 
 pub formula_in : (d m e : List Node) (f : Formula) (given : Form) (test : (ℕ → ℕ) → Bool) → f.form ≡ given → Extends d m → Extends m e → FormIn d given.events → IsTest e f.goal test → FormulaIn e f
 formula_in d m e f given test same x y there goal =
     record { there = goal.there; width_is = goal.width_is; form = form_in_later d e given.events f.form.events (ap (λ (g : Form). g.events) same) (extends_more d m e x y) there }
-
-pub test_of : (m e : List Node) (goal : Id) (given : Form) (store : Objects) (es : List Event) → store ≡ given.store → es ≡ given.events
-    → IsTest e goal (λ v. agrees store (checked store (run_read v m es)) && breaks (checked store (run_read v m es))) → IsTest e goal (λ v. breaks_in v m given)
-test_of m e goal given store es store_is es_are test =
-    same_test e goal _ _ (λ v. (λ i. agrees (store_is i) (checked (store_is i) (run_read v m (es_are i))) && breaks (checked (store_is i) (run_read v m (es_are i))))) test
 
 -- a form of a thread is one in a larger graph too
 pub is_form_later : (d m e : List Node) (own given : Form) (t : Thread) → own ≡ given → Extends d m → Extends m e → FormIn d given.events → IsForm t.behaves d given.events → IsForm t.behaves e own.events
@@ -327,10 +323,3 @@ is_form_later d m e own given t same x y there form =
       gives = λ v run next begins. form.gives v run next (subst (λ (r : Run). Begins run next r) (stays v) begins);
       has = λ run next local. let h = form.has run next local in (h.0, subst (λ (r : Run). Begins run next r) (sym (stays h.0)) h.1);
     })
-
--- the goal is made in the graph that the notes leave
-pub formula_made : (d m e : List Node) (f : Formula) (given : Form) (t : Thread) → f.form ≡ given → is_ordered d ≡ true → Extends d m → Extends m e → FormIn d given.events → IsTest e f.goal (λ v. breaks_in v m given)
-    → AreObjects given.store → IsForm t.behaves d given.events → IsFormula (first_world t given.store) e f
-formula_made d m e f given t same ordered x y there test all form =
-    let P : Form → Type 0 = λ g. FormIn d g.events → IsTest e f.goal (λ v. breaks_in v d g) → AreObjects g.store → IsForm t.behaves d g.events → IsFormula (first_world t g.store) e f in
-    subst P same (λ there' test' all' form'. is_formula d e f t ordered (extends_more d m e x y) there' all' test' form') there (test_before d m e f.goal given x there test) all form

@@ -19,7 +19,6 @@ use Rattle.word_dag.specs.Meaning.{width, value, holds, bit_value}
 use Rattle.word_dag.specs.Fitting.{is_ordered}
 use Rattle.word_dag.specs.Growth.{Within, Extends}
 use Rattle.word_dag.proofs.Grown.{extends_itself, extends_more, within_stays, all_within_stays, map_stays, map_widths_stay}
-use Rattle.word_dag.proofs.Truth.{holds_bit}
 use Rattle.value_nodes.specs.Values.{IsWord, IsValue, IsTest, AreBytes}
 use Rattle.value_nodes.specs.Bytes.{sum_of_bytes}
 use Rattle.value_nodes.proofs.Made.{word_stays, word_below}
@@ -36,24 +35,24 @@ use Rattle.mem_seq.proofs.Building.{test_is}
 push_front : (xs : List ℕ) (x : ℕ) (ys : List ℕ) → (xs ++ x ∷ []) ++ ys ≡ xs ++ (x ∷ ys)
 push_front xs x ys = append_assoc xs (x ∷ []) ys
 
-bytes_stay : (d e : List Node) (ids : List Id) → Extends d e → AreBytes d ids → AreBytes e ids
+pub bytes_stay : (d e : List Node) (ids : List Id) → Extends d e → AreBytes d ids → AreBytes e ids
 bytes_stay d e ids x all = All-weaker (λ (i : Id). IsWord d i 8) (λ (i : Id). IsWord e i 8) (λ i h. word_stays d e i 8 x h) ids all
 
-bytes_there : (d : List Node) (ids : List Id) → AreBytes d ids → All (Within d) ids
+pub bytes_there : (d : List Node) (ids : List Id) → AreBytes d ids → All (Within d) ids
 bytes_there d ids all = All-weaker (λ (i : Id). IsWord d i 8) (Within d) (λ i h. h.there) ids all
 
-bytes_push : (d e : List Node) (ids more : List Id) (i : Id) → Extends d e → AreBytes d ids → IsWord e i 8 → more ≡ ids ++ i ∷ [] → AreBytes e more
+pub bytes_push : (d e : List Node) (ids more : List Id) (i : Id) → Extends d e → AreBytes d ids → IsWord e i 8 → more ≡ ids ++ i ∷ [] → AreBytes e more
 bytes_push d e ids more i x all word is = subst (AreBytes e) (sym is) (All-push (λ (k : Id). IsWord e k 8) ids i (bytes_stay d e ids x all) word)
 
-size_push : (ids more : List Id) (i : Id) (k : ℕ) → length ids ≡ k → more ≡ ids ++ i ∷ [] → length more ≡ k + 1
+pub size_push : (ids more : List Id) (i : Id) (k : ℕ) → length ids ≡ k → more ≡ ids ++ i ∷ [] → length more ≡ k + 1
 size_push ids more i k size is = omega (arith, ap length is, length-append ids (i ∷ []), size)
 
-values_push : (v : ℕ → ℕ) (d e : List Node) (ids more : List Id) (i : Id) (n : ℕ) (rest : List ℕ) → Extends d e → AreBytes d ids → more ≡ ids ++ i ∷ [] → value v e i ≡ n → map (value v e) more ++ rest ≡ map (value v d) ids ++ (n ∷ rest)
+pub values_push : (v : ℕ → ℕ) (d e : List Node) (ids more : List Id) (i : Id) (n : ℕ) (rest : List ℕ) → Extends d e → AreBytes d ids → more ≡ ids ++ i ∷ [] → value v e i ≡ n → map (value v e) more ++ rest ≡ map (value v d) ids ++ (n ∷ rest)
 values_push v d e ids more i n rest x all is value_is =
     let stay = map_stays v d e ids x (bytes_there d ids all) in
     ap (λ (ks : List Id). map (value v e) ks ++ rest) is ∙ ap (λ ws. ws ++ rest) (map_push (value v e) ids i) ∙ push_front (map (value v e) ids) (value v e i) rest ∙ (λ k. stay k ++ (value_is k ∷ rest))
 
-one_on : {X : Type 0} (xs : List X) (k : ℕ) → drop (k + 1) xs ≡ drop (suc k) xs
+pub one_on : {X : Type 0} (xs : List X) (k : ℕ) → drop (k + 1) xs ≡ drop (suc k) xs
 one_on xs k = let same : k + 1 ≡ suc k = omega arith in ap (λ n. drop n xs) same
 
 -- ---- a choice of bytes
@@ -206,7 +205,7 @@ testing_none d e words bytes all x there wide is =
       same = λ v. true_first _ (holds (value v e all)) (ap holds (is v)) ∙ ap (λ n. same_bytes (bytes_of_words n (map (value v d) words)) (map (value v d) bytes)) none;
     }
 
-widths_at : (n left k z : ℕ) → k < n → get_or (word_widths n left) k z ≡ 8 * min 8 (left - 8 * k)
+pub widths_at : (n left k z : ℕ) → k < n → get_or (word_widths n left) k z ≡ 8 * min 8 (left - 8 * k)
 widths_at zero left k z lt = absurd (omega (arith, lt))
 widths_at (suc n) left zero z lt = let all : left ≡ left - 8 * 0 = omega arith in ap (λ m. 8 * min 8 m) all
 widths_at (suc n) left (suc k) z lt =

@@ -6,3 +6,5 @@ pub mod Written
 pub mod WordTests
 pub mod Held
 pub mod Noted
+pub mod Learning
+pub mod Following

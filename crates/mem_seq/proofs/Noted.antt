@@ -1,8 +1,8 @@
 -- What is noted of an event, and of one event after the other.
-use Rattle.std.proofs.Common.{◌≡◌, ℕ, ◌+◌, ◌<◌, ◌≤◌, Bool, true, false, ◌&&◌, List, [], ◌∷◌, ◌++◌, length, map, take, get_or, Option, Some, None, is_some, refl, sym, ap, subst, ◌∙◌}
+use Rattle.std.proofs.Common.{◌≡◌, ℕ, Bool, true, false, ◌&&◌, List, [], ◌∷◌, ◌++◌, length, map, Option, Some, None, is_some, refl, sym, ap, subst, ◌∙◌}
 use Rattle.std.specs.Prelude.{All, ◌==◌, if◌then◌else◌}
-use Rattle.std.proofs.lemmas.List.{length-map, take_more, take_all}
-use Rattle.std.proofs.lemmas.List.Elements.{All-head, All-tail, All-push, All-nil, All-weaker, All-take}
+use Rattle.std.proofs.lemmas.List.{length-map}
+use Rattle.std.proofs.lemmas.List.Elements.{All-head, All-tail}
 use Rattle.words.specs.declared.check.Class.{Class}
 use Rattle.words.specs.declared.check.Class.TheVariants.{Null, InvalidPointer}
 use Rattle.actions.specs.Pointer.{object_of}
@@ -12,7 +12,7 @@ use Rattle.word_dag.specs.declared.nodes.Id.{Id}
 use Rattle.word_dag.specs.declared.nodes.Node.{Node}
 use Rattle.word_dag.specs.Meaning.{value, holds}
 use Rattle.word_dag.specs.Growth.{Within, Extends}
-use Rattle.word_dag.proofs.Grown.{extends_itself, extends_more, map_stays}
+use Rattle.word_dag.proofs.Grown.{map_stays}
 use Rattle.guarded_ssa.specs.declared.forms.Event.{Event}
 use Rattle.guarded_ssa.specs.declared.forms.EventKind.{EventKind}
 use Rattle.guarded_ssa.specs.declared.forms.EventKind.TheVariants as kinds
@@ -29,8 +29,8 @@ use Rattle.mem_seq.specs.Goals.{breaks_or, breaks_from}
 use Rattle.mem_seq.specs.Notes.{NoteIn, IsNote, AreNotes}
 use Rattle.mem_seq.specs.Memories.{StandsFor, MemoryIn, written_in}
 use Rattle.mem_seq.proofs.Written.{stands_stay, break_same}
-use Rattle.mem_seq.proofs.Breaking.{event_stays, seen_stays}
-use Rattle.mem_seq.proofs.Building.{store_at, store_next, note_in_stays, note_stays, behind_append, form_in_stays}
+use Rattle.mem_seq.proofs.Breaking.{event_stays}
+use Rattle.mem_seq.proofs.Building.{note_stays, behind_append}
 
 -- ---- one event
 
@@ -138,13 +138,13 @@ module _ (e : List Node) (ev : Event) (stores : (ℕ → ℕ) → Objects) where
       let same : break_in (stores v) true (pointer_to object offset) (length (map (value v e) bytes)) ≡ break_in (stores v) true p (length new) = ap (break_in (stores v) true (pointer_to object offset)) (length-map bytes (value v e)) ∙ (λ i. break_in (stores v) true (sym p_is i) (length (sym new_is i))) in
       told_as (kinds.Write object offset bytes) is v later ∙ ap (λ (c : Option Class). breaks_or c later) (same ∙ fine v)
 
-  pub read_note : (d : List Node) (object offset count p : ℕ) (answer words : List Id) (test : Id) → Extends d e → All (Within d) answer → ev.kind ≡ kinds.Read object offset count answer → p ≡ pointer_to object offset → words ≡ answer → ((v : ℕ → ℕ) → break_in (stores v) false p count ≡ None)
-      → ((v : ℕ → ℕ) → holds (value v e test) ≡ same_bytes (bytes_of_words count (map (value v d) words)) (bytes_at (stores v) p count)) → IsNote stores e ev (notes.Gives test)
-  read_note d object offset count p answer words test x there is p_is words_are fine given v later =
+  pub read_note : (d : List Node) (object offset count p : ℕ) (answer words : List Id) (test : Id) → Extends d e → Within d ev.guard → All (Within d) answer → ev.kind ≡ kinds.Read object offset count answer → p ≡ pointer_to object offset → words ≡ answer → ((v : ℕ → ℕ) → break_in (stores v) false p count ≡ None)
+      → ((v : ℕ → ℕ) → holds (value v d ev.guard) ≡ true → holds (value v e test) ≡ same_bytes (bytes_of_words count (map (value v d) words)) (bytes_at (stores v) p count)) → IsNote stores e ev (notes.Gives test)
+  read_note d object offset count p answer words test x guard_there there is p_is words_are fine given v later guard_is =
       let q = pointer_to object offset in
       let bytes = bytes_of_words count (map (value v e) answer) in
       let test_is : same_bytes bytes (bytes_at (stores v) q count) ≡ holds (value v e test) =
-      (λ i. same_bytes (bytes_of_words count (map_stays v d e answer x there i)) (bytes_at (stores v) q count)) ∙ (λ i. same_bytes (bytes_of_words count (map (value v d) (sym words_are i))) (bytes_at (stores v) (sym p_is i) count)) ∙ sym (given v) in
+      (λ i. same_bytes (bytes_of_words count (map_stays v d e answer x there i)) (bytes_at (stores v) q count)) ∙ (λ i. same_bytes (bytes_of_words count (map (value v d) (sym words_are i))) (bytes_at (stores v) (sym p_is i) count)) ∙ sym (given v (ap holds (sym (x.value_stays v ev.guard guard_there)) ∙ guard_is)) in
       told_as (kinds.Read object offset count answer) is v later
       ∙ ap (λ (c : Option Class). breaks_or c (same_bytes bytes (bytes_at (stores v) q count) && later)) (ap (λ r. break_in (stores v) false r count) (sym p_is) ∙ fine v)
       ∙ ap (λ b. b && later) test_is
@@ -171,7 +171,7 @@ stands_written v d e ev m n objects after is stands = subst (StandsFor v e n) (b
 
 -- ---- one event after the other
 
-notes_push : (stores : (ℕ → ℕ) → Objects) (d : List Node) (es : List Event) (ns : List Note) (ev : Event) (n : Note) → AreNotes stores d es ns → IsNote (λ v. behind (stores v) (seen v d es)) d ev n → AreNotes stores d (es ++ ev ∷ []) (ns ++ n ∷ [])
+pub notes_push : (stores : (ℕ → ℕ) → Objects) (d : List Node) (es : List Event) (ns : List Note) (ev : Event) (n : Note) → AreNotes stores d es ns → IsNote (λ v. behind (stores v) (seen v d es)) d ev n → AreNotes stores d (es ++ ev ∷ []) (ns ++ n ∷ [])
 notes_push stores d [] [] ev n h is = (is, tt)
 notes_push stores d [] (m ∷ ns) ev n h is = absurd h
 notes_push stores d (e ∷ es) [] ev n h is = absurd h
@@ -179,7 +179,7 @@ notes_push stores d (e ∷ es) (m ∷ ns) ev n h is =
     let same : (λ (v : ℕ → ℕ). behind (stores v) (event_seen v d e ++ seen v d es)) ≡ (λ v. behind (behind (stores v) (event_seen v d e)) (seen v d es)) = λ k v. behind_append (stores v) (event_seen v d e) (seen v d es) k in
     (h.0, notes_push (λ v. behind (stores v) (event_seen v d e)) d es ns ev n h.1 (subst (λ (s : (ℕ → ℕ) → Objects). IsNote s d ev n) same is))
 
-notes_stay : (stores : (ℕ → ℕ) → Objects) (d e : List Node) (es : List Event) (ns : List Note) → Extends d e → FormIn d es → All (NoteIn d) ns → AreNotes stores d es ns → AreNotes stores e es ns
+pub notes_stay : (stores : (ℕ → ℕ) → Objects) (d e : List Node) (es : List Event) (ns : List Note) → Extends d e → FormIn d es → All (NoteIn d) ns → AreNotes stores d es ns → AreNotes stores e es ns
 notes_stay stores d e [] [] x form within h = tt
 notes_stay stores d e [] (n ∷ ns) x form within h = absurd h
 notes_stay stores d e (ev ∷ es) [] x form within h = absurd h
@@ -189,43 +189,3 @@ notes_stay stores d e (ev ∷ es) (n ∷ ns) x form within h =
       note_stays d e ev n stores x here (All-head (NoteIn d) n ns within) h.0,
       subst (λ (s : (ℕ → ℕ) → Objects). AreNotes s e es ns) same (notes_stay (λ v. behind (stores v) (event_seen v d ev)) d e es ns x (All-tail (EventIn d) ev es form) (All-tail (NoteIn d) n ns within) h.1),
     )
-
--- the first k events are noted, and the memory is that behind them
-pub record Noting (d e : List Node) (store : Objects) (es : List Event) (m : Memory) (ns : List Note) (k : ℕ) : Type 0 where
-  pub extends : Extends d e
-  pub within : MemoryIn e m
-  pub notes_in : All (NoteIn e) ns
-  pub stands : (v : ℕ → ℕ) → StandsFor v e m (store_at store d es k v)
-  pub notes : AreNotes (λ v. store) e (take k es) ns
-
-pub noting_none : (d : List Node) (store : Objects) (es : List Event) (m : Memory) (ns : List Note) → MemoryIn d m → ((v : ℕ → ℕ) → StandsFor v d m store) → ns ≡ [] → Noting d d store es m ns 0
-noting_none d store es m ns within stands none = record {
-  extends = extends_itself d;
-  within = within;
-  notes_in = subst (All (NoteIn d)) (sym none) (All-nil (NoteIn d));
-  stands = stands;
-  notes = subst (AreNotes (λ v. store) d []) (sym none) tt;
-}
-
-pub noting_more : (d e f : List Node) (store : Objects) (es : List Event) (m n : Memory) (ns more : List Note) (ev : Event) (note : Note) (k : ℕ) → FormIn d es → Noting d e store es m ns k → k < length es → ev ≡ get_or es k ev → Extends e f → MemoryIn f n → NoteIn f note
-    → ((stores : (ℕ → ℕ) → Objects) → ((v : ℕ → ℕ) → StandsFor v e m (stores v)) → IsNote stores f ev note) → ((v : ℕ → ℕ) (objects : Objects) → StandsFor v e m objects → StandsFor v f n (behind objects (event_seen v e ev))) → more ≡ ns ++ note ∷ []
-    → Noting d f store es n more (k + 1)
-noting_more d e f store es m n ns more ev note k form c lt is x within note_within is_note behind_is more_is =
-    let y = extends_more d e f c.extends x in
-    let here : EventIn d ev = subst (EventIn d) (sym is) (form k ev lt) in
-    let first : take (k + 1) es ≡ take k es ++ ev ∷ [] = take_more es k ev lt ∙ ap (λ (i : Event). take k es ++ i ∷ []) (sym is) in
-    let front : FormIn d (take k es) = All-take (EventIn d) k es form in
-    record {
-      extends = y;
-      within = within;
-      notes_in = subst (All (NoteIn f)) (sym more_is) (All-push (NoteIn f) ns note (All-weaker (NoteIn e) (NoteIn f) (λ i h. note_in_stays e f i x h) ns c.notes_in) note_within);
-      stands = λ v. subst (StandsFor v f n) (ap (behind (store_at store d es k v)) (event_stays v d e ev c.extends here) ∙ sym (store_next store v d es k ev lt is)) (behind_is v (store_at store d es k v) (c.stands v));
-      notes =
-          let all = notes_stay (λ v. store) e f (take k es) ns x (form_in_stays d e (take k es) c.extends front) c.notes_in c.notes in
-          let same : (λ (v : ℕ → ℕ). store_at store d es k v) ≡ (λ v. behind store (seen v f (take k es))) = λ i v. behind store (sym (seen_stays v d f (take k es) y front) i) in
-          let one : IsNote (λ v. behind store (seen v f (take k es))) f ev note = subst (λ (s : (ℕ → ℕ) → Objects). IsNote s f ev note) same (is_note (store_at store d es k) c.stands) in
-          subst (AreNotes (λ v. store) f (take (k + 1) es)) (sym more_is) (subst (λ (xs : List Event). AreNotes (λ v. store) f xs (ns ++ note ∷ [])) (sym first) (notes_push (λ v. store) f (take k es) ns ev note all one));
-    }
-
-pub noting_all : (d e : List Node) (store : Objects) (es : List Event) (m : Memory) (ns : List Note) (k : ℕ) → Noting d e store es m ns k → length es ≤ k → AreNotes (λ v. store) e es ns
-noting_all d e store es m ns k c done = subst (λ (xs : List Event). AreNotes (λ v. store) e xs ns) (take_all k es done) c.notes

@@ -115,7 +115,7 @@ same_truth true b to from = sym (to refl)
 same_truth false true to from = from refl
 same_truth false false to from = refl
 
-equal_is : (m n : ℕ) → (m == n) ≡ true → m ≡ n
+pub equal_is : (m n : ℕ) → (m == n) ≡ true → m ≡ n
 equal_is m n h = grind (arith, nat_tests)
 
 is_equal : (m n : ℕ) → m ≡ n → (m == n) ≡ true

@@ -19,7 +19,7 @@ NoteIn d _ = Unit {0}
 abbrev pub IsNote : ((ℕ → ℕ) → Objects) → List Node → Event → Note → Type 0
 IsNote stores d e notes.Passes = (v : ℕ → ℕ) (later : Bool) → breaks_from (stores v) (kind_seen v d e.line e.function e.kind) later ≡ later
 IsNote stores d e notes.Breaks = (v : ℕ → ℕ) (later : Bool) → breaks_from (stores v) (kind_seen v d e.line e.function e.kind) later ≡ true
-IsNote stores d e (notes.Gives i) = (v : ℕ → ℕ) (later : Bool) → breaks_from (stores v) (kind_seen v d e.line e.function e.kind) later ≡ (holds (value v d i) && later)
+IsNote stores d e (notes.Gives i) = (v : ℕ → ℕ) (later : Bool) → holds (value v d e.guard) ≡ true → breaks_from (stores v) (kind_seen v d e.line e.function e.kind) later ≡ (holds (value v d i) && later)
 IsNote stores d e notes.Alone = (v : ℕ → ℕ) (later : Bool) → breaks_from (stores v) (kind_seen v d e.line e.function e.kind) later ≡ breaks_from [] (kind_seen v d e.line e.function e.kind) later
 
 -- of events, the first of which is reached with one of these stores

@@ -155,8 +155,8 @@ pub fn sequential(
     ensures formula { IfOk result (λ f. (t : Thread) → AreObjects form.now.store → IsForm t.behaves dag.old form.now.events → IsFormula (first_world t form.now.store) dag.new f) }
 {
     let _ = dag.nodes();
-    let notes = notes(alloc, dag, form.store(), form.events())?;
-    let goal = goal(dag, form.store(), form.events(), &notes)?;
+    let noted = notes(alloc, dag, form.store(), form.events())?;
+    let goal = goal(dag, form.store(), &noted.events, &noted.notes)?;
     Ok(Formula {
         goal,
         form: form.copied(alloc)?,

@@ -3,5 +3,6 @@
 
 mod formula;
 mod memory;
+mod replacing;
 
 pub use formula::{Formula, Sets, sequential};

@@ -1,23 +1,27 @@
 //! What the events of a form do with the store, from the first to the last.
 
-ghost use Rattle.std.specs.Prelude.{◌≡◌, ◌+◌, ◌≤◌, ◌^◌, ℕ, List, All, None, false, true, length, map, drop, IfOk, if◌then◌else◌};
+ghost use Rattle.std.specs.Prelude.{◌≡◌, ◌+◌, ◌≤◌, ◌^◌, ℕ, List, All, None, false, true, length, map, drop, IfOk, OnOk, if◌then◌else◌};
 ghost use Rattle.std.specs.Ordering.{nat_cmp};
 ghost use Rattle.std.specs.BTreeMap as tree;
 ghost use Rattle.actions.specs.Pointer.{offset_of};
 ghost use Rattle.actions.specs.Objects.{Objects, bytes_at, with_bytes, break_in};
 ghost use Rattle.guarded_ssa.specs.Runs.{bytes_of_words};
-ghost use Rattle.guarded_ssa.specs.Forms.{AreWords, IsBit, EventIn, FormIn, event_seen};
+ghost use Rattle.guarded_ssa.specs.Forms.{AreWords, IsBit, EventIn, FormIn, event_seen, seen};
 ghost use Rattle.mem_seq.specs.Accesses.{same_bytes, behind};
+ghost use Rattle.mem_seq.specs.Goals.{breaks_from, gives};
 ghost use Rattle.mem_seq.specs.Memories.{MemoryIn, StandsFor, value_or, put_from, written_in};
 ghost use Rattle.mem_seq.specs.Notes.{NoteIn, IsNote, AreNotes};
+ghost use Rattle.rewritten_nodes.specs.Images.{KnownIn, Agrees};
 ghost use Rattle.value_nodes.specs.Values.{IsWord, IsValue, IsTest, AreBytes};
 ghost use Rattle.word_dag.specs.Growth.{Extends};
 ghost use Rattle.word_dag.specs.Meaning.{value, holds};
 ghost use Rattle.word_dag.specs.declared.nodes.Node.{Node};
 
+use crate::replacing::{learn_words, replaced};
 use actions::{AccessError, Store};
 use c_values::pointer_to;
 use guarded_ssa::{Event, EventKind};
+use rewritten_nodes::{Known, side};
 use std::alloc::{AllocError, Global};
 use std::collections::BTreeMap;
 use value_nodes::{both, chosen, equal, word_of_bytes};
@@ -88,6 +92,23 @@ fn chosen_bytes(
     Ok(ids)
 }
 
+// The bytes where the guard is true: choices that it decides are looked through.
+fn decided(alloc: Global, dag: &Dag, guard: Id, ids: &[Id]) -> Result<Vec<Id>, AllocError>
+    requires guard { IsWord dag.now guard 1 }
+    requires ids { AreBytes dag.now ids.now }
+    ensures bytes { IfOk result (λ r. AreBytes dag.now r.items) }
+    ensures size { IfOk result (λ r. length r.items ≡ length ids.now) }
+    ensures values { IfOk result (λ r. (v : ℕ → ℕ) → holds (value v dag.now guard) ≡ true → map (value v dag.now) r.items ≡ map (value v dag.now) ids.now) }
+{
+    let _ = dag.nodes();
+    let mut sides = Vec::with_capacity(alloc, ids.len())?;
+    for i in 0..ids.len() {
+        let id = side(dag, guard, ids[i], true);
+        sides.push(id)?;
+    }
+    Ok(sides)
+}
+
 impl<'a> Memory<'a> {
     // At the start.
     fn new(alloc: Global, store: &'a Store) -> Memory<'a>
@@ -154,17 +175,41 @@ impl<'a> Memory<'a> {
         Ok(ids)
     }
 
-    // Whether the words are what an access that breaks no check finds, so many bytes.
-    fn gives(&self, dag: &mut Dag, p: u64, count: u32, words: &[Id]) -> Result<Id, AllocError>
+    // The bytes that an access finds where its guard is true, so many.
+    fn found(&self, dag: &mut Dag, guard: Id, p: u64, count: u32) -> Result<Vec<Id>, AllocError>
         requires within { MemoryIn dag.old self.now }
+        requires guard { IsWord dag.old guard 1 }
+        requires there { break_in self.now.store.now false p count ≡ None }
+        requires inside { offset_of p + count ≤ 2 ^ 32 }
+        ensures extends { Extends dag.old dag.new }
+        ensures bytes { IfOk result (λ ids. AreBytes dag.new ids.items) }
+        ensures size { IfOk result (λ ids. length ids.items ≡ count) }
+        ensures values { IfOk result (λ ids. (v : ℕ → ℕ) (objects : Objects) → StandsFor v dag.old self.now objects → holds (value v dag.old guard) ≡ true → map (value v dag.new) ids.items ≡ bytes_at objects p count) }
+    {
+        let bytes = self.bytes(dag, p, count)?;
+        let sides = decided(self.alloc, dag, guard, &bytes)?;
+        Ok(sides)
+    }
+
+    // Whether the words are what an access that breaks no check finds, so many bytes, where its guard is true.
+    fn gives(
+        &self,
+        dag: &mut Dag,
+        guard: Id,
+        p: u64,
+        count: u32,
+        words: &[Id],
+    ) -> Result<Id, AllocError>
+        requires within { MemoryIn dag.old self.now }
+        requires guard { IsWord dag.old guard 1 }
         requires words { AreWords dag.old count words.now }
         requires there { break_in self.now.store.now false p count ≡ None }
         ensures extends { Extends dag.old dag.new }
         ensures bit { IfOk result (IsBit dag.new) }
-        ensures given { IfOk result (λ i. (v : ℕ → ℕ) (objects : Objects) → StandsFor v dag.old self.now objects → holds (value v dag.new i) ≡ same_bytes (bytes_of_words count (map (value v dag.old) words.now)) (bytes_at objects p count)) }
+        ensures given { IfOk result (λ i. (v : ℕ → ℕ) (objects : Objects) → StandsFor v dag.old self.now objects → holds (value v dag.old guard) ≡ true → holds (value v dag.new i) ≡ same_bytes (bytes_of_words count (map (value v dag.old) words.now)) (bytes_at objects p count)) }
     {
         let size = self.count_of(false, p, count as usize);
-        let held = self.bytes(dag, p, size)?;
+        let held = self.found(dag, guard, p, size)?;
         let same = are_words_of(dag, words, &held)?;
         Ok(same)
     }
@@ -199,6 +244,36 @@ impl<'a> Memory<'a> {
         Ok(())
     }
 
+    // From now on the words of a read's answer are what the store holds, where its guard is true and it breaks no
+    // check.
+    fn learn(&self, dag: &mut Dag, known: &mut Known, event: &Event) -> Result<(), AllocError>
+        requires within { MemoryIn dag.old self.now }
+        requires known { KnownIn dag.old known.old }
+        requires event { EventIn dag.old event.now }
+        ensures extends { Extends dag.old dag.new }
+        ensures known { OnOk result (KnownIn dag.new known.new) }
+        ensures agrees { OnOk result ((v : ℕ → ℕ) (objects : Objects) → StandsFor v dag.old self.now objects → gives objects (event_seen v dag.old event.now) ≡ true → Agrees v dag.old known.old → Agrees v dag.new known.new) }
+    {
+        match &event.kind {
+            EventKind::Read {
+                object,
+                offset,
+                count,
+                answer,
+            } => {
+                let p = pointer_to(*object, *offset);
+                if self.store.break_of(false, p, *count as usize).is_some() {
+                    return Ok(());
+                }
+                let size = self.count_of(false, p, *count as usize);
+                let held = self.found(dag, event.guard, p, size)?;
+                learn_words(dag, known, event.guard, answer.as_slice(), &held)?;
+                Ok(())
+            }
+            _ => Ok(()),
+        }
+    }
+
     // What is noted of an event; then the memory is that behind it.
     fn note(&mut self, dag: &mut Dag, event: &Event) -> Result<Note, AllocError>
         requires within { MemoryIn dag.old self.old }
@@ -222,7 +297,7 @@ impl<'a> Memory<'a> {
                 if self.store.break_of(false, p, *count as usize).is_some() {
                     return Ok(Note::Breaks);
                 }
-                let test = self.gives(dag, p, *count, answer.as_slice())?;
+                let test = self.gives(dag, event.guard, p, *count, answer.as_slice())?;
                 Ok(Note::Gives(test))
             }
             EventKind::Write {
@@ -245,23 +320,69 @@ impl<'a> Memory<'a> {
     }
 }
 
-/// What is noted of the events, from the store at the start on.
+// An event over the nodes that stand for its own, and what is noted of it; then the memory is that behind it, and
+// where its read gives what the store holds, that is known.
+fn follow(
+    alloc: Global,
+    dag: &mut Dag,
+    memory: &mut Memory,
+    known: &mut Known,
+    event: &Event,
+) -> Result<(Event, Note), AllocError>
+    requires memory { MemoryIn dag.old memory.old }
+    requires known { KnownIn dag.old known.old }
+    requires event { EventIn dag.old event.now }
+    ensures extends { Extends dag.old dag.new }
+    ensures memory { OnOk result (MemoryIn dag.new memory.new) }
+    ensures known { OnOk result (KnownIn dag.new known.new) }
+    ensures store { memory.new.store.now ≡ memory.old.store.now }
+    ensures event { IfOk result (λ r. EventIn dag.new r.0) }
+    ensures note_within { IfOk result (λ r. NoteIn dag.new r.1) }
+    ensures note { IfOk result (λ r. (stores : (ℕ → ℕ) → Objects) → ((v : ℕ → ℕ) → StandsFor v dag.old memory.old (stores v)) → IsNote stores dag.new r.0 r.1) }
+    ensures behind { IfOk result (λ r. (v : ℕ → ℕ) (objects : Objects) → StandsFor v dag.old memory.old objects → StandsFor v dag.new memory.new (behind objects (event_seen v dag.new r.0))) }
+    ensures same { IfOk result (λ r. (v : ℕ → ℕ) → Agrees v dag.old known.old → event_seen v dag.new r.0 ≡ event_seen v dag.old event.now) }
+    ensures agrees { OnOk result ((v : ℕ → ℕ) (objects : Objects) → StandsFor v dag.old memory.old objects → gives objects (event_seen v dag.old event.now) ≡ true → Agrees v dag.old known.old → Agrees v dag.new known.new) }
+{
+    let other = replaced(alloc, dag, known, event)?;
+    memory.learn(dag, known, &other)?;
+    let note = memory.note(dag, &other)?;
+    Ok((other, note))
+}
+
+/// Events that break a check in a run from the store where those that they stand for do, and what is noted of
+/// each.
+#[derive(Drop)]
+pub struct Noted {
+    pub events: Vec<Event>,
+    pub notes: Vec<Note>,
+}
+
+/// Events over the nodes that stand for their own where reads give what the store holds, and what is noted of them,
+/// from the store at the start on.
 pub fn notes(
     alloc: Global,
     dag: &mut Dag,
     store: &Store,
     events: &[Event],
-) -> Result<Vec<Note>, AllocError>
+) -> Result<Noted, AllocError>
     requires { FormIn dag.old events.now }
     ensures extends { Extends dag.old dag.new }
-    ensures within { IfOk result (λ notes. All (NoteIn dag.new) notes.items) }
-    ensures notes { IfOk result (λ notes. AreNotes (λ v. store.now) dag.new events.now notes.items) }
+    ensures events { IfOk result (λ r. FormIn dag.new r.events.items) }
+    ensures within { IfOk result (λ r. All (NoteIn dag.new) r.notes.items) }
+    ensures notes { IfOk result (λ r. AreNotes (λ v. store.now) dag.new r.events.items r.notes.items) }
+    ensures same { IfOk result (λ r. (v : ℕ → ℕ) → breaks_from store.now (seen v dag.new r.events.items) false ≡ breaks_from store.now (seen v dag.old events.now) false) }
 {
     let mut memory = Memory::new(alloc, store);
+    let mut known = Known::new(alloc);
+    let mut others = Vec::with_capacity(alloc, events.len())?;
     let mut notes = Vec::with_capacity(alloc, events.len())?;
     for at in 0..events.len() {
-        let note = memory.note(dag, &events[at])?;
+        let (other, note) = follow(alloc, dag, &mut memory, &mut known, &events[at])?;
         notes.push(note)?;
+        others.push(other)?;
     }
-    Ok(notes)
+    Ok(Noted {
+        events: others,
+        notes,
+    })
 }

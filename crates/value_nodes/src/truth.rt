@@ -6,6 +6,7 @@ ghost use Rattle.word_dag.specs.Growth.{Within, Extends};
 ghost use Rattle.word_dag.specs.Meaning.{width, value, holds};
 ghost use Rattle.value_nodes.specs.Values.{IsWord, IsTest, IsValue};
 
+use rewritten_nodes::simplified;
 use std::alloc::AllocError;
 use word_dag::{BinaryOperator, Comparison, Dag, Id, Node};
 
@@ -55,7 +56,7 @@ pub fn nonzero_test(dag: &mut Dag, a: Id) -> Result<Id, AllocError>
     Ok(id)
 }
 
-/// Whether one of two truth values is true.
+/// Whether one of two truth values is true. Where one is a constant no node is made.
 #[tactic(auto, using(crate::proofs::Made::made_or))]
 pub fn either(dag: &mut Dag, a: Id, b: Id) -> Result<Id, AllocError>
     requires a { IsWord dag.old a 1 }
@@ -64,11 +65,11 @@ pub fn either(dag: &mut Dag, a: Id, b: Id) -> Result<Id, AllocError>
     ensures made { IfOk result (λ i. IsTest dag.new i (λ v. holds (value v dag.old a) || holds (value v dag.old b))) }
 {
     let _ = dag.nodes();
-    let id = dag.make(Node::Binary(BinaryOperator::Or, a, b))?;
+    let id = simplified(dag, Node::Binary(BinaryOperator::Or, a, b))?;
     Ok(id)
 }
 
-/// Whether both of two truth values are true.
+/// Whether both of two truth values are true. Where one is a constant no node is made.
 #[tactic(auto, using(crate::proofs::Made::made_and))]
 pub fn both(dag: &mut Dag, a: Id, b: Id) -> Result<Id, AllocError>
     requires a { IsWord dag.old a 1 }
@@ -77,11 +78,12 @@ pub fn both(dag: &mut Dag, a: Id, b: Id) -> Result<Id, AllocError>
     ensures made { IfOk result (λ i. IsTest dag.new i (λ v. holds (value v dag.old a) && holds (value v dag.old b))) }
 {
     let _ = dag.nodes();
-    let id = dag.make(Node::Binary(BinaryOperator::And, a, b))?;
+    let id = simplified(dag, Node::Binary(BinaryOperator::And, a, b))?;
     Ok(id)
 }
 
-/// The first word where the test is true, else the second. Where both are one node no node is made.
+/// The first word where the test is true, else the second. Where both are one node, or the test is a constant, no
+/// node is made, and a choice by the same test is looked through.
 pub fn chosen(dag: &mut Dag, test: Id, a: Id, b: Id) -> Result<Id, AllocError>
     requires test { IsWord dag.old test 1 }
     requires a { Within dag.old a }
@@ -92,7 +94,7 @@ pub fn chosen(dag: &mut Dag, test: Id, a: Id, b: Id) -> Result<Id, AllocError>
     if a == b {
         return Ok(a);
     }
-    let id = dag.make(Node::Choice(test, a, b))?;
+    let id = simplified(dag, Node::Choice(test, a, b))?;
     Ok(id)
 }
 

@@ -7,9 +7,9 @@ use Rattle.mem_seq.proofs.memory.Memory.note.Goals as goal
 
 pub returns-in_ok-test-in-Read-clause-note : goal.returns-in_ok-test-in-Read-clause-note
 returns-in_ok-test-in-Read-clause-note c = λ stores stands.
-    read_note c.gives.new.dag c.args.event.now stores c.args.dag.now c.in-Read.object c.in-Read.offset c.in-Read.count c.pointer_to-p.result c.in-Read.answer c.as_slice.result.now c.in_ok-test-in-Read.test c.gives.ensures.extends (subst (KindIn c.args.dag.now) c.in-Read.is c.requires.event.kind).there
+    read_note c.gives.new.dag c.args.event.now stores c.args.dag.now c.in-Read.object c.in-Read.offset c.in-Read.count c.pointer_to-p.result c.in-Read.answer c.as_slice.result.now c.in_ok-test-in-Read.test c.gives.ensures.extends c.requires.event.guard.there (subst (KindIn c.args.dag.now) c.in-Read.is c.requires.event.kind).there
     c.in-Read.is c.pointer_to-p.ensures.is c.as_slice.ensures (λ v. no_break v c.args.dag.now c.args.self.now (stores v) false c.pointer_to-p.result c.in-Read.count c.break_of.result (stands v) c.break_of.ensures (sym c.is_some.ensures ∙ c.if-is_some.false))
-    (λ v. c.in_ok-test-in-Read.ensures.given v (stores v) (stands v))
+    (λ v guard_is. c.in_ok-test-in-Read.ensures.given v (stores v) (stands v) guard_is)
 
 pub returns-in_ok-write-in-Write-clause-behind : goal.returns-in_ok-write-in-Write-clause-behind
 returns-in_ok-write-in-Write-clause-behind c = λ v objects stands.

@@ -1,0 +1,3 @@
+pub mod Fitted
+pub mod Sides
+pub mod Standing
