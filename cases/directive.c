@@ -1,3 +1,3 @@
 int x
 
-#define A
+#if A

@@ -1,7 +1,9 @@
-/* Refused with 5, Directive: a `#`, as there is no preprocessor yet. `assert` is built in and needs no header. */
+/* Refused with 5, Directive: a directive that isn't one of the accepted C, as `#if`, or a malformed one, or a second
+   definition of a macro with other tokens. It is told with the line of its `#`. */
 #include <assert.h>
-
+#if 1
 int main(void) {
   assert(1);
   return 0;
 }
+#endif

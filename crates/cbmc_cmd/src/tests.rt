@@ -3,8 +3,8 @@
 ghost use Rattle.std.specs.Prelude.{◌≡◌, ◌≤◌, IfOk};
 
 use cbmc_top::{
-    Job, Options, Settings, Task, Used, Verdict, check_bytes, one_answer, one_program, one_reading,
-    one_verdict, runs_answer, success, top,
+    Head, Job, Options, Task, Used, Verdict, check_bytes, listing_answers, one_answer, one_program,
+    one_reading, one_verdict, runs_answer, success, top,
 };
 use core_tree::{Bounds, Refusal};
 use outside::{HeldFile, MemSink, MemSource, SureSink, SureSource};
@@ -26,6 +26,11 @@ const FIVE: &str =
 
 const SEVEN_BREAKS: &str =
     "file a.c unwind 8\nviolated assertion line 1 function main thread 0\ninputs 0: 7\nschedule 0x2\nVERIFICATION FAILED\n";
+
+const SEVEN_WITHIN: &str =
+    "file a.c unwind 3\nunwinding assertions off\nviolated assertion line 1 function main thread 0\ninputs 0: 7\nschedule 0x2\nVERIFICATION FAILED\n";
+
+const LISTED: &str = "assertion line 1 function main\n";
 
 fn words_of(alloc: Global, words: &[&str]) -> Result<Vec<String>, AllocError> {
     let mut all = Vec::new(alloc);
@@ -74,17 +79,27 @@ fn outcome(
     Ok((done.status, sink))
 }
 
-/// Words that are no command, or name a file that isn't there.
-static WORDS: [(&[&str], u8, &str); 9] = [
+/// Words that are no command, that name a file that isn't there, or that have options.
+static WORDS: [(&[&str], u8, &str); 15] = [
     (&[], 1, USAGE),
     (&["cbmc"], 1, USAGE),
     (&["cbmc", "a.c", "b.c"], 1, USAGE),
-    (&["cbmc", "-"], 1, USAGE),
+    (&["cbmc", "-a.c"], 1, USAGE),
     (&["cbmc", "--unwind=3"], 1, USAGE),
     (&["cbmc", ""], 1, USAGE),
     (&["cbmc", "a\tc"], 1, USAGE),
     (&["cbmc", "a\x7fc"], 1, USAGE),
     (&["cbmc", "b.c"], 8, "read fault\n"),
+    (&["cbmc", "-"], 8, "read fault\n"),
+    (&["cbmc", "a.c", "--unwind", "0"], 1, USAGE),
+    (&["cbmc", "--generate", "3", "a.c"], 1, USAGE),
+    (&["cbmc", "--show-properties", "a.c"], 0, LISTED),
+    (
+        &["cbmc", "a.c", "--unwind=3", "--no-unwinding-assertions"],
+        10,
+        SEVEN_WITHIN,
+    ),
+    (&["cbmc", "--generate=3"], 6, "refused 10 Syntax line 3\n"),
 ];
 
 /// Faults and part writes on the file whose assertion breaks at 7.
@@ -195,25 +210,38 @@ fn bytes_are_checked(rt: HostRuntime) -> Result<(), Fail> {
     one_answer();
     one_verdict();
     runs_answer();
+    listing_answers();
     one_reading();
     Ok(())
 }
 
 /// The texts of a success under these settings.
-static SETTINGS: [(u32, bool, &str); 2] = [
-    (8, true, SAFE),
+static SETTINGS: [(Option<(u32, u32)>, u32, bool, &str); 3] = [
+    (None, 8, true, SAFE),
     (
+        None,
         2,
         false,
         "file a.c unwind 2\nunwinding assertions off\nVERIFICATION SUCCESSFUL\n",
+    ),
+    (
+        Some((3, 499)),
+        8,
+        true,
+        "generated 3 bytes 499\nfile a.c unwind 8\nVERIFICATION SUCCESSFUL\n",
     ),
 ];
 
 #[test]
 fn settings_stand_in_the_text(rt: HostRuntime) -> Result<(), Fail> {
-    for (unwind, assertions, wanted) in SETTINGS {
-        let settings = Settings { unwind, assertions };
-        let text = success(rt.alloc(), "a.c", settings)?;
+    for (generated, unwind, assertions, wanted) in SETTINGS {
+        let head = Head {
+            generated,
+            name: "a.c",
+            unwind,
+            assertions,
+        };
+        let text = success(rt.alloc(), &head)?;
         assert_eq!(rt; text.as_str(), wanted);
     }
     Ok(())

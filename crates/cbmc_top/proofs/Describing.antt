@@ -1,5 +1,5 @@
 -- A trace of a program is the failure that is told.
-use Rattle.std.proofs.Common.{◌≡◌, ℕ, suc, zero, ◌<◌, ◌^◌, true, List, [], ◌∷◌, length, map, Option, Some, None, option_map, Result, Ok, Err, sym, refl, ap, ◌∙◌, subst, arith, All}
+use Rattle.std.proofs.Common.{◌≡◌, ℕ, suc, zero, ◌<◌, ◌≤◌, ◌^◌, true, List, [], ◌∷◌, length, map, Option, Some, None, option_map, Result, Ok, Err, sym, refl, ap, ◌∙◌, subst, arith, All}
 use Rattle.std.specs.Prelude.{slice_get, codes}
 use Rattle.std.specs.Str.{IsAscii, IsUtf8}
 use Rattle.std.proofs.lemmas.Str.{IsUtf8-from_ascii}
@@ -14,7 +14,7 @@ use Rattle.cbmc_top.proofs.Congruent.{SameWords, replays_same}
 use Rattle.interleave.specs.Replay.{Replays}
 use Rattle.interleave.specs.declared.inputs.Trace.{Trace}
 use Rattle.report.specs.Identifiers.{is_letter, is_word_byte, all_word_bytes, is_identifier}
-use Rattle.cbmc_top.specs.Programs.{IsAccepted}
+use Rattle.cbmc_top.specs.Spelled.{IsTypedOf}
 use Rattle.run_search.specs.Executions.{bounded_world}
 use Rattle.report.specs.Report.{IsDrawn, IsRow, AreRising, AreMaximal}
 use Rattle.report.specs.Failing.{turns_of}
@@ -37,12 +37,11 @@ at_place fs k name h = by_found (slice_get fs k) refl h
     by_found (Some f) e h = (f, e, some_is h)
 
 -- The name of the function that a broken check stands in.
-pub named : (bytes : List ℕ) (core : TypedFile) (limits : Limits) (t : Trace) → IsAccepted bytes core → IsBroken limits core t → (name : List ℕ) × (name_in core t.check.function ≡ Some name) × (is_identifier name ≡ true)
-named bytes core limits t a r =
+pub named : (bytes : List ℕ) (core : TypedFile) (limits : Limits) (t : Trace) → IsTypedOf bytes core → IsBroken limits core t → (name : List ℕ) × (name_in core t.check.function ≡ Some name) × (is_identifier name ≡ true)
+named bytes core limits t p r =
     let x = broken_there core limits t.inputs t.schedule t.check r in
-    let p = a.program in
     let f = at_place core.functions t.check.function x.0 x.1 in
-    let word = functions_named IsIdentifier p.tree core p.typed (file_named bytes p.tokens p.tree p.cut p.is_tree) t.check.function f.0 f.1 in
+    let word = functions_named IsIdentifier p.tree core p.typed (file_named bytes p.tree p.spelling) t.check.function f.0 f.1 in
     (x.0, x.1, ap is_identifier (sym f.2) ∙ word)
 
 pub name_found : (functions : List Function) (number : ℕ) (o : Option Name) → o ≡ option_map (λ (f : Function). f.name) (slice_get functions number)
@@ -74,9 +73,9 @@ identifier_utf8 cs h = IsUtf8-from_ascii cs (identifier_ascii cs h)
 
 pub is_failure : (limits : Limits) (core : TypedFile) (t : Trace) (name : List ℕ) (inputs : InputLists) (rows : List (ℕ × ℕ)) → IsBroken limits core t
     → name_in core t.check.function ≡ Some name → is_identifier name ≡ true → SameWords inputs t.inputs → All IsDrawn inputs → AreRising inputs
-    → turns_of rows ≡ t.schedule → All IsRow rows → 0 < length rows → AreMaximal rows → t.check.line < 2 ^ 32 → t.check.thread < 2 ^ 32
+    → turns_of rows ≡ t.schedule → All IsRow rows → 0 < length rows → AreMaximal rows → 1 ≤ t.check.line → t.check.line < 2 ^ 32 → t.check.thread < 2 ^ 32
     → IsFailure limits core (record { class = t.check.class; line = t.check.line; function = name; thread = t.check.thread; inputs = inputs; rows = rows })
-is_failure limits core t name inputs rows broken found word same drawn rising turns each some maximal line thread = record {
+is_failure limits core t name inputs rows broken found word same drawn rising turns each some maximal positive line thread = record {
   check = t.check;
   replays = subst (λ schedule. Replays (bounded_world limits core) inputs schedule t.check) (sym turns)
       (replays_same (bounded_world limits core) t.inputs inputs t.schedule t.check (λ k. sym (same k)) broken);
@@ -84,7 +83,7 @@ is_failure limits core t name inputs rows broken found word same drawn rising tu
   line = refl;
   function = found;
   thread = refl;
-  told = record { line = line; function = word; thread = thread; drawn = drawn; rising = rising; rows = each; some = some; maximal = maximal };
+  told = record { first = positive; ranges = record { line = line; function = word; thread = thread; drawn = drawn; rising = rising; rows = each; some = some; maximal = maximal } };
 }
 
 pub same_identifier : (core : TypedFile) (number : ℕ) (name : List ℕ) → (x : List ℕ) × (name_in core number ≡ Some x) × (is_identifier x ≡ true) → name_in core number ≡ Some name → is_identifier name ≡ true

@@ -6,7 +6,9 @@ pub mod Stages
 pub mod Answering
 pub mod Spent
 pub mod Causes
+pub mod Heads
 pub mod FunctionNames
 pub mod TokenNames
 pub mod Named
 pub mod Describing
+pub mod Listed

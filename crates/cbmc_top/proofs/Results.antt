@@ -13,3 +13,7 @@ err_map (Err e) P Q h f = f e h
 pub err_on : {A E : Type 0} (r : Result A E) (given : E) (P : E → Type 0) → IsErrAnd r (λ e. e ≡ given) → P given → IfErr r P
 err_on (Ok x) given P h p = tt
 err_on (Err e) given P h p = subst P (sym h) p
+
+pub ok_both : {A E : Type 0} (r : Result A E) (P Q : A → Type 0) → IfOk r P → IfOk r Q → IfOk r (λ x. P x × Q x)
+ok_both (Ok x) P Q p q = (p, q)
+ok_both (Err e) P Q p q = tt

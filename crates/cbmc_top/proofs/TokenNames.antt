@@ -4,6 +4,7 @@ use Rattle.std.specs.Prelude.{◌==◌, ◌&&◌, nat_le, nat_lt, not, is_some, 
 use Rattle.std.specs.Option.{option_map_or}
 use Rattle.std.specs.Char.{is_ascii_digit, is_ascii_alphabetic}
 use Rattle.std.proofs.lemmas.Bool.{false≢true}
+use Rattle.std.proofs.lemmas.List.Elements.{All-head, All-drop}
 use Rattle.std.proofs.lemmas.Bool.Decides.{nat_tests}
 use Rattle.c_lexer.specs.declared.class.Class.{Class}
 use Rattle.c_lexer.specs.declared.class.Class.TheVariants as classes
@@ -13,21 +14,13 @@ use Rattle.c_token.specs.Spelling.{keyword_of, mark_of}
 use Rattle.c_lexer.specs.Constants.{constant_of}
 use Rattle.c_lexer.specs.Literals.{string_bytes, character_byte}
 use Rattle.c_lexer.specs.Forms.{begins, runs_on, in_word, is_word, is_number, is_literal}
-use Rattle.c_lexer.specs.Kinds.{is_foreign, word_kind, number_kind, literal_kind, mark_kind, int_bits, kind_of}
+use Rattle.c_lexer.specs.Kinds.{is_foreign, word_kind, number_kind, literal_kind, mark_kind, int_bits, kind_of, IsSpelled, AllSpelled}
 use Rattle.c_token.specs.Spelling.{text_of}
-use Rattle.c_lexer.specs.Positions.{Stands, StandsAs, token_or_fault, start_of}
-use Rattle.c_lexer.specs.Cutting.{bytes_of, lines_of, characters, behind, tokens_of, in_front, Reads, IsCutInto, start}
 use Rattle.c_token.specs.declared.token.Token.{Token}
 use Rattle.c_token.specs.declared.token.Kind.{Kind}
 use Rattle.c_token.specs.declared.token.Kind.TheVariants as kinds
 use Rattle.c_lexer.specs.declared.fault.Fault.{Fault}
 use Rattle.c_lexer.specs.declared.fault.Fault.TheVariants as faults
-use Rattle.c_lexer.specs.declared.fault.LexError.{LexError}
-use Rattle.c_lexer.specs.declared.piece.Piece.{Piece}
-use Rattle.c_lexer.specs.declared.piece.Piece.TheVariants as pieces
-use Rattle.c_lexer.specs.declared.piece.Start.{Start}
-use Rattle.c_lexer.specs.declared.piece.Start.TheVariants as starts
-use Rattle.c_lexer.specs.declared.position.Position.{Position}
 use Rattle.c_tree.specs.Names.{Scope, built_in_names}
 use Rattle.c_tree.specs.Spelling.{Single, Behind, Then, Nothing, IsMark, Names}
 use Rattle.c_tree.specs.Tree.{Tree}
@@ -35,6 +28,7 @@ use Rattle.c_tree.specs.Declarations.{Parts, Full, full_unnamed, full_named, ful
 use Rattle.c_tree.specs.Statements.{Statement, block, if_then, if_else, evaluate, return_nothing, return_value, empty, while_loop, do_loop, for_loop, for_declared, switch_on, case_of, default_of, labelled, goto_label, break_off, continue_on, Items, done, declares, does, Externals, no_more, declared, defines}
 use Rattle.c_tree.specs.Files.{SpellsFull, SpellsOthers, SpellsDeclarators, SpellsDeclaration, SpellsStatement, SpellsItems, SpellsFile, SpellsTest, SpellsHeader, IsWellStatement, AreWellItems, AreWellDeclarators, IsWellDeclaration, IsWellDefinition, AreWellExternals, IsFile}
 use Rattle.report.specs.Identifiers.{is_letter, is_digit, is_word_byte, all_word_bytes, is_identifier}
+use Rattle.cbmc_top.specs.Spelled.{HasSpelling}
 use Rattle.cbmc_top.proofs.FunctionNames.{AreNamed, StatementNamed, ItemsNamed, FileNamed}
 
 -- ---- identifiers
@@ -169,55 +163,11 @@ named_both : (bytes : List ℕ) (xs ys : List Token) → AllNamed bytes xs → A
 named_both bytes [] ys first second = second
 named_both bytes (x ∷ xs) ys first second = (first.0, named_both bytes xs ys first.1 second)
 
-abbrev or_foreign : Bool → Piece → Result Piece Fault
-or_foreign z p = if z then Err faults.Foreign else Ok p
-
-abbrev good : Kind → Result Kind Fault
-good k = Ok k
-
-token_chosen : (z : Bool) (m n : ℕ) (k kind : Kind) → Ok (pieces.Token kind n) ≡ or_foreign z (pieces.Token k m) → (m ≡ n) × (good k ≡ Ok kind)
-token_chosen true m n k kind h = absurd (cc)
-token_chosen false m n k kind h = let one : m ≡ n = cc in let other : k ≡ kind = cc in (one, ap good other)
-
-token_kind : (behind_prefix : Bool) (m n : ℕ) (text : List ℕ) (r : Result Kind Fault) (kind : Kind) → Ok (pieces.Token kind n) ≡ token_or_fault behind_prefix m text r → (m ≡ n) × (r ≡ Ok kind)
-token_kind behind_prefix m n text (Err fault) kind h = absurd (cc)
-token_kind behind_prefix m n text (Ok k) kind h = token_chosen (behind_prefix && begins bytes_of_text.is_quote text) m n k kind h
-
-token_text : (s : Start) (behind_prefix : Bool) (text : List ℕ) (kind : Kind) (n : ℕ) → StandsAs s behind_prefix text (Ok (pieces.Token kind n)) → kind_of (take n text) ≡ Ok kind
-token_text starts.End behind_prefix text kind n h = absurd h
-token_text starts.LineComment behind_prefix text kind n h = absurd (let e = h.2 in cc)
-token_text starts.BlockComment behind_prefix text kind n (inl h) = absurd (let e = h.2 in cc)
-token_text starts.BlockComment behind_prefix text kind n (inr h) = absurd (let e = h.1 in cc)
-token_text starts.Newline behind_prefix text kind n h = absurd (cc)
-token_text starts.Space behind_prefix text kind n h = absurd (cc)
-token_text starts.Token behind_prefix text kind n (inl h) =
-    let found = token_kind behind_prefix h.0 n (take h.0 text) (kind_of (take h.0 text)) kind h.2 in
-    subst (λ (m : ℕ). kind_of (take m text) ≡ Ok kind) found.0 found.1
-token_text starts.Token behind_prefix text kind n (inr h) = absurd (let e = h.1 in cc)
-
-piece_named : (bytes lines : List ℕ) (position : Position) (p : Piece) → Stands position.behind_prefix (drop position.at bytes) (Ok p) → AllNamed bytes (tokens_of lines position p)
-piece_named bytes lines position pieces.Newline stands = tt
-piece_named bytes lines position pieces.Space stands = tt
-piece_named bytes lines position (pieces.Comment n) stands = tt
-piece_named bytes lines position (pieces.Token kind n) stands =
-    ((λ is_name. word_is (take n (drop position.at bytes)) (name_is_word (take n (drop position.at bytes)) (token_text (start_of (drop position.at bytes)) position.behind_prefix (drop position.at bytes) kind n stands ∙ ap (λ (k : Kind). Ok k) is_name))), tt)
-
-abbrev FoundNamed : List ℕ → Result (List Token) LexError → Type 0
-FoundNamed bytes (Ok tokens) = AllNamed bytes tokens
-FoundNamed bytes (Err e) = Unit {0}
-
-reads_named : (bytes lines : List ℕ) (ps : List Piece) (position : Position) (found : Result (List Token) LexError) → Reads bytes lines ps position found → FoundNamed bytes found
-reads_named bytes lines [] position found (inl h) = subst (FoundNamed bytes) (sym h.1) tt
-reads_named bytes lines [] position found (inr h) = subst (FoundNamed bytes) (sym h.2) tt
-reads_named bytes lines (p ∷ ps) position found h =
-    subst (FoundNamed bytes) (sym h.1.2) (in_front_named h.1.0 (reads_named bytes lines ps (behind bytes position p) h.1.0 h.1.1))
-  where
-    in_front_named : (more : Result (List Token) LexError) → FoundNamed bytes more → FoundNamed bytes (in_front (tokens_of lines position p) more)
-    in_front_named (Ok more) all = named_both bytes (tokens_of lines position p) more (piece_named bytes lines position p h.0) all
-    in_front_named (Err e) all = tt
-
-tokens_named : (file : List ℕ) (tokens : List Token) → IsCutInto file (Ok tokens) → AllNamed (bytes_of file) tokens
-tokens_named file tokens cut = reads_named (bytes_of file) (lines_of file) cut.0 start (Ok tokens) cut.1
+spelled_named : (bytes : List ℕ) (tokens : List Token) → AllSpelled bytes tokens → AllNamed bytes tokens
+spelled_named bytes [] all = tt
+spelled_named bytes (t ∷ ts) all =
+    let here : IsSpelled bytes t = All-head (IsSpelled bytes) t ts all in
+    ((λ is_name. word_is (text_of bytes t) (name_is_word (text_of bytes t) (here.kind ∙ ap (λ (k : Kind). Ok k) is_name))), spelled_named bytes ts (All-drop (IsSpelled bytes) 1 (t ∷ ts) all))
 
 -- ---- trees
 
@@ -345,5 +295,5 @@ module _ (bytes : List ℕ) where
       )
 
 -- each declarator's name is an identifier
-pub file_named : (file : List ℕ) (tokens : List Token) (tree : Externals) → IsCutInto file (Ok tokens) → IsFile (bytes_of file) tokens tree → FileNamed IsIdentifier tree
-file_named file tokens tree cut is = externals_named (bytes_of file) built_in_names tree tokens is.spelled is.well (tokens_named file tokens cut)
+pub file_named : (bytes : List ℕ) (tree : Externals) → HasSpelling bytes tree → FileNamed IsIdentifier tree
+file_named bytes tree h = externals_named bytes built_in_names tree h.tokens h.is_tree.spelled h.is_tree.well (spelled_named bytes h.tokens h.spelled)

@@ -1,8 +1,9 @@
 pub mod Programs
+pub mod Spelled
+pub mod Calls
 pub mod Command
 pub mod Answers
 pub mod Stops
 pub mod Verdicts
-pub mod Calls
-pub mod Replies
 pub mod Writing
+pub mod Reports

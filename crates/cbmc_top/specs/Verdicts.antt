@@ -1,5 +1,5 @@
 -- What the findings and verdicts of the code say.
-use Rattle.std.specs.Prelude.{◌≡◌, ℕ, List}
+use Rattle.std.specs.Prelude.{◌≡◌, ℕ, List, map}
 use Rattle.core_tree.specs.Trees.{TypedFile}
 use Rattle.core_tree.specs.Ranges.{Limits}
 use Rattle.interleave.specs.Replay.{Replays}
@@ -7,7 +7,9 @@ use Rattle.interleave.specs.declared.inputs.Trace.{Trace}
 use Rattle.cbmc_top.specs.Programs.{IsFileOf}
 use Rattle.run_search.specs.Executions.{bounded_world, IsVerified}
 use Rattle.run_search.specs.Clauses.{IsRefuted, IsUsedUp}
-use Rattle.run_search.specs.Answers.{Answer, limited, refused, successful, failed, used_up}
+use Rattle.run_search.specs.Answers.{Answer, limited, refused, successful, failed, used_up, listed}
+use Rattle.report.specs.Properties.{told_of}
+use Rattle.cbmc_top.specs.Command.{checking}
 use Rattle.cbmc_top.specs.Answers.{Decides}
 use Rattle.run_search.specs.declared.stop.Stop.{Stop}
 use Rattle.run_search.specs.declared.stop.Stop.TheVariants as stops
@@ -24,6 +26,7 @@ answer_of (findings.Failed f) = failed (failure_of f)
 answer_of (findings.Refused r) = refused r
 answer_of (findings.Limited limit) = limited limit
 answer_of (findings.Budget used) = used_up used
+answer_of (findings.Listed l) = listed (map told_of l.properties.items)
 
 -- the finding is the stop
 abbrev pub IsStop : Stop → Finding → Type 0
@@ -42,19 +45,20 @@ IsTraced limits file (findings.Failed f) = (core : TypedFile) × IsFileOf file c
 IsTraced limits file (findings.Refused r) = Unit {0}
 IsTraced limits file (findings.Limited limit) = Unit {0}
 IsTraced limits file (findings.Budget used) = Unit {0}
+IsTraced limits file (findings.Listed l) = Unit {0}
 
 -- the trace is that of a failure which decides the file
 abbrev pub IsFailure : Limits → ℕ → List ℕ → Trace → Type 0
-IsFailure limits budget file t = (f : Failing) × (f.trace ≡ t) × Decides limits budget file (failed (failure_of f))
+IsFailure limits budget file t = (f : Failing) × (f.trace ≡ t) × Decides (checking limits budget) file (failed (failure_of f))
 
 -- what is said of a file: an answer that decides it, and what that says of its program
 abbrev pub IsVerdict : Limits → ℕ → List ℕ → Verdict → Type 0
 IsVerdict limits budget file (verdicts.Successful used) =
-    Decides limits budget file (successful used)
+    Decides (checking limits budget) file (successful used)
     × ((core : TypedFile) × IsFileOf file core × IsVerified limits core × IsRefuted limits budget core used)
 IsVerdict limits budget file (verdicts.Failed t) =
     IsFailure limits budget file t × ((core : TypedFile) × IsFileOf file core × IsBroken limits core t)
-IsVerdict limits budget file (verdicts.Refused r) = Decides limits budget file (refused r)
-IsVerdict limits budget file (verdicts.Limited limit) = Decides limits budget file (limited limit)
+IsVerdict limits budget file (verdicts.Refused r) = Decides (checking limits budget) file (refused r)
+IsVerdict limits budget file (verdicts.Limited limit) = Decides (checking limits budget) file (limited limit)
 IsVerdict limits budget file (verdicts.Budget used) =
-    Decides limits budget file (used_up used) × ((core : TypedFile) × IsFileOf file core × IsUsedUp limits budget core used)
+    Decides (checking limits budget) file (used_up used) × ((core : TypedFile) × IsFileOf file core × IsUsedUp limits budget core used)

@@ -1,80 +1,45 @@
 //! From the bytes of a file to its program.
 
-ghost use Rattle.std.specs.Prelude.{◌≡◌, ℕ, ◌≤◌, ◌<◌, length, Ok, Some, None, IsSome, IfOk, IfErr};
+ghost use Rattle.std.specs.Prelude.{◌≡◌, ℕ, ◌≤◌, ◌<◌, ◌++◌, length, Ok, Some, None, IsSome, IfOk, IfErr, All, map};
 ghost use Rattle.c_lexer.specs.Cutting.{IsCutInto, bytes_of, last_line_of};
+ghost use Rattle.c_pre.specs.Calls.{IsExpansion};
+ghost use Rattle.c_pre.specs.Headers as headers;
 ghost use Rattle.c_tree.specs.Statements.{view_file};
 ghost use Rattle.c_tree.specs.Files.{IsFile};
 ghost use Rattle.core_tree.specs.Trees.{view_core};
-ghost use Rattle.core_tree.specs.Ranges.{Limits};
 ghost use Rattle.c_elab_decl.specs.Files.{elaborated};
 ghost use Rattle.c_profile.specs.Rules.{first_breach};
-ghost use Rattle.cbmc_top.specs.Programs.{directive_line, IsAccepted};
-ghost use Rattle.cbmc_top.specs.Answers.{Decides, HasNoTree, AtLexing, screened, extra_line, lexing_answer, typing_cause};
+ghost use Rattle.cbmc_top.specs.Command.{Purpose, listing};
+ghost use Rattle.cbmc_top.specs.Programs.{text_behind, IsTreeOf, IsAccepted};
+ghost use Rattle.cbmc_top.specs.Spelled.{HasSpelling, IsTypedOf};
+ghost use Rattle.cbmc_top.specs.Answers.{Decides, HasNoTree, expansion_answer, lexing_answer, typing_cause};
+ghost use Rattle.run_search.specs.Answers.{listed};
+ghost use Rattle.report.specs.Properties.{told_of, IsNamed};
 ghost use Rattle.run_search.specs.Stops.{StopsWith};
-ghost use Rattle.cbmc_top.specs.Stops.{IsKnown, HasNoTyping, IsOutside};
+ghost use Rattle.cbmc_top.specs.Stops.{IsKnown, IsUncut, IsUnexpanded, HasNoTyping, IsOutside, IsRefused};
 
 use c_elab_decl::elaborate;
 use c_lexer::{LexError, Tokens, lex};
 use c_parse_decl::{ParseError, parse};
-use c_parse_expr::is_mark;
+use c_pre::{PreError, expand};
 use c_profile::{Admitted, admit};
 use c_scope::TypingError;
-use c_token::{Mark, Token};
 use c_tree::File;
 use core_tree::{Core, Limit, Refusal};
+use properties::properties;
+use report::Property;
 use run_search::Stop;
 use std::alloc::Global;
 
+/// The loops and assertions of a file.
+#[derive(Drop)]
+pub struct Listing {
+    pub properties: Vec<Property>,
+    pub ghost named: { All (λ p. IsNamed (told_of p)) properties.items },
+}
+
 /// The greatest size of a file in bytes.
 const FILE_BYTES: usize = 1_048_576;
-
-/// The greatest number of tokens.
-const TOKENS: usize = 200_000;
-
-/// The line of the first `#`.
-fn directive_line(tokens: &[Token]) -> Option<u32>
-    ensures { result ≡ directive_line tokens.now }
-{
-    tokens
-        .iter()
-        .find(|token| is_mark(Mark::Hash, token.kind))
-        .map(|token| token.line)
-}
-
-/// The line of the first token that is too much.
-fn extra_line(tokens: &[Token]) -> Option<u32>
-    ensures { result ≡ extra_line tokens.now }
-{
-    tokens.get(TOKENS).map(|token| token.line)
-}
-
-/// The refusal of a directive.
-fn directive_on(line: u32) -> Stop
-    ensures { result ≡ Stop.Refused (record { number = 5; line = line; rule = None }) }
-{
-    Stop::Refused(Refusal::new(5, line, None))
-}
-
-/// Whether there is no directive and no token too much. Where both stand, the first line decides, and on one line the
-/// directive.
-fn screen(tokens: &[Token]) -> Result<(), Stop>
-    ensures fine { IfOk result (λ _. screened tokens.now ≡ None) }
-    ensures stop { IfErr result (λ s. StopsWith s (λ a. screened tokens.now ≡ Some a)) }
-    ensures known { IfErr result IsKnown }
-{
-    match (directive_line(tokens), extra_line(tokens)) {
-        (None, None) => Ok(()),
-        (None, Some(_)) => Err(Stop::Limited(Limit::Tokens)),
-        (Some(line), None) => Err(directive_on(line)),
-        (Some(line), Some(extra)) => {
-            if line <= extra {
-                Err(directive_on(line))
-            } else {
-                Err(Stop::Limited(Limit::Tokens))
-            }
-        }
-    }
-}
 
 /// The refusal of a text that has no tokens. A fault that is known is never told as want of memory.
 fn lexing_stop(error: LexError) -> Stop
@@ -90,26 +55,50 @@ fn lexing_stop(error: LexError) -> Stop
     }
 }
 
-/// The tokens of a file: they are not too many, and none is a directive's.
-fn tokens_of(alloc: Global, file: &[u8]) -> Result<Tokens, Stop>
+/// The refusal of a text whose directives can't be carried out, or that has too many tokens. A fault that is known is never
+/// told as want of memory.
+fn expansion_stop(error: PreError) -> Stop
+    ensures stop { StopsWith result (λ a. expansion_answer error ≡ Some a) }
+    ensures known { IsSome (expansion_answer error) → IsKnown result }
+{
+    match error {
+        PreError::Directive { line } => Stop::Refused(Refusal::new(5, line, None)),
+        PreError::Include { line } => Stop::Refused(Refusal::new(6, line, None)),
+        PreError::Conditional { line } => Stop::Refused(Refusal::new(7, line, None)),
+        PreError::TooMany => Stop::Limited(Limit::Tokens),
+        PreError::Memory => Stop::Memory,
+    }
+}
+
+/// The tokens into which a file is cut.
+fn cutting_of(alloc: Global, file: &[u8]) -> Result<Tokens, Stop>
     requires { length file.now ≤ 1048576 }
     ensures cut { IfOk result (λ t. IsCutInto file.now (Ok t.tokens.items)) }
     ensures bytes { IfOk result (λ t. t.bytes.items ≡ bytes_of file.now) }
     ensures last_line { IfOk result (λ t. t.last_line ≡ last_line_of file.now) }
-    ensures fine { IfOk result (λ t. screened t.tokens.items ≡ None) }
-    ensures stop { IfErr result (λ s. (limits : Limits) (budget : ℕ) → StopsWith s (Decides limits budget file.now)) }
+    ensures stop { IfErr result (λ s. StopsWith s (IsUncut file.now)) }
 {
     match lex(alloc, file) {
-        Ok(tokens) => {
-            screen(&tokens.tokens)?;
-            Ok(tokens)
-        }
+        Ok(tokens) => Ok(tokens),
         Err(error) => Err(lexing_stop(error)),
     }
 }
 
-/// The tree of a file.
-fn tree_of(alloc: Global, tokens: &Tokens) -> Result<File, Stop>
+/// The tokens of a file, behind whose bytes the text of the headers' macros stands.
+fn expanded(alloc: Global, cutting: Tokens) -> Result<Tokens, Stop>
+    ensures bytes { IfOk result (λ t. t.bytes.items ≡ cutting.bytes.items ++ headers.text) }
+    ensures last_line { IfOk result (λ t. t.last_line ≡ cutting.last_line) }
+    ensures expanded { IfOk result (λ t. IsExpansion cutting.bytes.items cutting.tokens.items (Ok t.tokens.items)) }
+    ensures stop { IfErr result (λ s. StopsWith s (IsUnexpanded cutting.bytes.items cutting.tokens.items)) }
+{
+    match expand(alloc, cutting) {
+        Ok(tokens) => Ok(tokens),
+        Err(error) => Err(expansion_stop(error)),
+    }
+}
+
+/// The tree of tokens.
+fn parsed(alloc: Global, tokens: &Tokens) -> Result<File, Stop>
     ensures found { IfOk result (λ f. IsFile tokens.now.bytes.items tokens.now.tokens.items (view_file f)) }
     ensures stop { IfErr result (λ s. StopsWith s (HasNoTree tokens.now.bytes.items tokens.now.last_line tokens.now.tokens.items)) }
 {
@@ -118,6 +107,21 @@ fn tree_of(alloc: Global, tokens: &Tokens) -> Result<File, Stop>
         Err(ParseError::Syntax { line }) => Err(Stop::Refused(Refusal::new(10, line, None))),
         Err(ParseError::Memory) => Err(Stop::Memory),
     }
+}
+
+/// The tree of a file, or the first thing that stops it: its size, its tokens, its directives and their number, its tree.
+fn tree_of(alloc: Global, file: &[u8]) -> Result<File, Stop>
+    ensures short { IfOk result (λ f. length file.now ≤ 1048576) }
+    ensures found { IfOk result (λ f. IsTreeOf file.now (view_file f)) }
+    ensures spelled { IfOk result (λ f. HasSpelling (text_behind file.now) (view_file f)) }
+    ensures stop { IfErr result (λ s. (purpose : Purpose) → StopsWith s (Decides purpose file.now)) }
+{
+    if file.len() > FILE_BYTES {
+        return Err(Stop::Limited(Limit::FileBytes));
+    }
+    let cutting = cutting_of(alloc, file)?;
+    let tokens = expanded(alloc, cutting)?;
+    parsed(alloc, &tokens)
 }
 
 /// The refusal of a file without a typing.
@@ -155,16 +159,34 @@ fn in_profile(alloc: Global, core: Core) -> Result<Admitted, Stop>
     }
 }
 
-/// The program of a file, or the first thing that stops it: its size, its tokens, its tree, its typing, the profile.
+/// The program of a tree, or the rule of typing or of the profile that it breaks.
+fn admitted(alloc: Global, tree: &File) -> Result<Admitted, Stop>
+    ensures typed { IfOk result (λ f. elaborated (view_file tree.now) ≡ Ok (view_core f)) }
+    ensures in_profile { IfOk result (λ f. first_breach (view_core f) ≡ None) }
+    ensures stop { IfErr result (λ s. StopsWith s (IsRefused (view_file tree.now))) }
+{
+    let core = typed_file(alloc, tree)?;
+    in_profile(alloc, core)
+}
+
+/// The program of a file, or the first thing that stops it: its size, its tokens, its directives, its tree, its typing, the
+/// profile.
 pub fn accept(alloc: Global, file: &[u8]) -> Result<Admitted, Stop>
     ensures found { IfOk result (λ f. IsAccepted file.now (view_core f)) }
-    ensures stop { IfErr result (λ s. (limits : Limits) (budget : ℕ) → StopsWith s (Decides limits budget file.now)) }
+    ensures typed { IfOk result (λ f. IsTypedOf (text_behind file.now) (view_core f)) }
+    ensures stop { IfErr result (λ s. (purpose : Purpose) → StopsWith s (Decides purpose file.now)) }
 {
-    if file.len() > FILE_BYTES {
-        return Err(Stop::Limited(Limit::FileBytes));
-    }
-    let tokens = tokens_of(alloc, file)?;
-    let tree = tree_of(alloc, &tokens)?;
-    let core = typed_file(alloc, &tree)?;
-    in_profile(alloc, core)
+    let tree = tree_of(alloc, file)?;
+    admitted(alloc, &tree)
+}
+
+/// The loops and assertions of a file in the profile, or the first thing that stops it.
+pub fn list(alloc: Global, file: &[u8]) -> Result<Listing, Stop>
+    ensures found { IfOk result (λ l. Decides listing file.now (listed (map told_of l.properties.items))) }
+    ensures stop { IfErr result (λ s. StopsWith s (Decides listing file.now)) }
+{
+    let tree = tree_of(alloc, file)?;
+    let _program = admitted(alloc, &tree)?;
+    let properties = properties(alloc, &tree)?;
+    Ok(Listing { properties })
 }

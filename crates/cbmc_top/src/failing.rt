@@ -3,7 +3,7 @@
 ghost use Rattle.std.specs.Prelude.{◌≡◌, ℕ, true, List, string_bytes, IfOk, Some};
 ghost use Rattle.core_tree.specs.Trees.{view_core};
 ghost use Rattle.report.specs.Identifiers.{is_identifier};
-ghost use Rattle.cbmc_top.specs.Programs.{IsAccepted};
+ghost use Rattle.cbmc_top.specs.Spelled.{IsTypedOf};
 ghost use Rattle.report.specs.Failing.{turns_of};
 ghost use Rattle.cbmc_top.specs.Answers.{name_in, IsFailure};
 ghost use Rattle.report.specs.Failing.{drew, entry_of, row_of, failure_of};
@@ -33,13 +33,16 @@ pub fn described(
     bounds: &Bounds,
     trace: Trace,
 ) -> Result<Failing, AllocError>
-    requires accepted { (bytes : List ℕ) × IsAccepted bytes (view_core file.now) }
+    requires typed { (bytes : List ℕ) × IsTypedOf bytes (view_core file.now) }
     requires broken { IsBroken bounds.now (view_core file.now) trace }
     ensures trace { IfOk result (λ f. f.trace ≡ trace) }
     ensures failure { IfOk result (λ f. IsFailure bounds.now (view_core file.now) (failure_of f)) }
 {
-    // Read, so that they are known to fit.
-    let _line = trace.check.line;
+    // Each line that a run tells is a token's, so it is at least 1; the typed tree's own type doesn't say so.
+    if trace.check.line == 0 {
+        return Err(AllocError);
+    }
+    // Read, so that it is known to fit.
     let _thread = trace.check.thread;
     let function = name_of(alloc, file.core(), trace.check.function)?;
     let inputs = drawn_of(alloc, &trace.inputs)?;

@@ -1,14 +1,18 @@
 //! What is found of the bytes of a file.
 
-ghost use Rattle.std.specs.Prelude.{◌≡◌, ◌≤◌, IfOk, IfErr, OnErr};
+ghost use Rattle.std.specs.Prelude.{◌≡◌, ◌≤◌, map, All, IfOk, IfErr, OnErr};
+ghost use Rattle.options.specs.Command.{asked_of};
+ghost use Rattle.report.specs.Properties.{told_of, IsNamed};
 ghost use Rattle.cbmc_top.specs.Answers.{Decides};
+ghost use Rattle.cbmc_top.specs.Command.{Purpose, checking, listing, purpose_of};
 ghost use Rattle.run_search.specs.Stops.{StopsWith};
 ghost use Rattle.cbmc_top.specs.Verdicts.{answer_of, IsStop, IsTraced};
 ghost use Rattle.run_search.specs.declared.stop.Stop.TheVariants as stops;
 
-use crate::accepting::accept;
+use crate::accepting::{Listing, accept, list};
 use crate::failing::described;
 use core_tree::{Bounds, Limit, Refusal};
+use options::{Job, Options};
 use report::Failing;
 use run_search::{Searched, Stop, Used, search};
 use std::alloc::{AllocError, Global};
@@ -26,14 +30,16 @@ pub enum Finding {
     Limited(Limit),
     /// The clauses of the file, and a log that has used up the budget.
     Budget(Used),
+    /// The loops and assertions of the file.
+    Listed(Listing),
 }
 
 /// The program of the file, and what its runs do.
 fn checked(alloc: Global, file: &[u8], bounds: &Bounds, budget: u32) -> Result<Finding, Stop>
     requires { 1 ≤ budget }
-    ensures found { IfOk result (λ f. Decides bounds.now budget file.now (answer_of f)) }
+    ensures found { IfOk result (λ f. Decides (checking bounds.now budget) file.now (answer_of f)) }
     ensures traced { IfOk result (λ f. IsTraced bounds.now file.now f) }
-    ensures stop { IfErr result (λ s. StopsWith s (Decides bounds.now budget file.now)) }
+    ensures stop { IfErr result (λ s. StopsWith s (Decides (checking bounds.now budget) file.now)) }
 {
     let program = accept(alloc, file)?;
     let searched = search(alloc, &program, bounds, budget)?;
@@ -68,11 +74,31 @@ pub fn examine(
     budget: u32,
 ) -> Result<Finding, AllocError>
     requires { 1 ≤ budget }
-    ensures found { IfOk result (λ f. Decides bounds.now budget file.now (answer_of f)) }
+    ensures found { IfOk result (λ f. Decides (checking bounds.now budget) file.now (answer_of f)) }
     ensures traced { IfOk result (λ f. IsTraced bounds.now file.now f) }
 {
     match checked(alloc, file, bounds, budget) {
         Ok(finding) => Ok(finding),
         Err(stop) => stopped(stop),
+    }
+}
+
+/// The loops and assertions of a file, or what stops it.
+fn survey(alloc: Global, file: &[u8]) -> Result<Finding, AllocError>
+    ensures { IfOk result (λ f. Decides listing file.now (answer_of f)) }
+{
+    match list(alloc, file) {
+        Ok(listing) => Ok(Finding::Listed(listing)),
+        Err(stop) => stopped(stop),
+    }
+}
+
+/// What a command finds of the bytes of a file.
+pub fn found(alloc: Global, file: &[u8], options: &Options) -> Result<Finding, AllocError>
+    ensures { IfOk result (λ f. Decides (purpose_of (asked_of options.now)) file.now (answer_of f)) }
+{
+    match options.task.job {
+        Job::Check => examine(alloc, file, &options.bounds, options.budget),
+        Job::Properties => survey(alloc, file),
     }
 }

@@ -12,12 +12,13 @@ mod call;
 mod failing;
 mod finding;
 mod laws;
-mod options;
+mod reading;
+mod reporting;
 mod verdict;
 
 pub use call::{Done, top};
-pub use laws::{one_answer, one_program, one_verdict, runs_answer};
+pub use laws::{listing_answers, one_answer, one_program, one_verdict, runs_answer};
 pub use options::{Job, Options, Task};
-pub use report::{Settings, one_reading, success};
+pub use report::{Head, one_reading, success};
 pub use run_search::Used;
 pub use verdict::{Verdict, check_bytes};

@@ -4,9 +4,9 @@ ghost use Rattle.std.specs.Prelude.{◌≡◌, IfOk};
 ghost use Rattle.cbmc_top.specs.Verdicts.{IsVerdict};
 
 use crate::finding::{Finding, examine};
-use crate::options::{Job, Options};
 use core_tree::{Limit, Refusal};
 use interleave::Trace;
+use options::{Job, Options};
 use run_search::Used;
 use std::alloc::{AllocError, Global};
 
@@ -38,5 +38,6 @@ pub fn check_bytes(alloc: Global, file: &[u8], options: &Options) -> Result<Verd
         Finding::Refused(refused) => Ok(Verdict::Refused(refused)),
         Finding::Limited(limit) => Ok(Verdict::Limited(limit)),
         Finding::Budget(used) => Ok(Verdict::Budget(used)),
+        Finding::Listed(_) => unreachable!(),
     }
 }

@@ -1,6 +1,15 @@
 pub mod Both
-pub mod Runs
+pub mod Bytes
+pub mod Ascii
+pub mod Numerals
+pub mod OneLine
+pub mod Chains
+pub mod Beginnings
 pub mod OneReading
+pub mod Ends
+pub mod Reached
+pub mod Fronts
+pub mod Files
 pub mod Drawing
-pub mod Rows
+pub mod Turns
 pub mod Joining

@@ -1,4 +1,10 @@
 pub mod Identifiers
 pub mod FileNames
 pub mod Report
+pub mod Heads
 pub mod Failing
+pub mod Properties
+pub mod Lines
+pub mod Reading
+pub mod Runs
+pub mod Told

@@ -2,9 +2,9 @@
 use Rattle.std.specs.Prelude.{◌≡◌, ◌≢◌, ℕ, ◌<◌, ◌≤◌, ◌^◌, Bool, true, ◌==◌, List, [], ◌∷◌, ◌++◌, length, Option, Some, None, All, if◌then◌else◌, codes}
 use Rattle.std.specs.List.{flat_map}
 use Rattle.std.specs.Fmt.{decimal}
+use Rattle.std.specs.Str.{IsUtf8}
 use Rattle.words.specs.declared.check.Class.{Class}
 use Rattle.words.specs.declared.check.Class.TheVariants.{Assertion, Overflow, Division, Shift, Null, InvalidPointer, Lifetime, Bounds, Readonly, MixedSize, Pointer, Free, MallocLimit, Mutex, Join, Return, Unwind, Recursion}
-use Rattle.report.specs.declared.texts.Settings.{Settings}
 use Rattle.report.specs.FileNames.{all_name_bytes}
 use Rattle.report.specs.Identifiers.{is_identifier}
 use Rattle.core_tree.specs.declared.refusal.Limit.{Limit}
@@ -34,17 +34,26 @@ class_name Recursion = codes "recursion"
 abbrev pub line_of : List ℕ → List ℕ
 line_of bytes = bytes ++ 10 ∷ []
 
--- what the first lines of a verdict say: the file, the unwinding, and whether unwinding assertions are on
+-- what the first lines of a verdict say: of a generated file the number of its threads and that of its bytes; the file, the
+-- unwinding, and whether unwinding assertions are on
 pub record Head : Type 0 where
+  pub generated : Option (ℕ × ℕ)
   pub name : List ℕ
   pub unwind : ℕ
   pub assertions : Bool
 
-abbrev pub head_under : List ℕ → Settings → Head
-head_under name s = record { name = name; unwind = s.unwind; assertions = s.assertions }
+abbrev pub generated_lines : Option (ℕ × ℕ) → List ℕ
+generated_lines None = []
+generated_lines (Some g) = codes "generated " ++ (decimal g.0 ++ (codes " bytes " ++ (decimal g.1 ++ 10 ∷ [])))
+
+abbrev pub file_line : List ℕ → ℕ → List ℕ
+file_line name unwind = codes "file " ++ (name ++ (codes " unwind " ++ (decimal unwind ++ 10 ∷ [])))
+
+abbrev pub assertions_lines : Bool → List ℕ
+assertions_lines assertions = if assertions then [] else line_of (codes "unwinding assertions off")
 
 abbrev pub head_text : Head → List ℕ
-head_text h = codes "file " ++ (h.name ++ (codes " unwind " ++ (decimal h.unwind ++ (10 ∷ (if h.assertions then [] else line_of (codes "unwinding assertions off"))))))
+head_text h = generated_lines h.generated ++ (file_line h.name h.unwind ++ assertions_lines h.assertions)
 
 abbrev pub success_text : Head → List ℕ
 success_text h = head_text h ++ line_of (codes "VERIFICATION SUCCESSFUL")
@@ -59,8 +68,11 @@ pub record Failure : Type 0 where
   pub inputs : List (ℕ × List ℕ)
   pub rows : List (ℕ × ℕ)
 
+abbrev pub check_line : Class → ℕ → List ℕ → ℕ → List ℕ
+check_line class line function thread = codes "violated " ++ (class_name class ++ (codes " line " ++ (decimal line ++ (codes " function " ++ (function ++ (codes " thread " ++ (decimal thread ++ 10 ∷ [])))))))
+
 abbrev pub violated_line : Failure → List ℕ
-violated_line f = codes "violated " ++ (class_name f.class ++ (codes " line " ++ (decimal f.line ++ (codes " function " ++ (f.function ++ (codes " thread " ++ (decimal f.thread ++ 10 ∷ [])))))))
+violated_line f = check_line f.class f.line f.function f.thread
 
 abbrev pub spaced_words : List ℕ → List ℕ
 spaced_words words = flat_map (λ w. 32 ∷ decimal w) words
@@ -116,9 +128,22 @@ budget_text n = codes "budget " ++ (decimal n ++ 10 ∷ [])
 
 -- ---- what a text is one of
 
+-- A name that FILE may have: it isn't empty, it is a text, as each word of a command is, and it has no control character.
+pub record IsFileName (name : List ℕ) : Type 0 where
+  pub some : 0 < length name
+  pub utf8 : IsUtf8 name
+  pub shown : all_name_bytes name ≡ true
+
+-- a generated file has the number of its threads in its name
+abbrev pub IsGeneratedAs : List ℕ → Option (ℕ × ℕ) → Type 0
+IsGeneratedAs name None = Unit {0}
+IsGeneratedAs name (Some g) = (g.0 < 2 ^ 32) × (g.1 < 2 ^ 32) × (name ≡ codes "generated-" ++ decimal g.0)
+
 pub record IsHead (h : Head) : Type 0 where
-  pub name : all_name_bytes h.name ≡ true
+  pub name : IsFileName h.name
+  pub least : 1 ≤ h.unwind
   pub unwind : h.unwind ≤ 1000
+  pub generated : IsGeneratedAs h.name h.generated
 
 -- the words of a thread that drew
 pub record IsDrawn (entry : ℕ × List ℕ) : Type 0 where
@@ -144,8 +169,8 @@ AreMaximal [] = Unit {0}
 AreMaximal (r ∷ []) = Unit {0}
 AreMaximal (r ∷ s ∷ rows) = (r.0 ≢ s.0) × AreMaximal (s ∷ rows)
 
--- the failures that texts tell of
-pub record IsTold (f : Failure) : Type 0 where
+-- a failure's parts are in their ranges; of its line no least value is asked
+pub record HasRanges (f : Failure) : Type 0 where
   pub line : f.line < 2 ^ 32
   pub function : is_identifier f.function ≡ true
   pub thread : f.thread < 2 ^ 32
@@ -154,3 +179,8 @@ pub record IsTold (f : Failure) : Type 0 where
   pub rows : All IsRow f.rows
   pub some : 0 < length f.rows
   pub maximal : AreMaximal f.rows
+
+-- the failures that texts tell of
+pub record IsTold (f : Failure) : Type 0 where
+  pub first : 1 ≤ f.line
+  pub ranges : HasRanges f

@@ -7,6 +7,7 @@ ghost use Rattle.report.specs.Failing.{turns_of, drew, entry_of, row_of};
 
 use interleave::{Inputs, Trace};
 use std::alloc::{AllocError, Global};
+use std::marker::Model;
 
 /// The words that a thread drew.
 #[derive(Drop)]
@@ -20,6 +21,37 @@ pub struct Drawn {
 pub struct Row {
     pub thread: u32,
     pub turns: u64,
+}
+
+/// The rows of a schedule.
+#[derive(Drop)]
+pub struct Rows {
+    items: Vec<Row>,
+}
+
+impl Model for Rows {
+    ghost use Rattle.std.specs.Prelude.{List, ℕ, map};
+    ghost use Rattle.report.specs.Failing.{row_of};
+
+    ghost Value = { List (ℕ × ℕ) };
+
+    ghost view = { λ r. map row_of r.items.items };
+}
+
+impl Rows {
+    /// The rows of a vector. Takes no memory.
+    pub fn new(items: Vec<Row>) -> Rows
+        ensures { result ≡ map row_of items.items }
+    {
+        Rows { items }
+    }
+
+    /// The rows, in their order.
+    pub fn as_slice(&self) -> &[Row]
+        ensures { map row_of result.now ≡ self.now }
+    {
+        self.items.as_slice()
+    }
 }
 
 /// A run that breaks a check: the name of the check's function, the words of each thread that drew, and the schedule as

@@ -2,7 +2,8 @@
 
 ghost use Rattle.std.specs.Prelude.{◌≡◌, ◌++◌, map, IfOk, OnOk, string_bytes};
 ghost use Rattle.std.specs.List.{flat_map};
-ghost use Rattle.report.specs.Report.{head_under, head_text, success_text, failure_text, violated_line, class_name, spaced_words, inputs_line, spaced_row, schedule_line, refusal_name, refusal_text, limit_name, limit_value, limit_text, budget_text};
+ghost use Rattle.report.specs.Heads.{head_of};
+ghost use Rattle.report.specs.Report.{head_text, generated_lines, success_text, failure_text, violated_line, class_name, spaced_words, inputs_line, spaced_row, schedule_line, refusal_name, refusal_text, limit_name, limit_value, limit_text, budget_text};
 ghost use Rattle.report.specs.Failing.{entry_of, row_of, failure_of};
 
 use crate::failing::{Drawn, Failing, Row};
@@ -11,30 +12,45 @@ use std::alloc::{AllocError, Global};
 use std::fmt::Write;
 use words::Class;
 
-/// What the first lines of a verdict say beside the name of the file: the unwinding, and whether unwinding assertions are on.
+/// What the first lines of a verdict say: of a generated file the number of its threads and that of its bytes, then the name
+/// of the file, the unwinding, and whether unwinding assertions are on.
 #[derive(Clone, Copy)]
-pub struct Settings {
+pub struct Head<'a> {
+    pub generated: Option<(u32, u32)>,
+    pub name: &'a str,
     pub unwind: u32,
     pub assertions: bool,
 }
 
-/// The first lines of a verdict on a file.
-fn head(alloc: Global, name: &str, settings: Settings) -> Result<String, AllocError>
-    ensures { IfOk result (λ text. string_bytes text ≡ head_text (head_under name.now settings)) }
+/// The line of a generated file; nothing of any other.
+fn generated(alloc: Global, head: &Head<'_>) -> Result<String, AllocError>
+    ensures { IfOk result (λ text. string_bytes text ≡ generated_lines (head_of head.now).generated) }
 {
-    let unwind = settings.unwind;
-    if settings.assertions {
-        format!(in alloc; "file {name} unwind {unwind}\n")
-    } else {
-        format!(in alloc; "file {name} unwind {unwind}\nunwinding assertions off\n")
+    match head.generated {
+        None => Ok(String::new(alloc)),
+        Some((threads, bytes)) => format!(in alloc; "generated {threads} bytes {bytes}\n"),
     }
 }
 
-/// The text of a success.
-pub fn success(alloc: Global, name: &str, settings: Settings) -> Result<String, AllocError>
-    ensures { IfOk result (λ text. string_bytes text ≡ success_text (head_under name.now settings)) }
+/// The first lines of a verdict on a file.
+fn first_lines(alloc: Global, head: &Head<'_>) -> Result<String, AllocError>
+    ensures { IfOk result (λ text. string_bytes text ≡ head_text (head_of head.now)) }
 {
-    let mut text = head(alloc, name, settings)?;
+    let mut text = generated(alloc, head)?;
+    let name = head.name;
+    let unwind = head.unwind;
+    write!(text, "file {name} unwind {unwind}\n")?;
+    if !head.assertions {
+        text.push_str("unwinding assertions off\n")?;
+    }
+    Ok(text)
+}
+
+/// The text of a success.
+pub fn success(alloc: Global, head: &Head<'_>) -> Result<String, AllocError>
+    ensures { IfOk result (λ text. string_bytes text ≡ success_text (head_of head.now)) }
+{
+    let mut text = first_lines(alloc, head)?;
     text.push_str("VERIFICATION SUCCESSFUL\n")?;
     Ok(text)
 }
@@ -140,15 +156,10 @@ fn push_schedule(text: &mut String, rows: &[Row]) -> Result<(), AllocError>
 }
 
 /// The text of a failure.
-pub fn failure(
-    alloc: Global,
-    name: &str,
-    settings: Settings,
-    failing: &Failing,
-) -> Result<String, AllocError>
-    ensures { IfOk result (λ text. string_bytes text ≡ failure_text (head_under name.now settings) (failure_of failing.now)) }
+pub fn failure(alloc: Global, head: &Head<'_>, failing: &Failing) -> Result<String, AllocError>
+    ensures { IfOk result (λ text. string_bytes text ≡ failure_text (head_of head.now) (failure_of failing.now)) }
 {
-    let mut text = head(alloc, name, settings)?;
+    let mut text = first_lines(alloc, head)?;
     push_violated(&mut text, failing)?;
     push_inputs(&mut text, &failing.inputs)?;
     push_schedule(&mut text, &failing.rows)?;

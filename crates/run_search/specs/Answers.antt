@@ -1,7 +1,9 @@
 -- What the checker may answer.
 use Rattle.core_tree.specs.Ranges.{Cause}
 use Rattle.core_tree.specs.declared.refusal.Limit.{Limit}
+use Rattle.std.specs.Prelude.{List}
 use Rattle.report.specs.Report.{Failure}
+use Rattle.report.specs.Properties.{Told}
 use Rattle.run_search.specs.declared.used.Used.{Used}
 
 pub data Answer : Type 0 where
@@ -12,3 +14,4 @@ pub data Answer : Type 0 where
   successful : Used → Answer
   failed : Failure → Answer
   used_up : Used → Answer
+  listed : List Told → Answer

@@ -11,7 +11,7 @@ pub name_of-requires : goal.name_of-requires
 name_of-requires c =
     let number = c.args.trace.check.function in
     subst (λ (core : CoreFile). (x : List ℕ) × (name_in (view_core core) number ≡ Some x) × (is_identifier x ≡ true)) (sym c.core.ensures.is)
-    (named c.requires.accepted.0 (view_core c.args.file.now) c.args.bounds.now c.args.trace c.requires.accepted.1 c.requires.broken)
+    (named c.requires.typed.0 (view_core c.args.file.now) c.args.bounds.now c.args.trace c.requires.typed.1 c.requires.broken)
 
 pub returns-clause-failure : goal.returns-clause-failure
 returns-clause-failure c =
@@ -20,7 +20,7 @@ returns-clause-failure c =
     let limits = c.args.bounds.now in
     let name = string_bytes c.in_ok-function.function in
     let found : name_in core t.check.function ≡ Some name = subst (λ (core : CoreFile). name_in (view_core core) t.check.function ≡ Some name) c.core.ensures.is c.in_ok-function.ensures in
-    let word = same_identifier core t.check.function name (named c.requires.accepted.0 core limits t c.requires.accepted.1 c.requires.broken) found in
+    let word = same_identifier core t.check.function name (named c.requires.typed.0 core limits t c.requires.typed.1 c.requires.broken) found in
     is_failure limits core t name (map entry_of c.in_ok-inputs.inputs.items) (map row_of c.in_ok-rows.rows.items) c.requires.broken found word
     c.in_ok-inputs.ensures.words c.in_ok-inputs.ensures.drawn c.in_ok-inputs.ensures.rising
-    (c.in_ok-rows.ensures.turns ∙ c.as_slice.ensures) c.in_ok-rows.ensures.rows c.in_ok-rows.ensures.some c.in_ok-rows.ensures.maximal (omega arith) (omega arith)
+    (c.in_ok-rows.ensures.turns ∙ c.as_slice.ensures) c.in_ok-rows.ensures.rows c.in_ok-rows.ensures.some c.in_ok-rows.ensures.maximal (omega arith) (omega arith) (omega arith)

@@ -1,7 +1,7 @@
 use Rattle.std.proofs.Common.{◌+◌, [], ◌∷◌, ◌++◌, map, subst, sym, arith}
 use Rattle.report.specs.Report.{AreMaximal}
 use Rattle.report.specs.Failing.{row_of}
-use Rattle.report.proofs.Rows.{maximal_longer, rows_more, maximal_rows}
+use Rattle.report.proofs.Turns.{maximal_longer, rows_more, maximal_rows}
 use Rattle.report.proofs.failing.next_row.Goals as goal
 
 pub returns-then-thread-last-clause-maximal : goal.returns-then-thread-last-clause-maximal

@@ -1,0 +1,4 @@
+#ifdef A
+#error no
+#endif
+int main(void){return 0;}

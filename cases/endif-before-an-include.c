@@ -1,0 +1,2 @@
+#endif
+#include <math.h>

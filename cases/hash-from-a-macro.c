@@ -1,0 +1,3 @@
+#define H #
+int x;
+H define A

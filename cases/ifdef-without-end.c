@@ -1,0 +1,4 @@
+int x;
+#ifdef A
+#ifndef B
+#endif

@@ -1,0 +1,2 @@
+#define int long
+int main(void){return 0;}

@@ -1,0 +1,6 @@
+#define ZERO none
+
+int main(void) {
+
+  return ZERO;
+}

@@ -1,0 +1,1 @@
+int main(void){unsigned char a=nondet_uchar()&3,b=nondet_uchar()&3,c=nondet_uchar()&3,d=nondet_uchar()&3,e=nondet_uchar()&3;__CPROVER_assume(a!=b&&a!=c&&a!=d&&a!=e&&b!=c&&b!=d&&b!=e&&c!=d&&c!=e&&d!=e);assert(0);return 0;}

@@ -1,0 +1,3 @@
+#ifdef A
+int main(void){return 0;}
+#endif

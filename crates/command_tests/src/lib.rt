@@ -1,0 +1,11 @@
+//! Tests of the command, of failure texts, of the generated programs and of the list of loops and assertions.
+#![tactic(auto)]
+
+#[cfg(test)]
+mod generator_tests;
+#[cfg(test)]
+mod option_tests;
+#[cfg(test)]
+mod property_tests;
+#[cfg(test)]
+mod trace_tests;

@@ -1,0 +1,12 @@
+pub mod Built
+pub mod Known
+pub mod Steps
+pub mod Rows
+pub mod Runs
+pub mod Finished
+pub mod Taken
+pub mod Digits
+pub mod Items
+pub mod Once
+pub mod Kept
+pub mod Same

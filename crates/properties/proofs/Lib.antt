@@ -1,0 +1,3 @@
+pub mod Behind
+pub mod Arms
+pub mod Numbering
