@@ -3,6 +3,7 @@
 ghost use Rattle.std.specs.Prelude.{◌≡◌, ℕ, true, List, string_bytes, IfOk, Some};
 ghost use Rattle.core_tree.specs.Trees.{view_core};
 ghost use Rattle.report.specs.Identifiers.{is_identifier};
+ghost use Rattle.cbmc_top.specs.Programs.{IsFileOf};
 ghost use Rattle.cbmc_top.specs.Spelled.{IsTypedOf};
 ghost use Rattle.report.specs.Failing.{turns_of};
 ghost use Rattle.cbmc_top.specs.Answers.{name_in, IsFailure};
@@ -14,6 +15,7 @@ use core_tree::{Bounds, Core, function_name};
 use interleave::Trace;
 use report::{Failing, drawn_of, rows_of};
 use std::alloc::{AllocError, Global};
+use told_lines::told_lines;
 
 /// The name of the function with this number.
 fn name_of(alloc: Global, core: &Core, function: u32) -> Result<String, AllocError>
@@ -34,14 +36,12 @@ pub fn described(
     trace: Trace,
 ) -> Result<Failing, AllocError>
     requires typed { (bytes : List ℕ) × IsTypedOf bytes (view_core file.now) }
+    requires program { (bytes : List ℕ) × IsFileOf bytes (view_core file.now) }
     requires broken { IsBroken bounds.now (view_core file.now) trace }
     ensures trace { IfOk result (λ f. f.trace ≡ trace) }
     ensures failure { IfOk result (λ f. IsFailure bounds.now (view_core file.now) (failure_of f)) }
 {
-    // Each line that a run tells is a token's, so it is at least 1; the typed tree's own type doesn't say so.
-    if trace.check.line == 0 {
-        return Err(AllocError);
-    }
+    told_lines();
     // Read, so that it is known to fit.
     let _thread = trace.check.thread;
     let function = name_of(alloc, file.core(), trace.check.function)?;

@@ -1,0 +1,9 @@
+pub mod Running
+pub mod Results
+pub mod Operands
+pub mod Initializers
+pub mod Declarators
+pub mod Statements
+pub mod Trees
+pub mod Expansion
+pub mod Cutting

@@ -1,0 +1,3 @@
+pub mod TypedLines
+pub mod TreeLines
+pub mod TokenLines
