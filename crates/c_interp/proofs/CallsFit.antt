@@ -15,12 +15,12 @@ use Rattle.core_tree.specs.declared.functions.PassedType.TheVariants as passed
 use Rattle.core_tree.specs.Trees.{Procedure, Statement, Static, TypedFile}
 use Rattle.core_tree.specs.Typed.{Sizes, Signature, signature, sizes_in, same_passed, same_given, given_as, gives_this, passed_size, parameters_of, have_parameters, is_typed_statement, is_typed_body, is_typed_function, is_static, are_typed}
 use Rattle.c_values.specs.Variables.{zeros, first_variables}
-use Rattle.c_tasks.specs.Meaning.{integer_of}
+use Rattle.c_meaning.specs.Meaning.{integer_of}
 use Rattle.c_tasks.specs.Items.{sizes_at, blocks_on, Wanted, wants_number, wants_structure}
 use Rattle.c_tasks.specs.Fits.{sizes_of, sizes_on, passed_sizes, same_sizes, is_given, wanted_of, signature_of, gives_of, gives_at, objects_in, variables_at, parameters_at, sizes_for}
-use Rattle.c_tasks.proofs.FitParts.{left_of, right_of, both}
+use Rattle.c_meaning.proofs.Holding.{left_of, right_of, both}
 use Rattle.c_tasks.proofs.Sizes.{first_sizes}
-use Rattle.c_tasks.proofs.TypeWidths.{type_widths}
+use Rattle.c_meaning.proofs.TypeWidths.{type_widths}
 
 same_back : (a b : ℕ) → (a == b) ≡ true → (b == a) ≡ true
 same_back a b h = grind (arith, nat_tests)

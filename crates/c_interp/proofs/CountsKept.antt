@@ -12,8 +12,8 @@ use Rattle.core_tree.specs.Operations.{is_true, converted, arithmetic_check, sig
 use Rattle.actions.specs.declared.action.Answer.{Answer}
 use Rattle.c_values.specs.Variables.{Variables}
 use Rattle.c_values.specs.Numbers.{TypedNumber}
-use Rattle.c_tasks.specs.Meaning as meaning
-use Rattle.c_tasks.specs.Meaning.{Given, Code, total, decides, has_case, has_default}
+use Rattle.c_meaning.specs.Meaning as meaning
+use Rattle.c_meaning.specs.Meaning.{Given, Code, total, decides, has_case, has_default}
 use Rattle.c_tasks.specs.Items.{top, rest, second, Active, closed, Wanted, wants_number, wants_structure, wants_end, line_of, Handed, given_by, values_under, structures_under, blocks_on, Loop, loop_of, Item, evaluates, signs, operates, decides_on, stores, combines, increments, asserts, assumes, evaluates_structure, lists, runs, branches, enters as enters_items, goes_on, fills, gathers, resumes, hands, gets, turns, retests, repeats, loops, selects, switches, stores_structure, ending, State, state}
 use Rattle.c_tasks.specs.Steps.{Move, silent, asks, breaks, blocks, ends, part_items, behind_case, behind_default, after_break, after_continue, behind_label, jumped, after_jump, returned, unless_stopped, move_read, move_write, move_expression, move_structure, move_parts, move_statement, move_fill, move_entry, move_items, move_turn, move_test, move_body, move_function, move_arguments, move_given, move_item, move}
 use Rattle.c_interp.specs.inner.Cuts.{total_opened}

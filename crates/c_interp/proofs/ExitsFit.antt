@@ -3,7 +3,7 @@ use Rattle.std.proofs.Common.{◌≡◌, ℕ, Bool, true, false, ◌&&◌, ◌==
 use Rattle.std.proofs.lemmas.Bool.Decides.{nat_tests}
 use Rattle.c_types.specs.Integers.{width}
 use Rattle.c_types.specs.declared.types.ValueType.TheVariants.{Integer}
-use Rattle.c_tasks.proofs.TypeWidths.{type_widths}
+use Rattle.c_meaning.proofs.TypeWidths.{type_widths}
 use Rattle.std.proofs.lemmas.Bool.{false≢true}
 use Rattle.c_types.specs.declared.integers.IntegerType.{IntegerType}
 use Rattle.core_tree.specs.declared.functions.PassedType.{PassedType}
@@ -14,7 +14,8 @@ use Rattle.c_values.specs.Numbers.{TypedNumber, same_width}
 use Rattle.c_tasks.specs.Items.{rest, rest_bytes, Active, back, Wanted, wants_number, wants_structure, wants_end, Handed, by_nothing, by_number, by_structure, values_under, structures_under, Item, goes_on, loops, switches, resumes, State}
 use Rattle.c_tasks.specs.Fits.{top_type, top_size, has_top, rest_types, rest_sizes, types_of, sizes_of, types_under, sizes_under, gives_number, gives_structure, handed_of, is_given, wanted_of, gets_this, got, same_sizes, signature_of, gives_of, gives_at, variables_at, sizes_for, fits, exits_fit, Fits}
 use Rattle.c_tasks.specs.Steps.{after_break, after_continue, behind_label, jumped, after_jump, behind_case, behind_default, returned}
-use Rattle.c_tasks.proofs.FitParts.{left_of, right_of, both, rest_of_types}
+use Rattle.c_meaning.proofs.Holding.{left_of, right_of, both}
+use Rattle.c_tasks.proofs.FitParts.{rest_of_types}
 use Rattle.c_tasks.proofs.Sizes.{rest_of_sizes}
 
 -- ---- the items behind a label or a case are typed

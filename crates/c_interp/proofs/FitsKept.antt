@@ -24,8 +24,8 @@ use Rattle.actions.specs.declared.action.Answer.{Answer}
 use Rattle.actions.specs.declared.action.Answer.TheVariants as answer
 use Rattle.actions.specs.Behaviour.{shape_of, has_shape, bytes as bytes_shape}
 use Rattle.c_values.specs.Variables.{Variables, low_bytes, put_at, zeros, block_of}
-use Rattle.c_tasks.specs.Source.{code_of}
-use Rattle.c_tasks.specs.Meaning.{Code, integer_of, number_type, decides, bytes_in, has_case, has_default}
+use Rattle.c_meaning.specs.Source.{code_of}
+use Rattle.c_meaning.specs.Meaning.{Code, integer_of, number_type, decides, bytes_in, has_case, has_default}
 use Rattle.c_values.specs.Numbers.{TypedNumber, typed}
 use Rattle.c_tasks.specs.Items.{top, rest, second, top_bytes, rest_bytes, Active, active, back, Wanted, wants_number, wants_structure, wants_end, line_of, Handed, by_nothing, by_number, by_structure, given_by, values_under, structures_under, blocks_on, Loop, loop_of, Item, evaluates, converts, signs, negates, operates, compares, decides_on, tests, chooses, retypes, stores, combines, increments, drops, passes, asserts, assumes, evaluates_structure, picks, discards, discards_structure, chooses_structure, puts, stores_structure, passes_structure, cuts, lists, places_number, places_structure, runs, branches, divides, enters, goes_on, initial, initial_structure, fills, gathers, adds_number, resumes, hands, gets, turns, retests, repeats, loops, selects, switches, ending, ended, State, state}
 use Rattle.c_values.specs.Numbers.{same_width, are_operands_of}
@@ -35,9 +35,11 @@ use Rattle.c_tasks.specs.declared.task.Change.{Change}
 use Rattle.c_tasks.specs.Tasks.{behind, changed, Accepts, Answers}
 use Rattle.c_interp.proofs.ExitsFit.{case_typed, default_typed, break_fits, continue_fits, jump_fits, types_below, sizes_below, return_fits}
 use Rattle.c_interp.proofs.CallsFit.{number_wanted, structure_wanted, dropped_more, same_itself, argument_fits, number_passed, structure_passed, body_typed}
-use Rattle.c_tasks.proofs.TypeWidths.{width_itself, type_widths, type_widths_back, operand_widths}
-use Rattle.c_tasks.proofs.FitParts.{left_of, right_of, both, or_right, top_types, rest_of_types, second_types}
-use Rattle.c_tasks.proofs.Words.{from_same, filled_there, filled_within, placed_within, structure_fills, all_words, next_words}
+use Rattle.c_meaning.proofs.TypeWidths.{width_itself, type_widths, type_widths_back, operand_widths}
+use Rattle.c_meaning.proofs.Holding.{left_of, right_of, both, or_right}
+use Rattle.c_tasks.proofs.FitParts.{top_types, rest_of_types, second_types}
+use Rattle.c_meaning.proofs.Holding.{from_same}
+use Rattle.c_tasks.proofs.Words.{filled_there, filled_within, placed_within, structure_fills, all_words, next_words}
 use Rattle.c_tasks.proofs.Sizes.{number_bytes, top_of_sizes, resized, rest_of_sizes, same_top, copied_size, zeros_size, string_size, cut_size, number_size, joined_size}
 
 -- an answer to a read of so many bytes has as many

@@ -14,16 +14,16 @@ use Rattle.core_tree.specs.Typed.{Sizes, place_type, is_within, is_place, are_ar
 use Rattle.core_tree.specs.Operations.{is_true, converted, arithmetic_check, sign_check}
 use Rattle.c_values.specs.Variables.{Variables, low_bytes, put_at, block_of, put_bytes, cleared, first_variables}
 use Rattle.c_values.specs.Numbers.{TypedNumber}
-use Rattle.c_tasks.specs.Meaning as meaning
-use Rattle.c_tasks.specs.Meaning.{Given, Code, decides}
-use Rattle.c_tasks.specs.Source.{code_of}
+use Rattle.c_meaning.specs.Meaning as meaning
+use Rattle.c_meaning.specs.Meaning.{Given, Code, decides}
+use Rattle.c_meaning.specs.Source.{code_of}
 use Rattle.c_tasks.specs.Items.{top, rest, second, top_bytes, sizes_at, Active, Wanted, wants_number, wants_structure, wants_end, line_of, Handed, given_by, values_under, structures_under, blocks_on, Loop, Item, evaluates, signs, operates, decides_on, stores, combines, increments, asserts, assumes, evaluates_structure, puts, stores_structure, lists, runs, enters, goes_on, initial, initial_structure, fills, gathers, resumes, hands, gets, turns, retests, loops, switches, ending, ended, State, state}
 use Rattle.c_tasks.specs.Fits.{top_size, has_top, sizes_of, sizes_on, passed_sizes, same_sizes, types_of, handed_of, wanted_of, starts_thread, signature_of, gives_at, variables_at, parameters_at, sizes_for, got, exits_fit, fits, Fits, IsSized, types_under, sizes_under}
 use Rattle.c_tasks.specs.Steps.{Move, silent, asks, breaks, blocks, ends, returned, unless_stopped, move_read, move_write, move_expression, move_structure, move_parts, move_statement, move_fill, move_entry, move_items, move_turn, move_test, move_body, move_function, move_arguments, move_given, move_item, move}
 use Rattle.c_interp.proofs.CallsFit.{same_lists, frame_sizes, blocks_sizes, taken_all, parameters_there, parameters_same}
-use Rattle.c_tasks.proofs.FitParts.{left_of, right_of}
+use Rattle.c_meaning.proofs.Holding.{left_of, right_of}
 use Rattle.c_tasks.proofs.Sizes.{put_size, block_size, first_sizes, zeros_size, top_of_sizes, number_bytes}
-use Rattle.c_tasks.proofs.Words.{from_le}
+use Rattle.c_meaning.proofs.Holding.{from_le}
 
 -- ---- writes
 

@@ -30,7 +30,7 @@ use Rattle.interleave.specs.Inputs.{InputLists, words_of}
 use Rattle.interleave.specs.World.{World, Common, Member, member_at, told, with_told, with_child, may_move, first_world, no_counts}
 use Rattle.interleave.specs.Turn.{turn, settled, outcome, with_next, with_member, HasNumber, NextHasNumber, MemberHasNumber, HasNumbers}
 use Rattle.core_tree.specs.Ranges.{Limits}
-use Rattle.c_tasks.specs.Source.{main_number, source_thread}
+use Rattle.c_meaning.specs.Source.{main_number, source_thread}
 use Rattle.c_interp.specs.SourceThread.{IsQuiet, function_quiet}
 use Rattle.c_interp.specs.Quiet.{Quietly, OneQuiet, IsTurn}
 

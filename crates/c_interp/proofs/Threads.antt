@@ -7,7 +7,7 @@ use Rattle.actions.specs.Behaviour.{Behaviour, accepts}
 use Rattle.actions.specs.declared.action.Action.{Action}
 use Rattle.actions.specs.declared.action.Answer.{Answer}
 use Rattle.c_interp.specs.declared.thread.Thread.{Thread}
-use Rattle.c_tasks.specs.Source.{code_of, source_program}
+use Rattle.c_meaning.specs.Source.{code_of, source_program}
 use Rattle.c_tasks.specs.Items.{State, behaves}
 use Rattle.c_interp.specs.Work.{weight}
 use Rattle.c_tasks.specs.Steps.{Move, silent, move}

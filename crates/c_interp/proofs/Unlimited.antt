@@ -35,13 +35,13 @@ use Rattle.interleave.specs.World.{World, Common, Member, member_at, may_move, m
 use Rattle.interleave.specs.Turn.{turn, settled as settled_turn, outcome, with_next, with_member, check_of}
 use Rattle.interleave.specs.Run.{run, unless_broken}
 use Rattle.interleave.specs.Replay.{IsSafe}
-use Rattle.c_tasks.specs.Meaning.{Given, nothing, number, structure, Code, final}
+use Rattle.c_meaning.specs.Meaning.{Given, nothing, number, structure, Code, final}
 use Rattle.c_tasks.specs.Items.{top, second, Item, evaluates, signs, operates, stores, combines, increments, asserts, evaluates_structure, lists, runs, enters, goes_on, fills, gathers, gets, turns, retests, State, state, Active, line_of, blocks_on, Wanted, wants_number, wants_structure, wants_end, given_by, values_under, structures_under, Loop}
 use Rattle.c_interp.specs.Work.{weight}
 use Rattle.c_tasks.specs.Steps.{Move, silent, asks, breaks, blocks, ends, unless_stopped, move_read, move_write, move_expression, move_structure, move_parts, move_statement, move_turn, move_test, move_body, move_function, move_call, move_arguments, move_given, move_fill, move_entry, move_items, move_item, move_from, move}
 use Rattle.c_interp.specs.Small.{stepped_on, settled, next_of, answered_by, next_small, answered_small, bounded, unbounded}
 use Rattle.c_interp.specs.inner.Adequate.{IsStill, settled_still}
-use Rattle.c_tasks.specs.Source.{code_of, main_number, runs_at, source_thread, source_world, first_objects}
+use Rattle.c_meaning.specs.Source.{code_of, main_number, runs_at, source_thread, source_world, first_objects}
 use Rattle.c_interp.specs.SourceThread.{IsQuiet, start_state, small_steps, function_quiet}
 use Rattle.c_interp.specs.Quiet.{Quietly}
 use Rattle.c_interp.specs.Unlimited.{unlimited_at, unlimited_thread, unlimited_world, SafeAtAll}

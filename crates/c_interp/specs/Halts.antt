@@ -11,7 +11,7 @@ use Rattle.actions.specs.Behaviour.{Behaviour, after, accepts, shape_of, has_sha
 use Rattle.c_tasks.specs.declared.task.Change.{Change}
 use Rattle.c_tasks.specs.declared.task.Halt.{Halt}
 use Rattle.c_tasks.specs.declared.task.Halt.TheVariants as halt
-use Rattle.c_tasks.specs.Meaning.{Code, ask_in}
+use Rattle.c_meaning.specs.Meaning.{Code, ask_in}
 use Rattle.c_interp.specs.Work.{weight}
 use Rattle.c_tasks.specs.Items.{State, state, behaves}
 use Rattle.c_tasks.specs.Steps.{Move, silent, asks, breaks, blocks, ends, move}

@@ -5,7 +5,7 @@ use Rattle.actions.specs.declared.action.Next.{Next}
 use Rattle.actions.specs.declared.action.Next.TheVariants.{Act, Ended, Blocked, Broken}
 use Rattle.actions.specs.Behaviour.{Behaviour, word_64}
 use Rattle.actions.specs.ByStates.{behaviour_of}
-use Rattle.c_tasks.specs.Meaning.{Code}
+use Rattle.c_meaning.specs.Meaning.{Code}
 use Rattle.c_tasks.specs.Items.{Active, State}
 use Rattle.c_interp.specs.Work.{weight}
 use Rattle.c_tasks.specs.Steps.{Move, silent, asks, breaks, blocks, ends, move}

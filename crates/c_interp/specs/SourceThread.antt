@@ -17,9 +17,9 @@ use Rattle.actions.specs.declared.action.Next.TheVariants.{Act, Ended, Blocked}
 use Rattle.actions.specs.Behaviour.{Behaviour, accepts, Program, Thread, CanStart, EndsAfter, IsBehaviour, IsThread, word_64}
 use Rattle.actions.specs.ByStates.{behaves_by_states}
 use Rattle.c_values.specs.Variables.{Variables, first_variables}
-use Rattle.c_tasks.specs.Meaning as meaning
-use Rattle.c_tasks.specs.Meaning.{Given, Code, total, activation}
-use Rattle.c_tasks.specs.Source.{code_of, first_left, function_behaviour, runs_at, source_program}
+use Rattle.c_meaning.specs.Meaning as meaning
+use Rattle.c_meaning.specs.Meaning.{Given, Code, total, activation}
+use Rattle.c_meaning.specs.Source.{code_of, first_left, function_behaviour, runs_at, source_program}
 use Rattle.c_values.specs.Numbers.{TypedNumber}
 use Rattle.c_tasks.specs.Items.{top, second, Active, active, sizes_at, Wanted, wants_number, wants_structure, wants_end, line_of, given_by, values_under, structures_under, blocks_on, Loop, Item, evaluates, signs, operates, stores, combines, increments, asserts, assumes, evaluates_structure, lists, runs, enters, goes_on, fills, gathers, gets, turns, retests, ending, ended, State, state, behaves}
 use Rattle.c_interp.specs.Work.{weight}

@@ -6,8 +6,8 @@ use Rattle.actions.specs.declared.action.Next.TheVariants.{Blocked}
 use Rattle.actions.specs.Behaviour.{Behaviour, Thread}
 use Rattle.interleave.specs.World.{World, first_world}
 use Rattle.interleave.specs.Replay.{IsSafe}
-use Rattle.c_tasks.specs.Meaning.{final}
-use Rattle.c_tasks.specs.Source.{code_of, main_number, source_program, source_world, first_objects}
+use Rattle.c_meaning.specs.Meaning.{final}
+use Rattle.c_meaning.specs.Source.{code_of, main_number, source_program, source_world, first_objects}
 use Rattle.c_interp.specs.Small.{unbounded}
 use Rattle.c_interp.specs.SourceThread.{start_state}
 

@@ -7,8 +7,8 @@ use Rattle.c_tasks.specs.declared.task.Halt.{Halt}
 use Rattle.c_tasks.specs.declared.task.Change.{Change}
 use Rattle.c_tasks.specs.declared.task.Cut.{Cut}
 use Rattle.c_tasks.specs.declared.task.Plan.{Plan}
-use Rattle.c_tasks.specs.Meaning.{Code}
-use Rattle.c_tasks.specs.Source.{code_of}
+use Rattle.c_meaning.specs.Meaning.{Code}
+use Rattle.c_meaning.specs.Source.{code_of}
 use Rattle.c_tasks.specs.Steps.{Move, move}
 use Rattle.c_tasks.specs.Fits.{Fits, IsSized, variables_at}
 use Rattle.c_tasks.specs.Items.{Active, active, State, state}

@@ -2,7 +2,7 @@
 use Rattle.std.specs.Prelude.{ℕ, zero, suc, ◌+◌, ◌-◌, ◌==◌, Bool, List, [], ◌∷◌, Option, Some, None, slice_get, slice_index, if◌then◌else◌}
 use Rattle.core_tree.specs.Trees as trees
 use Rattle.core_tree.specs.Trees.{Expression, constant, read, convert, sign, is_zero, arithmetic, compare, logical, choice, assign, update, step, comma, assertion, assumption, draw, part, discard, discard_structure, call, function_name, Structure, copy, load, choose, put, store, follow, section, list, string, give, Parts, no_part, number_part, structure_part, Arguments, no_argument, number_argument, structure_argument, Statement, block, if_then, if_else, evaluate, Items, done, declares, initializes, initializes_structure, does, label, case_at, default_at, Procedure}
-use Rattle.c_tasks.specs.Meaning.{Code, total, opened}
+use Rattle.c_meaning.specs.Meaning.{Code, total, opened}
 use Rattle.c_tasks.specs.Items.{Active, back, Loop, Item, evaluates, decides_on, chooses, combines, increments, passes, evaluates_structure, chooses_structure, passes_structure, lists, runs, branches, divides, enters, goes_on, gathers, adds_number, resumes, hands, gets, turns, retests, repeats, loops, selects, State}
 
 -- the tests of the loops of the function that runs, and the work of a call of a function

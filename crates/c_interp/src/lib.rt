@@ -2,6 +2,7 @@
 //! them.
 #![tactic(auto)]
 
+mod plan;
 mod replay;
 mod thread;
 

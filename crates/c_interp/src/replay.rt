@@ -2,7 +2,7 @@
 
 ghost use Rattle.std.specs.Prelude.{◌≡◌, true, IfOk, OnOk, OnErr};
 ghost use Rattle.core_tree.specs.Trees.{view_core};
-ghost use Rattle.c_tasks.specs.Source.{source_run, are_storable};
+ghost use Rattle.c_meaning.specs.Source.{source_run, are_storable};
 ghost use Rattle.c_interp.specs.SourceThread.{SmallSteps, EnoughFuel};
 ghost use Rattle.c_interp.specs.Unlimited.{SafeAtAll};
 ghost use Rattle.interleave.specs.View.{world_of, is_dead};
@@ -12,8 +12,8 @@ ghost use Rattle.c_interp.specs.View.{thread_of};
 ghost use Rattle.c_interp.specs.Quiet.{OneQuiet, IsTurn};
 
 use crate::thread::Thread;
+use c_meaning::first_store;
 use c_profile::Admitted;
-use c_tasks::first_store;
 use core_tree::Bounds;
 use interleave::{Inputs, Outcome, Schedule, System, Turn};
 use std::alloc::{AllocError, Global};

@@ -3,17 +3,22 @@
 ghost use Rattle.std.specs.Prelude.{◌≡◌, ◌≤◌, ◌<◌, ◌+◌, ◌^◌, true, length};
 ghost use Rattle.core_tree.specs.Trees.{core_file, view_core};
 ghost use Rattle.core_tree.specs.Typed.{are_typed};
-ghost use Rattle.c_tasks.specs.Meaning.{total};
+ghost use Rattle.c_meaning.specs.Meaning.{total};
 ghost use Rattle.c_tasks.specs.Fits.{fits, variables_at, types_of, sizes_of};
 ghost use Rattle.c_tasks.specs.Tasks.{items_in, values_in, structures_in, open_in};
 
+use crate::plan::plan_task;
 use actions::{Action, Answer, Bytes, Machine, Next};
+use c_changes::{
+    answer_task, change_numbers, change_structures, change_tasks, change_variables,
+    close_activation, cut_items, first_left, open_activation, push_back, take_caller,
+};
+use c_meaning::number_of_main;
+use c_plan_flow::running;
 use c_profile::Admitted;
 use c_tasks::{
     Block, Call, Caller, Change, Cut, Halt, Handed, Look, Plan, Request, Task, Tasks,
-    add_variables, answer_task, body_of, change_numbers, change_structures, change_tasks,
-    change_variables, close_activation, cut_items, defined, first_left, number_of_main,
-    open_activation, plan_task, push_back, running, take_caller, take_frame, top_of,
+    add_variables, body_of, defined, take_frame, top_of,
 };
 use c_values::{Number, low_bytes};
 use core_tree::{Bounds, Function, StaticObject};
@@ -52,8 +57,8 @@ impl<'a> Thread<'a> {
     ghost use Rattle.core_tree.specs.Typed.{are_typed};
     ghost use Rattle.core_tree.specs.Trees.{core_file, view_function, view_functions, view_core};
     ghost use Rattle.c_tasks.specs.declared.task.Cut.TheVariants as Cut;
-    ghost use Rattle.c_tasks.specs.Meaning.{final};
-    ghost use Rattle.c_tasks.specs.Source.{source_program, source_thread};
+    ghost use Rattle.c_meaning.specs.Meaning.{final};
+    ghost use Rattle.c_meaning.specs.Source.{source_program, source_thread};
     ghost use Rattle.c_interp.specs.SourceThread.{start_state, thread_in, function_thread};
     ghost use Rattle.c_interp.specs.Work.{weight};
     ghost use Rattle.c_tasks.specs.Steps.{silent};

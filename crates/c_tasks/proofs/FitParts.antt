@@ -1,6 +1,5 @@
 -- What the first item asks of the numbers on top.
 use Rattle.std.proofs.Common.{◌≡◌, ℕ, Bool, true, false, ◌&&◌, ◌||◌, ◌==◌, List, [], ◌∷◌, refl, sym, ap, ◌∙◌}
-use Rattle.std.proofs.lemmas.Bool.{false≢true}
 use Rattle.std.proofs.lemmas.Bool.Decides.{nat_tests}
 use Rattle.std.proofs.Common.{arith}
 use Rattle.c_types.specs.declared.integers.IntegerType.{IntegerType}
@@ -10,27 +9,12 @@ use Rattle.core_tree.specs.declared.operators.Comparison.{Comparison}
 use Rattle.core_tree.specs.declared.expression.Place.{Place}
 use Rattle.core_tree.specs.Trees.{Expression, TypedFile}
 use Rattle.core_tree.specs.Typed.{place_type, is_within, is_place, is_typed}
-use Rattle.c_tasks.specs.Meaning.{number_type}
+use Rattle.c_meaning.specs.Meaning.{number_type}
 use Rattle.c_values.specs.Numbers.{TypedNumber}
 use Rattle.c_tasks.specs.Items.{top, rest, second, Item, evaluates, operates, compares, retypes, stores, combines, increments, initial}
 use Rattle.c_values.specs.Numbers.{same_width, are_operands_of}
+use Rattle.c_meaning.proofs.Holding.{left_of, right_of}
 use Rattle.c_tasks.specs.Fits.{top_type, rest_types, second_type, types_of, sizes_for, variables_at, fits}
-
-pub left_of : (a b : Bool) → (a && b) ≡ true → a ≡ true
-left_of true b h = refl
-left_of false b h = h
-
-pub right_of : (a b : Bool) → (a && b) ≡ true → b ≡ true
-right_of true b h = h
-right_of false b h = absurd (false≢true h)
-
-pub both : (a b : Bool) → a ≡ true → b ≡ true → (a && b) ≡ true
-both true b h k = k
-both false b h k = h
-
-pub or_right : (a b : Bool) → b ≡ true → (a || b) ≡ true
-or_right true b h = refl
-or_right false b h = h
 
 pub top_types : (xs : List TypedNumber) → top_type (types_of xs) ≡ (top xs).type
 top_types [] = refl

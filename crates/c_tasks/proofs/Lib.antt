@@ -2,10 +2,4 @@ pub mod Tops
 pub mod FitParts
 pub mod Words
 pub mod Sizes
-pub mod TypeWidths
-pub mod DrawnBits
-pub mod Finishes
 pub mod Frames
-pub mod OpenLeft
-pub mod StaticObjects
-pub mod Mains

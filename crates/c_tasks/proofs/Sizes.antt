@@ -11,8 +11,8 @@ use Rattle.core_tree.specs.Typed.{is_within}
 use Rattle.c_values.specs.Variables.{Variables, low_bytes, put_at, zeros, block_of, first_variables}
 use Rattle.c_tasks.specs.Items.{top_bytes, rest_bytes, second_bytes}
 use Rattle.c_tasks.specs.Fits.{top_size, rest_sizes, second_size, has_top, sizes_of}
-use Rattle.c_tasks.proofs.FitParts.{left_of, right_of}
-use Rattle.c_tasks.proofs.Words.{from_le}
+use Rattle.c_meaning.proofs.Holding.{left_of, right_of}
+use Rattle.c_meaning.proofs.Holding.{from_le}
 
 -- ---- variables
 

@@ -1,25 +1,15 @@
 -- The words that a variable is drawn in begin in it, and an initializer's value fills it.
 use Rattle.std.proofs.Common.{◌≡◌, ◌<◌, ◌≤◌, ℕ, suc, ◌+◌, ◌*◌, true, ◌&&◌, ◌==◌, nat_lt, nat_le, List, length, slice_index, arith}
 use Rattle.std.proofs.lemmas.Bool.{false≢true}
-use Rattle.std.proofs.lemmas.Bool.Decides.{nat_tests}
 use Rattle.c_types.specs.declared.types.ValueType.{ValueType}
 use Rattle.c_types.specs.declared.types.ValueType.TheVariants.{Void, Integer}
 use Rattle.c_types.specs.Integers.{bytes}
 use Rattle.core_tree.specs.Typed.{is_within}
 use Rattle.core_tree.specs.Typed as typing
 use Rattle.c_values.specs.Variables.{word_count, drawn_count}
-use Rattle.c_tasks.specs.Meaning.{integer_of}
+use Rattle.c_meaning.specs.Meaning.{integer_of}
 use Rattle.c_tasks.specs.Fits.{has_words}
-use Rattle.c_tasks.proofs.FitParts.{left_of, right_of, both}
-
-pub to_le : (a b : ℕ) → a ≤ b → nat_le a b ≡ true
-to_le a b h = grind (arith, nat_tests)
-
-pub from_le : (a b : ℕ) → nat_le a b ≡ true → a ≤ b
-from_le a b h = grind (arith, nat_tests)
-
-pub from_same : (a b : ℕ) → (a == b) ≡ true → a ≡ b
-from_same a b h = grind (arith, nat_tests)
+use Rattle.c_meaning.proofs.Holding.{left_of, right_of, both, to_le, from_le, from_same}
 
 -- ---- an initializer's value
 

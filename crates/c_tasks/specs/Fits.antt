@@ -7,7 +7,7 @@ use Rattle.core_tree.specs.declared.functions.PassedType.{PassedType}
 use Rattle.core_tree.specs.declared.functions.PassedType.TheVariants as passed
 use Rattle.core_tree.specs.Trees.{Arguments, no_argument, TypedFile}
 use Rattle.core_tree.specs.Typed.{Signature, Sizes, place_type, size_of, is_within, is_in_object, is_place, is_typed, is_structure, are_parts, are_arguments, parameters_of, same_passed, passed_size, is_test, is_typed_part, is_typed_statement, are_typed_items, sizes_of_objects, signature}
-use Rattle.c_tasks.specs.Meaning.{number_type}
+use Rattle.c_meaning.specs.Meaning.{number_type}
 use Rattle.c_values.specs.Numbers.{TypedNumber, same_width, are_operands_of}
 use Rattle.c_tasks.specs.Items.{sizes_at, Wanted, wants_number, wants_structure, wants_end, Handed, by_nothing, by_number, by_structure, Loop, Item, evaluates, converts, signs, negates, operates, compares, decides_on, tests, chooses, retypes, stores, combines, increments, drops, passes, asserts, assumes, evaluates_structure, picks, discards, discards_structure, chooses_structure, puts, stores_structure, passes_structure, cuts, lists, places_number, places_structure, runs, branches, divides, enters, goes_on, initial, initial_structure, fills, gathers, adds_number, resumes, hands, gets, turns, retests, repeats, loops, selects, switches, ending, ended, State}
 

@@ -17,8 +17,8 @@ use Rattle.actions.specs.declared.action.Next.TheVariants.{Ended, Blocked, Broke
 use Rattle.actions.specs.Behaviour.{Behaviour, word_64}
 use Rattle.c_values.specs.Variables.{Variables, low_bytes, put_at, number_at, put_bytes, write_variable}
 use Rattle.c_values.specs.Numbers.{TypedNumber, typed}
-use Rattle.c_tasks.specs.Meaning.{Given, nothing, number, structure, value_of, Running, Exits, Code, number_type, decides, final, in_loop, in_switch, with_labels, in_function, has_case, has_default, ask_in, unless_broken, operated, tells_bytes, writes, combined, received, received_structure, draws_words, enter, rounds, eval, eval_structure, eval_parts, eval_arguments, tested, at_end, exec, exec_items, at_label, at_case, at_default, total, activation}
-use Rattle.c_tasks.specs.Source.{leaves}
+use Rattle.c_meaning.specs.Meaning.{Given, nothing, number, structure, value_of, Running, Exits, Code, number_type, decides, final, in_loop, in_switch, with_labels, in_function, has_case, has_default, ask_in, unless_broken, operated, tells_bytes, writes, combined, received, received_structure, draws_words, enter, rounds, eval, eval_structure, eval_parts, eval_arguments, tested, at_end, exec, exec_items, at_label, at_case, at_default, total, activation}
+use Rattle.c_meaning.specs.Source.{leaves}
 
 abbrev pub top : List TypedNumber → TypedNumber
 top [] = typed Int 0

@@ -1,5 +1,3 @@
-pub mod Meaning
-pub mod Source
 pub mod Items
 pub mod Fits
 pub mod Steps

@@ -7,8 +7,8 @@ use Rattle.c_tasks.specs.declared.task.Look.{Look}
 use Rattle.c_tasks.specs.declared.task.Task.{Task}
 use Rattle.c_tasks.specs.declared.task.Task.TheVariants as task
 use Rattle.c_tasks.specs.declared.task.Plan.{Plan}
-use Rattle.c_tasks.specs.Meaning.{Running, Code, has_case, has_default}
-use Rattle.c_tasks.specs.Source.{code_of}
+use Rattle.c_meaning.specs.Meaning.{Running, Code, has_case, has_default}
+use Rattle.c_meaning.specs.Source.{code_of}
 use Rattle.c_values.specs.Numbers.{TypedNumber}
 use Rattle.c_tasks.specs.Items.{Active, active, running_of, Item}
 use Rattle.c_tasks.specs.Steps.{Move, behind_case, behind_default, move_item}

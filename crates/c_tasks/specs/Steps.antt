@@ -16,7 +16,7 @@ use Rattle.actions.specs.declared.action.Action.{Action}
 use Rattle.actions.specs.declared.action.Action.TheVariants.{Read, Write, Draw, End, Exit}
 use Rattle.actions.specs.declared.action.Answer.{Answer}
 use Rattle.c_values.specs.Variables.{Variables, low_bytes, put_at, zeros, number_of, number_at, pointer_to, word_count, drawn_count, block_of, put_bytes, cleared, read_variable, write_variable, first_variables}
-use Rattle.c_tasks.specs.Meaning.{Given, nothing, number, structure, value_of, Code, integer_of, number_type, decides, drawn, bytes_in, has_case, has_default, size_of, opened}
+use Rattle.c_meaning.specs.Meaning.{Given, nothing, number, structure, value_of, Code, integer_of, number_type, decides, drawn, bytes_in, has_case, has_default, size_of, opened}
 use Rattle.c_values.specs.Numbers.{TypedNumber, typed}
 use Rattle.c_tasks.specs.Items.{top, rest, second, top_bytes, rest_bytes, second_bytes, Active, active, back, running_of, Wanted, wants_number, wants_structure, wants_end, line_of, Handed, by_nothing, by_number, by_structure, given_by, values_under, structures_under, blocks_on, Loop, loop_of, Item, evaluates, converts, signs, negates, operates, compares, decides_on, tests, chooses, retypes, stores, combines, increments, drops, passes, asserts, assumes, evaluates_structure, picks, discards, discards_structure, chooses_structure, puts, stores_structure, passes_structure, cuts, lists, places_number, places_structure, runs, branches, divides, enters, goes_on, initial, initial_structure, fills, gathers, adds_number, resumes, hands, gets, turns, retests, repeats, loops, selects, switches, ending, ended, State, state}
 

@@ -40,7 +40,7 @@ use Rattle.c_tasks.specs.declared.task.Halt.{Halt}
 use Rattle.c_tasks.specs.declared.task.Halt.TheVariants as halt
 use Rattle.c_values.specs.Variables.{Variables, low_bytes, put_at, put_bytes, cleared, first_variables}
 use Rattle.c_values.specs.Numbers.{TypedNumber}
-use Rattle.c_tasks.specs.Meaning.{total, opened}
+use Rattle.c_meaning.specs.Meaning.{total, opened}
 use Rattle.c_tasks.specs.Items.{top, rest, top_bytes, rest_bytes, second_bytes, Active, active, sizes_at, Wanted, wants_number, wants_structure, wants_end, Handed, by_nothing, by_number, by_structure, blocks_on, Loop, loop_of, Item, evaluates, converts, signs, negates, operates, compares, decides_on, tests, chooses, retypes, stores, combines, increments, drops, passes, asserts, assumes, evaluates_structure, picks, discards, discards_structure, chooses_structure, puts, stores_structure, passes_structure, cuts, lists, places_number, places_structure, runs, branches, divides, enters, goes_on, initial, initial_structure, fills, gathers, adds_number, resumes, hands, gets, turns, retests, repeats, loops, selects, switches, ending, ended, State, state}
 use Rattle.c_tasks.specs.Fits.{sizes_of, rest_sizes, has_top}
 use Rattle.c_tasks.specs.Steps.{Move, silent, asks, breaks, blocks, ends, after_break, after_continue, behind_label, after_jump, returned}

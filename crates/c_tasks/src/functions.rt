@@ -1,13 +1,11 @@
 //! The functions of a file, by number.
 
-ghost use Rattle.std.specs.Prelude.{◌≡◌, Some, None, option_map, slice_get, codes, MatchOption};
-ghost use Rattle.std.specs.Str.{bytes_eq};
+ghost use Rattle.std.specs.Prelude.{◌≡◌, Some, None, option_map, slice_get, MatchOption};
 ghost use Rattle.core_tree.specs.Trees.{view_statement, view_functions};
-ghost use Rattle.c_tasks.specs.Source.{main_number};
 ghost use Rattle.c_tasks.specs.Items.{sizes_at};
 ghost use Rattle.c_tasks.specs.Tasks.{body_of};
 
-use core_tree::{CoreStatement, Function, Name};
+use core_tree::{CoreStatement, Function};
 
 /// The function with this number, where there is one.
 pub fn body_of(functions: &[Function], function: u32) -> Option<&Function>
@@ -40,24 +38,4 @@ pub fn defined<'a>(functions: &'a [Function], function: u32) -> Option<Body<'a>>
         }),
         None => None,
     }
-}
-
-fn is_main(name: &Name) -> bool
-    ensures { result ≡ bytes_eq name.now.bytes.items (codes "main") }
-{
-    name.bytes.as_slice() == b"main".as_slice()
-}
-
-/// The number of the first function named `main`, or how many functions there are.
-pub fn number_of_main(functions: &[Function]) -> usize
-    ensures { result ≡ main_number (view_functions functions.now) }
-{
-    let mut number = 0;
-    for function in functions {
-        if is_main(&function.name) {
-            return number;
-        }
-        number += 1;
-    }
-    number
 }

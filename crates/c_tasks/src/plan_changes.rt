@@ -1,19 +1,21 @@
 //! Plans as they are put together: what is pushed, put and taken, and what is looked at.
 
-ghost use Rattle.std.specs.Prelude.{◌≡◌, ◌<◌, true, false, Some, None, slice_index};
+ghost use Rattle.std.specs.Prelude.{◌≡◌, ◌<◌, ◌≤◌, ◌^◌, true, false, Some, None, slice_index};
 ghost use Rattle.core_tree.specs.Trees.{view, read};
 ghost use Rattle.core_tree.specs.Typed.{place_type};
-ghost use Rattle.c_tasks.specs.Meaning as meaning;
-ghost use Rattle.c_tasks.specs.Meaning.{number_type, size_of};
-ghost use Rattle.c_tasks.specs.Items.{top, second, rest};
+ghost use Rattle.c_values.specs.Variables.{drawn_count};
+ghost use Rattle.c_meaning.specs.Meaning as meaning;
+ghost use Rattle.c_meaning.specs.Meaning.{number_type, size_of};
+ghost use Rattle.c_tasks.specs.Items.{top, second, rest, Item};
+ghost use Rattle.c_tasks.specs.Steps.{stops};
 ghost use Rattle.c_tasks.specs.Tasks.{values_in};
-ghost use Rattle.c_tasks.specs.Plans.{running_in};
+ghost use Rattle.c_tasks.specs.Plans.{Plans, code_in, running_in};
 
-use crate::structures::evaluation;
-use crate::task::{Change, Look, Plan, Stacked, Taken, Task, Tasks, Written};
+use crate::task::{Change, Halt, Look, Plan, Stacked, Taken, Task, Tasks, Written};
 use c_types::{IntegerType, ValueType};
-use c_values::Number;
+use c_values::{Number, drawn_count};
 use core_tree::{CoreExpr, CoreStructure, LogicalOperator, Place, place_type};
+use words::Class;
 
 // ---- changes
 
@@ -119,6 +121,46 @@ pub fn writes<'a>(
     })
 }
 
+/// The structure values that wait change.
+pub fn stacks<'a>(
+    first: Option<Task<'a>>,
+    taken: Taken,
+    put: Option<Number>,
+    stacked: Stacked,
+    written: Written,
+) -> Plan<'a>
+    ensures { result ≡ Plan.Goes (record {
+      tasks = record { first = first.entry; second = None; third = None };
+      taken = taken;
+      put = put;
+      stacked = stacked;
+      written = written;
+    }) }
+{
+    Plan::Goes(Change {
+        tasks: Tasks {
+            first,
+            second: None,
+            third: None,
+        },
+        taken,
+        put,
+        stacked,
+        written,
+    })
+}
+
+/// A bound of the command is passed: the check of this class breaks, or the thread blocks.
+pub fn plan_passed_bound<'a>(look: &Look, class: Class, line: u32) -> Plan<'a>
+    ensures { (i : Item) → Plans look.now i (stops (code_in look.now) look.now.first true class line) result }
+{
+    if look.bounds.assertions() {
+        Plan::Halts(Halt::Breaks(class, line))
+    } else {
+        Plan::Halts(Halt::Blocks)
+    }
+}
+
 // ---- tasks
 
 /// An expression is to be evaluated.
@@ -138,6 +180,16 @@ fn finishing<'a>(expression: &'a CoreExpr) -> Task<'a>
     Task::Expression {
         expression,
         finish: true,
+    }
+}
+
+/// A structure value is to be evaluated.
+pub fn evaluation<'a>(value: &'a CoreStructure) -> Task<'a>
+    ensures { result ≡ Task.Structure value.entry false }
+{
+    Task::Structure {
+        value,
+        complete: false,
     }
 }
 
@@ -254,6 +306,7 @@ pub fn instead<'a>(expression: &'a CoreExpr, task: Task<'a>) -> Plan<'a>
 
 // ---- what is looked at
 
+/// The number on top.
 #[tactic(auto, using(crate::proofs::Tops::values_push))]
 pub fn top_of(numbers: &[Number]) -> Number
     ensures { result ≡ top (values_in numbers.now) }
@@ -264,6 +317,7 @@ pub fn top_of(numbers: &[Number]) -> Number
     }
 }
 
+/// The number below the one on top.
 #[tactic(auto, using(crate::proofs::Tops::values_push))]
 pub fn second_of(numbers: &[Number]) -> Number
     ensures { result ≡ second (values_in numbers.now) }
@@ -274,6 +328,7 @@ pub fn second_of(numbers: &[Number]) -> Number
     }
 }
 
+/// The size of a variable of the running function.
 pub fn size_of_variable(look: &Look, variable: u32) -> u32
     ensures { result ≡ size_of (running_in look.now) variable }
 {
@@ -281,6 +336,17 @@ pub fn size_of_variable(look: &Look, variable: u32) -> u32
         Some(function) => size_in(&function.variables, variable),
         None => 0,
     }
+}
+
+/// How many bytes of a variable are drawn in the word that begins at an offset of it.
+pub fn count_drawn(look: &Look, variable: u32, offset: usize) -> u32
+    requires { offset < size_of (running_in look.now) variable }
+    ensures is { result ≡ drawn_count (size_of (running_in look.now) variable) offset }
+    ensures positive { 1 ≤ result }
+    ensures at_most_8 { result ≤ 8 }
+    ensures small { offset < 2 ^ 32 }
+{
+    drawn_count(size_of_variable(look, variable), offset as u32)
 }
 
 fn size_in(sizes: &[u32], variable: u32) -> u32
@@ -314,6 +380,7 @@ pub fn number_type_of(expr: &CoreExpr) -> IntegerType
     }
 }
 
+/// The integer type of what a call gives.
 pub fn integer_of(type_: ValueType) -> IntegerType
     ensures { result ≡ meaning.integer_of type_ }
 {
@@ -323,6 +390,7 @@ pub fn integer_of(type_: ValueType) -> IntegerType
     }
 }
 
+/// Whether the left operand decides.
 pub fn decides(operator: LogicalOperator, number: Number) -> bool
     ensures { result ≡ meaning.decides operator number.bits }
 {

@@ -23,8 +23,8 @@ use Rattle.core_tree.specs.Typed.{Signature, Sizes, sizes_in, place_type, type_o
 use Rattle.core_tree.specs.Operations.{drawn_width, step_operation}
 use Rattle.c_values.specs.Numbers.{are_operands_of}
 use Rattle.c_values.specs.Variables.{word_count, drawn_count}
-use Rattle.c_tasks.specs.Meaning.{integer_of, number_type, has_default}
-use Rattle.c_tasks.proofs.TypeWidths.{operand_widths}
+use Rattle.c_meaning.specs.Meaning.{integer_of, number_type, has_default}
+use Rattle.c_meaning.proofs.TypeWidths.{operand_widths}
 use Rattle.goto_prog.specs.declared.code.Instruction.{Instruction}
 use Rattle.goto_prog.specs.declared.code.Operation.TheVariants as operations
 use Rattle.goto_prog.specs.Fitting.{operation_fits}

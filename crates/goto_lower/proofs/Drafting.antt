@@ -15,7 +15,7 @@ use Rattle.core_tree.specs.declared.expression.Place.TheVariants.{Object}
 use Rattle.core_tree.specs.Operations.{step_operation}
 use Rattle.core_tree.specs.Trees.{Expression, constant, read, convert, sign, is_zero, arithmetic, compare, logical, choice, assign, update, step, comma, assertion, assumption, discard}
 use Rattle.core_tree.specs.Typed.{place_type}
-use Rattle.c_tasks.specs.Meaning.{number_type}
+use Rattle.c_meaning.specs.Meaning.{number_type}
 use Rattle.goto_prog.specs.declared.code.Instruction.{Instruction}
 use Rattle.goto_prog.specs.declared.code.Operation.TheVariants as operations
 use Rattle.goto_lower.specs.declared.operand.Operand.{Operand}

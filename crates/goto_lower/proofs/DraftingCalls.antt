@@ -9,7 +9,7 @@ use Rattle.c_types.specs.Integers.{bytes}
 use Rattle.core_tree.specs.declared.expression.CoreArgument.{CoreArgument}
 use Rattle.core_tree.specs.declared.expression.CoreArgument as arguments
 use Rattle.core_tree.specs.Trees.{Expression, call, Structure, give, Arguments, number_argument, structure_argument, arguments_of}
-use Rattle.c_tasks.specs.Meaning.{integer_of}
+use Rattle.c_meaning.specs.Meaning.{integer_of}
 use Rattle.goto_prog.specs.declared.code.Instruction.{Instruction}
 use Rattle.goto_prog.specs.declared.code.Operation.TheVariants as operations
 use Rattle.goto_lower.specs.declared.operand.Operand.{Operand}

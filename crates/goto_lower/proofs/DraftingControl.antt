@@ -5,7 +5,7 @@ use Rattle.std.proofs.lemmas.List.{reverse-append}
 use Rattle.c_types.specs.declared.integers.IntegerType.{IntegerType}
 use Rattle.c_types.specs.declared.integers.IntegerType.TheVariants.{Int}
 use Rattle.core_tree.specs.Trees.{Expression, Statement, block, if_then, if_else, for_loop, do_loop, switch, Items, done, declares, initializes, initializes_structure, does, label, case_at, default_at}
-use Rattle.c_tasks.specs.Meaning.{has_default}
+use Rattle.c_meaning.specs.Meaning.{has_default}
 use Rattle.goto_prog.specs.declared.code.Operation.TheVariants as operations
 use Rattle.goto_prog.specs.Nodes.{Nodes, plain, repeats, node_count}
 use Rattle.goto_lower.specs.declared.exits.Exits.{Exits}

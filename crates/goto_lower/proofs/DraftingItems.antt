@@ -3,7 +3,7 @@ use Rattle.std.proofs.Common.{◌≡◌, ℕ, ◌+◌, ◌-◌, Bool, List, [], 
 use Rattle.std.proofs.Math.Seq.{drop-append_seam}
 use Rattle.c_types.specs.declared.integers.IntegerType.{IntegerType}
 use Rattle.core_tree.specs.Trees.{Expression, Structure, Statement, Items, done, declares, initializes, initializes_structure, does, label, case_at, default_at}
-use Rattle.c_tasks.specs.Meaning.{number_type}
+use Rattle.c_meaning.specs.Meaning.{number_type}
 use Rattle.goto_prog.specs.Nodes.{Nodes, plain, node_count}
 use Rattle.goto_lower.specs.declared.exits.Exits.{Exits}
 use Rattle.goto_lower.specs.declared.exits.Target.{Target}

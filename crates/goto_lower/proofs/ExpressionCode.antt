@@ -30,8 +30,8 @@ use Rattle.actions.specs.declared.action.Answer.{Answer}
 use Rattle.actions.specs.declared.action.Answer.TheVariants as answers
 use Rattle.actions.specs.declared.action.Next.TheVariants.{Broken, Blocked}
 use Rattle.words.specs.declared.check.Class.TheVariants.{Assertion, Return}
-use Rattle.c_tasks.specs.Meaning as source
-use Rattle.c_tasks.specs.Meaning.{Running, integer_of, number_type, drawn, decides, eval, eval_structure, eval_parts, eval_arguments, unless_broken, unless_used, received, received_structure, reads, writes, tells_bytes, combined, updated, stepped, operated}
+use Rattle.c_meaning.specs.Meaning as source
+use Rattle.c_meaning.specs.Meaning.{Running, integer_of, number_type, drawn, decides, eval, eval_structure, eval_parts, eval_arguments, unless_broken, unless_used, received, received_structure, reads, writes, tells_bytes, combined, updated, stepped, operated}
 use Rattle.goto_prog.specs.declared.code.Instruction.{Instruction}
 use Rattle.goto_prog.specs.declared.code.Operation.TheVariants as operations
 use Rattle.goto_prog.specs.Meaning.{Given, Reading, word_of, bytes_in, bytes_of, Memory, register, with_register, with_blocks, at, or_else}

@@ -15,8 +15,8 @@ use Rattle.core_tree.specs.Trees.{Statement, Procedure, TypedFile}
 use Rattle.c_values.specs.Variables.{Variables, block_of, put_at, zeros, first_variables}
 use Rattle.actions.specs.Behaviour.{Behaviour}
 use Rattle.actions.specs.declared.action.Next.TheVariants.{Broken, Blocked}
-use Rattle.c_tasks.specs.Meaning as source
-use Rattle.c_tasks.specs.Meaning.{Running, Code, running_at, in_function, exec}
+use Rattle.c_meaning.specs.Meaning as source
+use Rattle.c_meaning.specs.Meaning.{Running, Code, running_at, in_function, exec}
 use Rattle.goto_prog.specs.Meaning.{Memory, Given, at}
 use Rattle.goto_prog.specs.Threads.{Calls, acting, final}
 use Rattle.goto_prog.specs.Nodes.{Nodes, plain, Routine}

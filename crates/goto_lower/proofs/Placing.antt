@@ -9,8 +9,8 @@ use Rattle.actions.specs.declared.action.Answer.{Answer}
 use Rattle.actions.specs.declared.action.Next.{Next}
 use Rattle.actions.specs.declared.action.Next.TheVariants.{Blocked}
 use Rattle.actions.specs.Behaviour.{Behaviour, shape_of, has_shape}
-use Rattle.c_tasks.specs.Meaning as source
-use Rattle.c_tasks.specs.Meaning.{Running}
+use Rattle.c_meaning.specs.Meaning as source
+use Rattle.c_meaning.specs.Meaning.{Running}
 use Rattle.goto_prog.specs.declared.code.Instruction.{Instruction}
 use Rattle.c_values.specs.Variables.{block_of, put_at, put_bytes, zeros, cleared}
 use Rattle.goto_prog.specs.Meaning.{Memory, Given, Reading, register, with_register, with_blocks, at, or_else, operates}

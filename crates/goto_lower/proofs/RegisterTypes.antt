@@ -15,7 +15,7 @@ use Rattle.core_tree.specs.declared.operators.SignOperator.{SignOperator}
 use Rattle.core_tree.specs.Typed.{is_shift, is_within, fills}
 use Rattle.core_tree.specs.Operations.{drawn_width}
 use Rattle.c_values.specs.Numbers.{same_width, are_operands_of}
-use Rattle.c_tasks.specs.Meaning.{integer_of}
+use Rattle.c_meaning.specs.Meaning.{integer_of}
 use Rattle.goto_prog.specs.declared.code.Instruction.{Instruction}
 use Rattle.goto_prog.specs.declared.code.Operation.TheVariants as operations
 use Rattle.goto_prog.specs.Fitting.{is_there, is_register, has_bytes, operation_fits, code_fits}

@@ -16,9 +16,9 @@ use Rattle.actions.specs.declared.action.Action.TheVariants.{Exit}
 use Rattle.actions.specs.declared.action.Answer.{Answer}
 use Rattle.actions.specs.declared.action.Next.TheVariants.{Ended, Blocked}
 use Rattle.c_profile.specs.Rules.{Breach, breach, earlier, is_main, is_int_without_parameters, definition_breach, main_breach, functions_breach, objects_breach, first_breach}
-use Rattle.c_tasks.specs.Meaning as source
-use Rattle.c_tasks.specs.Source as source_threads
-use Rattle.c_tasks.specs.Source.{code_of, main_number, source_thread}
+use Rattle.c_meaning.specs.Meaning as source
+use Rattle.c_meaning.specs.Source as source_threads
+use Rattle.c_meaning.specs.Source.{code_of, main_number, source_thread}
 use Rattle.goto_prog.specs.Meaning.{Given}
 use Rattle.goto_prog.specs.Same.{DoSame}
 use Rattle.goto_prog.specs.Structured as flat

@@ -18,8 +18,8 @@ use Rattle.c_values.specs.Variables.{Variables, low_bytes, block_of, put_at, wor
 use Rattle.actions.specs.Behaviour.{Behaviour}
 use Rattle.actions.specs.declared.action.Action.TheVariants.{Draw}
 use Rattle.actions.specs.declared.action.Answer.{Answer}
-use Rattle.c_tasks.specs.Meaning as source
-use Rattle.c_tasks.specs.Meaning.{Running, Exits, number_type, has_case, has_default, in_loop, in_switch, with_labels, enter, eval, eval_structure, eval_part, tested, at_end, exec, exec_items, at_label, at_case, at_default}
+use Rattle.c_meaning.specs.Meaning as source
+use Rattle.c_meaning.specs.Meaning.{Running, Exits, number_type, has_case, has_default, in_loop, in_switch, with_labels, enter, eval, eval_structure, eval_part, tested, at_end, exec, exec_items, at_label, at_case, at_default}
 use Rattle.goto_prog.specs.declared.code.Instruction.{Instruction}
 use Rattle.goto_prog.specs.declared.code.Operation.TheVariants as operations
 use Rattle.goto_prog.specs.Meaning.{Memory, Given, Reading, register, with_register, with_blocks, word_of, operates, at}

@@ -5,7 +5,7 @@ use Rattle.c_types.specs.declared.integers.IntegerType.TheVariants.{Int, Unsigne
 use Rattle.core_tree.specs.declared.operators.ArithmeticOperator.TheVariants as arithmetics
 use Rattle.core_tree.specs.declared.operators.Comparison.TheVariants as comparisons
 use Rattle.core_tree.specs.Trees.{Expression, Structure, Parts, Arguments, Statement, Items, done, declares, initializes, initializes_structure, does, label, case_at, default_at}
-use Rattle.c_tasks.specs.Meaning.{number_type}
+use Rattle.c_meaning.specs.Meaning.{number_type}
 use Rattle.goto_prog.specs.declared.code.Operation.{Operation}
 use Rattle.goto_prog.specs.declared.code.Operation.TheVariants as operations
 use Rattle.goto_prog.specs.declared.code.Operation.TheVariants.{Skip, SkipIfZero}

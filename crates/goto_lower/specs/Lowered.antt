@@ -5,7 +5,7 @@ use Rattle.c_types.specs.declared.integers.IntegerType.TheVariants.{Int}
 use Rattle.core_tree.specs.declared.functions.PassedType.{PassedType}
 use Rattle.core_tree.specs.Typed.{passed_size}
 use Rattle.core_tree.specs.Trees.{Statement, Procedure, TypedFile}
-use Rattle.c_tasks.specs.Source.{main_number, first_objects, are_storable}
+use Rattle.c_meaning.specs.Source.{main_number, first_objects, are_storable}
 use Rattle.goto_prog.specs.declared.code.Operation.TheVariants as operations
 use Rattle.goto_prog.specs.Nodes.{Routine, plain, view_procedures}
 use Rattle.goto_prog.specs.GotoThreads.{GotoFile}

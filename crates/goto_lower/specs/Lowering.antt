@@ -17,7 +17,7 @@ use Rattle.core_tree.specs.Operations.{drawn_width, step_operation}
 use Rattle.core_tree.specs.Typed.{place_type}
 use Rattle.core_tree.specs.Typed as typed
 use Rattle.c_values.specs.Variables.{word_count, drawn_count}
-use Rattle.c_tasks.specs.Meaning.{number_type, has_default}
+use Rattle.c_meaning.specs.Meaning.{number_type, has_default}
 use Rattle.goto_prog.specs.declared.code.Operation.{Operation}
 use Rattle.goto_prog.specs.declared.code.Operation.TheVariants as operations
 use Rattle.goto_prog.specs.declared.code.Instruction.{Instruction}

@@ -5,7 +5,7 @@ ghost use Rattle.c_types.specs.Integers.{promoted};
 ghost use Rattle.core_tree.specs.Trees.{Expression, view, constant, read, convert, sign, is_zero, arithmetic, compare, logical, choice, assign, update, step, comma, assertion, assumption, draw, part, discard, discard_structure, call, function_name, view_structure, arguments_of, with_argument, Arguments};
 ghost use Rattle.core_tree.specs.Typed.{place_type};
 ghost use Rattle.core_tree.specs.Operations as operations;
-ghost use Rattle.c_tasks.specs.Meaning.{integer_of};
+ghost use Rattle.c_meaning.specs.Meaning.{integer_of};
 ghost use Rattle.goto_prog.specs.declared.code.Operation.TheVariants as instructions;
 ghost use Rattle.goto_lower.specs.Lowering.{at_line, argument_count, write_code, update_code, truth_code, value_size, use_code, taken_code};
 ghost use Rattle.goto_lower.specs.Registers.{update_types};

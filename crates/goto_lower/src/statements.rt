@@ -2,7 +2,7 @@
 
 ghost use Rattle.std.specs.Prelude.{◌≡◌, ℕ, suc, ◌+◌, [], ◌∷◌, ◌++◌, reverse, option_map, IfOk, OnOk};
 ghost use Rattle.core_tree.specs.Trees.{view, boxed, view_structure, view_statement, items_of, with_item, done, Items, block, if_else, for_loop, do_loop, switch, returns, returns_structure};
-ghost use Rattle.c_tasks.specs.Meaning.{number_type};
+ghost use Rattle.c_meaning.specs.Meaning.{number_type};
 ghost use Rattle.c_values.specs.Variables as variables;
 ghost use Rattle.goto_prog.specs.Nodes.{Nodes, plain, nodes_of};
 ghost use Rattle.goto_prog.specs.declared.code.Operation.TheVariants as operations;

@@ -3,7 +3,7 @@
 ghost use Rattle.std.specs.Prelude.{◌≡◌, ◌++◌, ◌∷◌, [], ◌≤◌, length, IfOk, option_map};
 ghost use Rattle.core_tree.specs.Trees.{view, boxed, view_structure, parts_of, with_part, arguments_of, with_argument, view_statement, items_of, with_item};
 ghost use Rattle.c_types.specs.Integers.{bytes};
-ghost use Rattle.c_tasks.specs.Meaning.{number_type};
+ghost use Rattle.c_meaning.specs.Meaning.{number_type};
 ghost use Rattle.goto_lower.specs.Temporaries as specs;
 
 use crate::expressions::value_size;

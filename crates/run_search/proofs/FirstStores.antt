@@ -13,7 +13,7 @@ use Rattle.core_tree.specs.declared.refusal.Limit.TheVariants.{Places, Objects, 
 use Rattle.core_tree.specs.Typed.{is_static, sizes_of_objects, is_typed_function, are_typed}
 use Rattle.actions.specs.ByteList.{are_bytes}
 use Rattle.actions.specs.StoredObject.{StoredObject}
-use Rattle.c_tasks.specs.Source.{first_object, objects_from, first_objects, are_storable}
+use Rattle.c_meaning.specs.Source.{first_object, objects_from, first_objects, are_storable}
 use Rattle.goto_unwind.specs.Places.{places}
 use Rattle.goto_unwind.specs.Counts.{largest, object_bytes, passed}
 use Rattle.mem_seq.specs.Accesses.{HoldsBytes, AreObjects}

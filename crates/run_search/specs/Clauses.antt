@@ -7,7 +7,7 @@ use Rattle.word_dag.specs.declared.nodes.Node.{Node}
 use Rattle.core_tree.specs.Trees.{TypedFile}
 use Rattle.core_tree.specs.Ranges.{Limits}
 use Rattle.guarded_ssa.specs.Forms.{IsForm}
-use Rattle.c_tasks.specs.Source.{source_thread}
+use Rattle.c_meaning.specs.Source.{source_thread}
 use Rattle.mem_seq.specs.declared.formula.Formula.{Formula}
 use Rattle.mem_seq.specs.Formulas.{IsFormula, FormulaIn}
 use Rattle.bit_blast.specs.Steps.{IsBlasted}

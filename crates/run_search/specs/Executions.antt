@@ -4,7 +4,7 @@ use Rattle.core_tree.specs.Trees.{TypedFile}
 use Rattle.core_tree.specs.Ranges.{Limits}
 use Rattle.interleave.specs.World.{World}
 use Rattle.interleave.specs.Replay.{IsSafe}
-use Rattle.c_tasks.specs.Source.{source_world}
+use Rattle.c_meaning.specs.Source.{source_world}
 use Rattle.c_interp.specs.Unlimited as unlimited
 
 -- where the runs under these bounds begin

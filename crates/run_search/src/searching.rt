@@ -5,7 +5,7 @@ ghost use Rattle.actions.specs.Behaviour.{Thread};
 ghost use Rattle.word_dag.specs.Meaning.{width};
 ghost use Rattle.word_dag.specs.Growth.{Within};
 ghost use Rattle.core_tree.specs.Trees.{view_core};
-ghost use Rattle.c_tasks.specs.Source.{source_thread, first_objects};
+ghost use Rattle.c_meaning.specs.Source.{source_thread, first_objects};
 ghost use Rattle.interleave.specs.World.{first_world};
 ghost use Rattle.goto_prog.specs.Flat.{plain_thread};
 ghost use Rattle.goto_unwind.specs.Counts.{passed};

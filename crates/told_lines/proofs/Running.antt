@@ -27,8 +27,8 @@ use Rattle.actions.specs.Memory.{Change, keeps, adds, kills, puts, starts, ends}
 use Rattle.actions.specs.Row.{Outcome, waits, moves}
 use Rattle.actions.specs.Row.{breaks as broken_row}
 use Rattle.c_values.specs.Variables.{Variables}
-use Rattle.c_tasks.specs.Meaning.{Given, nothing, number, structure, Running, Exits, Code, running_at, integer_of, final, ask_in, passed, in_loop, in_switch, in_function, has_case, has_default, ask, unless_broken, unless_used, received, received_structure, reads, writes, combined, rounds, eval, eval_structure, eval_parts, eval_arguments, eval_part, tested, at_end, decides, draws_words, draws, enter, exec, exec_items, at_label, at_case, at_default, exec_body, enters, total, opened, activation}
-use Rattle.c_tasks.specs.Source.{code_of, first_left, leaves, runs_at, function_behaviour, main_number, source_world}
+use Rattle.c_meaning.specs.Meaning.{Given, nothing, number, structure, Running, Exits, Code, running_at, integer_of, final, ask_in, passed, in_loop, in_switch, in_function, has_case, has_default, ask, unless_broken, unless_used, received, received_structure, reads, writes, combined, rounds, eval, eval_structure, eval_parts, eval_arguments, eval_part, tested, at_end, decides, draws_words, draws, enter, exec, exec_items, at_label, at_case, at_default, exec_body, enters, total, opened, activation}
+use Rattle.c_meaning.specs.Source.{code_of, first_left, leaves, runs_at, function_behaviour, main_number, source_world}
 use Rattle.interleave.specs.declared.turn.Turn.{Turn}
 use Rattle.interleave.specs.declared.turn.Turn.TheVariants as turned
 use Rattle.interleave.specs.Inputs.{InputLists, words_of}

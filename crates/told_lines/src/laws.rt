@@ -11,7 +11,7 @@ ghost use Rattle.core_tree.specs.Trees.{TypedFile};
 ghost use Rattle.core_tree.specs.Ranges.{Limits};
 ghost use Rattle.interleave.specs.Inputs.{InputLists};
 ghost use Rattle.interleave.specs.Replay.{Replays};
-ghost use Rattle.c_tasks.specs.Source.{source_world};
+ghost use Rattle.c_meaning.specs.Source.{source_world};
 ghost use Rattle.c_elab_decl.specs.Files.{elaborated};
 ghost use Rattle.told_lines.specs.TypedLines.{IsLine, InFile};
 ghost use Rattle.told_lines.specs.TreeLines.{InExternals};

@@ -7,7 +7,7 @@ ghost use Rattle.word_dag.specs.Growth.{Within};
 ghost use Rattle.actions.specs.Behaviour.{word_64};
 ghost use Rattle.actions.specs.declared.action.Next.TheVariants.{Ended};
 ghost use Rattle.core_tree.specs.Trees.{view_core};
-ghost use Rattle.c_tasks.specs.Source.{source_world};
+ghost use Rattle.c_meaning.specs.Source.{source_world};
 ghost use Rattle.interleave.specs.Turn.{check_of};
 ghost use Rattle.interleave.specs.Replay.{Replays};
 ghost use Rattle.guarded_ssa.specs.Runs.{Run, stops};

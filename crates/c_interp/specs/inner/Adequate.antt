@@ -18,7 +18,7 @@ use Rattle.actions.specs.declared.action.Next.{Next}
 use Rattle.actions.specs.declared.action.Next.TheVariants.{Ended, Blocked, Broken}
 use Rattle.actions.specs.Behaviour.{Behaviour, accepts, shape_of, has_shape, word_64}
 use Rattle.c_values.specs.Variables.{Variables, zeros, first_variables}
-use Rattle.c_tasks.specs.Meaning.{Given, nothing, number, structure, Running, Code, running_at, enters, opened, total, activation, passed, number_type, decides, final, ask_in, has_case, has_default, in_switch, in_function, enter, frame, at_case, at_default, unless_broken, eval, eval_structure, exec, exec_body, tested, at_end}
+use Rattle.c_meaning.specs.Meaning.{Given, nothing, number, structure, Running, Code, running_at, enters, opened, total, activation, passed, number_type, decides, final, ask_in, has_case, has_default, in_switch, in_function, enter, frame, at_case, at_default, unless_broken, eval, eval_structure, exec, exec_body, tested, at_end}
 use Rattle.c_values.specs.Numbers.{TypedNumber, typed}
 use Rattle.c_tasks.specs.Items.{top, rest, second, Active, active, closed, back, running_of, calls_of, Wanted, wants_number, wants_structure, wants_end, line_of, Handed, given_by, values_under, structures_under, blocks_on, Loop, loop_of, Item, evaluates, converts, signs, negates, operates, compares, decides_on, tests, chooses, retypes, stores, combines, increments, drops, passes, asserts, assumes, evaluates_structure, picks, discards, discards_structure, chooses_structure, puts, stores_structure, passes_structure, cuts, lists, places_number, places_structure, runs, branches, divides, enters as enters_items, goes_on, initial, initial_structure, fills, gathers, adds_number, resumes, hands, gets, turns, retests, repeats, loops, selects, switches, ending, ended, State, state, sizes_at, from, receives, exits_of, rounds_of, behaves}
 use Rattle.c_interp.specs.Work.{work, structure_work, statement_work, items_work, entry_work, part_work, turns_work, defined_work, body_work, call_work_of, activation_work, total_work, weight}

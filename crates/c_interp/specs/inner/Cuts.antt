@@ -6,7 +6,7 @@ use Rattle.core_tree.specs.Trees.{Items, done, declares, initializes, initialize
 use Rattle.c_values.specs.Variables.{Variables}
 use Rattle.c_values.specs.Numbers.{TypedNumber}
 use Rattle.actions.specs.Behaviour.{Behaviour}
-use Rattle.c_tasks.specs.Meaning.{Running, Given, Exits, Code, passed, enters, total, opened, activation, exec_items, at_label, at_case, at_default}
+use Rattle.c_meaning.specs.Meaning.{Running, Given, Exits, Code, passed, enters, total, opened, activation, exec_items, at_label, at_case, at_default}
 use Rattle.c_tasks.specs.Items.{Active, closed, running_of, calls_of, Handed, given_by, values_under, structures_under, Item, goes_on, loops, switches, resumes, from, exits_of, behaves}
 use Rattle.c_interp.specs.Work.{items_work, call_work_of, total_work, weight}
 use Rattle.c_tasks.specs.Steps.{after_break, after_continue, behind_label, jumped, after_jump, behind_case, behind_default, returned}

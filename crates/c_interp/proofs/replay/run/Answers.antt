@@ -2,7 +2,7 @@ use Rattle.std.proofs.Common.{◌≡◌, ap, sym, subst, ◌∙◌, rules}
 use Rattle.core_tree.specs.Trees.{view_core}
 use Rattle.interleave.specs.View.{world_of}
 use Rattle.interleave.specs.World.{World, first_world}
-use Rattle.c_tasks.specs.Source.{source_thread, first_objects}
+use Rattle.c_meaning.specs.Source.{source_thread, first_objects}
 use Rattle.c_interp.specs.View.{thread_of}
 use Rattle.c_interp.specs.Quiet.{OneQuiet}
 use Rattle.c_interp.proofs.SourceRuns.{starts_quiet}

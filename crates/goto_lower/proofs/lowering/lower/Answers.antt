@@ -4,7 +4,7 @@ use Rattle.core_tree.specs.declared.functions.Function.{Function}
 use Rattle.core_tree.specs.Trees.{CoreFile, view_function, view_functions, view_core}
 use Rattle.core_tree.specs.Typed.{are_typed}
 use Rattle.actions.specs.Behaviour.{Thread}
-use Rattle.c_tasks.specs.Source.{main_number, source_thread}
+use Rattle.c_meaning.specs.Source.{main_number, source_thread}
 use Rattle.goto_prog.specs.Nodes.{Routine, view_procedure, view_procedures, routines_fit}
 use Rattle.goto_prog.specs.Structured.{function_thread}
 use Rattle.goto_prog.specs.GotoThreads.{strict_thread}

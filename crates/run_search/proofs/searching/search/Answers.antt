@@ -4,7 +4,7 @@ use Rattle.core_tree.specs.Trees.{TypedFile, view_core}
 use Rattle.actions.specs.Objects.{Objects}
 use Rattle.word_dag.specs.declared.nodes.Node.{Node}
 use Rattle.interleave.specs.World.{first_world}
-use Rattle.c_tasks.specs.Source.{source_thread, source_world, first_objects}
+use Rattle.c_meaning.specs.Source.{source_thread, source_world, first_objects}
 use Rattle.mem_seq.specs.declared.formula.Formula.{Formula}
 use Rattle.mem_seq.specs.Formulas.{IsFormula}
 use Rattle.run_search.specs.Searches.{IsSolved}

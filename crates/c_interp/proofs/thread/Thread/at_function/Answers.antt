@@ -4,7 +4,7 @@ use Rattle.std.specs.Borrow.{Bor}
 use Rattle.std.proofs.lemmas.Option.{slice_get-map}
 use Rattle.core_tree.specs.declared.functions.Function.{Function}
 use Rattle.core_tree.specs.Trees.{Procedure, view_function, view_functions}
-use Rattle.c_tasks.specs.Source.{runs_at, source_program}
+use Rattle.c_meaning.specs.Source.{runs_at, source_program}
 use Rattle.c_interp.specs.View.{thread_of}
 use Rattle.c_interp.proofs.thread.Thread.at_function.Goals as goal
 

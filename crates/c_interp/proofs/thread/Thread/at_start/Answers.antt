@@ -2,7 +2,7 @@ use Rattle.std.proofs.Common.{◌≡◌, ◌≤◌, ◌^◌, true, ℕ, List, []
 use Rattle.core_tree.specs.Trees.{core_file, view_core, view_function, no_argument}
 use Rattle.c_values.specs.Variables.{Variables, first_variables}
 use Rattle.c_values.specs.Numbers.{TypedNumber}
-use Rattle.c_tasks.specs.Meaning.{total}
+use Rattle.c_meaning.specs.Meaning.{total}
 use Rattle.c_tasks.specs.Items.{Item, wants_end, gathers}
 use Rattle.c_tasks.specs.Fits.{fits, types_of, sizes_of}
 use Rattle.c_tasks.specs.Tasks.{items_in, values_in, structures_in, open_in}

@@ -1,6 +1,6 @@
 use Rattle.std.proofs.Common.{◌≡◌, Some, ◌∷◌, drop, slice_get, sym, ap, subst, ◌∙◌, rules}
 use Rattle.core_tree.specs.Trees.{Statement, view_statement, view_functions}
-use Rattle.c_tasks.specs.Meaning.{opened}
+use Rattle.c_meaning.specs.Meaning.{opened}
 use Rattle.c_tasks.specs.Items.{active, sizes_at, runs, resumes, State, state}
 use Rattle.c_tasks.specs.Tasks.{items_in, values_in, structures_in, want_of, behind, body_of, frame_on, called}
 use Rattle.c_interp.specs.View.{file_of, active_of, IsSound}

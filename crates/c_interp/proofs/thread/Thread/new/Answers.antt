@@ -1,5 +1,5 @@
 use Rattle.std.proofs.Common.{ap, length, arith}
-use Rattle.c_tasks.proofs.Mains.{main_within}
+use Rattle.c_meaning.proofs.Mains.{main_within}
 use Rattle.c_interp.proofs.thread.Thread.new.Goals as goal
 
 pub overflow_cast-number : goal.overflow_cast-number

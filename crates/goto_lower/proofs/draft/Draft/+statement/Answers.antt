@@ -3,7 +3,7 @@ use Rattle.std.specs.Prelude.{reverse, option_map}
 use Rattle.core_tree.specs.Trees.{block, switch, view, boxed, view_structure, view_statement, items_of}
 use Rattle.core_tree.proofs.Views.{view_block}
 use Rattle.c_profile.proofs.Switches.{view_switch}
-use Rattle.c_tasks.specs.Meaning.{number_type}
+use Rattle.c_meaning.specs.Meaning.{number_type}
 use Rattle.goto_prog.specs.Nodes.{plain, nodes_of, node_count}
 use Rattle.goto_prog.specs.declared.code.Operation.TheVariants as operations
 use Rattle.goto_lower.specs.Lowering.{at_line, top, code, plains, to_place, test_code, initial_code, initial_store}

@@ -1,0 +1,3 @@
+pub mod DrawnBits
+pub mod Finishes
+pub mod OpenLeft

@@ -1,0 +1,4 @@
+pub mod Holding
+pub mod TypeWidths
+pub mod StaticObjects
+pub mod Mains

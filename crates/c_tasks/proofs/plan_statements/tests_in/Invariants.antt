@@ -1,9 +1,0 @@
-use Rattle.std.proofs.Common.{◌≡◌, drop}
-use Rattle.core_tree.specs.Ranges.{loop_limits}
-use Rattle.c_tasks.specs.Source.{tests_in}
-use Rattle.c_tasks.proofs.plan_statements.tests_in.Given as goal
-
--- the bounds that are left decide
-abbrev pub invariant-loop-bound : goal.invariant-loop-bound
-invariant-loop-bound l =
-    tests_in (loop_limits (drop l.bound-index l.bound-items)) l.bounds.unwind l.name l.number ≡ tests_in l.bounds.set l.bounds.unwind l.name l.number

@@ -1,8 +1,0 @@
-use Rattle.std.proofs.Common.{◌≡◌, get_or, rules}
-use Rattle.c_tasks.proofs.Sizes.{same_sizes}
-use Rattle.c_tasks.proofs.stacks.write_bits.Goals as goal
-
-pub returns-in-Some-clause-sizes : goal.returns-in-Some-clause-sizes
-returns-in-Some-clause-sizes c =
-    let here : get_or c.args.variables.now.items c.args.variable c.in-Some.block.now ≡ c.in-Some.block.now = search rules in
-    same_sizes c.args.variables.now.items c.args.variable c.write.new.self c.in-Some.block.now here c.write.ensures.len
