@@ -1,6 +1,6 @@
 -- The code of typed trees fits their registers and variables.
 use Rattle.std.proofs.Common.{◌≡◌, ◌∙◌, ℕ, zero, suc, ◌+◌, ◌-◌, ◌*◌, ◌<◌, ◌≤◌, Bool, true, false, nat_lt, List, [], ◌∷◌, ◌++◌, length, refl, sym, ap, subst, arith, length-append}
-use Rattle.std.specs.Prelude.{◌==◌, ◌&&◌, nat_le, slice_index, slice_get, replicate, Option, Some, None, if◌then◌else◌}
+use Rattle.std.specs.Prelude.{◌==◌, ◌&&◌, ◌||◌, nat_le, slice_index, slice_get, replicate, Option, Some, None, if◌then◌else◌}
 use Rattle.c_types.specs.declared.integers.IntegerType.{IntegerType}
 use Rattle.c_types.specs.declared.integers.IntegerType.TheVariants.{Int, UnsignedChar, UnsignedLong}
 use Rattle.c_types.specs.declared.types.ValueType.TheVariants.{Void, Integer}
@@ -29,9 +29,9 @@ use Rattle.goto_prog.specs.declared.code.Instruction.{Instruction}
 use Rattle.goto_prog.specs.declared.code.Operation.TheVariants as operations
 use Rattle.goto_prog.specs.Fitting.{operation_fits}
 use Rattle.goto_prog.specs.Nodes.{Nodes, plain, node_count, nodes_fit, routine_fits, routines_fit}
-use Rattle.goto_lower.specs.Lowering.{Frame, Ways, no_ways, within_loop, within_switch, top, structure_registers, arguments_registers, argument_count, structure_line, line_of, value_size, structure_code, parts_code, arguments_code, text_code, use_code, call_code, taken_code, initial_code, at_line, read_code, write_code, update_code, logical_code, code, size_of as size_of_variable, first_registers, words_code, first_code, entry_registers, part_registers, case_registers, statement_registers, items_registers, entry_code, part_code, test_code, to_place, plains, ends, case_tests, last_case, statement_code, items_code, labels_of, case_jumps, default_place}
+use Rattle.c_temporaries.specs.Temporaries.{value_size, Temporaries, no_temporaries, both, under, under_all, place_temporaries, argument_sizes, temporaries, structure_temporaries, parts_temporaries, arguments_temporaries, part_temporaries, statement_temporaries, items_temporaries}
+use Rattle.goto_lower.specs.Lowering.{Frame, Ways, no_ways, within_loop, within_switch, top, structure_registers, arguments_registers, argument_count, structure_line, line_of, structure_code, parts_code, arguments_code, text_code, use_code, call_code, taken_code, initial_code, at_line, read_code, write_code, update_code, logical_code, code, size_of as size_of_variable, first_registers, words_code, first_code, entry_registers, part_registers, declares_none, case_registers, statement_registers, items_registers, entry_code, part_code, test_code, to_place, plains, ends, case_tests, last_case, guarded, statement_code, items_code, labels_of, case_jumps, default_place}
 use Rattle.goto_lower.specs.Registers.{types, structure_types, parts_types, arguments_types, part_types, case_types, update_types, first_types, entry_types, statement_types, items_types}
-use Rattle.goto_lower.specs.Temporaries.{Temporaries, no_temporaries, both, under, under_all, place_temporaries, argument_sizes, temporaries, structure_temporaries, parts_temporaries, arguments_temporaries, part_temporaries, statement_temporaries, items_temporaries}
 use Rattle.goto_lower.specs.Lowered.{given_size, first_frame, code_by, function_codes}
 use Rattle.goto_lower.proofs.Housing.{Room, HasTemporaries, Housed, housed_left, housed_right, housed_under, housed_room, housed_front, housed_back, housed_behind, housed_zeros, housed_body}
 use Rattle.goto_lower.proofs.ExpressionCode.{test_less, test_most, test_equal}
@@ -611,13 +611,13 @@ module _ (registers : List IntegerType) (variables others objects : List ℕ) (f
       let same = same_types t (Integer u) (left_of _ _ cases) in
       let value : Holds x u = register_of registers x (integer_of t) u same hx in
       let two : Holds (n + 2) Int = register_at registers (n + 1 + 1) (n + 2) Int (omega arith) h.1.1.0 in
-      let behind : Has registers (n + 3) (case_types rest) = has_at registers (n + 1 + 1 + 1) (n + 3) (case_types rest) (omega arith) h.1.1.1 in (
+      let behind : Has registers (n + 5) (case_types rest) = has_at registers (n + 1 + 1 + 1 + 1 + 1) (n + 5) (case_types rest) (omega arith) h.1.1.1.1.1 in (
         constant_fits registers blocks n bits u h.0 (left_of _ _ typed),
         (
           compare_fits registers blocks (n + 1) n x comparisons.Equal u h.1.0 h.0 value,
           (
             arithmetic_fits registers blocks (n + 2) before (n + 1) arithmetics.Or Int Int (own_operands arithmetics.Or Int) two hb h.1.0,
-            cases_fit line x (n + 2) rest (n + 3) t (right_of _ _ cases) (right_of _ _ typed) hx two behind k,
+            cases_fit line x (n + 2) rest (n + 5) t (right_of _ _ cases) (right_of _ _ typed) hx two behind k,
           ),
         ),
       )
@@ -631,23 +631,28 @@ module _ (registers : List IntegerType) (variables others objects : List ℕ) (f
   last_holds before (does s rest) n hb h = last_holds before rest n hb h
   last_holds before (label l rest) n hb h = last_holds before rest n hb h
   last_holds before (case_at at u bits rest) n hb h =
-      last_holds (n + 2) rest (n + 3) (register_at registers (n + 1 + 1) (n + 2) Int (omega arith) h.1.1.0) (has_at registers (n + 1 + 1 + 1) (n + 3) (case_types rest) (omega arith) h.1.1.1)
+      last_holds (n + 2) rest (n + 5) (register_at registers (n + 1 + 1) (n + 2) Int (omega arith) h.1.1.0) (has_at registers (n + 1 + 1 + 1 + 1 + 1) (n + 5) (case_types rest) (omega arith) h.1.1.1.1.1)
   last_holds before (default_at at rest) n hb h = last_holds before rest n hb h
 
-  jumps_fit : (behind : ℕ) (ways : Ways) (line : ℕ) (items : Items) (k n : ℕ) (rest others : Nodes) → Has registers k (case_types items) → NodesFit behind others
-      → NodesFit behind (case_jumps here variables (behind + 1) ways line items k n rest others)
-  jumps_fit behind ways line done k n rest others h fit = fit
-  jumps_fit behind ways line (declares at v more) k n rest others h fit = jumps_fit behind ways line more k n rest others h fit
-  jumps_fit behind ways line (initializes at v drawn e more) k n rest others h fit = jumps_fit behind ways line more k n rest others h fit
-  jumps_fit behind ways line (initializes_structure at v drawn a more) k n rest others h fit = jumps_fit behind ways line more k n rest others h fit
-  jumps_fit behind ways line (does s more) k n rest others h fit = jumps_fit behind ways line more k n rest others h fit
-  jumps_fit behind ways line (label l more) k n rest others h fit = jumps_fit behind ways line more k n rest others h fit
-  jumps_fit behind ways line (case_at at u bits more) k n rest others h fit =
-      let others' = case_jumps here variables (behind + 1) ways line more (k + 3) n rest others in
+  jumps_fit : (behind : ℕ) (ways : Ways) (x : ℕ) (items : Items) (k n : ℕ) (rest others : Nodes) (t : ValueType) → are_cases t items ≡ true → are_typed_items known items ≡ true → Holds x (integer_of t) → Has registers k (case_types items) → NodesFit behind others
+      → NodesFit behind (case_jumps here variables (behind + 1) ways x items k n rest others)
+  jumps_fit behind ways x done k n rest others t cases typed hx h fit = fit
+  jumps_fit behind ways x (declares at v more) k n rest others t cases typed hx h fit = jumps_fit behind ways x more k n rest others t cases (right_of _ _ typed) hx h fit
+  jumps_fit behind ways x (initializes at v drawn e more) k n rest others t cases typed hx h fit = jumps_fit behind ways x more k n rest others t cases (right_of _ _ typed) hx h fit
+  jumps_fit behind ways x (initializes_structure at v drawn a more) k n rest others t cases typed hx h fit = jumps_fit behind ways x more k n rest others t cases (right_of _ _ typed) hx h fit
+  jumps_fit behind ways x (does s more) k n rest others t cases typed hx h fit = jumps_fit behind ways x more k n rest others t cases (right_of _ _ typed) hx h fit
+  jumps_fit behind ways x (label l more) k n rest others t cases typed hx h fit = jumps_fit behind ways x more k n rest others t cases typed hx h fit
+  jumps_fit behind ways x (case_at at u bits more) k n rest others t cases typed hx h fit =
+      let value : Holds x u = register_of registers x (integer_of t) u (same_types t (Integer u) (left_of _ _ cases)) hx in
+      let again : Holds (k + 3) u = register_at registers (k + 1 + 1 + 1) (k + 3) u (omega arith) h.1.1.1.0 in
+      let test : Holds (k + 4) Int = register_at registers (k + 1 + 1 + 1 + 1) (k + 4) Int (omega arith) h.1.1.1.1.0 in
+      let others' = case_jumps here variables (behind + 1) ways x more (k + 5) n rest others in
       let place = behind + 1 + node_count (items_code here variables (behind + 1) ways more n rest) in
-      both_true _ _ (skip_if_fits registers blocks (node_count (to_place here variables at (behind + 1) place others') + behind) (k + 1) 1 Int h.1.0 (omega arith))
-      (to_place_fits at behind place others' (omega arith) (jumps_fit behind ways line more (k + 3) n rest others (has_at registers (k + 1 + 1 + 1) (k + 3) (case_types more) (omega arith) h.1.1.1) fit))
-  jumps_fit behind ways line (default_at at more) k n rest others h fit = jumps_fit behind ways line more k n rest others h fit
+      both_true _ _ (constant_fits registers blocks (k + 3) bits u again (left_of _ _ typed))
+      (both_true _ _ (compare_fits registers blocks (k + 4) (k + 3) x comparisons.Equal u test again value)
+      (both_true _ _ (skip_if_fits registers blocks (node_count (to_place here variables at (behind + 1) place others') + behind) (k + 4) 1 Int test (omega arith))
+      (to_place_fits at behind place others' (omega arith) (jumps_fit behind ways x more (k + 5) n rest others t (right_of _ _ cases) (right_of _ _ typed) hx (has_at registers (k + 1 + 1 + 1 + 1 + 1) (k + 5) (case_types more) (omega arith) h.1.1.1.1.1) fit))))
+  jumps_fit behind ways x (default_at at more) k n rest others t cases typed hx h fit = jumps_fit behind ways x more k n rest others t cases typed hx h fit
 
   default_some : (behind : ℕ) (ways : Ways) (items : Items) (n : ℕ) (rest : Nodes) → 1 ≤ default_place here variables (behind + 1) ways items n rest
   default_some behind ways done n rest = omega arith
@@ -787,40 +792,43 @@ module _ (registers : List IntegerType) (variables others objects : List ℕ) (f
           let place = behind + 1 + node_count rest in
           let inner = within_switch ways place in
           let before = n + items_registers variables items in
-          let in_cases = before + 1 in
+          let value = before + 1 in
+          let in_cases = value + 1 in
           let in_entry = in_cases + case_registers variables items in
           let x = in_entry + entry_registers variables items in
           let body = items_code here variables (behind + 1) inner items n rest in
           let otherwise = if has_default items then default_place here variables (behind + 1) inner items n rest else place in
           let last = to_place here variables line (behind + 1) otherwise body in
-          let entered = plains (entry_code here variables items in_entry) (case_jumps here variables (behind + 1) inner line items in_cases n rest last) in
+          let entered = plains (entry_code here variables items in_entry) (case_jumps here variables (behind + 1) inner value items in_cases n rest last) in
           let items_typed = right_of _ _ typed in
           let cases = right_of _ _ (left_of _ _ typed) in
           let value_typed = right_of _ _ (left_of _ _ (left_of _ _ typed)) in
-          let h1 = beyond_items items n (Int ∷ (case_types items ++ (entry_types variables items ++ types e))) h in
-          let h2 = beyond_cases items in_cases (entry_types variables items ++ types e) h1.1 in
+          let h1 = beyond_items items n (Int ∷ number_type e ∷ (case_types items ++ (entry_types variables items ++ types e))) h in
+          let h2 = beyond_cases items in_cases (entry_types variables items ++ types e) h1.1.1 in
           let h3 = beyond_entry items in_entry (types e) h2 in
           let fine = expression_fits e first x deep value_typed (housed_left blocks edge first (temporaries e) (items_temporaries items) housed) h3 in
-          let tests = has_left registers in_cases (case_types items) (entry_types variables items ++ types e) h1.1 in
+          let tests = has_left registers in_cases (case_types items) (entry_types variables items ++ types e) h1.1.1 in
           let inner_fits : WaysFit inner = record { breaks = omega arith; continues = ways_fit.continues; labels = ways_fit.labels } in
-          let body_fits = items_fit items behind inner n rest items_typed (housed_right blocks edge first (temporaries e) (items_temporaries items) housed) (has_left registers n (items_types variables items) (Int ∷ (case_types items ++ (entry_types variables items ++ types e))) h) inner_fits fit in
+          let body_fits = items_fit items behind inner n rest items_typed (housed_right blocks edge first (temporaries e) (items_temporaries items) housed) (has_left registers n (items_types variables items) (Int ∷ number_type e ∷ (case_types items ++ (entry_types variables items ++ types e))) h) inner_fits fit in
           let last_fits = to_place_fits line behind otherwise body (chosen (has_default items) _ _ (default_some behind inner items n rest) (omega arith)) body_fits in
           let entered_fits : NodesFit behind entered =
           plains_fit (entry_code here variables items in_entry) _ behind (entry_fits items in_entry items_typed (has_left registers in_entry (entry_types variables items) (types e) h2) _)
-          (jumps_fit behind inner line items in_cases n rest last tests last_fits) in
+          (jumps_fit behind inner value items in_cases n rest last (type_of e) cases items_typed h1.1.0 tests last_fits) in
+          let guarded_fits : NodesFit behind (guarded here variables line before value items in_cases (node_count rest) entered) =
+          both_true _ _ (constant_fits registers blocks before 0 Int h1.0 refl)
+          (plains_fit (case_tests here variables line value before items in_cases) _ behind (cases_fit line value before items in_cases (type_of e) cases items_typed h1.1.0 h1.0 tests _)
+          (both_true _ _ (skip_if_fits registers blocks (node_count entered + behind) (last_case here variables before items in_cases) (node_count entered - node_count rest) Int (last_holds before items in_cases h1.0 tests) (omega arith)) entered_fits)) in
           plains_fit (code here e x) _ behind (fine.fits _)
-          (both_true _ _ (constant_fits registers blocks before 0 Int h1.0 refl)
-          (plains_fit (case_tests here variables line (x + top e) before items in_cases) _ behind (cases_fit line (x + top e) before items in_cases (type_of e) cases items_typed fine.value h1.0 tests _)
-          (by_default (has_default items) line (last_case here variables before items in_cases) (node_count entered - node_count rest) entered behind (last_holds before items in_cases h1.0 tests) (omega arith) entered_fits)))
+          (both_true _ _ (copy_fits registers blocks value (x + top e) (number_type e) h1.1.0 fine.value)
+          (either_fits (has_default items || declares_none items) entered (guarded here variables line before value items in_cases (node_count rest) entered) behind entered_fits guarded_fits))
         where
           chosen : (z : Bool) (a b : ℕ) → 1 ≤ a → 1 ≤ b → 1 ≤ (if z then a else b)
           chosen true a b h g = h
           chosen false a b h g = g
 
-          by_default : (z : Bool) (line r count : ℕ) (entered : Nodes) (behind : ℕ) → Holds r Int → count ≤ node_count entered + behind → NodesFit behind entered
-              → NodesFit behind (if z then entered else plain (at_line here line (operations.SkipIfZero r count)) entered)
-          by_default true line r count entered behind hr few fit = fit
-          by_default false line r count entered behind hr few fit = both_true _ _ (skip_if_fits registers blocks (node_count entered + behind) r count Int hr few) fit
+          either_fits : (z : Bool) (a b : Nodes) (behind : ℕ) → NodesFit behind a → NodesFit behind b → NodesFit behind (if z then a else b)
+          either_fits true a b behind h g = h
+          either_fits false a b behind h g = g
       statement_fits (breaks line) behind ways n rest typed housed h ways_fit fit = to_place_fits line behind ways.break_at rest ways_fit.breaks fit
       statement_fits (continues line) behind ways n rest typed housed h ways_fit fit = to_place_fits line behind ways.continue_at rest ways_fit.continues fit
       statement_fits (jumps line l) behind ways n rest typed housed h ways_fit fit = to_place_fits line behind (ways.label_at l) rest (ways_fit.labels l) fit

@@ -1,18 +1,18 @@
 -- What statements add to a draft, by what their parts add.
-use Rattle.std.proofs.Common.{◌≡◌, ℕ, ◌+◌, ◌-◌, ◌*◌, Bool, true, false, List, [], ◌∷◌, ◌++◌, length, Option, Some, None, refl, sym, ap, ◌∙◌, arith, append_assoc, length-append}
-use Rattle.std.specs.Prelude.{reverse, unwrap_or, is_some, if◌then◌else◌, Result, Ok, Err, OnOk}
+use Rattle.std.proofs.Common.{◌≡◌, ℕ, ◌+◌, ◌-◌, ◌*◌, Bool, true, false, List, [], ◌∷◌, ◌++◌, length, Option, Some, refl, sym, ap, ◌∙◌, arith, append_assoc, length-append}
+use Rattle.std.specs.Prelude.{reverse, ◌||◌, unwrap_or, is_some, if◌then◌else◌, Result, Ok, Err, OnOk}
 use Rattle.std.proofs.lemmas.List.{reverse-append}
 use Rattle.c_types.specs.declared.integers.IntegerType.{IntegerType}
 use Rattle.c_types.specs.declared.integers.IntegerType.TheVariants.{Int}
 use Rattle.core_tree.specs.Trees.{Expression, Statement, block, if_then, if_else, for_loop, do_loop, switch, Items, done, declares, initializes, initializes_structure, does, label, case_at, default_at}
-use Rattle.c_meaning.specs.Meaning.{has_default}
+use Rattle.c_meaning.specs.Meaning.{number_type, has_default}
 use Rattle.goto_prog.specs.declared.code.Operation.TheVariants as operations
 use Rattle.goto_prog.specs.Nodes.{Nodes, plain, repeats, node_count}
 use Rattle.goto_lower.specs.declared.exits.Exits.{Exits}
 use Rattle.goto_lower.specs.declared.exits.CasePlace.{CasePlace}
-use Rattle.goto_lower.specs.Lowering.{Frame, Ways, within_switch, ends, top, at_line, plains, to_place, code, part_code, test_code, part_registers, entry_code, entry_registers, items_registers, statement_registers, case_registers, case_tests, last_case, statement_code, items_code, case_jumps, default_place}
+use Rattle.goto_lower.specs.Lowering.{Frame, Ways, within_switch, ends, top, at_line, plains, to_place, code, part_code, test_code, part_registers, entry_code, entry_registers, items_registers, statement_registers, declares_none, case_registers, guarded, statement_code, items_code, case_jumps, default_place}
 use Rattle.goto_lower.specs.Registers.{types, part_types, case_types, entry_types, statement_types, items_types}
-use Rattle.goto_lower.specs.Drafts.{Listed, next, added, typed, flushed, after_entry, ways_of, case_place, cases_of, default_of, jumps_to, unmet_code, entered_code, Drafted}
+use Rattle.goto_lower.specs.Drafts.{Listed, next, added, typed, flushed, after_entry, ways_of, case_place, cases_of, default_of, jump_code, jumps_to, entered_code, Drafted}
 use Rattle.goto_lower.proofs.RegisterCounts.{types_length, part_length, case_length, entry_length, statement_length, items_length}
 use Rattle.goto_lower.proofs.Flushing.{typed_more, next_typed, flushed_draft, flushed_code}
 
@@ -179,7 +179,7 @@ drafted_for d d1 d2 d3 d4 new x inner first test last s line l behind count rest
 -- ---- switches
 
 module _ (frame : Frame) (variables : List ℕ) (base : ℕ) (ways : Ways) where
-  pub cases_length : (items : Items) (n : ℕ) (rest : Nodes) → 3 * length (cases_of frame variables base ways items n rest) ≡ length (case_types items)
+  pub cases_length : (items : Items) (n : ℕ) (rest : Nodes) → 5 * length (cases_of frame variables base ways items n rest) ≡ length (case_types items)
   cases_length done n rest = refl
   cases_length (declares line v more) n rest = cases_length more n rest
   cases_length (initializes line v drawn e more) n rest = cases_length more n rest
@@ -187,21 +187,21 @@ module _ (frame : Frame) (variables : List ℕ) (base : ℕ) (ways : Ways) where
   cases_length (does s more) n rest = cases_length more n rest
   cases_length (label l more) n rest = cases_length more n rest
   cases_length (case_at line t bits more) n rest =
-      omega (arith, length-append (cases_of frame variables base ways more n rest) (case_place line (base + node_count (items_code frame variables base ways more n rest)) ∷ []), cases_length more n rest)
+      omega (arith, length-append (cases_of frame variables base ways more n rest) (case_place line bits (base + node_count (items_code frame variables base ways more n rest)) t ∷ []), cases_length more n rest)
   cases_length (default_at line more) n rest = cases_length more n rest
 
-  pub jumps_same : (line : ℕ) (items : Items) (k n : ℕ) (rest others : Nodes) → jumps_to frame variables base k (reverse (cases_of frame variables base ways items n rest)) others ≡ case_jumps frame variables base ways line items k n rest others
-  jumps_same line done k n rest others = refl
-  jumps_same line (declares at v more) k n rest others = jumps_same line more k n rest others
-  jumps_same line (initializes at v drawn e more) k n rest others = jumps_same line more k n rest others
-  jumps_same line (initializes_structure at v drawn a more) k n rest others = jumps_same line more k n rest others
-  jumps_same line (does s more) k n rest others = jumps_same line more k n rest others
-  jumps_same line (label l more) k n rest others = jumps_same line more k n rest others
-  jumps_same line (case_at at t bits more) k n rest others =
-      let place = base + node_count (items_code frame variables base ways more n rest) in
-      ap (λ cs. jumps_to frame variables base k cs others) (reverse-append (cases_of frame variables base ways more n rest) (case_place at place ∷ []))
-      ∙ ap (λ (ns : Nodes). plain (at_line frame at (operations.SkipIfZero (k + 1) 1)) (to_place frame variables at base place ns)) (jumps_same line more (k + 3) n rest others)
-  jumps_same line (default_at at more) k n rest others = jumps_same line more k n rest others
+  pub jumps_same : (x : ℕ) (items : Items) (k n : ℕ) (rest others : Nodes) → jumps_to frame variables base x k (reverse (cases_of frame variables base ways items n rest)) others ≡ case_jumps frame variables base ways x items k n rest others
+  jumps_same x done k n rest others = refl
+  jumps_same x (declares at v more) k n rest others = jumps_same x more k n rest others
+  jumps_same x (initializes at v drawn e more) k n rest others = jumps_same x more k n rest others
+  jumps_same x (initializes_structure at v drawn a more) k n rest others = jumps_same x more k n rest others
+  jumps_same x (does s more) k n rest others = jumps_same x more k n rest others
+  jumps_same x (label l more) k n rest others = jumps_same x more k n rest others
+  jumps_same x (case_at at t bits more) k n rest others =
+      let c = case_place at bits (base + node_count (items_code frame variables base ways more n rest)) t in
+      ap (λ cs. jumps_to frame variables base x k cs others) (reverse-append (cases_of frame variables base ways more n rest) (c ∷ []))
+      ∙ ap (λ (ns : Nodes). jump_code frame variables base x k c ns) (jumps_same x more (k + 5) n rest others)
+  jumps_same x (default_at at more) k n rest others = jumps_same x more k n rest others
 
   pub has_default_same : (items : Items) (n : ℕ) (rest : Nodes) → is_some (default_of frame variables base ways items n rest) ≡ has_default items
   has_default_same done n rest = refl
@@ -224,22 +224,17 @@ module _ (frame : Frame) (variables : List ℕ) (base : ℕ) (ways : Ways) where
   default_same behind (case_at line t bits more) n rest = default_same behind more n rest
   default_same behind (default_at line more) n rest = refl
 
-unmet_same : (f : Frame) (line : ℕ) (o : Option ℕ) (last count : ℕ) (ns : Nodes)
-    → unmet_code f line o last count ns ≡ (if is_some o then ns else plain (at_line f line (operations.SkipIfZero last (node_count ns - count))) ns)
-unmet_same f line None last count ns = refl
-unmet_same f line (Some p) last count ns = refl
-
-pub drafted_switch : (d d1 d2 new : Listed) (x inner : Exits) (e : Expression) (items : Items) (line behind count before : ℕ) (places : List CasePlace) (otherwise : Option ℕ) (rest n1 n2 n3 n4 : Nodes)
+pub drafted_switch : (d d1 d2 new : Listed) (x inner : Exits) (e : Expression) (items : Items) (line behind count value : ℕ) (places : List CasePlace) (otherwise : Option ℕ) (rest n1 n2 n3 n4 : Nodes)
     → count ≡ node_count rest → behind ≡ x.base + count → inner ≡ record { base = x.base; break_at = behind; continue_at = x.continue_at }
     → d1 ≡ typed d (items_types d.variables items) → n1 ≡ items_code d.frame d.variables inner.base (ways_of inner d.labels) items (next d) rest
     → places ≡ cases_of d.frame d.variables inner.base (ways_of inner d.labels) items (next d) rest → otherwise ≡ default_of d.frame d.variables inner.base (ways_of inner d.labels) items (next d) rest
     → n2 ≡ to_place d1.frame d1.variables line x.base (unwrap_or otherwise behind) n1
-    → d2 ≡ typed d1 (Int ∷ (case_types items ++ entry_types d1.variables items)) → before ≡ next d1
-    → (3 * length places ≡ length (case_types items) → n3 ≡ entered_code d1.frame d1.variables line x.base count items (next d1) places otherwise n2)
+    → d2 ≡ typed d1 (Int ∷ number_type e ∷ (case_types items ++ entry_types d1.variables items)) → value ≡ next d1 + 1
+    → (5 * length places ≡ length (case_types items) → n3 ≡ entered_code d1.frame d1.variables line x.base count items (next d1) places otherwise n2)
     → new ≡ typed d2 (types e)
-    → n4 ≡ plains (code d2.frame e (next d2)) (plain (at_line d2.frame line (operations.Constant before 0)) (plains (case_tests d2.frame d2.variables line (next d2 + top e) before items (before + 1)) n3))
+    → n4 ≡ plains (code d2.frame e (next d2)) (plain (at_line d2.frame line (operations.Copy value (next d2 + top e))) n3)
     → Drafted d new rest n4 x (switch line e items)
-drafted_switch d d1 d2 new x inner e items line behind count before places otherwise rest n1 n2 n3 n4 is_count is_behind is_inner first filled placed defaults jumps second is_before entered last chosen =
+drafted_switch d d1 d2 new x inner e items line behind count value places otherwise rest n1 n2 n3 n4 is_count is_behind is_inner first filled placed defaults jumps second is_value entered last chosen =
     let f = d.frame in
     let vs = d.variables in
     let n = next d in
@@ -257,26 +252,26 @@ drafted_switch d d1 d2 new x inner e items line behind count before places other
     let to = if has_default items then default_place f vs x.base ways items n rest else from in
     let leads : unwrap_or otherwise behind ≡ to = (λ i. unwrap_or (o_is i) ((is_behind ∙ ap (λ k. x.base + k) is_count) i)) ∙ default_same f vs x.base ways from items n rest in
     let jumped : n2 ≡ to_place f vs line x.base to body = jumps ∙ (λ i. to_place (first i).frame (first i).variables line x.base (leads i) (body_is i)) in
-    let long : 3 * length places ≡ length (case_types items) = ap (λ (ps : List CasePlace). 3 * length ps) cs_are ∙ cases_length f vs x.base ways items n rest in
-    let in_entry = m + 1 + case_registers vs items in
-    let way = plains (entry_code f vs items in_entry) (case_jumps f vs x.base ways line items (m + 1) n rest (to_place f vs line x.base to body)) in
-    let way_is : n3 ≡ unmet_code f line o (last_case f vs m items (m + 1)) (node_count rest) way =
-    entered long
-    ∙ (λ i. entered_code (first i).frame (first i).variables line x.base (is_count i) items (at i) (cs_are i) (o_is i) (jumped i))
-    ∙ (λ i. unmet_code f line o (last_case f vs m items (m + 1)) (node_count rest) (plains (entry_code f vs items in_entry) (jumps_same f vs x.base ways line items (m + 1) n rest (to_place f vs line x.base to body) i))) in
-    let met : n3 ≡ (if has_default items then way else plain (at_line f line (operations.SkipIfZero (last_case f vs m items (m + 1)) (node_count way - node_count rest))) way) =
-    way_is ∙ unmet_same f line o (last_case f vs m items (m + 1)) (node_count rest) way
-    ∙ ap (λ (b : Bool). if b then way else plain (at_line f line (operations.SkipIfZero (last_case f vs m items (m + 1)) (node_count way - node_count rest))) way) (has_default_same f vs x.base ways items n rest) in
-    let us = Int ∷ (case_types items ++ entry_types vs items) in
-    let two : d2 ≡ typed d1 us = second ∙ (λ i. typed d1 (Int ∷ (case_types items ++ entry_types (first i).variables items))) in
+    let long : 5 * length places ≡ length (case_types items) = ap (λ (ps : List CasePlace). 5 * length ps) cs_are ∙ cases_length f vs x.base ways items n rest in
+    let in_cases = m + 1 + 1 in
+    let in_entry = in_cases + case_registers vs items in
+    let choice : Bool → Nodes → Nodes = λ b way. if b || declares_none items then way else guarded f vs line m (m + 1) items in_cases (node_count rest) way in
+    let way = plains (entry_code f vs items in_entry) (case_jumps f vs x.base ways (m + 1) items in_cases n rest (to_place f vs line x.base to body)) in
+    let in_all : n3 ≡ entered_code f vs line x.base (node_count rest) items m cs o (to_place f vs line x.base to body) =
+    entered long ∙ (λ i. entered_code (first i).frame (first i).variables line x.base (is_count i) items (at i) (cs_are i) (o_is i) (jumped i)) in
+    let met : n3 ≡ choice (has_default items) way =
+    in_all
+    ∙ (λ i. choice (is_some o) (plains (entry_code f vs items in_entry) (jumps_same f vs x.base ways (m + 1) items in_cases n rest (to_place f vs line x.base to body) i)))
+    ∙ ap (λ (b : Bool). choice b way) (has_default_same f vs x.base ways items n rest) in
+    let us = Int ∷ number_type e ∷ (case_types items ++ entry_types vs items) in
+    let two : d2 ≡ typed d1 us = second ∙ (λ i. typed d1 (Int ∷ number_type e ∷ (case_types items ++ entry_types (first i).variables items))) in
     let whole : d2 ≡ typed d (items_types vs items ++ us) = two ∙ typed_more d d1 (items_types vs items) us first in
     let at2 : next d2 ≡ in_entry + entry_registers vs items =
     omega (arith, next_typed d1 d2 us two, at, length-append (case_types items) (entry_types vs items), case_length vs items, entry_length vs items) in
-    let x_at = in_entry + entry_registers vs items in
     record {
-      draft_is = last ∙ typed_more d d2 (items_types vs items ++ us) (types e) whole ∙ ap (typed d) (append_assoc (items_types vs items) us (types e) ∙ ap (λ ts. items_types vs items ++ (Int ∷ ts)) (append_assoc (case_types items) (entry_types vs items) (types e)));
+      draft_is = last ∙ typed_more d d2 (items_types vs items ++ us) (types e) whole ∙ ap (typed d) (append_assoc (items_types vs items) us (types e) ∙ ap (λ ts. items_types vs items ++ (Int ∷ number_type e ∷ ts)) (append_assoc (case_types items) (entry_types vs items) (types e)));
       nodes_are = chosen
-          ∙ (λ i. plains (code (whole i).frame e (at2 i)) (plain (at_line (whole i).frame line (operations.Constant ((is_before ∙ at) i) 0)) (plains (case_tests (whole i).frame (whole i).variables line (at2 i + top e) ((is_before ∙ at) i) items ((is_before ∙ at) i + 1)) (met i))));
+          ∙ (λ i. plains (code (whole i).frame e (at2 i)) (plain (at_line (whole i).frame line (operations.Copy ((is_value ∙ ap (λ k. k + 1) at) i) (at2 i + top e))) (met i)));
     }
 
 -- ---- results

@@ -107,13 +107,13 @@ module _ (first : Listed) (rest : Nodes) (x : Exits) (others : Items) (d : Liste
     default_is = h.default_is;
   }
 
-  pub within_case : (now : Cases) (line bits place : ℕ) (t : IntegerType) → place ≡ x.base + node_count nodes → now.places.items ≡ cases.places.items ++ case_place line place ∷ [] → now.otherwise ≡ cases.otherwise
+  pub within_case : (now : Cases) (line bits place : ℕ) (t : IntegerType) → place ≡ x.base + node_count nodes → now.places.items ≡ cases.places.items ++ case_place line bits place t ∷ [] → now.otherwise ≡ cases.otherwise
       → Within first rest x (case_at line t bits others) d nodes now
   within_case now line bits place t is_place same kept = record {
     draft_is = h.draft_is;
     nodes_are = h.nodes_are;
-    cases_are = same ∙ (λ i. h.cases_are i ++ case_place line (is_place i) ∷ [])
-        ∙ (λ i. cases_of first.frame first.variables x.base ways others (next first) rest ++ case_place line (x.base + node_count (h.nodes_are i)) ∷ []);
+    cases_are = same ∙ (λ i. h.cases_are i ++ case_place line bits (is_place i) t ∷ [])
+        ∙ (λ i. cases_of first.frame first.variables x.base ways others (next first) rest ++ case_place line bits (x.base + node_count (h.nodes_are i)) t ∷ []);
     default_is = kept ∙ h.default_is;
   }
 

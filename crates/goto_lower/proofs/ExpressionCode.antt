@@ -37,8 +37,8 @@ use Rattle.goto_prog.specs.declared.code.Operation.TheVariants as operations
 use Rattle.goto_prog.specs.Meaning.{Given, Reading, word_of, bytes_in, bytes_of, Memory, register, with_register, with_blocks, at, or_else}
 use Rattle.goto_prog.specs.Meaning as flat
 use Rattle.goto_prog.specs.Threads.{Calls, acting, ask}
-use Rattle.goto_lower.specs.Lowering.{Frame, top, structure_registers, parts_registers, arguments_registers, argument_count, value_size, at_line, read_code, write_code, code, structure_code, parts_code, arguments_code, text_code, update_code, logical_code, use_code, call_code, taken_code}
-use Rattle.goto_lower.specs.Temporaries.{Temporaries, no_temporaries, both, under, under_all, place_temporaries, temporaries, structure_temporaries, parts_temporaries, arguments_temporaries, argument_sizes}
+use Rattle.c_temporaries.specs.Temporaries.{value_size, Temporaries, no_temporaries, both, under, under_all, place_temporaries, temporaries, structure_temporaries, parts_temporaries, arguments_temporaries, argument_sizes}
+use Rattle.goto_lower.specs.Lowering.{Frame, top, structure_registers, parts_registers, arguments_registers, argument_count, at_line, read_code, write_code, code, structure_code, parts_code, arguments_code, text_code, update_code, logical_code, use_code, call_code, taken_code}
 use Rattle.goto_lower.proofs.RegisterTypes.{left_of, right_of, same_integers}
 use Rattle.goto_lower.proofs.BlockBytes.{put_size, low_count, few_bytes, put_more, put_none, taken_back, part_of_front, number_of_front, some_zeros, zeros_length, one_byte}
 use Rattle.goto_lower.proofs.Housing.{Housed, HasTemporaries, Room, housed_left, housed_right, housed_under, housed_room, housed_behind, housed_zeros, housed_front, housed_back}

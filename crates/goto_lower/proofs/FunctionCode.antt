@@ -24,7 +24,7 @@ use Rattle.goto_prog.specs.Structured as flat
 use Rattle.goto_prog.specs.Structured.{Bounded, with_arguments, entry_memory}
 use Rattle.goto_prog.specs.declared.code.Operation.TheVariants as operations
 use Rattle.goto_lower.specs.Lowering.{at_line, ends, no_ways, statement_code}
-use Rattle.goto_lower.specs.Temporaries.{Temporaries, statement_temporaries}
+use Rattle.c_temporaries.specs.Temporaries.{Temporaries, statement_temporaries}
 use Rattle.goto_lower.specs.Lowered.{given_size, first_frame, undefined_code, defined_code, code_by, function_code, function_codes}
 use Rattle.goto_lower.proofs.RegisterTypes.{left_of, right_of}
 use Rattle.goto_lower.proofs.RegisterCounts.{statement_length}

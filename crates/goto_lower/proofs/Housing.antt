@@ -2,7 +2,7 @@
 use Rattle.std.proofs.Common.{◌≡◌, ℕ, ◌+◌, ◌<◌, ◌≤◌, List, [], ◌∷◌, ◌++◌, length, subst, arith, append_assoc, length-append}
 use Rattle.std.specs.Prelude.{slice_index}
 use Rattle.std.proofs.Math.Seq.{get_or-append_seam}
-use Rattle.goto_lower.specs.Temporaries.{Temporaries, greater, both, under, under_all, clearing}
+use Rattle.c_temporaries.specs.Temporaries.{Temporaries, greater, both, under, under_all, clearing}
 
 module _ (blocks : List ℕ) where
   pub record Room (d size : ℕ) : Type 0 where

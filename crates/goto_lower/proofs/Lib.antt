@@ -17,5 +17,4 @@ pub mod DraftingStatements
 pub mod DraftingSwitches
 pub mod DraftingItems
 pub mod DraftingControl
-pub mod Greater
 pub mod InTurn

@@ -21,16 +21,15 @@ use Rattle.actions.specs.declared.action.Answer.{Answer}
 use Rattle.c_meaning.specs.Meaning as source
 use Rattle.c_meaning.specs.Meaning.{Running, Exits, number_type, has_case, has_default, in_loop, in_switch, with_labels, enter, eval, eval_structure, eval_part, tested, at_end, exec, exec_items, at_label, at_case, at_default}
 use Rattle.goto_prog.specs.declared.code.Instruction.{Instruction}
-use Rattle.goto_prog.specs.declared.code.Operation.TheVariants as operations
 use Rattle.goto_prog.specs.Meaning.{Memory, Given, Reading, register, with_register, with_blocks, word_of, operates, at}
 use Rattle.goto_prog.specs.Threads.{Calls, acting}
 use Rattle.goto_prog.specs.Nodes.{Nodes, plain, repeats, node_count, Routine}
 use Rattle.goto_prog.specs.Nodes as nodes
 use Rattle.goto_prog.specs.Structured as flat
 use Rattle.goto_prog.specs.Structured.{Bounded, nodes_before, round_count, tests}
-use Rattle.goto_lower.specs.Lowering.{Frame, top, structure_registers, at_line, code, structure_code, size_of, first_registers, words_code, first_code, initial_code, entry_registers, part_registers, case_registers, statement_registers, items_registers, entry_code, part_code, test_code, Ways, within_loop, within_switch, ends, plains, to_place, case_tests, last_case, statement_code, items_code, labels_of, case_jumps, default_place}
+use Rattle.goto_lower.specs.Lowering.{Frame, top, structure_registers, code, structure_code, size_of, first_registers, words_code, first_code, initial_code, entry_registers, part_registers, case_registers, statement_registers, items_registers, entry_code, part_code, test_code, Ways, within_loop, within_switch, ends, plains, to_place, declares_none, case_tests, last_case, guarded, statement_code, items_code, labels_of, case_jumps, default_place}
 use Rattle.goto_lower.specs.Lowered.{given_size}
-use Rattle.goto_lower.specs.Temporaries.{Temporaries, no_temporaries, both, under, temporaries, structure_temporaries, part_temporaries, statement_temporaries, items_temporaries}
+use Rattle.c_temporaries.specs.Temporaries.{Temporaries, no_temporaries, both, under, temporaries, structure_temporaries, part_temporaries, statement_temporaries, items_temporaries}
 use Rattle.goto_lower.proofs.RegisterTypes.{left_of, right_of, filled_there, filled_within}
 use Rattle.goto_lower.proofs.RegisterTypes as registers_of
 use Rattle.goto_lower.proofs.BlockBytes.{low_count, few_bytes, taken_back}
@@ -321,15 +320,16 @@ module _ (running : Running) (others objects : List ℕ) (functions : List Signa
   if_front true x y rest first second = first
   if_front false x y rest first second = second
 
-  jumps_front : (base : ℕ) (ways : Ways) (line : ℕ) (items : Items) (k n : ℕ) (rest more : Nodes) → InFront (case_jumps here running.sizes base ways line items k n rest more) more
-  jumps_front base ways line done k n rest more = itself more
-  jumps_front base ways line (declares at_line_of v items) k n rest more = jumps_front base ways line items k n rest more
-  jumps_front base ways line (initializes at_line_of v drawn e items) k n rest more = jumps_front base ways line items k n rest more
-  jumps_front base ways line (initializes_structure at_line_of v drawn a items) k n rest more = jumps_front base ways line items k n rest more
-  jumps_front base ways line (does s items) k n rest more = jumps_front base ways line items k n rest more
-  jumps_front base ways line (label l items) k n rest more = jumps_front base ways line items k n rest more
-  jumps_front base ways line (case_at at_line_of t bits items) k n rest more = plain_front _ _ more (plain_front _ _ more (jumps_front base ways line items (k + 3) n rest more))
-  jumps_front base ways line (default_at at_line_of items) k n rest more = jumps_front base ways line items k n rest more
+  jumps_front : (base : ℕ) (ways : Ways) (x : ℕ) (items : Items) (k n : ℕ) (rest more : Nodes) → InFront (case_jumps here running.sizes base ways x items k n rest more) more
+  jumps_front base ways x done k n rest more = itself more
+  jumps_front base ways x (declares at_line_of v items) k n rest more = jumps_front base ways x items k n rest more
+  jumps_front base ways x (initializes at_line_of v drawn e items) k n rest more = jumps_front base ways x items k n rest more
+  jumps_front base ways x (initializes_structure at_line_of v drawn a items) k n rest more = jumps_front base ways x items k n rest more
+  jumps_front base ways x (does s items) k n rest more = jumps_front base ways x items k n rest more
+  jumps_front base ways x (label l items) k n rest more = jumps_front base ways x items k n rest more
+  jumps_front base ways x (case_at at_line_of t bits items) k n rest more =
+      plain_front _ _ more (plain_front _ _ more (plain_front _ _ more (plain_front _ _ more (jumps_front base ways x items (k + 5) n rest more))))
+  jumps_front base ways x (default_at at_line_of items) k n rest more = jumps_front base ways x items k n rest more
 
   mutual
     statement_front : (s : Statement) (base : ℕ) (ways : Ways) (n : ℕ) (rest : Nodes) → InFront (statement_code here running.sizes base ways s n rest) rest
@@ -348,14 +348,15 @@ module _ (running : Running) (others objects : List ℕ) (functions : List Signa
     statement_front (do_loop line l s test) base ways n rest = repeats_front line here.function l false _ rest
     statement_front (switch line e items) base ways n rest =
         let inner = within_switch ways (base + node_count rest) in
-        let in_cases = n + items_registers running.sizes items + 1 in
+        let value = n + items_registers running.sizes items + 1 in
+        let in_cases = value + 1 in
         let in_entry = in_cases + case_registers running.sizes items in
         let body = items_code here running.sizes base inner items n rest in
         let last = to_place here running.sizes line base (if has_default items then default_place here running.sizes base inner items n rest else base + node_count rest) body in
-        let jumps_of = case_jumps here running.sizes base inner line items in_cases n rest last in
+        let jumps_of = case_jumps here running.sizes base inner value items in_cases n rest last in
         let entered : InFront (plains (entry_code here running.sizes items in_entry) jumps_of) rest =
-        plains_front _ jumps_of rest (then_front jumps_of last rest (jumps_front base inner line items in_cases n rest last) (plain_front _ body rest (items_front items base inner n rest))) in
-        plains_front _ _ rest (plain_front _ _ rest (plains_front _ _ rest (if_front (has_default items) _ _ rest entered (plain_front _ _ rest entered))))
+        plains_front _ jumps_of rest (then_front jumps_of last rest (jumps_front base inner value items in_cases n rest last) (plain_front _ body rest (items_front items base inner n rest))) in
+        plains_front _ _ rest (plain_front _ _ rest (if_front (has_default items || declares_none items) _ _ rest entered (plain_front _ _ rest (plains_front _ _ rest (plain_front _ _ rest entered)))))
     statement_front (breaks line) base ways n rest = plain_front _ rest rest (itself rest)
     statement_front (continues line) base ways n rest = plain_front _ rest rest (itself rest)
     statement_front (jumps line l) base ways n rest = plain_front _ rest rest (itself rest)
@@ -375,28 +376,6 @@ module _ (running : Running) (others objects : List ℕ) (functions : List Signa
 
   -- ---- cases
 
-  -- the registers tell which cases have the value
-  abbrev Tested : Items → ℕ → ℕ → Memory → Type 0
-  Tested done k x m = Unit {0}
-  Tested (declares line v items) k x m = Tested items k x m
-  Tested (initializes line v drawn e items) k x m = Tested items k x m
-  Tested (initializes_structure line v drawn a items) k x m = Tested items k x m
-  Tested (does s items) k x m = Tested items k x m
-  Tested (label l items) k x m = Tested items k x m
-  Tested (case_at line t bits items) k x m = (register m (k + 1) ≡ truth_bits (bits == x)) × Tested items (k + 3) x m
-  Tested (default_at line items) k x m = Tested items k x m
-
-  tested_kept : (items : Items) (k x n : ℕ) (m m' : Memory) → k + case_registers running.sizes items ≤ n → ((r : ℕ) → r < n → register m' r ≡ register m r) → Tested items k x m → Tested items k x m'
-  tested_kept done k x n m m' within same tests_of = tt
-  tested_kept (declares line v items) k x n m m' within same tests_of = tested_kept items k x n m m' within same tests_of
-  tested_kept (initializes line v drawn e items) k x n m m' within same tests_of = tested_kept items k x n m m' within same tests_of
-  tested_kept (initializes_structure line v drawn a items) k x n m m' within same tests_of = tested_kept items k x n m m' within same tests_of
-  tested_kept (does s items) k x n m m' within same tests_of = tested_kept items k x n m m' within same tests_of
-  tested_kept (label l items) k x n m m' within same tests_of = tested_kept items k x n m m' within same tests_of
-  tested_kept (case_at line t bits items) k x n m m' within same tests_of =
-      (same (k + 1) (omega (arith, within)) ∙ tests_of.0, tested_kept items (k + 3) x n m m' (omega (arith, within)) same tests_of.1)
-  tested_kept (default_at line items) k x n m m' within same tests_of = tested_kept items k x n m m' within same tests_of
-
   either_bits : (a b : Bool) → bit_or (truth_bits a) (truth_bits b) ≡ truth_bits (a || b)
   either_bits true true = refl
   either_bits true false = refl
@@ -410,51 +389,57 @@ module _ (running : Running) (others objects : List ℕ) (functions : List Signa
   -- what is known behind the tests of cases by registers from k on
   abbrev AfterTests : Items → (before k x : ℕ) → Bool → Memory → Memory → Type 0
   AfterTests items before k x any m m' =
-      Ready m' × (m'.blocks ≡ m.blocks) × ((r : ℕ) → r < k → register m' r ≡ register m r) × Tested items k x m' × (register m' (last_case here running.sizes before items k) ≡ truth_bits (any || has_case items x))
+      Ready m' × (m'.blocks ≡ m.blocks) × ((r : ℕ) → r < k → register m' r ≡ register m r) × (register m' (last_case here running.sizes before items k) ≡ truth_bits (any || has_case items x))
 
   tests_mean : (items : Items) (line xr before k x : ℕ) (any : Bool) (m : Memory) (ps : Places) (b : Behaviour)
-      → register m xr ≡ x → register m before ≡ truth_bits any → before < k → k + case_registers running.sizes items ≤ xr → xr < total → Ready m
+      → register m xr ≡ x → register m before ≡ truth_bits any → before < k → xr < k → k + case_registers running.sizes items ≤ total → Ready m
       → ((m' : Memory) → AfterTests items before k x any m m' → begin ps m' ≡ b)
       → begin (on (case_tests here running.sizes line xr before items k) ps) m ≡ b
-  tests_mean done line xr before k x any m ps b value prior low high room ready goes =
-      goes m (ready, refl, (λ r lt. refl), tt, prior ∙ ap truth_bits (no_more any))
+  tests_mean done line xr before k x any m ps b value prior low under_k room ready goes =
+      goes m (ready, refl, (λ r lt. refl), prior ∙ ap truth_bits (no_more any))
     where
       no_more : (a : Bool) → a ≡ (a || false)
       no_more true = refl
       no_more false = refl
-  tests_mean (declares at_line_of v items) line xr before k x any m ps b value prior low high room ready goes = tests_mean items line xr before k x any m ps b value prior low high room ready goes
-  tests_mean (initializes at_line_of v drawn e items) line xr before k x any m ps b value prior low high room ready goes = tests_mean items line xr before k x any m ps b value prior low high room ready goes
-  tests_mean (initializes_structure at_line_of v drawn a items) line xr before k x any m ps b value prior low high room ready goes = tests_mean items line xr before k x any m ps b value prior low high room ready goes
-  tests_mean (does s items) line xr before k x any m ps b value prior low high room ready goes = tests_mean items line xr before k x any m ps b value prior low high room ready goes
-  tests_mean (label l items) line xr before k x any m ps b value prior low high room ready goes = tests_mean items line xr before k x any m ps b value prior low high room ready goes
-  tests_mean (case_at at_line_of t bits items) line xr before k x any m ps b value prior low high room ready goes =
+  tests_mean (declares at_line_of v items) line xr before k x any m ps b value prior low under_k room ready goes = tests_mean items line xr before k x any m ps b value prior low under_k room ready goes
+  tests_mean (initializes at_line_of v drawn e items) line xr before k x any m ps b value prior low under_k room ready goes = tests_mean items line xr before k x any m ps b value prior low under_k room ready goes
+  tests_mean (initializes_structure at_line_of v drawn a items) line xr before k x any m ps b value prior low under_k room ready goes = tests_mean items line xr before k x any m ps b value prior low under_k room ready goes
+  tests_mean (does s items) line xr before k x any m ps b value prior low under_k room ready goes = tests_mean items line xr before k x any m ps b value prior low under_k room ready goes
+  tests_mean (label l items) line xr before k x any m ps b value prior low under_k room ready goes = tests_mean items line xr before k x any m ps b value prior low under_k room ready goes
+  tests_mean (case_at at_line_of t bits items) line xr before k x any m ps b value prior low under_k room ready goes =
       let hit = bits == x in
       let m1 : Memory = with_register m k bits in
       let m2 : Memory = with_register m1 (k + 1) (truth_bits (register m1 k == register m1 xr)) in
       let m3 : Memory = with_register m2 (k + 2) (bit_or (register m2 before) (register m2 (k + 1))) in
       let room1 = set_room m k bits in
       let room2 = set_room m1 (k + 1) (truth_bits (register m1 k == register m1 xr)) in
-      let room3 = set_room m2 (k + 2) (bit_or (register m2 before) (register m2 (k + 1))) in
-      let of_case : register m1 k ≡ bits = set_same m k bits (omega (arith, high, room, ready.room)) in
-      let of_value : register m1 xr ≡ x = set_other m k bits xr (λ e. omega (arith, e, high)) ∙ value in
+      let of_case : register m1 k ≡ bits = set_same m k bits (omega (arith, room, ready.room)) in
+      let of_value : register m1 xr ≡ x = set_other m k bits xr (λ e. omega (arith, e, under_k)) ∙ value in
       let is_hit : register m2 (k + 1) ≡ truth_bits hit =
-      set_same m1 (k + 1) (truth_bits (register m1 k == register m1 xr)) (omega (arith, high, room, ready.room, room1)) ∙ (λ i. truth_bits (of_case i == of_value i)) in
+      set_same m1 (k + 1) (truth_bits (register m1 k == register m1 xr)) (omega (arith, room, ready.room, room1)) ∙ (λ i. truth_bits (of_case i == of_value i)) in
       let is_prior : register m2 before ≡ truth_bits any = set_other m1 (k + 1) (truth_bits (register m1 k == register m1 xr)) before (λ e. omega (arith, e, low)) ∙ set_other m k bits before (λ e. omega (arith, e, low)) ∙ prior in
       let is_any : register m3 (k + 2) ≡ truth_bits (any || hit) =
-      set_same m2 (k + 2) (bit_or (register m2 before) (register m2 (k + 1))) (omega (arith, high, room, ready.room, room1, room2)) ∙ (λ i. bit_or (is_prior i) (is_hit i)) ∙ either_bits any hit in
+      set_same m2 (k + 2) (bit_or (register m2 before) (register m2 (k + 1))) (omega (arith, room, ready.room, room1, room2)) ∙ (λ i. bit_or (is_prior i) (is_hit i)) ∙ either_bits any hit in
       let below : (r : ℕ) → r < k → register m3 r ≡ register m r =
       λ r lt. set_other m2 (k + 2) (bit_or (register m2 before) (register m2 (k + 1))) r (λ e. omega (arith, e, lt)) ∙ set_other m1 (k + 1) (truth_bits (register m1 k == register m1 xr)) r (λ e. omega (arith, e, lt)) ∙ set_other m k bits r (λ e. omega (arith, e, lt)) in
-      let value3 : register m3 xr ≡ x =
-      set_other m2 (k + 2) (bit_or (register m2 before) (register m2 (k + 1))) xr (λ e. omega (arith, e, high)) ∙ set_other m1 (k + 1) (truth_bits (register m1 k == register m1 xr)) xr (λ e. omega (arith, e, high)) ∙ of_value in
       let kept : Kept edge d k m m3 =
       kept-then edge d k k m m1 m3 (omega arith) (kept-set edge d k k m bits (omega arith))
       (kept-then edge d k k m1 m2 m3 (omega arith) (kept-set edge d k (k + 1) m1 (truth_bits (register m1 k == register m1 xr)) (omega arith)) (kept-set edge d k (k + 2) m2 (bit_or (register m2 before) (register m2 (k + 1))) (omega arith))) in
       let ready3 : Ready m3 = ready_kept k m m3 (omega (arith, low)) ready kept in
-      tests_mean items line xr (k + 2) (k + 3) x (any || hit) m3 ps b value3 is_any (omega arith) (omega (arith, high)) room ready3 (λ m' after.
-      let still : (r : ℕ) → r < k + 3 → register m' r ≡ register m3 r = after.2 in
-      let hit_still : register m' (k + 1) ≡ truth_bits hit = still (k + 1) (omega arith) ∙ set_other m2 (k + 2) (bit_or (register m2 before) (register m2 (k + 1))) (k + 1) (λ e. omega (arith, e)) ∙ is_hit in
-      goes m' (after.0, after.1, (λ r lt. still r (omega (arith, lt)) ∙ below r lt), (hit_still, after.3), after.4 ∙ ap truth_bits (either_either any hit (has_case items x))))
-  tests_mean (default_at at_line_of items) line xr before k x any m ps b value prior low high room ready goes = tests_mean items line xr before k x any m ps b value prior low high room ready goes
+      tests_mean items line xr (k + 2) (k + 5) x (any || hit) m3 ps b (below xr under_k ∙ value) is_any (omega arith) (omega (arith, under_k)) (omega (arith, room)) ready3 (λ m' after.
+      goes m' (after.0, after.1, (λ r lt. after.2 r (omega (arith, lt)) ∙ below r lt), after.3 ∙ ap truth_bits (either_either any hit (has_case items x))))
+  tests_mean (default_at at_line_of items) line xr before k x any m ps b value prior low under_k room ready goes = tests_mean items line xr before k x any m ps b value prior low under_k room ready goes
+
+  -- a block without variables of its own is entered by doing nothing
+  nothing_entered : (items : Items) (vs : Variables) (follows : Variables → Behaviour) → declares_none items ≡ true → enter running items vs follows ≡ follows vs
+  nothing_entered done vs follows none = refl
+  nothing_entered (declares line v items) vs follows none = absurd (false≢true none)
+  nothing_entered (initializes line v drawn e items) vs follows none = absurd (false≢true none)
+  nothing_entered (initializes_structure line v drawn a items) vs follows none = absurd (false≢true none)
+  nothing_entered (does s items) vs follows none = nothing_entered items vs follows none
+  nothing_entered (label l items) vs follows none = nothing_entered items vs follows none
+  nothing_entered (case_at line t bits items) vs follows none = nothing_entered items vs follows none
+  nothing_entered (default_at line items) vs follows none = nothing_entered items vs follows none
 
   -- a choice behind what comes first
   chosen_behind : (b : Bool) (f : (Variables → Behaviour) → Behaviour) (x y : Variables → Behaviour) → f (λ now. if b then x now else y now) ≡ (if b then f x else f y)
@@ -474,9 +459,6 @@ module _ (running : Running) (others objects : List ℕ) (functions : List Signa
   no_room : (r : Temporaries) → Lives r → Lives no_temporaries
   no_room r housed = record { zeros = omega arith; sizes = tt }
 
-  some_entry : (n before in_cases in_entry : ℕ) (items : Items) → 1 ≤ n → in_entry ≡ in_cases + case_registers running.sizes items → in_cases ≤ in_entry
-  some_entry n before in_cases in_entry items some is_entry = omega (arith, is_entry)
-
   result_there : (m : Memory) → Ready m → edge + 1 < length m.blocks
   result_there m ready = block_there running others calls hands meant d m ready.placed (edge + 1) ready.placed.deep
 
@@ -492,9 +474,9 @@ module _ (running : Running) (others objects : List ℕ) (functions : List Signa
   leads_if true ps v w x y first second = first
   leads_if false ps v w x y first second = second
 
-  leads_two : (b : Bool) (ps : Places) (v w : ℕ) (follows : Variables → Behaviour) → (b ≡ true → Leads ps v follows) → (b ≡ false → Leads ps w follows) → Leads ps (if b then v else w) follows
-  leads_two true ps v w follows first second = first refl
-  leads_two false ps v w follows first second = second refl
+  leads_either : (b : Bool) (ps : Places) (v w : ℕ) (x y : Variables → Behaviour) → (b ≡ true → Leads ps v x) → Leads ps w y → Leads ps (if b then v else w) (λ vs. if b then x vs else y vs)
+  leads_either true ps v w x y first second = first refl
+  leads_either false ps v w x y first second = second
 
   -- over the bounds, which are those of the source, and the size of the block for what the function hands over
   module _ (tests_same : (l : ℕ) → tests bounded running.function l ≡ running.tests l) (assertions_same : running.assertions ≡ limits.assertions) (result_size : slice_index sizes (edge + 1) ≡ given_size gives) where
@@ -508,14 +490,14 @@ module _ (running : Running) (others objects : List ℕ) (functions : List Signa
         → is_typed_statement named s ≡ true → Lives (statement_temporaries s) → 1 ≤ n → n + statement_registers running.sizes s ≤ total → LeadOut ways exits (nodes_on rest later) → Goes (nodes_on rest later) follows
         → Goes (nodes_on (statement_code here running.sizes (length later) ways s n rest) later) (λ vs. exec running meant s exits vs follows)
 
-    -- the jumps to cases lead to the one that is met
+    -- the jumps to cases lead to the one that has the value in the register xr
     abbrev JumpsMean : Items → Type 0
     JumpsMean items =
-        (line x k n : ℕ) (ways : Ways) (exits : Exits) (rest more : Nodes) (later : Places) (follows other : Variables → Behaviour)
+        (xr x k n : ℕ) (ways : Ways) (exits : Exits) (rest more : Nodes) (later : Places) (follows other : Variables → Behaviour)
         → are_typed_items named items ≡ true → Lives (items_temporaries items) → 1 ≤ n → n + items_registers running.sizes items ≤ total → LeadOut ways exits (nodes_on rest later) → Goes (nodes_on rest later) follows
         → InFront more (items_code here running.sizes (length later) ways items n rest)
-        → (m : Memory) → Ready m → Tested items k x m → begin (nodes_on more later) m ≡ other (view m)
-        → begin (nodes_on (case_jumps here running.sizes (length later) ways line items k n rest more) later) m ≡ (if has_case items x then at_case running meant items x exits (view m) follows else other (view m))
+        → 1 ≤ k → xr < k → k + case_registers running.sizes items ≤ total → Goes (nodes_on more later) other → (m : Memory) → Ready m → register m xr ≡ x
+        → begin (nodes_on (case_jumps here running.sizes (length later) ways xr items k n rest more) later) m ≡ (if has_case items x then at_case running meant items x exits (view m) follows else other (view m))
 
     -- `default` is where its place says
     abbrev DefaultLeads : Items → Type 0
@@ -554,56 +536,75 @@ module _ (running : Running) (others objects : List ℕ) (functions : List Signa
         (λ i. begin (nodes_on (statement_code here running.sizes (base i) ways_in s in_body end) later_in) m)
         ∙ means_it ways_in (in_loop exits follows follows_end) in_body end later_in follows_end typed housed some_body room out_in end_goes m ready
 
-    -- behind the tests of the cases: nothing where none is met and there is no default, else the block, from the place that is met
-    switch_tail : (b : Bool) (line : ℕ) (items : Items) → JumpsMean items → DefaultLeads items → (ways : Ways) (exits : Exits) (n before in_cases in_entry : ℕ) (rest : Nodes) (later : Places) (follows : Variables → Behaviour) (x : ℕ)
-        → has_default items ≡ b → in_entry ≡ in_cases + case_registers running.sizes items → 1 ≤ in_cases
+    -- the block of a switch, from the place of the case that has the value, else from that of the default, or nothing more
+    entered_means : (b : Bool) (line xr : ℕ) (items : Items) → JumpsMean items → DefaultLeads items → (ways : Ways) (exits : Exits) (n in_entry : ℕ) (rest : Nodes) (later : Places) (follows : Variables → Behaviour) (x : ℕ)
+        → has_default items ≡ b → in_entry ≡ xr + 1 + case_registers running.sizes items
         → are_typed_items named items ≡ true → Lives (items_temporaries items) → 1 ≤ n → n + items_registers running.sizes items ≤ total → in_entry + entry_registers running.sizes items ≤ total
-        → LeadOut ways exits (nodes_on rest later) → Goes (nodes_on rest later) follows → (m : Memory) → Ready m → Tested items in_cases x m → register m (last_case here running.sizes before items in_cases) ≡ truth_bits (has_case items x)
+        → LeadOut ways exits (nodes_on rest later) → Goes (nodes_on rest later) follows → (m : Memory) → Ready m → register m xr ≡ x
         → (let body = items_code here running.sizes (length later) ways items n rest in
         let last = to_place here running.sizes line (length later) (if b then default_place here running.sizes (length later) ways items n rest else length later + node_count rest) body in
-        let entered = plains (entry_code here running.sizes items in_entry) (case_jumps here running.sizes (length later) ways line items in_cases n rest last) in
-        begin (nodes_on (if b then entered else plain (at_line here line (operations.SkipIfZero (last_case here running.sizes before items in_cases) (node_count entered - node_count rest))) entered) later) m
-        ≡ (if has_case items x then enter running items (view m) (λ now. at_case running meant items x exits now follows)
-        else (if b then enter running items (view m) (λ now. at_default running meant items exits now follows) else follows (view m))))
-    switch_tail true line items jumps_it default_it ways exits n before in_cases in_entry rest later follows x is_default is_entry some_cases typed housed some room entry_room out goes m ready known_cases any =
-        let base = length later in
-        let body = items_code here running.sizes base ways items n rest in
-        let place = default_place here running.sizes base ways items n rest in
-        let last = to_place here running.sizes line base place body in
-        let by_default : Variables → Behaviour = λ vs. at_default running meant items exits vs follows in
-        let by_case : Variables → Behaviour = λ vs. at_case running meant items x exits vs follows in
-        let leads = default_it n ways exits rest later follows is_default typed housed some (omega (arith, room)) out goes in
-        begin_plains (entry_code here running.sizes items in_entry) _ later m
-        ∙ entering items in_entry in_entry m m _ (λ now. if has_case items x then by_case now else by_default now) typed ready (kept-refl edge d in_entry m) (omega (arith, some_entry n before in_cases in_entry items some is_entry, some_cases)) (omega arith) (omega (arith, entry_room)) (λ m1 kept.
-        let ready1 = ready_kept in_entry m m1 (omega (arith, some_entry n before in_cases in_entry items some is_entry, some_cases)) ready kept in
-        jumps_it line x in_cases n ways exits rest last later follows by_default typed housed some (omega (arith, room)) out goes (plain_front _ body body (itself body)) m1 ready1
-        (tested_kept items in_cases x in_entry m m1 (omega (arith, is_entry)) kept.below known_cases)
-        (skip_to (nodes_on body later) (base + node_count body - place) place by_default (omega (arith, places_count body later)) leads m1 ready1))
-        ∙ chosen_behind (has_case items x) (λ k. enter running items (view m) k) by_case by_default
-    switch_tail false line items jumps_it default_it ways exits n before in_cases in_entry rest later follows x is_default is_entry some_cases typed housed some room entry_room out goes m ready known_cases any =
+        begin (nodes_on (plains (entry_code here running.sizes items in_entry) (case_jumps here running.sizes (length later) ways xr items (xr + 1) n rest last)) later) m
+        ≡ enter running items (view m) (λ now. if has_case items x then at_case running meant items x exits now follows else (if b then at_default running meant items exits now follows else follows now)))
+    entered_means b line xr items jumps_it default_it ways exits n in_entry rest later follows x is_default is_entry typed housed some room entry_room out goes m ready value =
         let base = length later in
         let behind = base + node_count rest in
         let body = items_code here running.sizes base ways items n rest in
+        let place = if b then default_place here running.sizes base ways items n rest else behind in
+        let last = to_place here running.sizes line base place body in
+        let other : Variables → Behaviour = λ now. if b then at_default running meant items exits now follows else follows now in
+        let leads : Leads (nodes_on body later) place other =
+        leads_either b (nodes_on body later) (default_place here running.sizes base ways items n rest) behind (λ vs. at_default running meant items exits vs follows) follows
+        (λ is. default_it n ways exits rest later follows (is_default ∙ is) typed housed some room out goes)
+        (leads_front body rest later behind follows (items_front items base ways n rest) (leads_begin (nodes_on rest later) behind follows (omega (arith, places_count rest later)) goes)) in
+        begin_plains (entry_code here running.sizes items in_entry) _ later m
+        ∙ entering items in_entry in_entry m m _ (λ now. if has_case items x then at_case running meant items x exits now follows else other now) typed ready (kept-refl edge d in_entry m) (omega (arith, is_entry)) (omega arith) (omega (arith, entry_room)) (λ m1 kept.
+        let ready1 = ready_kept in_entry m m1 (omega (arith, is_entry)) ready kept in
+        jumps_it xr x (xr + 1) n ways exits rest last later follows other typed housed some room out goes (plain_front _ body body (itself body)) (omega arith) (omega arith) (omega (arith, is_entry, entry_room))
+        (λ m2 ready2. skip_to (nodes_on body later) (base + node_count body - place) place other (omega (arith, places_count body later)) leads m2 ready2)
+        m1 ready1 (kept.below xr (omega (arith, is_entry)) ∙ value))
+
+    -- behind the value: nothing where no case has it and there is no default, else the block
+    switch_tail : (b c : Bool) (line before : ℕ) (items : Items) → JumpsMean items → DefaultLeads items → (ways : Ways) (exits : Exits) (n in_entry : ℕ) (rest : Nodes) (later : Places) (follows : Variables → Behaviour) (x : ℕ)
+        → has_default items ≡ b → declares_none items ≡ c → 1 ≤ before → in_entry ≡ before + 1 + 1 + case_registers running.sizes items
+        → are_typed_items named items ≡ true → Lives (items_temporaries items) → 1 ≤ n → n + items_registers running.sizes items ≤ total → in_entry + entry_registers running.sizes items ≤ total
+        → LeadOut ways exits (nodes_on rest later) → Goes (nodes_on rest later) follows → (m : Memory) → Ready m → register m (before + 1) ≡ x
+        → (let body = items_code here running.sizes (length later) ways items n rest in
+        let last = to_place here running.sizes line (length later) (if b then default_place here running.sizes (length later) ways items n rest else length later + node_count rest) body in
+        let entered = plains (entry_code here running.sizes items in_entry) (case_jumps here running.sizes (length later) ways (before + 1) items (before + 1 + 1) n rest last) in
+        begin (nodes_on (if b || c then entered else guarded here running.sizes line before (before + 1) items (before + 1 + 1) (node_count rest) entered) later) m
+        ≡ (if has_case items x then enter running items (view m) (λ now. at_case running meant items x exits now follows)
+        else (if b then enter running items (view m) (λ now. at_default running meant items exits now follows) else follows (view m))))
+    switch_tail true c line before items jumps_it default_it ways exits n in_entry rest later follows x is_default is_none some_before is_entry typed housed some room entry_room out goes m ready value =
+        entered_means true line (before + 1) items jumps_it default_it ways exits n in_entry rest later follows x is_default is_entry typed housed some room entry_room out goes m ready value
+        ∙ chosen_behind (has_case items x) (λ k. enter running items (view m) k) (λ now. at_case running meant items x exits now follows) (λ now. at_default running meant items exits now follows)
+    switch_tail false true line before items jumps_it default_it ways exits n in_entry rest later follows x is_default is_none some_before is_entry typed housed some room entry_room out goes m ready value =
+        entered_means false line (before + 1) items jumps_it default_it ways exits n in_entry rest later follows x is_default is_entry typed housed some room entry_room out goes m ready value
+        ∙ nothing_entered items (view m) (λ now. if has_case items x then at_case running meant items x exits now follows else follows now) is_none
+        ∙ sym (λ i. if has_case items x then nothing_entered items (view m) (λ now. at_case running meant items x exits now follows) is_none i else follows (view m))
+    switch_tail false false line before items jumps_it default_it ways exits n in_entry rest later follows x is_default is_none some_before is_entry typed housed some room entry_room out goes m ready value =
+        let base = length later in
+        let behind = base + node_count rest in
+        let xr = before + 1 in
+        let body = items_code here running.sizes base ways items n rest in
         let last = to_place here running.sizes line base behind body in
-        let jumps_of = case_jumps here running.sizes base ways line items in_cases n rest last in
+        let jumps_of = case_jumps here running.sizes base ways xr items (xr + 1) n rest last in
         let entered = plains (entry_code here running.sizes items in_entry) jumps_of in
         let by_case : Variables → Behaviour = λ vs. at_case running meant items x exits vs follows in
-        let body_front : InFront body rest = items_front items base ways n rest in
-        let entered_front : InFront entered rest = plains_front _ jumps_of rest (then_front jumps_of last rest (jumps_front base ways line items in_cases n rest last) (plain_front _ body rest body_front)) in
-        let end : Leads (nodes_on body later) behind follows = leads_front body rest later behind follows body_front (leads_begin (nodes_on rest later) behind follows (omega (arith, places_count rest later)) goes) in
-        let skipped : at reading (nodes_on entered later) (node_count entered - node_count rest) m ≡ follows (view m) =
+        let entered_front : InFront entered rest = plains_front _ jumps_of rest (then_front jumps_of last rest (jumps_front base ways xr items (xr + 1) n rest last) (plain_front _ body rest (items_front items base ways n rest))) in
+        let m1 : Memory = with_register m before 0 in
+        let ready1 : Ready m1 = ready_kept before m m1 some_before ready (kept-set edge d before before m 0 (omega arith)) in
+        let value1 : register m1 xr ≡ x = set_other m before 0 xr (λ e. omega (arith, e)) ∙ value in
+        let prior : register m1 before ≡ 0 = set_same m before 0 (omega (arith, is_entry, entry_room, ready.room)) in
+        begin_plains (case_tests here running.sizes line xr before items (xr + 1)) _ later m1
+        ∙ tests_mean items line xr before (xr + 1) x false m1 _ _ value1 prior (omega arith) (omega arith) (omega (arith, is_entry, entry_room)) ready1 (λ m2 after.
+        let skipped : at reading (nodes_on entered later) (node_count entered - node_count rest) m2 ≡ follows (view m2) =
         skip_to (nodes_on entered later) (node_count entered - node_count rest) behind follows (omega (arith, places_count entered later))
-        (leads_front entered rest later behind follows entered_front (leads_begin (nodes_on rest later) behind follows (omega (arith, places_count rest later)) goes)) m ready in
-        let entering_it : begin (nodes_on entered later) m ≡ enter running items (view m) (λ now. if has_case items x then by_case now else follows now) =
-        begin_plains (entry_code here running.sizes items in_entry) jumps_of later m
-        ∙ entering items in_entry in_entry m m (nodes_on jumps_of later) (λ now. if has_case items x then by_case now else follows now) typed ready (kept-refl edge d in_entry m) (omega (arith, some_entry n before in_cases in_entry items some is_entry, some_cases)) (omega arith) (omega (arith, entry_room)) (λ m1 kept.
-        let ready1 = ready_kept in_entry m m1 (omega (arith, some_entry n before in_cases in_entry items some is_entry, some_cases)) ready kept in
-        jumps_it line x in_cases n ways exits rest last later follows follows typed housed some (omega (arith, room)) out goes (plain_front _ body body (itself body)) m1 ready1
-        (tested_kept items in_cases x in_entry m m1 (omega (arith, is_entry)) kept.below known_cases)
-        (skip_to (nodes_on body later) (base + node_count body - behind) behind follows (omega (arith, places_count body later)) end m1 ready1)) in
-        (λ i. if any i == 0 then at reading (nodes_on entered later) (node_count entered - node_count rest) m else begin (nodes_on entered later) m)
-        ∙ by_truth (has_case items x) (at reading (nodes_on entered later) (node_count entered - node_count rest) m) (begin (nodes_on entered later) m) (enter running items (view m) by_case) (follows (view m)) skipped
-        (λ h. entering_it ∙ (λ i. enter running items (view m) (λ now. if h i then by_case now else follows now)))
+        (leads_front entered rest later behind follows entered_front (leads_begin (nodes_on rest later) behind follows (omega (arith, places_count rest later)) goes)) m2 after.0 in
+        let entering_it = entered_means false line xr items jumps_it default_it ways exits n in_entry rest later follows x is_default is_entry typed housed some room entry_room out goes m2 after.0 (after.2 xr (omega arith) ∙ value1) in
+        (λ i. if after.3 i == 0 then at reading (nodes_on entered later) (node_count entered - node_count rest) m2 else begin (nodes_on entered later) m2)
+        ∙ by_truth (has_case items x) (at reading (nodes_on entered later) (node_count entered - node_count rest) m2) (begin (nodes_on entered later) m2) (enter running items (view m2) by_case) (follows (view m2)) skipped
+        (λ h. entering_it ∙ (λ i. enter running items (view m2) (λ now. if h i then by_case now else follows now)))
+        ∙ (λ i. if has_case items x then enter running items (take edge (after.1 i)) by_case else follows (take edge (after.1 i))))
 
     mutual
       pub statement_means : (s : Statement) (ways : Ways) (exits : Exits) (n : ℕ) (rest : Nodes) (later : Places) (follows : Variables → Behaviour)
@@ -722,16 +723,11 @@ module _ (running : Running) (others objects : List ℕ) (functions : List Signa
           (tests bounded running.function l) m ready
           ∙ (λ i. source.rounds running line round (tests_same l i) (view m))
       statement_means (switch line e items) ways exits n rest later follows typed housed some room out goes m ready =
-          let base = length later in
-          let behind = base + node_count rest in
-          let inner = within_switch ways behind in
+          let behind = length later + node_count rest in
           let before = n + items_registers running.sizes items in
-          let in_cases = before + 1 in
-          let in_entry = in_cases + case_registers running.sizes items in
+          let in_entry = before + 1 + 1 + case_registers running.sizes items in
           let from = in_entry + entry_registers running.sizes items in
-          let items_typed = right_of _ _ typed in
-          let items_housed = housed_right sizes edge d (temporaries e) (items_temporaries items) housed in
-          let inner_out : LeadOut inner (in_switch exits follows) (nodes_on rest later) = record {
+          let inner_out : LeadOut (within_switch ways behind) (in_switch exits follows) (nodes_on rest later) = record {
             breaks = leads_begin (nodes_on rest later) behind follows (omega (arith, places_count rest later)) goes;
             continues = out.continues;
             labels = out.labels;
@@ -740,16 +736,11 @@ module _ (running : Running) (others objects : List ℕ) (functions : List Signa
           begin_plains (code here e from) _ later m
           ∙ value_first e from m _ _ (right_of _ _ (left_of _ _ (left_of _ _ typed))) (housed_left sizes edge d (temporaries e) (items_temporaries items) housed) ready (omega (arith, some)) (omega (arith, room)) (λ m1 ready1 kept1.
           let x = register m1 (from + top e) in
-          let m2 : Memory = with_register m1 before 0 in
-          let kept2 : Kept edge d before m1 m2 = kept-set edge d before before m1 0 (omega arith) in
-          let ready2 : Ready m2 = ready_kept before m1 m2 (omega (arith, some)) ready1 kept2 in
-          let value : register m2 (from + top e) ≡ x = set_other m1 before 0 (from + top e) (λ q. omega (arith, q)) in
-          let prior : register m2 before ≡ 0 = set_same m1 before 0 (omega (arith, room, ready1.room)) in
-          begin_plains (case_tests here running.sizes line (from + top e) before items in_cases) _ later m2
-          ∙ tests_mean items line (from + top e) before in_cases x false m2 _ _ value prior (omega arith) (omega arith) (omega (arith, room)) ready2 (λ m3 after.
-          switch_tail (has_default items) line items (λ line2 x2 k2 n2 ways2 exits2 rest2 more2 later2 follows2 other2. jumps_mean items line2 x2 k2 n2 ways2 exits2 rest2 more2 later2 follows2 other2) (λ n2 ways2 exits2 rest2 later2 follows2. default_leads items n2 ways2 exits2 rest2 later2 follows2) inner (in_switch exits follows) n before in_cases in_entry rest later follows x refl refl (omega arith) items_typed items_housed some (omega (arith, room)) (omega (arith, room)) inner_out goes m3 after.0 after.3 after.4
-          ∙ (λ i. if has_case items x then enter running items (take edge (after.1 i)) (λ now. at_case running meant items x (in_switch exits follows) now follows)
-          else (if has_default items then enter running items (take edge (after.1 i)) (λ now. at_default running meant items (in_switch exits follows) now follows) else follows (take edge (after.1 i))))))
+          let m2 : Memory = with_register m1 (before + 1) x in
+          let ready2 : Ready m2 = ready_kept (before + 1) m1 m2 (omega arith) ready1 (kept-set edge d (before + 1) (before + 1) m1 x (omega arith)) in
+          switch_tail (has_default items) (declares_none items) line before items (λ xr2 x2 k2 n2 ways2 exits2 rest2 more2 later2 follows2 other2. jumps_mean items xr2 x2 k2 n2 ways2 exits2 rest2 more2 later2 follows2 other2) (λ n2 ways2 exits2 rest2 later2 follows2. default_leads items n2 ways2 exits2 rest2 later2 follows2)
+          (within_switch ways behind) (in_switch exits follows) n in_entry rest later follows x refl refl (omega (arith, some)) refl (right_of _ _ typed) (housed_right sizes edge d (temporaries e) (items_temporaries items) housed) some (omega (arith, room)) (omega (arith, room)) inner_out goes m2 ready2
+          (set_same m1 (before + 1) x (omega (arith, room, ready1.room))))
       statement_means (breaks line) ways exits n rest later follows typed housed some room out goes m ready =
           skip_to (nodes_on rest later) (length later + node_count rest - ways.break_at) ways.break_at exits.breaks (omega (arith, places_count rest later)) out.breaks m ready
       statement_means (continues line) ways exits n rest later follows typed housed some room out goes m ready =
@@ -827,43 +818,52 @@ module _ (running : Running) (others objects : List ℕ) (functions : List Signa
       labels_lead (case_at line t bits items) ways exits n rest later follows typed housed some room out goes = labels_lead items ways exits n rest later follows (right_of _ _ typed) housed some room out goes
       labels_lead (default_at line items) ways exits n rest later follows typed housed some room out goes = labels_lead items ways exits n rest later follows typed housed some room out goes
 
-      -- the jumps to the cases: behind the one that is met, else on
-      jumps_mean : (items : Items) (line x k n : ℕ) (ways : Ways) (exits : Exits) (rest more : Nodes) (later : Places) (follows other : Variables → Behaviour)
+      -- the jumps to the cases: behind the one that has the value, else on
+      jumps_mean : (items : Items) (xr x k n : ℕ) (ways : Ways) (exits : Exits) (rest more : Nodes) (later : Places) (follows other : Variables → Behaviour)
           → are_typed_items named items ≡ true → Lives (items_temporaries items) → 1 ≤ n → n + items_registers running.sizes items ≤ total → LeadOut ways exits (nodes_on rest later) → Goes (nodes_on rest later) follows
           → InFront more (items_code here running.sizes (length later) ways items n rest)
-          → (m : Memory) → Ready m → Tested items k x m → begin (nodes_on more later) m ≡ other (view m)
-          → begin (nodes_on (case_jumps here running.sizes (length later) ways line items k n rest more) later) m ≡ (if has_case items x then at_case running meant items x exits (view m) follows else other (view m))
-      jumps_mean done line x k n ways exits rest more later follows other typed housed some room out goes front m ready known_cases last = last
-      jumps_mean (declares at_line_of v items) line x k n ways exits rest more later follows other typed housed some room out goes front m ready known_cases last =
-          jumps_mean items line x k n ways exits rest more later follows other (right_of _ _ typed) housed some room out goes front m ready known_cases last
-      jumps_mean (initializes at_line_of v drawn e items) line x k n ways exits rest more later follows other typed housed some room out goes front m ready known_cases last =
+          → 1 ≤ k → xr < k → k + case_registers running.sizes items ≤ total → Goes (nodes_on more later) other → (m : Memory) → Ready m → register m xr ≡ x
+          → begin (nodes_on (case_jumps here running.sizes (length later) ways xr items k n rest more) later) m ≡ (if has_case items x then at_case running meant items x exits (view m) follows else other (view m))
+      jumps_mean done xr x k n ways exits rest more later follows other typed housed some room out goes front some_cases low cases_room last m ready value = last m ready
+      jumps_mean (declares at_line_of v items) xr x k n ways exits rest more later follows other typed housed some room out goes front some_cases low cases_room last m ready value =
+          jumps_mean items xr x k n ways exits rest more later follows other (right_of _ _ typed) housed some room out goes front some_cases low cases_room last m ready value
+      jumps_mean (initializes at_line_of v drawn e items) xr x k n ways exits rest more later follows other typed housed some room out goes front some_cases low cases_room last m ready value =
           let others_code = items_code here running.sizes (length later) ways items n rest in
-          jumps_mean items line x k n ways exits rest more later follows other (right_of _ _ typed) (housed_right sizes edge d (temporaries e) (items_temporaries items) housed) some (omega (arith, room)) out goes
-          (then_front more (items_code here running.sizes (length later) ways (initializes at_line_of v drawn e items) n rest) others_code front (plains_front _ _ others_code (plain_front _ others_code others_code (itself others_code)))) m ready known_cases last
-      jumps_mean (initializes_structure at_line_of v drawn a items) line x k n ways exits rest more later follows other typed housed some room out goes front m ready known_cases last =
+          jumps_mean items xr x k n ways exits rest more later follows other (right_of _ _ typed) (housed_right sizes edge d (temporaries e) (items_temporaries items) housed) some (omega (arith, room)) out goes
+          (then_front more (items_code here running.sizes (length later) ways (initializes at_line_of v drawn e items) n rest) others_code front (plains_front _ _ others_code (plain_front _ others_code others_code (itself others_code)))) some_cases low cases_room last m ready value
+      jumps_mean (initializes_structure at_line_of v drawn a items) xr x k n ways exits rest more later follows other typed housed some room out goes front some_cases low cases_room last m ready value =
           let others_code = items_code here running.sizes (length later) ways items n rest in
-          jumps_mean items line x k n ways exits rest more later follows other (right_of _ _ typed) (housed_right sizes edge d (under (trees.size_of a) (structure_temporaries a)) (items_temporaries items) housed) some (omega (arith, room)) out goes
-          (then_front more (items_code here running.sizes (length later) ways (initializes_structure at_line_of v drawn a items) n rest) others_code front (plains_front _ others_code others_code (itself others_code))) m ready known_cases last
-      jumps_mean (does s items) line x k n ways exits rest more later follows other typed housed some room out goes front m ready known_cases last =
+          jumps_mean items xr x k n ways exits rest more later follows other (right_of _ _ typed) (housed_right sizes edge d (under (trees.size_of a) (structure_temporaries a)) (items_temporaries items) housed) some (omega (arith, room)) out goes
+          (then_front more (items_code here running.sizes (length later) ways (initializes_structure at_line_of v drawn a items) n rest) others_code front (plains_front _ others_code others_code (itself others_code))) some_cases low cases_room last m ready value
+      jumps_mean (does s items) xr x k n ways exits rest more later follows other typed housed some room out goes front some_cases low cases_room last m ready value =
           let others_code = items_code here running.sizes (length later) ways items n rest in
-          jumps_mean items line x k n ways exits rest more later follows other (right_of _ _ typed) (housed_right sizes edge d (statement_temporaries s) (items_temporaries items) housed) some (omega (arith, room)) out goes
-          (then_front more (items_code here running.sizes (length later) ways (does s items) n rest) others_code front (statement_front s (length later) (labels_of here running.sizes (length later) ways items n rest) (n + items_registers running.sizes items) others_code)) m ready known_cases last
-      jumps_mean (label l items) line x k n ways exits rest more later follows other typed housed some room out goes front m ready known_cases last =
-          jumps_mean items line x k n ways exits rest more later follows other typed housed some room out goes front m ready known_cases last
-      jumps_mean (case_at at_line_of t bits items) line x k n ways exits rest more later follows other typed housed some room out goes front m ready known_cases last =
+          jumps_mean items xr x k n ways exits rest more later follows other (right_of _ _ typed) (housed_right sizes edge d (statement_temporaries s) (items_temporaries items) housed) some (omega (arith, room)) out goes
+          (then_front more (items_code here running.sizes (length later) ways (does s items) n rest) others_code front (statement_front s (length later) (labels_of here running.sizes (length later) ways items n rest) (n + items_registers running.sizes items) others_code)) some_cases low cases_room last m ready value
+      jumps_mean (label l items) xr x k n ways exits rest more later follows other typed housed some room out goes front some_cases low cases_room last m ready value =
+          jumps_mean items xr x k n ways exits rest more later follows other typed housed some room out goes front some_cases low cases_room last m ready value
+      jumps_mean (case_at at_line_of t bits items) xr x k n ways exits rest more later follows other typed housed some room out goes front some_cases low cases_room last m ready value =
           let behind = items_code here running.sizes (length later) ways items n rest in
-          let next = case_jumps here running.sizes (length later) ways line items (k + 3) n rest more in
+          let next = case_jumps here running.sizes (length later) ways xr items (k + 5) n rest more in
           let place = length later + node_count behind in
           let meets : Variables → Behaviour = λ vs. exec_items running meant items exits vs follows in
-          let next_front : InFront next behind = then_front next more behind (jumps_front (length later) ways line items (k + 3) n rest more) front in
+          let m1 : Memory = with_register m (k + 3) bits in
+          let m2 : Memory = with_register m1 (k + 4) (truth_bits (register m1 (k + 3) == register m1 xr)) in
+          let of_case : register m1 (k + 3) ≡ bits = set_same m (k + 3) bits (omega (arith, cases_room, ready.room)) in
+          let of_value : register m1 xr ≡ x = set_other m (k + 3) bits xr (λ e. omega (arith, e, low)) ∙ value in
+          let is_hit : register m2 (k + 4) ≡ truth_bits (bits == x) =
+          set_same m1 (k + 4) (truth_bits (register m1 (k + 3) == register m1 xr)) (omega (arith, cases_room, ready.room, set_room m (k + 3) bits)) ∙ (λ i. truth_bits (of_case i == of_value i)) in
+          let value2 : register m2 xr ≡ x = set_other m1 (k + 4) (truth_bits (register m1 (k + 3) == register m1 xr)) xr (λ e. omega (arith, e, low)) ∙ of_value in
+          let kept : Kept edge d k m m2 = kept-then edge d k k m m1 m2 (omega arith) (kept-set edge d k (k + 3) m bits (omega arith)) (kept-set edge d k (k + 4) m1 (truth_bits (register m1 (k + 3) == register m1 xr)) (omega arith)) in
+          let ready2 : Ready m2 = ready_kept k m m2 some_cases ready kept in
+          let next_front : InFront next behind = then_front next more behind (jumps_front (length later) ways xr items (k + 5) n rest more) front in
           let lead : Leads (nodes_on next later) place meets =
           leads_front next behind later place meets next_front (leads_begin (nodes_on behind later) place meets (omega (arith, places_count behind later)) (items_mean items ways exits n rest later follows (right_of _ _ typed) housed some room out goes)) in
-          let hit : at reading (nodes_on next later) (length later + node_count next - place) m ≡ meets (view m) = skip_to (nodes_on next later) (length later + node_count next - place) place meets (omega (arith, places_count next later)) lead m ready in
-          let missed = jumps_mean items line x (k + 3) n ways exits rest more later follows other (right_of _ _ typed) housed some room out goes front m ready known_cases.1 last in
-          (λ i. if known_cases.0 i == 0 then begin (nodes_on next later) m else at reading (nodes_on next later) (length later + node_count next - place) m)
-          ∙ met (bits == x) (has_case items x) (begin (nodes_on next later) m) (at reading (nodes_on next later) (length later + node_count next - place) m) (meets (view m)) (at_case running meant items x exits (view m) follows) (other (view m)) hit missed
-      jumps_mean (default_at at_line_of items) line x k n ways exits rest more later follows other typed housed some room out goes front m ready known_cases last =
-          jumps_mean items line x k n ways exits rest more later follows other typed housed some room out goes front m ready known_cases last
+          let hit : at reading (nodes_on next later) (length later + node_count next - place) m2 ≡ meets (view m2) = skip_to (nodes_on next later) (length later + node_count next - place) place meets (omega (arith, places_count next later)) lead m2 ready2 in
+          let missed = jumps_mean items xr x (k + 5) n ways exits rest more later follows other (right_of _ _ typed) housed some room out goes front (omega arith) (omega (arith, low)) (omega (arith, cases_room)) last m2 ready2 value2 in
+          (λ i. if is_hit i == 0 then begin (nodes_on next later) m2 else at reading (nodes_on next later) (length later + node_count next - place) m2)
+          ∙ met (bits == x) (has_case items x) (begin (nodes_on next later) m2) (at reading (nodes_on next later) (length later + node_count next - place) m2) (meets (view m2)) (at_case running meant items x exits (view m2) follows) (other (view m2)) hit missed
+      jumps_mean (default_at at_line_of items) xr x k n ways exits rest more later follows other typed housed some room out goes front some_cases low cases_room last m ready value =
+          jumps_mean items xr x k n ways exits rest more later follows other typed housed some room out goes front some_cases low cases_room last m ready value
 
       -- where `default` stands
       default_leads : (items : Items) (n : ℕ) (ways : Ways) (exits : Exits) (rest : Nodes) (later : Places) (follows : Variables → Behaviour)

@@ -1,5 +1,5 @@
 -- The code of a function that grows, and what each tree adds to it. That of an expression grows at its end; that of statements, which are nodes, grows in front of them.
-use Rattle.std.specs.Prelude.{◌≡◌, ℕ, ◌+◌, ◌-◌, ◌==◌, List, [], ◌∷◌, ◌++◌, length, replicate, reverse, Option, Some, None, slice_set, if◌then◌else◌}
+use Rattle.std.specs.Prelude.{◌≡◌, ℕ, ◌+◌, ◌-◌, ◌==◌, List, [], ◌∷◌, ◌++◌, length, replicate, reverse, ◌||◌, Option, Some, None, is_some, slice_set, if◌then◌else◌}
 use Rattle.c_types.specs.declared.integers.IntegerType.{IntegerType}
 use Rattle.c_types.specs.declared.integers.IntegerType.TheVariants.{Int, UnsignedLong}
 use Rattle.core_tree.specs.declared.operators.ArithmeticOperator.TheVariants as arithmetics
@@ -16,7 +16,7 @@ use Rattle.goto_lower.specs.declared.exits.Exits.{Exits}
 use Rattle.goto_lower.specs.declared.exits.Target.{Target}
 use Rattle.goto_lower.specs.declared.exits.CasePlace.{CasePlace}
 use Rattle.goto_lower.specs.declared.exits.Cases.{Cases}
-use Rattle.goto_lower.specs.Lowering.{Frame, Ways, deeper, deeper_by, top, argument_count, line_of, at_line, to_place, code, structure_code, parts_code, text_code, arguments_code, words_code, entry_code, plains, case_registers, case_tests, last_case, items_code, statement_code}
+use Rattle.goto_lower.specs.Lowering.{Frame, Ways, deeper, deeper_by, top, argument_count, line_of, at_line, to_place, code, structure_code, parts_code, text_code, arguments_code, words_code, entry_code, plains, declares_none, case_registers, case_tests, guarded, items_code, statement_code}
 use Rattle.goto_lower.specs.Registers.{types, structure_types, parts_types, arguments_types, entry_types, items_types, statement_types}
 
 -- where the code stands, and the sizes of the function's variables; the code of an expression so far, the types of the registers so far, and where the labels that are known lead, the latest first
@@ -116,8 +116,8 @@ ways_of x labels = record { break_at = x.break_at; continue_at = x.continue_at; 
 abbrev pub target : (l place : ℕ) → Target
 target l place = record { label = l; place = place }
 
-abbrev pub case_place : (line place : ℕ) → CasePlace
-case_place line place = record { line = line; place = place }
+abbrev pub case_place : (line bits place : ℕ) → IntegerType → CasePlace
+case_place line bits place t = record { line = line; type_ = t; bits = bits; place = place }
 
 -- over where the code stands, and the sizes of the variables
 module _ (frame : Frame) (variables : List ℕ) where
@@ -140,7 +140,7 @@ module _ (frame : Frame) (variables : List ℕ) where
   cases_of base ways (initializes_structure line v drawn a more) n rest = cases_of base ways more n rest
   cases_of base ways (does s more) n rest = cases_of base ways more n rest
   cases_of base ways (label l more) n rest = cases_of base ways more n rest
-  cases_of base ways (case_at line t bits more) n rest = cases_of base ways more n rest ++ case_place line (base + node_count (items_code frame variables base ways more n rest)) ∷ []
+  cases_of base ways (case_at line t bits more) n rest = cases_of base ways more n rest ++ case_place line bits (base + node_count (items_code frame variables base ways more n rest)) t ∷ []
   cases_of base ways (default_at line more) n rest = cases_of base ways more n rest
 
   -- the default among items
@@ -154,11 +154,17 @@ module _ (frame : Frame) (variables : List ℕ) where
   default_of base ways (case_at line t bits more) n rest = default_of base ways more n rest
   default_of base ways (default_at line more) n rest = Some (base + node_count (items_code frame variables base ways more n rest))
 
-  -- jumps to cases, the first of which comes last: the registers of the first of all are from k on, and so many other cases stand before those here
-  abbrev pub jumps_to : (base k : ℕ) → List CasePlace → Nodes → Nodes
-  jumps_to base k [] others = others
-  jumps_to base k (c ∷ cs) others =
-      plain (at_line frame c.line (SkipIfZero (k + 1) 1)) (to_place frame variables c.line base c.place (jumps_to base (k + 3) cs others))
+  -- the test of a case for the value in the register x, and the jump to it
+  abbrev pub jump_code : (base x k : ℕ) → CasePlace → Nodes → Nodes
+  jump_code base x k c others =
+      plain (at_line frame c.line (operations.Constant (k + 3) c.bits))
+      (plain (at_line frame c.line (operations.Compare (k + 4) comparisons.Equal c.type_ (k + 3) x))
+      (plain (at_line frame c.line (SkipIfZero (k + 4) 1)) (to_place frame variables c.line base c.place others)))
+
+  -- those of cases, by registers from k on
+  abbrev pub jumps_to : (base x k : ℕ) → List CasePlace → Nodes → Nodes
+  jumps_to base x k [] others = others
+  jumps_to base x k (c ∷ cs) others = jump_code base x k c (jumps_to base x (k + 5) cs others)
 
 -- these items have been added in front of nodes, last to first
 pub record Within (first : Listed) (rest : Nodes) (x : Exits) (items : Items) (d : Listed) (nodes : Nodes) (cases : Cases) : Type 0 where
@@ -189,14 +195,13 @@ case_code f line t bits x before n =
 abbrev pub after_tests : Listed → (line x before : ℕ) → Items → (n : ℕ) → Listed
 after_tests d line x before items n = added d (case_tests d.frame d.variables line x before items n) []
 
--- in front of nodes, which are passed over up to the last of them where no case is met and there is no default
-abbrev pub unmet_code : Frame → (line : ℕ) → Option ℕ → (last count : ℕ) → Nodes → Nodes
-unmet_code f line (Some place) last count nodes = nodes
-unmet_code f line None last count nodes = plain (at_line f line (SkipIfZero last (node_count nodes - count))) nodes
+-- into the items by the value in the register x, behind which those of the cases are; the last jump stands first in the body
+abbrev pub way_code : Frame → List ℕ → (base x : ℕ) → Items → List CasePlace → Nodes → Nodes
+way_code f variables base x items cases body =
+    plains (entry_code f variables items (x + 1 + case_registers variables items)) (jumps_to f variables base x (x + 1) (reverse cases) body)
 
--- from the tests of cases, whose registers are behind n, into the items, the last jump to which stands first in the body
+-- where it is passed over if no case is met and there is no default, by the register n
 abbrev pub entered_code : Frame → List ℕ → (line base count : ℕ) → Items → (n : ℕ) → List CasePlace → Option ℕ → Nodes → Nodes
 entered_code f variables line base count items n cases otherwise body =
-    let in_entry = n + 1 + case_registers variables items in
-    unmet_code f line otherwise (last_case f variables n items (n + 1)) count
-    (plains (entry_code f variables items in_entry) (jumps_to f variables base (n + 1) (reverse cases) body))
+    let way = way_code f variables base (n + 1) items cases body in
+    if is_some otherwise || declares_none items then way else guarded f variables line n (n + 1) items (n + 1 + 1) count way

@@ -11,7 +11,7 @@ use Rattle.goto_prog.specs.Nodes.{Routine, plain, view_procedures}
 use Rattle.goto_prog.specs.GotoThreads.{GotoFile}
 use Rattle.goto_lower.specs.Lowering.{Frame, at_line, ends, body_code}
 use Rattle.goto_lower.specs.Registers.{statement_types}
-use Rattle.goto_lower.specs.Temporaries.{Temporaries, statement_temporaries}
+use Rattle.c_temporaries.specs.Temporaries.{Temporaries, statement_temporaries}
 
 -- how many bytes a function hands over
 abbrev pub given_size : Option PassedType → ℕ

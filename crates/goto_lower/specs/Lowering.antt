@@ -1,5 +1,5 @@
 -- The flat code of typed trees. Each node has a register of its own, which the code of the node sets last; the code of a tree uses registers from n on. A structure value is written where it is wanted: into a block from an offset on. A number in a static object is read and written by a block on the way.
-use Rattle.std.specs.Prelude.{ℕ, zero, suc, ◌+◌, ◌-◌, ◌*◌, ◌==◌, Bool, true, false, Option, Some, None, List, [], ◌∷◌, ◌++◌, length, slice_index, if◌then◌else◌}
+use Rattle.std.specs.Prelude.{ℕ, zero, suc, ◌+◌, ◌-◌, ◌*◌, ◌==◌, Bool, true, false, ◌||◌, Option, Some, None, List, [], ◌∷◌, ◌++◌, length, slice_index, if◌then◌else◌}
 use Rattle.c_types.specs.declared.integers.IntegerType.{IntegerType}
 use Rattle.c_types.specs.declared.integers.IntegerType.TheVariants.{Int}
 use Rattle.c_types.specs.declared.types.ValueType.{ValueType}
@@ -18,6 +18,7 @@ use Rattle.core_tree.specs.Typed.{place_type}
 use Rattle.core_tree.specs.Typed as typed
 use Rattle.c_values.specs.Variables.{word_count, drawn_count}
 use Rattle.c_meaning.specs.Meaning.{number_type, has_default}
+use Rattle.c_temporaries.specs.Temporaries.{value_size}
 use Rattle.goto_prog.specs.declared.code.Operation.{Operation}
 use Rattle.goto_prog.specs.declared.code.Operation.TheVariants as operations
 use Rattle.goto_prog.specs.declared.code.Instruction.{Instruction}
@@ -132,11 +133,6 @@ deeper f = record f { free = f.free + 1 }
 -- so many of them are
 abbrev pub deeper_by : ℕ → Frame → Frame
 deeper_by count f = record f { free = f.free + count }
-
--- how many bytes a value of this type has
-abbrev pub value_size : ValueType → ℕ
-value_size Void = 0
-value_size (Integer t) = bytes t
 
 module _ (frame : Frame) where
   abbrev pub at_line : ℕ → Operation → Instruction
@@ -315,7 +311,7 @@ module _ (variables : List ℕ) where
   part_registers None = 0
   part_registers (Some e) = top e + 1
 
-  -- for each case its value, whether it is met, and whether it or one before it is
+  -- for each case its value, whether it is met, and whether it or one before it is; its value and whether it is met once more, for the jump to it
   abbrev pub case_registers : Items → ℕ
   case_registers done = 0
   case_registers (declares line v rest) = case_registers rest
@@ -323,7 +319,7 @@ module _ (variables : List ℕ) where
   case_registers (initializes_structure line v drawn a rest) = case_registers rest
   case_registers (does s rest) = case_registers rest
   case_registers (label l rest) = case_registers rest
-  case_registers (case_at line t bits rest) = case_registers rest + 3
+  case_registers (case_at line t bits rest) = case_registers rest + 5
   case_registers (default_at line rest) = case_registers rest
 
   abbrev mutual
@@ -338,7 +334,7 @@ module _ (variables : List ℕ) where
     statement_registers (for_loop line l first test last s) =
         part_registers test + (part_registers last + (statement_registers s + (part_registers test + part_registers first)))
     statement_registers (do_loop line l s test) = (top test + 1) + statement_registers s
-    statement_registers (switch line e items) = items_registers items + (1 + (case_registers items + (entry_registers items + (top e + 1))))
+    statement_registers (switch line e items) = items_registers items + (2 + (case_registers items + (entry_registers items + (top e + 1))))
     statement_registers (breaks line) = 0
     statement_registers (continues line) = 0
     statement_registers (jumps line l) = 0
@@ -372,6 +368,17 @@ within_switch ways behind = record { break_at = behind; continue_at = ways.conti
 
 abbrev pub with_label : Ways → (l place : ℕ) → Ways
 with_label ways l place = record { break_at = ways.break_at; continue_at = ways.continue_at; label_at = λ m. if l == m then place else ways.label_at m }
+
+-- whether a block has no variables of its own, so that nothing is done on entry
+abbrev pub declares_none : Items → Bool
+declares_none done = true
+declares_none (declares line v rest) = false
+declares_none (initializes line v drawn e rest) = false
+declares_none (initializes_structure line v drawn a rest) = false
+declares_none (does s rest) = declares_none rest
+declares_none (label l rest) = declares_none rest
+declares_none (case_at line t bits rest) = declares_none rest
+declares_none (default_at line rest) = declares_none rest
 
 abbrev pub ends : Nodes
 ends = nodes.done
@@ -443,7 +450,7 @@ module _ (frame : Frame) (variables : List ℕ) where
       at_line frame at (operations.Constant n bits)
       ∷ at_line frame at (operations.Compare (n + 1) comparisons.Equal t n x)
       ∷ at_line frame at (operations.Arithmetic (n + 2) arithmetics.Or Int Int before (n + 1))
-      ∷ case_tests line x (n + 2) rest (n + 3)
+      ∷ case_tests line x (n + 2) rest (n + 5)
   case_tests line x before (default_at at rest) n = case_tests line x before rest n
 
   -- the register that tells whether one of the cases is met
@@ -454,8 +461,15 @@ module _ (frame : Frame) (variables : List ℕ) where
   last_case before (initializes_structure at v drawn a rest) n = last_case before rest n
   last_case before (does s rest) n = last_case before rest n
   last_case before (label l rest) n = last_case before rest n
-  last_case before (case_at at t bits rest) n = last_case (n + 2) rest (n + 3)
+  last_case before (case_at at t bits rest) n = last_case (n + 2) rest (n + 5)
   last_case before (default_at at rest) n = last_case before rest n
+
+  -- in front of nodes, all but the last so many of which are passed over where none of the cases has the value in the register x
+  abbrev pub guarded : (line before x : ℕ) → Items → (n count : ℕ) → Nodes → Nodes
+  guarded line before x items n count entered =
+      plain (at_line frame line (operations.Constant before 0))
+      (plains (case_tests line x before items n)
+      (plain (at_line frame line (operations.SkipIfZero (last_case before items n) (node_count entered - count))) entered))
 
   abbrev mutual
     -- the code of a statement in front of nodes, behind which so many places lie; registers from n on
@@ -496,16 +510,16 @@ module _ (frame : Frame) (variables : List ℕ) where
         let behind = base + node_count rest in
         let inner = within_switch ways behind in
         let before = n + items_registers variables items in
-        let in_cases = before + 1 in
+        let value = before + 1 in
+        let in_cases = value + 1 in
         let in_entry = in_cases + case_registers variables items in
         let x = in_entry + entry_registers variables items in
         let body = items_code base inner items n rest in
         let last = to_place line base (if has_default items then default_place base inner items n rest else behind) body in
-        let entered = plains (entry_code items in_entry) (case_jumps base inner line items in_cases n rest last) in
+        let entered = plains (entry_code items in_entry) (case_jumps base inner value items in_cases n rest last) in
         plains (code frame e x)
-        (plain (at_line frame line (operations.Constant before 0))
-        (plains (case_tests line (x + top e) before items in_cases)
-        (if has_default items then entered else plain (at_line frame line (operations.SkipIfZero (last_case before items in_cases) (node_count entered - node_count rest))) entered)))
+        (plain (at_line frame line (operations.Copy value (x + top e)))
+        (if has_default items || declares_none items then entered else guarded line before value items in_cases (node_count rest) entered))
     statement_code base ways (breaks line) n rest = to_place line base ways.break_at rest
     statement_code base ways (continues line) n rest = to_place line base ways.continue_at rest
     statement_code base ways (jumps line l) n rest = to_place line base (ways.label_at l) rest
@@ -536,18 +550,20 @@ module _ (frame : Frame) (variables : List ℕ) where
     labels_of base ways (case_at line t bits more) n rest = labels_of base ways more n rest
     labels_of base ways (default_at line more) n rest = labels_of base ways more n rest
 
-    -- jumps to the cases that are met, whose registers are from k on, in front of other nodes; the code of all these items stands in front of `rest`
-    pub case_jumps : (base : ℕ) → Ways → (line : ℕ) → Items → (k n : ℕ) → (rest others : Nodes) → Nodes
-    case_jumps base ways line done k n rest others = others
-    case_jumps base ways line (declares at v more) k n rest others = case_jumps base ways line more k n rest others
-    case_jumps base ways line (initializes at v drawn e more) k n rest others = case_jumps base ways line more k n rest others
-    case_jumps base ways line (initializes_structure at v drawn a more) k n rest others = case_jumps base ways line more k n rest others
-    case_jumps base ways line (does s more) k n rest others = case_jumps base ways line more k n rest others
-    case_jumps base ways line (label l more) k n rest others = case_jumps base ways line more k n rest others
-    case_jumps base ways line (case_at at t bits more) k n rest others =
-        plain (at_line frame at (operations.SkipIfZero (k + 1) 1))
-        (to_place at base (base + node_count (items_code base ways more n rest)) (case_jumps base ways line more (k + 3) n rest others))
-    case_jumps base ways line (default_at at more) k n rest others = case_jumps base ways line more k n rest others
+    -- the tests of the cases for the value in the register x, each with the jump to it behind it, in front of other nodes; registers from k on; the code of all these items stands in front of `rest`
+    pub case_jumps : (base : ℕ) → Ways → (x : ℕ) → Items → (k n : ℕ) → (rest others : Nodes) → Nodes
+    case_jumps base ways x done k n rest others = others
+    case_jumps base ways x (declares at v more) k n rest others = case_jumps base ways x more k n rest others
+    case_jumps base ways x (initializes at v drawn e more) k n rest others = case_jumps base ways x more k n rest others
+    case_jumps base ways x (initializes_structure at v drawn a more) k n rest others = case_jumps base ways x more k n rest others
+    case_jumps base ways x (does s more) k n rest others = case_jumps base ways x more k n rest others
+    case_jumps base ways x (label l more) k n rest others = case_jumps base ways x more k n rest others
+    case_jumps base ways x (case_at at t bits more) k n rest others =
+        plain (at_line frame at (operations.Constant (k + 3) bits))
+        (plain (at_line frame at (operations.Compare (k + 4) comparisons.Equal t (k + 3) x))
+        (plain (at_line frame at (operations.SkipIfZero (k + 4) 1))
+        (to_place at base (base + node_count (items_code base ways more n rest)) (case_jumps base ways x more (k + 5) n rest others))))
+    case_jumps base ways x (default_at at more) k n rest others = case_jumps base ways x more k n rest others
 
     -- how many places lie behind the default among these items
     pub default_place : (base : ℕ) → Ways → Items → (n : ℕ) → Nodes → ℕ

@@ -71,7 +71,7 @@ case_types (initializes line v drawn e rest) = case_types rest
 case_types (initializes_structure line v drawn a rest) = case_types rest
 case_types (does s rest) = case_types rest
 case_types (label l rest) = case_types rest
-case_types (case_at line t bits rest) = t ∷ Int ∷ Int ∷ case_types rest
+case_types (case_at line t bits rest) = t ∷ Int ∷ Int ∷ t ∷ Int ∷ case_types rest
 case_types (default_at line rest) = case_types rest
 
 module _ (variables : List ℕ) where
@@ -100,7 +100,7 @@ module _ (variables : List ℕ) where
     statement_types (returns_nothing line) = []
     statement_types (for_loop line l first test last s) = part_types test ++ (part_types last ++ (statement_types s ++ (part_types test ++ part_types first)))
     statement_types (do_loop line l s test) = types test ++ statement_types s
-    statement_types (switch line e items) = items_types items ++ (Int ∷ (case_types items ++ (entry_types items ++ types e)))
+    statement_types (switch line e items) = items_types items ++ (Int ∷ number_type e ∷ (case_types items ++ (entry_types items ++ types e)))
     statement_types (breaks line) = []
     statement_types (continues line) = []
     statement_types (jumps line l) = []

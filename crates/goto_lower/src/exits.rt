@@ -2,6 +2,7 @@
 
 ghost use Rattle.std.specs.Prelude.{◌≡◌, ◌+◌, [], None, IfOk};
 
+use c_types::IntegerType;
 use std::alloc::{AllocError, Global};
 
 /// How many places lie behind the nodes in front of which code is put, and behind the places where `break`
@@ -20,10 +21,12 @@ pub(crate) struct Target {
     pub(crate) place: usize,
 }
 
-/// A `case` with its line, and how many places lie behind its place.
+/// A `case` with its line and its value, and how many places lie behind its place.
 #[derive(Clone, Copy)]
 pub(crate) struct CasePlace {
     pub(crate) line: u32,
+    pub(crate) type_: IntegerType,
+    pub(crate) bits: u64,
     pub(crate) place: usize,
 }
 

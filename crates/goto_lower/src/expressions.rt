@@ -7,7 +7,8 @@ ghost use Rattle.core_tree.specs.Typed.{place_type};
 ghost use Rattle.core_tree.specs.Operations as operations;
 ghost use Rattle.c_meaning.specs.Meaning.{integer_of};
 ghost use Rattle.goto_prog.specs.declared.code.Operation.TheVariants as instructions;
-ghost use Rattle.goto_lower.specs.Lowering.{at_line, argument_count, write_code, update_code, truth_code, value_size, use_code, taken_code};
+ghost use Rattle.c_temporaries.specs.Temporaries.{value_size};
+ghost use Rattle.goto_lower.specs.Lowering.{at_line, argument_count, write_code, update_code, truth_code, use_code, taken_code};
 ghost use Rattle.goto_lower.specs.Registers.{update_types};
 ghost use Rattle.goto_lower.specs.Drafts.{Listed, next, added, operand, Lowers, after_arguments, after_passed};
 
@@ -15,6 +16,7 @@ use crate::draft::Draft;
 use crate::exits::more;
 use crate::operand::{Operand, Passed, Updated, step_value};
 use crate::structures::line_of_structure;
+use c_temporaries::value_size;
 use c_types::{IntegerType, ValueType, promote};
 use core_tree::{
     ArithmeticOperator, Comparison, CoreArgument, CoreExpr, CoreStructure, LogicalOperator, Place,
@@ -22,16 +24,6 @@ use core_tree::{
 };
 use goto_prog::Operation;
 use std::alloc::AllocError;
-
-/// How many bytes a value of this type has.
-pub(crate) fn value_size(type_: ValueType) -> u32
-    ensures { result ≡ value_size type_ }
-{
-    match type_ {
-        ValueType::Void => 0,
-        ValueType::Integer(type_) => type_.size(),
-    }
-}
 
 // The value of `,`, which is its right operand's.
 fn comma(line: u32, y: Operand) -> Operand

@@ -9,6 +9,5 @@ mod operand;
 mod statements;
 mod structures;
 mod switches;
-mod temporaries;
 
 pub use lowering::lower;

@@ -10,15 +10,15 @@ ghost use Rattle.goto_prog.specs.GotoThreads.{strict_thread};
 ghost use Rattle.goto_prog.specs.Same.{DoSame};
 ghost use Rattle.goto_prog.specs.declared.code.Operation.TheVariants as operations;
 ghost use Rattle.goto_lower.specs.Lowering.{at_line, ends};
-ghost use Rattle.goto_lower.specs.Temporaries.{statement_temporaries};
+ghost use Rattle.c_temporaries.specs.Temporaries.{statement_temporaries};
 ghost use Rattle.goto_lower.specs.Lowered.{given_size, blocks_of, first_frame, undefined_code, defined_code, function_code, function_codes, view_goto, lowered};
 
 use crate::draft::Draft;
 use crate::exits::Exits;
-use crate::temporaries::statement_temporaries;
 use actions::Store;
 use c_meaning::{are_storable, first_store, number_of_main};
 use c_profile::Admitted;
+use c_temporaries::statement_temporaries;
 use c_types::IntegerType;
 use core_tree::{CoreStatement, Function, Name, PassedType};
 use goto_prog::{Goto, Instruction, Node, Operation, Procedure};

@@ -28,6 +28,15 @@ pub(crate) struct Passed {
     pub(crate) into: usize,
 }
 
+/// The registers of a `switch`: one for whether a case before the first is met, which none is, that of its
+/// value, and the one that tells whether any of its cases is met.
+#[derive(Clone, Copy)]
+pub(crate) struct SwitchRegisters {
+    pub(crate) before: usize,
+    pub(crate) value: usize,
+    pub(crate) last: usize,
+}
+
 /// In front of the test of a case: the register that tells whether a case before it is met, and the first of
 /// its own.
 #[derive(Clone, Copy)]

@@ -281,9 +281,14 @@ impl<'a> Draft<'a> {
                 let place = more(exits.base, made.len())?;
                 self.know(*label, place)
             }
-            CoreItem::Case { line, .. } => {
+            CoreItem::Case { line, type_, bits } => {
                 let place = more(exits.base, made.len())?;
-                cases.places.push(CasePlace { line: *line, place })?;
+                cases.places.push(CasePlace {
+                    line: *line,
+                    type_: *type_,
+                    bits: *bits,
+                    place,
+                })?;
                 Ok(())
             }
             CoreItem::Default { .. } => {
@@ -435,8 +440,8 @@ impl<'a> Draft<'a> {
         };
         let cases = self.items(alloc, items, inner, made)?;
         self.jump_to(line, exits.base, cases.otherwise.unwrap_or(behind), made)?;
-        let before = self.enter_switch(line, items, &cases, exits.base, count, made)?;
-        self.choose(line, value, items, before, made)
+        let register = self.enter_switch(line, value, items, &cases, exits.base, count, made)?;
+        self.choose(line, value, register, made)
     }
 
     /// Puts the code of a statement before the nodes that are made.

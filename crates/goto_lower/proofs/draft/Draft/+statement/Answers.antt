@@ -159,9 +159,9 @@ switch-returns t c =
     let cases = c.in_ok-cases.cases in
     let count : c.len-count.result ≡ node_count rest = omega (arith, c.len-count.ensures, reversed_count c.args.made.now.items) in
     ok_two c.choose.result _ _ _ (λ last chosen.
-    drafted_switch d c.items.new.self c.enter_switch.new.self c.choose.new.self x (record { base = x.base; break_at = c.in_ok-behind.behind; continue_at = x.continue_at }) (view c.args.value.now) (items_of c.args.items.now) c.args.line c.in_ok-behind.behind c.len-count.result c.in_ok-before.before cases.places.items cases.otherwise
+    drafted_switch d c.items.new.self c.enter_switch.new.self c.choose.new.self x (record { base = x.base; break_at = c.in_ok-behind.behind; continue_at = x.continue_at }) (view c.args.value.now) (items_of c.args.items.now) c.args.line c.in_ok-behind.behind c.len-count.result c.in_ok-register.register cases.places.items cases.otherwise
     rest (nodes_of (reverse c.items.new.made.items)) (nodes_of (reverse c.jump_to.new.made.items)) (nodes_of (reverse c.enter_switch.new.made.items)) (nodes_of (reverse c.choose.new.made.items))
     count c.in_ok-behind.ensures refl c.in_ok-cases.ensures.draft c.in_ok-cases.ensures.code c.in_ok-cases.ensures.cases c.in_ok-cases.ensures.otherwise
     (c.in_ok-jump_to.ensures ∙ ap (λ p. to_place c.items.new.self.frame c.items.new.self.variables c.args.line x.base p (nodes_of (reverse c.items.new.made.items))) c.unwrap_or.ensures)
-    c.in_ok-before.ensures.draft c.in_ok-before.ensures.before c.in_ok-before.ensures.code last chosen)
+    c.in_ok-register.ensures.draft c.in_ok-register.ensures.value c.in_ok-register.ensures.code last chosen)
     c.choose.ensures.draft c.choose.ensures.code

@@ -6,5 +6,5 @@ use Rattle.goto_lower.proofs.draft.Draft.case_jumps.Given as goal
 
 abbrev pub invariant-loop-case : goal.invariant-loop-case
 invariant-loop-case l =
-    (first : ℕ) → l.end ≡ first + 3 * length l.places
-    → (l.into ≡ first + 3 * (length l.places - l.case-index)) × (nodes_of (reverse l.made.items) ≡ jumps_to l.self.frame l.self.variables l.base l.into (reverse (take l.case-index l.places)) (nodes_of (reverse l.initial.made.items)))
+    (first : ℕ) → l.end ≡ first + 5 * length l.places
+    → (l.into ≡ first + 5 * (length l.places - l.case-index)) × (nodes_of (reverse l.made.items) ≡ jumps_to l.self.frame l.self.variables l.base l.value l.into (reverse (take l.case-index l.places)) (nodes_of (reverse l.initial.made.items)))

@@ -1,14 +1,22 @@
-use Rattle.std.proofs.Common.{◌∙◌, arith}
+use Rattle.std.proofs.Common.{◌≡◌, ◌-◌, arith}
 use Rattle.std.specs.Prelude.{reverse}
-use Rattle.goto_prog.specs.Nodes.{nodes_of}
+use Rattle.core_tree.specs.Trees.{items_of}
+use Rattle.goto_prog.specs.Nodes.{node_count, nodes_of}
 use Rattle.goto_lower.proofs.Drafting.{ok_maps}
-use Rattle.goto_lower.proofs.DraftingSwitches.{unmet_put}
+use Rattle.goto_lower.proofs.DraftingSwitches.{unmet_draft, unmet_nodes}
 use Rattle.goto_lower.proofs.Making.{reversed_count}
 use Rattle.goto_lower.proofs.draft.Draft.pass_unmet.Goals as goal
 
-pub returns-in-None : goal.returns-in-None
-returns-in-None c =
-    let rest = nodes_of (reverse c.args.made.now.items) in
-    ok_maps c.put.result _ _ (λ same. same ∙ unmet_put c.args.self.now.frame c.args.line c.args.otherwise c.args.last c.args.count c.saturating_sub-count.result rest c.in-None.is
-    (omega (arith, c.saturating_sub-count.ensures, c.len.ensures, reversed_count c.args.made.now.items)))
-    c.put.ensures
+pub returns-clause-draft : goal.returns-clause-draft
+returns-clause-draft c =
+    ok_maps _ _ _ (λ last. unmet_draft c.args.self.now c.push.new.self c.case_tests.new.self (items_of c.args.items.now) c.args.line c.args.registers.before c.args.registers.value c.requires c.in_ok-push.ensures (c.in_ok-case_tests.ensures c.args.line) c.flush.new.self last)
+    c.flush.ensures.draft
+
+pub returns-clause-code : goal.returns-clause-code
+returns-clause-code c =
+    let entered = nodes_of (reverse c.args.made.now.items) in
+    let count : c.saturating_sub-count.result ≡ node_count entered - c.args.count = omega (arith, c.saturating_sub-count.ensures, c.len.ensures, reversed_count c.args.made.now.items) in
+    λ is_last. ok_maps c.flush.result _ _ (λ filled.
+    unmet_nodes c.args.self.now c.push.new.self c.case_tests.new.self (items_of c.args.items.now) c.args.line c.args.registers.before c.args.registers.value c.requires c.in_ok-push.ensures (c.in_ok-case_tests.ensures c.args.line)
+    c.args.registers.last c.args.count c.saturating_sub-count.result entered (nodes_of (reverse c.put.new.made.items)) (nodes_of (reverse c.flush.new.made.items)) count c.in_ok-put.ensures filled is_last)
+    c.flush.ensures.code

@@ -1,7 +1,7 @@
 use Rattle.std.proofs.Common.{◌≡◌, drop}
 use Rattle.core_tree.specs.Trees.{parts_of, arguments_of}
-use Rattle.goto_lower.specs.Temporaries.{parts_temporaries, arguments_temporaries}
-use Rattle.goto_lower.proofs.temporaries.+expression.Given as goal
+use Rattle.c_temporaries.specs.Temporaries.{parts_temporaries, arguments_temporaries}
+use Rattle.c_temporaries.proofs.temporaries.+expression.Given as goal
 
 abbrev pub invariant-parts_temporaries-loop-place : goal.invariant-parts_temporaries-loop-place
 invariant-parts_temporaries-loop-place l = l.temporaries ≡ parts_temporaries (parts_of (drop l.place l.parts))

@@ -1,17 +1,23 @@
 -- The blocks that the code of a tree uses for values on the way: structure values, and numbers of static objects.
 use Rattle.std.specs.Prelude.{ℕ, max, Option, Some, None, List, [], ◌∷◌, ◌++◌}
+use Rattle.c_types.specs.declared.types.ValueType.{ValueType}
+use Rattle.c_types.specs.declared.types.ValueType.TheVariants.{Void, Integer}
 use Rattle.c_types.specs.Integers.{bytes}
 use Rattle.core_tree.specs.declared.expression.Place.{Place}
 use Rattle.core_tree.specs.declared.expression.Place.TheVariants.{Variable, Object}
 use Rattle.core_tree.specs.Trees.{Expression, constant, read, convert, sign, is_zero, arithmetic, compare, logical, choice, assign, update, step, comma, assertion, assumption, draw, part, discard, discard_structure, call, function_name, Structure, copy, load, choose, put, store, follow, section, list, string, give, Parts, no_part, number_part, structure_part, Arguments, no_argument, number_argument, structure_argument, Statement, block, if_then, if_else, evaluate, returns, returns_structure, returns_nothing, for_loop, do_loop, switch, breaks, continues, jumps, stray, Items, done, declares, initializes, initializes_structure, does, label, case_at, default_at}
 use Rattle.c_meaning.specs.Meaning.{number_type}
-use Rattle.goto_lower.specs.Lowering.{value_size}
 use Rattle.core_tree.specs.Typed.{size_of}
 
 -- how many bytes that stay 0, and the sizes of the blocks that are free, the first of which is used first
 pub record Temporaries : Type 0 where
   pub zeros : ℕ
   pub sizes : List ℕ
+
+-- how many bytes a value of a type has
+abbrev pub value_size : ValueType → ℕ
+value_size Void = 0
+value_size (Integer t) = bytes t
 
 -- the greater size at each place
 abbrev pub greater : List ℕ → List ℕ → List ℕ

@@ -1,8 +1,8 @@
 use Rattle.std.proofs.Common.{sym, ap, ◌∙◌, arith}
 use Rattle.std.specs.Prelude.{max, slice_index, slice_set, take}
-use Rattle.goto_lower.specs.Temporaries.{greater}
-use Rattle.goto_lower.proofs.Greater.{greater_none, raised, raised_all}
-use Rattle.goto_lower.proofs.temporaries.raise.Goals as goal
+use Rattle.c_temporaries.specs.Temporaries.{greater}
+use Rattle.c_temporaries.proofs.Greater.{greater_none, raised, raised_all}
+use Rattle.c_temporaries.proofs.temporaries.raise.Goals as goal
 
 pub loop-place-init : goal.loop-place-init
 loop-place-init c = sym (greater_none c.args.sizes.now)

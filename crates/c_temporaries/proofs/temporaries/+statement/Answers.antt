@@ -3,9 +3,9 @@ use Rattle.core_tree.specs.declared.statement.CoreStatement.{CoreStatement}
 use Rattle.core_tree.specs.Trees.{view, view_statement, items_of}
 use Rattle.core_tree.proofs.Views.{view_block}
 use Rattle.c_profile.proofs.Switches.{view_switch}
-use Rattle.goto_lower.specs.Temporaries.{both, temporaries, statement_temporaries, items_temporaries}
-use Rattle.goto_lower.proofs.Greater.{same_temporaries}
-use Rattle.goto_lower.proofs.temporaries.+statement.Goals as goal
+use Rattle.c_temporaries.specs.Temporaries.{both, temporaries, statement_temporaries, items_temporaries}
+use Rattle.c_temporaries.proofs.Greater.{same_temporaries}
+use Rattle.c_temporaries.proofs.temporaries.+statement.Goals as goal
 
 pub statement_temporaries-returns-in-Block : goal.statement_temporaries-returns-in-Block
 statement_temporaries-returns-in-Block t c =

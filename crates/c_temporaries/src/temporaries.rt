@@ -4,26 +4,24 @@ ghost use Rattle.std.specs.Prelude.{◌≡◌, ◌++◌, ◌∷◌, [], ◌≤�
 ghost use Rattle.core_tree.specs.Trees.{view, boxed, view_structure, parts_of, with_part, arguments_of, with_argument, view_statement, items_of, with_item};
 ghost use Rattle.c_types.specs.Integers.{bytes};
 ghost use Rattle.c_meaning.specs.Meaning.{number_type};
-ghost use Rattle.goto_lower.specs.Temporaries as specs;
+ghost use Rattle.c_temporaries.specs.Temporaries as specs;
 
-use crate::expressions::value_size;
-use c_types::{IntegerType, ValueType};
+use crate::sizes::{number_type, value_size};
 use core_tree::{
-    CoreArgument, CoreExpr, CoreItem, CorePart, CoreStatement, CoreStructure, Place,
-    structure_size, type_of,
+    CoreArgument, CoreExpr, CoreItem, CorePart, CoreStatement, CoreStructure, Place, structure_size,
 };
 use std::alloc::{AllocError, Global};
 use std::marker::Model;
 
 /// How many bytes that stay 0, and the sizes of the blocks that are free, the first of which is used first.
 #[derive(Drop)]
-pub(crate) struct Temporaries {
+pub struct Temporaries {
     zeros: u32,
     sizes: Vec<u32>,
 }
 
 impl Model for Temporaries {
-    ghost use Rattle.goto_lower.specs.Temporaries as specs;
+    ghost use Rattle.c_temporaries.specs.Temporaries as specs;
 
     ghost Value = { specs.Temporaries };
 
@@ -139,10 +137,7 @@ fn argument_size(argument: &CoreArgument) -> u32
 fn number_size(value: &CoreExpr) -> u32
     ensures { result ≡ bytes (number_type (view value.now)) }
 {
-    match type_of(value) {
-        ValueType::Void => IntegerType::Int.size(),
-        ValueType::Integer(type_) => type_.size(),
-    }
+    number_type(value).size()
 }
 
 // How many bytes each argument has.
@@ -332,7 +327,7 @@ fn loop_part_temporaries(
 
 /// Of a statement.
 #[cycle(statement)]
-pub(crate) fn statement_temporaries(
+pub fn statement_temporaries(
     alloc: Global,
     statement: &CoreStatement,
 ) -> Result<Temporaries, AllocError>

@@ -1,7 +1,7 @@
 use Rattle.std.proofs.Common.{◌≡◌, drop}
 use Rattle.core_tree.specs.Trees.{items_of}
-use Rattle.goto_lower.specs.Temporaries.{items_temporaries}
-use Rattle.goto_lower.proofs.temporaries.+statement.Given as goal
+use Rattle.c_temporaries.specs.Temporaries.{items_temporaries}
+use Rattle.c_temporaries.proofs.temporaries.+statement.Given as goal
 
 abbrev pub invariant-items_temporaries-loop-place : goal.invariant-items_temporaries-loop-place
 invariant-items_temporaries-loop-place l = l.temporaries ≡ items_temporaries (items_of (drop l.place l.items))

@@ -3,9 +3,9 @@ use Rattle.core_tree.specs.declared.expression.CoreStructure.{CoreStructure}
 use Rattle.core_tree.specs.declared.expression.CoreExpr.{CoreExpr}
 use Rattle.core_tree.specs.Trees.{view, view_structure, parts_of, arguments_of}
 use Rattle.core_tree.proofs.Views.{view_list, view_call, view_give}
-use Rattle.goto_lower.specs.Temporaries.{Temporaries, temporaries, structure_temporaries, parts_temporaries, arguments_temporaries, call_needs, clearing}
-use Rattle.goto_lower.proofs.Greater.{same_temporaries}
-use Rattle.goto_lower.proofs.temporaries.+expression.Goals as goal
+use Rattle.c_temporaries.specs.Temporaries.{Temporaries, temporaries, structure_temporaries, parts_temporaries, arguments_temporaries, call_needs, clearing}
+use Rattle.c_temporaries.proofs.Greater.{same_temporaries}
+use Rattle.c_temporaries.proofs.temporaries.+expression.Goals as goal
 
 pub structure_temporaries-returns-in_ok-parts_temporaries-in-List : goal.structure_temporaries-returns-in_ok-parts_temporaries-in-List
 structure_temporaries-returns-in_ok-parts_temporaries-in-List t c =

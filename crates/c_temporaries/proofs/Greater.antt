@@ -2,7 +2,7 @@
 use Rattle.std.proofs.Common.{◌≡◌, ℕ, zero, suc, ◌+◌, ◌<◌, ◌≤◌, List, [], ◌∷◌, take, set, length, refl, sym, ap, ◌∙◌, arith}
 use Rattle.std.specs.Prelude.{max, slice_index, Result, Ok, Err, IfOk}
 use Rattle.std.proofs.lemmas.List.{take_all}
-use Rattle.goto_lower.specs.Temporaries.{Temporaries, greater, no_temporaries, both}
+use Rattle.c_temporaries.specs.Temporaries.{Temporaries, greater, no_temporaries, both}
 
 pub greater_none : (xs : List ℕ) → greater xs [] ≡ xs
 greater_none [] = refl
