@@ -11,4 +11,5 @@ pub mod Whole
 pub mod Cut
 pub mod Lined
 pub mod Noted
+pub mod Keeping
 pub mod Finite

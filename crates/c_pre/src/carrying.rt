@@ -7,16 +7,16 @@ ghost use Rattle.c_pre.specs.Macros.{name_alone};
 ghost use Rattle.c_pre.specs.Headers.{header_of};
 ghost use Rattle.c_pre.specs.Conditionals.{skips};
 ghost use Rattle.c_pre.specs.Carrying.{Setting, opens, tests, alternates, closes, includes, effect, leaves, stops, start, Carries, IsExpandedInto};
-ghost use Rattle.c_pre.specs.Known.{is_change, Recalls};
+ghost use Rattle.c_pre.specs.Known.{findings_of, Keeps, Recalls};
 ghost use Rattle.c_pre.specs.Views.{tokens_of, end_flags, state_at, setting_in, IsDone, IsStopped};
 ghost use Rattle.c_pre.specs.declared.directive.Directive.TheVariants.{Text};
 ghost use Rattle.c_pre.specs.declared.error.PreError.TheVariants.{Memory};
 
 use crate::conditional::{Part, Taking, is_hidden, other, skips};
-use crate::directive::{Directive, arguments, directive_of, is_change, number_of};
+use crate::directive::{Directive, arguments, directive_of, number_of};
 use crate::error::PreError;
 use crate::header::{header_of, rows_of};
-use crate::known::Known;
+use crate::known::{Known, nothing};
 use crate::lines::{Line, end_flags, lines};
 use crate::macros::{Macros, body_of, define, define_all, name_alone, undefine};
 use crate::replacing::replace;
@@ -37,7 +37,7 @@ pub struct Frame<'a> {
 pub struct Place<'a> {
     pub macros: Macros<'a>,
     pub parts: Vec<Part>,
-    /// What macros became since the last directive that can change them.
+    /// What macros became, and become still.
     pub known: Known,
 }
 
@@ -63,22 +63,12 @@ fn changed(done: bool, line: u32) -> Result<(), PreError>
     }
 }
 
-/// Nothing more is known, where a directive can change the macros.
-fn forget(alloc: Global, known: &mut Known, directive: Directive)
-    ensures gone { is_change directive ≡ true → known.new.entries ≡ [] }
-    ensures same { is_change directive ≡ false → known.new.entries ≡ known.old.entries }
-{
-    if is_change(directive) {
-        *known = IndexMap::new(alloc);
-    }
-}
-
 impl<'a> Place<'a> {
     fn open(&mut self, order: Order<'a>, taking: Taking) -> Result<(), PreError>
         ensures done { OnOk result (opens (state_at self.old) order.entry.ended order.entry.line taking ≡ leaves (state_at self.new)) }
         ensures stop { IfErr result (λ e. e ≢ Memory → opens (state_at self.old) order.entry.ended order.entry.line taking ≡ stops e) }
         ensures macros { OnOk result (self.new.macros.entries ≡ self.old.macros.entries) }
-        ensures known { OnOk result (self.new.known.entries ≡ self.old.known.entries) }
+        ensures known { OnOk result (findings_of self.new.known ≡ findings_of self.old.known) }
     {
         if !order.ended {
             return Err(PreError::Conditional { line: order.line });
@@ -94,7 +84,7 @@ impl<'a> Place<'a> {
         ensures done { OnOk result (tests (state_at self.old) order.entry.ended order.entry.line wanted (name_alone bytes.now order.entry.args.now) ≡ leaves (state_at self.new)) }
         ensures stop { IfErr result (λ e. e ≢ Memory → tests (state_at self.old) order.entry.ended order.entry.line wanted (name_alone bytes.now order.entry.args.now) ≡ stops e) }
         ensures macros { OnOk result (self.new.macros.entries ≡ self.old.macros.entries) }
-        ensures known { OnOk result (self.new.known.entries ≡ self.old.known.entries) }
+        ensures known { OnOk result (findings_of self.new.known ≡ findings_of self.old.known) }
     {
         match name_alone(bytes, order.args) {
             None => Err(PreError::Directive { line: order.line }),
@@ -114,7 +104,7 @@ impl<'a> Place<'a> {
         ensures done { OnOk result (alternates (state_at self.old) order.entry.line order.entry.args.now (state_at self.old).parts ≡ leaves (state_at self.new)) }
         ensures stop { IfErr result (λ e. e ≢ Memory → alternates (state_at self.old) order.entry.line order.entry.args.now (state_at self.old).parts ≡ stops e) }
         ensures macros { OnOk result (self.new.macros.entries ≡ self.old.macros.entries) }
-        ensures known { OnOk result (self.new.known.entries ≡ self.old.known.entries) }
+        ensures known { OnOk result (findings_of self.new.known ≡ findings_of self.old.known) }
     {
         let line = order.line;
         match self.parts.pop() {
@@ -145,7 +135,7 @@ impl<'a> Place<'a> {
         ensures done { OnOk result (closes (state_at self.old) order.entry.line order.entry.args.now (state_at self.old).parts ≡ leaves (state_at self.new)) }
         ensures stop { IfErr result (λ e. e ≢ Memory → closes (state_at self.old) order.entry.line order.entry.args.now (state_at self.old).parts ≡ stops e) }
         ensures macros { OnOk result (self.new.macros.entries ≡ self.old.macros.entries) }
-        ensures known { OnOk result (self.new.known.entries ≡ self.old.known.entries) }
+        ensures known { OnOk result (findings_of self.new.known ≡ findings_of self.old.known) }
     {
         let line = order.line;
         match self.parts.pop() {
@@ -168,7 +158,7 @@ impl<'a> Place<'a> {
     fn include(&mut self, frame: Frame<'a>, order: Order<'a>) -> Result<(), PreError>
         ensures done { OnOk result (includes (setting_in frame.entry) (state_at self.old) order.entry.line (header_of frame.entry.bytes.now order.entry.args.now) ≡ leaves (state_at self.new)) }
         ensures stop { IfErr result (λ e. e ≢ Memory → includes (setting_in frame.entry) (state_at self.old) order.entry.line (header_of frame.entry.bytes.now order.entry.args.now) ≡ stops e) }
-        ensures known { OnOk result (self.new.known.entries ≡ self.old.known.entries) }
+        ensures keeps { OnOk result (Keeps frame.entry.bytes.now self.old.macros.entries (findings_of self.old.known) self.new.macros.entries (findings_of self.new.known)) }
     {
         match header_of(frame.bytes, order.args) {
             None => Err(PreError::Include { line: order.line }),
@@ -177,6 +167,7 @@ impl<'a> Place<'a> {
                     frame.alloc,
                     frame.bytes,
                     &mut self.macros,
+                    &mut self.known,
                     rows_of(header, frame.rows),
                 )?;
                 changed(done, order.line)
@@ -190,18 +181,29 @@ impl<'a> Place<'a> {
         requires directive { order.directive ≢ Text }
         ensures done { OnOk result (effect (setting_in frame.entry) (state_at self.old) order.entry.ended order.entry.line order.entry.args.now order.entry.directive ≡ leaves (state_at self.new)) }
         ensures stop { IfErr result (λ e. e ≢ Memory → effect (setting_in frame.entry) (state_at self.old) order.entry.ended order.entry.line order.entry.args.now order.entry.directive ≡ stops e) }
-        ensures macros { OnOk result (is_change order.entry.directive ≡ false → self.new.macros.entries ≡ self.old.macros.entries) }
-        ensures known { OnOk result (self.new.known.entries ≡ self.old.known.entries) }
+        ensures keeps { OnOk result (Keeps frame.entry.bytes.now self.old.macros.entries (findings_of self.old.known) self.new.macros.entries (findings_of self.new.known)) }
     {
         match order.directive {
             Directive::Text => Ok(()),
             Directive::Nothing => Ok(()),
             Directive::Define => {
-                let done = define(frame.alloc, frame.bytes, &mut self.macros, order.args)?;
+                let done = define(
+                    frame.alloc,
+                    frame.bytes,
+                    &mut self.macros,
+                    &mut self.known,
+                    order.args,
+                )?;
                 changed(done, order.line)
             }
             Directive::Undefine => {
-                let done = undefine(frame.alloc, frame.bytes, &mut self.macros, order.args)?;
+                let done = undefine(
+                    frame.alloc,
+                    frame.bytes,
+                    &mut self.macros,
+                    &mut self.known,
+                    order.args,
+                )?;
                 changed(done, order.line)
             }
             Directive::Ifdef => self.test(frame.bytes, order, true),
@@ -218,8 +220,7 @@ impl<'a> Place<'a> {
         requires skipped { skips (state_at self.old).parts ≡ true }
         ensures done { OnOk result (effect (setting_in frame.entry) (state_at self.old) order.entry.ended order.entry.line order.entry.args.now order.entry.directive ≡ leaves (state_at self.new)) }
         ensures stop { IfErr result (λ e. e ≢ Memory → effect (setting_in frame.entry) (state_at self.old) order.entry.ended order.entry.line order.entry.args.now order.entry.directive ≡ stops e) }
-        ensures macros { OnOk result (is_change order.entry.directive ≡ false → self.new.macros.entries ≡ self.old.macros.entries) }
-        ensures known { OnOk result (self.new.known.entries ≡ self.old.known.entries) }
+        ensures keeps { OnOk result (Keeps frame.entry.bytes.now self.old.macros.entries (findings_of self.old.known) self.new.macros.entries (findings_of self.new.known)) }
     {
         match order.directive {
             Directive::Text => Ok(()),
@@ -240,8 +241,7 @@ impl<'a> Place<'a> {
         requires directive { skips (state_at self.old).parts ≡ false → order.directive ≢ Text }
         ensures done { OnOk result (effect (setting_in frame.entry) (state_at self.old) order.entry.ended order.entry.line order.entry.args.now order.entry.directive ≡ leaves (state_at self.new)) }
         ensures stop { IfErr result (λ e. e ≢ Memory → effect (setting_in frame.entry) (state_at self.old) order.entry.ended order.entry.line order.entry.args.now order.entry.directive ≡ stops e) }
-        ensures macros { OnOk result (is_change order.entry.directive ≡ false → self.new.macros.entries ≡ self.old.macros.entries) }
-        ensures known { OnOk result (self.new.known.entries ≡ self.old.known.entries) }
+        ensures keeps { OnOk result (Keeps frame.entry.bytes.now self.old.macros.entries (findings_of self.old.known) self.new.macros.entries (findings_of self.new.known)) }
     {
         if skips(&self.parts) {
             self.pass(frame, order)
@@ -298,7 +298,6 @@ impl<'a> Place<'a> {
                 Err(error) => Err(error),
             }
         } else {
-            forget(frame.alloc, &mut self.known, order.directive);
             match self.follow(frame, order) {
                 Ok(()) => Ok(()),
                 Err(error) => Err(error),
@@ -321,7 +320,7 @@ fn carry_all<'a>(
     let mut place = Place {
         macros: IndexMap::new(frame.alloc),
         parts: Vec::new(frame.alloc),
-        known: IndexMap::new(frame.alloc),
+        known: nothing(frame.alloc),
     };
     for (i, line) in lines.iter().enumerate() {
         match place.carry(frame, line.tokens, flags[i], &mut out) {

@@ -3,7 +3,6 @@
 ghost use Rattle.std.specs.Prelude.{◌≡◌, ◌∷◌, [], MatchOption};
 ghost use Rattle.std.specs.Str.{bytes_eq};
 ghost use Rattle.c_token.specs.Spelling.{text_of};
-ghost use Rattle.c_pre.specs.Known.{is_change};
 ghost use Rattle.c_pre.specs.Lines.{named, behind_hash, directive_of, number_of, arguments};
 
 use c_token::Token;
@@ -22,24 +21,6 @@ pub enum Directive {
     Endif,
     Include,
     Other,
-}
-
-/// Whether a directive can change the macros.
-pub fn is_change(directive: Directive) -> bool
-    ensures { result ≡ is_change directive }
-{
-    match directive {
-        Directive::Text => false,
-        Directive::Nothing => false,
-        Directive::Define => true,
-        Directive::Undefine => true,
-        Directive::Ifdef => false,
-        Directive::Ifndef => false,
-        Directive::Else => false,
-        Directive::Endif => false,
-        Directive::Include => true,
-        Directive::Other => false,
-    }
 }
 
 /// The text of a token in bytes; as much of it as lies in them.

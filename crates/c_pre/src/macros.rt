@@ -4,9 +4,11 @@ ghost use Rattle.std.specs.Prelude.{◌≡◌, ◌&&◌, not, ℕ, List, Some, N
 ghost use Rattle.c_token.specs.Spelling.{text_of};
 ghost use Rattle.c_pre.specs.Macros.{with_body, is_name, is_definable, has_parameters, same_spelling, defined, undefined, name_alone};
 ghost use Rattle.c_pre.specs.Headers.{all_defined};
+ghost use Rattle.c_pre.specs.Known.{findings_of, Keeps};
 ghost use Rattle.c_pre.specs.Views.{tokens_of, macros_in};
 
 use crate::directive::{spells, split, text_at};
+use crate::known::{Known, forget, forget_body};
 use crate::lines::Line;
 use c_token::{Kind, Token};
 use indexmap::IndexMap;
@@ -93,15 +95,18 @@ fn same_spelling(bytes: &[u8], a: &[Token], b: &[Token]) -> bool
     right.is_empty()
 }
 
-/// Defines a macro by a name and what replaces it. False where it isn't of this form, or the name has another body.
+/// Defines a macro by a name and what replaces it. False where it isn't of this form, or the name has another body. What is
+/// known of macros stays so, but for what rests on the name.
 pub fn define<'a>(
     alloc: Global,
     bytes: &[u8],
     macros: &mut Macros<'a>,
+    known: &mut Known,
     definition: &'a [Token],
 ) -> Result<bool, AllocError>
-    ensures { IfOk result (λ is_defined. defined bytes.now definition.now (macros_in macros.old.entries)
+    ensures defined { IfOk result (λ is_defined. defined bytes.now definition.now (macros_in macros.old.entries)
         ≡ (if is_defined then Some (macros_in macros.new.entries) else None)) }
+    ensures keeps { OnOk result (Keeps bytes.now macros.old.entries (findings_of known.old) macros.new.entries (findings_of known.new)) }
 {
     let (name, body) = match split(definition) {
         None => return Ok(false),
@@ -110,29 +115,28 @@ pub fn define<'a>(
     if !is_definable(bytes, name) || has_parameters(bytes, name, body) {
         return Ok(false);
     }
-    match body_of(macros, text_at(bytes, name)) {
+    let word = text_at(bytes, name);
+    match body_of(macros, word) {
         None => {
-            set_body(
-                alloc,
-                macros,
-                text_at(bytes, name),
-                Some(Line { tokens: body }),
-            )?;
+            forget(alloc, known, word)?;
+            set_body(alloc, macros, word, Some(Line { tokens: body }))?;
             Ok(true)
         }
         Some(old) => Ok(same_spelling(bytes, old.tokens, body)),
     }
 }
 
-/// Takes back a definition. False where no name stands alone.
+/// Takes back a definition. False where no name stands alone. What is known of macros stays so, but for what rests on the name.
 pub fn undefine(
     alloc: Global,
     bytes: &[u8],
     macros: &mut Macros,
+    known: &mut Known,
     args: &[Token],
 ) -> Result<bool, AllocError>
-    ensures { IfOk result (λ is_undefined. undefined bytes.now args.now (macros_in macros.old.entries)
+    ensures undefined { IfOk result (λ is_undefined. undefined bytes.now args.now (macros_in macros.old.entries)
         ≡ (if is_undefined then Some (macros_in macros.new.entries) else None)) }
+    ensures keeps { OnOk result (Keeps bytes.now macros.old.entries (findings_of known.old) macros.new.entries (findings_of known.new)) }
 {
     match split(args) {
         None => Ok(false),
@@ -140,7 +144,9 @@ pub fn undefine(
             if !rest.is_empty() || !is_definable(bytes, name) {
                 return Ok(false);
             }
-            set_body(alloc, macros, text_at(bytes, name), None)?;
+            let word = text_at(bytes, name);
+            forget_body(alloc, macros, known, word)?;
+            set_body(alloc, macros, word, None)?;
             Ok(true)
         }
     }
@@ -162,18 +168,21 @@ pub fn name_alone<'a>(bytes: &'a [u8], args: &[Token]) -> Option<&'a [u8]>
     }
 }
 
-/// Defines the macros of some of the headers' lines. False where one has another body already.
+/// Defines the macros of some of the headers' lines. False where one has another body already. What is known of macros stays
+/// so, but for what rests on their names.
 pub fn define_all<'a>(
     alloc: Global,
     bytes: &[u8],
     macros: &mut Macros<'a>,
+    known: &mut Known,
     rows: &[Line<'a>],
 ) -> Result<bool, AllocError>
-    ensures { IfOk result (λ are_defined. all_defined bytes.now (map tokens_of rows.now) (macros_in macros.old.entries)
+    ensures defined { IfOk result (λ are_defined. all_defined bytes.now (map tokens_of rows.now) (macros_in macros.old.entries)
         ≡ (if are_defined then Some (macros_in macros.new.entries) else None)) }
+    ensures keeps { OnOk result (Keeps bytes.now macros.old.entries (findings_of known.old) macros.new.entries (findings_of known.new)) }
 {
     for row in rows {
-        if !define(alloc, bytes, macros, row.tokens)? {
+        if !define(alloc, bytes, macros, known, row.tokens)? {
             return Ok(false);
         }
     }

@@ -8,12 +8,12 @@ ghost use Rattle.c_token.specs.Spelling.{text_of};
 ghost use Rattle.c_pre.specs.Macros.{placed, body_for, IsReplacedBy};
 ghost use Rattle.c_pre.specs.Views.{tokens_of, macros_in};
 ghost use Rattle.c_pre.specs.Waiting.{Waits, names_of, outer, rest_of, rests_of, Leads};
-ghost use Rattle.c_pre.specs.Known.{known_in, is_settled, Remembers, Stands};
+ghost use Rattle.c_pre.specs.Known.{Covers, is_in, findings_of, is_top, known_at, is_settled, Recollects, Stands};
 ghost use Rattle.c_pre.specs.declared.error.PreError.TheVariants.{TooMany, Memory};
 
 use crate::directive::{split, text_at};
 use crate::error::PreError;
-use crate::known::{Known, Span, is_complete, note, piece, span_of};
+use crate::known::{Known, Span, is_complete, is_used, mark, note, piece, span_at};
 use crate::lines::Line;
 use crate::macros::{Macros, body_of};
 use c_token::Token;
@@ -64,6 +64,13 @@ fn is_within(names: &IndexSet<Vec<u8>>, name: &[u8]) -> bool
     names.contains(name)
 }
 
+/// Whether nothing is being replaced.
+fn is_top(names: &IndexSet<Vec<u8>>) -> bool
+    ensures { result ≡ is_top (names_of names.now.keys) }
+{
+    names.len() == 0
+}
+
 /// Notes a name as one that is being replaced.
 fn enter(alloc: Global, names: &mut IndexSet<Vec<u8>>, name: &[u8]) -> Result<(), AllocError>
     requires { list_any (bytes_eq name.now) (names_of names.old.keys) ≡ false }
@@ -81,8 +88,8 @@ fn leave(names: &mut IndexSet<Vec<u8>>) -> Option<Vec<u8>>
     names.pop()
 }
 
-/// Whether what a name became is the same wherever it stands: it is no name that is being replaced, and each token of its
-/// body is settled.
+/// Whether what a name became is the same within all names that aren't known: it is none that is being replaced, it was met in
+/// the body of a macro, and each token of its body is settled.
 fn is_final<'a>(
     bytes: &[u8],
     macros: &Macros<'a>,
@@ -90,11 +97,28 @@ fn is_final<'a>(
     names: &IndexSet<Vec<u8>>,
     name: &[u8],
 ) -> bool
-    ensures { result ≡ true → (list_any (bytes_eq name.now) (names_of names.now.keys) ≡ false)
+    ensures { result ≡ true → (list_any (bytes_eq name.now) (names_of names.now.keys) ≡ false) × ((findings_of known.now).used name.now ≡ true)
         × ((body : List Token) × (macros_in macros.now.entries name.now ≡ Some body)
-        × (list_all (is_settled bytes.now (macros_in macros.now.entries) (known_in known.now.entries)) body ≡ true)) }
+        × (list_all (is_settled bytes.now (macros_in macros.now.entries) (findings_of known.now) name.now) body ≡ true)) }
 {
-    !is_within(names, name) && is_complete(bytes, macros, known, name)
+    !is_within(names, name) && is_used(&known.used, name) && is_complete(bytes, macros, known, name)
+}
+
+/// Notes a name as one that was met in the body of a macro, if something is being replaced.
+fn mark_within(
+    alloc: Global,
+    used: &mut IndexSet<Vec<u8>>,
+    names: &IndexSet<Vec<u8>>,
+    name: &[u8],
+) -> Result<(), AllocError>
+    ensures marked { OnOk result (is_top (names_of names.now.keys) ≡ false → is_in used.new.keys name.now ≡ true) }
+    ensures others { OnOk result (Covers (is_in used.old.keys) (is_in used.new.keys)) }
+{
+    if is_top(names) {
+        Ok(())
+    } else {
+        mark(alloc, used, name)
+    }
 }
 
 /// Tokens that are looked at next.
@@ -162,14 +186,14 @@ impl<'a> Replacing<'a> {
     ) -> Result<(), PreError>
         requires few { length out.old.items ≤ 200000 }
         requires front { rest.tokens.now ≡ token ∷ behind.now }
-        requires known { known_in known.now.entries (text_of bytes.now token) ≡ Some span }
-        requires remembers { Remembers bytes.now (macros_in macros.now.entries) (known_in known.now.entries) out.old.items }
-        requires stands { Stands bytes.now (macros_in macros.now.entries) (known_in known.now.entries) (rest ∷ reverse self.old.rests.items) (names_of self.old.names.keys) out.old.items }
+        requires known { known_at (findings_of known.now) (is_top (names_of self.old.names.keys)) (text_of bytes.now token) ≡ Some span }
+        requires recollects { Recollects bytes.now macros.now.entries (findings_of known.now) out.old.items }
+        requires stands { Stands bytes.now macros.now.entries (findings_of known.now) (rest ∷ reverse self.old.rests.items) (names_of self.old.names.keys) out.old.items }
         ensures goes { OnOk result ((given : List Token) × (out.new.items ≡ out.old.items ++ given)
             × Leads bytes.now (macros_in macros.now.entries) (rest_of rest.entry ∷ rests_of self.old.rests.items) (names_of self.old.names.keys)
             (rests_of self.new.rests.items) (names_of self.new.names.keys) given) }
         ensures few { OnOk result (length out.new.items ≤ 200000) }
-        ensures stands { OnOk result (Stands bytes.now (macros_in macros.now.entries) (known_in known.now.entries) (reverse self.new.rests.items) (names_of self.new.names.keys) out.new.items) }
+        ensures stands { OnOk result (Stands bytes.now macros.now.entries (findings_of known.now) (reverse self.new.rests.items) (names_of self.new.names.keys) out.new.items) }
         ensures many { IfErr result (λ e. e ≢ Memory → (e ≡ TooMany) × ((given : List Token) × (200000 < length out.old.items + length given)
             × Leads bytes.now (macros_in macros.now.entries) (rest_of rest.entry ∷ rests_of self.old.rests.items) (names_of self.old.names.keys)
             (rests_of self.new.rests.items) (names_of self.new.names.keys) given)) }
@@ -205,13 +229,14 @@ impl<'a> Replacing<'a> {
     ) -> Result<(), PreError>
         requires few { length out.old.items ≤ 200000 }
         requires front { rest.tokens.now ≡ token ∷ behind.now }
-        requires unknown { known_in known.now.entries (text_of bytes.now token) ≡ None }
-        requires stands { Stands bytes.now (macros_in macros.now.entries) (known_in known.now.entries) (rest ∷ reverse self.old.rests.items) (names_of self.old.names.keys) out.old.items }
+        requires unknown { (findings_of known.now).within (text_of bytes.now token) ≡ None }
+        requires marked { is_top (names_of self.old.names.keys) ≡ false → (findings_of known.now).used (text_of bytes.now token) ≡ true }
+        requires stands { Stands bytes.now macros.now.entries (findings_of known.now) (rest ∷ reverse self.old.rests.items) (names_of self.old.names.keys) out.old.items }
         ensures goes { OnOk result ((given : List Token) × (out.new.items ≡ out.old.items ++ given)
             × Leads bytes.now (macros_in macros.now.entries) (rest_of rest.entry ∷ rests_of self.old.rests.items) (names_of self.old.names.keys)
             (rests_of self.new.rests.items) (names_of self.new.names.keys) given) }
         ensures few { OnOk result (length out.new.items ≤ 200000) }
-        ensures stands { OnOk result (Stands bytes.now (macros_in macros.now.entries) (known_in known.now.entries) (reverse self.new.rests.items) (names_of self.new.names.keys) out.new.items) }
+        ensures stands { OnOk result (Stands bytes.now macros.now.entries (findings_of known.now) (reverse self.new.rests.items) (names_of self.new.names.keys) out.new.items) }
         ensures many { IfErr result (λ e. e ≢ Memory → (e ≡ TooMany) × ((given : List Token) × (200000 < length out.old.items + length given)
             × Leads bytes.now (macros_in macros.now.entries) (rest_of rest.entry ∷ rests_of self.old.rests.items) (names_of self.old.names.keys)
             (rests_of self.new.rests.items) (names_of self.new.names.keys) given)) }
@@ -246,7 +271,7 @@ impl<'a> Replacing<'a> {
         }
     }
 
-    /// A rest is done: the innermost name is replaced. It is noted what it became, if that is the same wherever it stands.
+    /// A rest is done: the innermost name is replaced. It is noted what it became, if that is the same each time.
     fn close(
         &mut self,
         bytes: &[u8],
@@ -256,27 +281,27 @@ impl<'a> Replacing<'a> {
         out: &[Token],
     ) -> Result<(), AllocError>
         requires done { rest.tokens.now ≡ [] }
-        requires remembers { Remembers bytes.now (macros_in macros.now.entries) (known_in known.old.entries) out.now }
-        requires stands { Stands bytes.now (macros_in macros.now.entries) (known_in known.old.entries) (rest ∷ reverse self.old.rests.items) (names_of self.old.names.keys) out.now }
+        requires recollects { Recollects bytes.now macros.now.entries (findings_of known.old) out.now }
+        requires stands { Stands bytes.now macros.now.entries (findings_of known.old) (rest ∷ reverse self.old.rests.items) (names_of self.old.names.keys) out.now }
         ensures left { OnOk result ((self.new.rests.items ≡ self.old.rests.items) × (names_of self.new.names.keys ≡ outer (names_of self.old.names.keys))) }
-        ensures remembers { OnOk result (Remembers bytes.now (macros_in macros.now.entries) (known_in known.new.entries) out.now) }
-        ensures stands { OnOk result (Stands bytes.now (macros_in macros.now.entries) (known_in known.new.entries) (reverse self.new.rests.items) (names_of self.new.names.keys) out.now) }
+        ensures recollects { OnOk result (Recollects bytes.now macros.now.entries (findings_of known.new) out.now) }
+        ensures stands { OnOk result (Stands bytes.now macros.now.entries (findings_of known.new) (reverse self.new.rests.items) (names_of self.new.names.keys) out.now) }
     {
         match leave(&mut self.names) {
             None => Ok(()),
             Some(name) => {
+                let span = Span {
+                    start: rest.start,
+                    length: out.len().saturating_sub(rest.start),
+                };
+                if is_top(&self.names) {
+                    note(&mut known.outside, name, Some(span))?;
+                    return Ok(());
+                }
                 if !is_final(bytes, macros, known, &self.names, &name) {
                     return Ok(());
                 }
-                let length = out.len().saturating_sub(rest.start);
-                note(
-                    known,
-                    name,
-                    Span {
-                        start: rest.start,
-                        length,
-                    },
-                )?;
+                note(&mut known.within, name, Some(span))?;
                 Ok(())
             }
         }
@@ -293,14 +318,14 @@ impl<'a> Replacing<'a> {
         out: &mut Vec<Token>,
     ) -> Result<(), PreError>
         requires few { length out.old.items ≤ 200000 }
-        requires remembers { Remembers bytes.now (macros_in macros.now.entries) (known_in known.old.entries) out.old.items }
-        requires stands { Stands bytes.now (macros_in macros.now.entries) (known_in known.old.entries) (rest ∷ reverse self.old.rests.items) (names_of self.old.names.keys) out.old.items }
+        requires recollects { Recollects bytes.now macros.now.entries (findings_of known.old) out.old.items }
+        requires stands { Stands bytes.now macros.now.entries (findings_of known.old) (rest ∷ reverse self.old.rests.items) (names_of self.old.names.keys) out.old.items }
         ensures goes { OnOk result ((given : List Token) × (out.new.items ≡ out.old.items ++ given)
             × Leads bytes.now (macros_in macros.now.entries) (rest_of rest.entry ∷ rests_of self.old.rests.items) (names_of self.old.names.keys)
             (rests_of self.new.rests.items) (names_of self.new.names.keys) given) }
         ensures few { OnOk result (length out.new.items ≤ 200000) }
-        ensures remembers { OnOk result (Remembers bytes.now (macros_in macros.now.entries) (known_in known.new.entries) out.new.items) }
-        ensures stands { OnOk result (Stands bytes.now (macros_in macros.now.entries) (known_in known.new.entries) (reverse self.new.rests.items) (names_of self.new.names.keys) out.new.items) }
+        ensures recollects { OnOk result (Recollects bytes.now macros.now.entries (findings_of known.new) out.new.items) }
+        ensures stands { OnOk result (Stands bytes.now macros.now.entries (findings_of known.new) (reverse self.new.rests.items) (names_of self.new.names.keys) out.new.items) }
         ensures many { IfErr result (λ e. e ≢ Memory → (e ≡ TooMany) × ((given : List Token) × (200000 < length out.old.items + length given)
             × Leads bytes.now (macros_in macros.now.entries) (rest_of rest.entry ∷ rests_of self.old.rests.items) (names_of self.old.names.keys)
             (rests_of self.new.rests.items) (names_of self.new.names.keys) given)) }
@@ -310,18 +335,24 @@ impl<'a> Replacing<'a> {
                 self.close(bytes, macros, known, rest, out)?;
                 Ok(())
             }
-            Some((token, behind)) => match span_of(known, text_at(bytes, token)) {
-                Some(span) => match self.repeat(
-                    alloc, bytes, macros, known, span, rest, token, behind, out,
-                ) {
-                    Ok(()) => Ok(()),
-                    Err(error) => Err(error),
-                },
-                None => match self.turn(alloc, bytes, macros, known, rest, token, behind, out) {
-                    Ok(()) => Ok(()),
-                    Err(error) => Err(error),
-                },
-            },
+            Some((token, behind)) => {
+                let name = text_at(bytes, token);
+                match span_at(known, is_top(&self.names), name) {
+                    Some(span) => match self.repeat(
+                        alloc, bytes, macros, known, span, rest, token, behind, out,
+                    ) {
+                        Ok(()) => Ok(()),
+                        Err(error) => Err(error),
+                    },
+                    None => {
+                        mark_within(alloc, &mut known.used, &self.names, name)?;
+                        match self.turn(alloc, bytes, macros, known, rest, token, behind, out) {
+                            Ok(()) => Ok(()),
+                            Err(error) => Err(error),
+                        }
+                    }
+                }
+            }
         }
     }
 }
@@ -336,10 +367,10 @@ pub fn replace<'a>(
     out: &mut Vec<Token>,
 ) -> Result<(), PreError>
     requires few { length out.old.items ≤ 200000 }
-    requires remembers { Remembers bytes.now (macros_in macros.now.entries) (known_in known.old.entries) out.old.items }
+    requires recollects { Recollects bytes.now macros.now.entries (findings_of known.old) out.old.items }
     ensures given { OnOk result ((front : List Token) × IsReplacedBy bytes.now (macros_in macros.now.entries) [] None text.now front × (out.new.items ≡ out.old.items ++ front)) }
     ensures few { OnOk result (length out.new.items ≤ 200000) }
-    ensures remembers { OnOk result (Remembers bytes.now (macros_in macros.now.entries) (known_in known.new.entries) out.new.items) }
+    ensures recollects { OnOk result (Recollects bytes.now macros.now.entries (findings_of known.new) out.new.items) }
     ensures many { IfErr result (λ e. e ≢ Memory → (e ≡ TooMany)
         × ((front : List Token) × IsReplacedBy bytes.now (macros_in macros.now.entries) [] None text.now front × (200000 < length out.old.items + length front))) }
 {

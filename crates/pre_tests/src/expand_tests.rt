@@ -81,6 +81,9 @@ const REPLACEMENTS: &str = "\
 #define A b /*$*/ c$A d@3: b c d
 #define A B$#define B 7$x$A$$A@3: x 4: 7 6: 7
 #define E$E E E x E@2: x
+#define a b x$#define b a y$#define c a b$c a;b c@4: a y x b x y a y x ; b x y a y x b x y
+#define Q 1$#define A Q$A A$#undef Q$#define Q 2$A Q@3: 1 1 6: 2 2
+#define A Q$A$#define Q A 2$A Q@2: Q 4: A 2 Q 2
 #define N 3$int a[N];@2: int a [ 3 ] ;";
 
 // The same. Conditionals (C11 6.10.1), and skipped parts (6.10p4).

@@ -2,7 +2,7 @@ use Rattle.std.proofs.Common.{List, [], ◌++◌, map, reverse, refl, sym, ap, �
 use Rattle.std.proofs.lemmas.List.{append-nil}
 use Rattle.c_pre.specs.Views.{macros_in}
 use Rattle.c_pre.specs.Waiting.{names_of, rest_of, rests_of}
-use Rattle.c_pre.specs.Known.{known_in}
+use Rattle.c_pre.specs.Known.{findings_of}
 use Rattle.c_pre.specs.declared.replacing.Rest.{Rest}
 use Rattle.c_pre.proofs.Noted.{close_text, stands_pop}
 use Rattle.c_pre.proofs.Leading.{wholes_first, wholes_done, wholes_step, out_more, too_many}
@@ -12,8 +12,8 @@ use Rattle.c_pre.proofs.replacing.replace.Goals as goal
 pub loop-init : goal.loop-init
 loop-init c = record {
   few = c.requires.few;
-  remembers = c.requires.remembers;
-  stands = close_text c.args.bytes.now (macros_in c.args.macros.now.entries) (known_in c.args.known.now.entries) (reverse c.put.new.rests.items) (reverse c.put.new.rests.items) (names_of c.new-2.result.keys) c.args.out.now.items
+  recollects = c.requires.recollects;
+  stands = close_text c.args.bytes.now c.args.macros.now.entries (findings_of c.args.known.now) (reverse c.put.new.rests.items) (reverse c.put.new.rests.items) (names_of c.new-2.result.keys) c.args.out.now.items
       (ap names_of c.new-2.ensures.empty) refl;
   gone = (
     [],
@@ -48,7 +48,7 @@ loop-preserved c =
     let goes = c.in-Ok.ensures.goes in
     record {
       few = c.in-Ok.ensures.few;
-      remembers = c.in-Ok.ensures.remembers;
+      recollects = c.in-Ok.ensures.recollects;
       stands = c.in-Ok.ensures.stands;
       gone = (
         gone.0 ++ goes.0,
@@ -60,5 +60,5 @@ loop-preserved c =
 
 pub step-requires-clause-stands : goal.step-requires-clause-stands
 step-requires-clause-stands c =
-    stands_pop c.args.bytes.now (macros_in c.args.macros.now.entries) (known_in c.loop.known.entries) c.loop.replacing.rests.items c.pop.new.self.items c.in-Some.rest (names_of c.loop.replacing.names.keys) c.loop.out.items
+    stands_pop c.args.bytes.now c.args.macros.now.entries (findings_of c.loop.known) c.loop.replacing.rests.items c.pop.new.self.items c.in-Some.rest (names_of c.loop.replacing.names.keys) c.loop.out.items
     c.in-Some.ensures.items c.loop.invariant.stands
