@@ -3,8 +3,8 @@
 ghost use Rattle.std.specs.Prelude.{◌≡◌, ◌≤◌, IfOk};
 
 use cbmc_top::{
-    Head, Job, Options, Task, Used, Verdict, check_bytes, listing_answers, one_answer, one_program,
-    one_reading, one_verdict, runs_answer, success, top,
+    Job, Options, Task, Used, Verdict, check_bytes, listing_answers, one_answer, one_program,
+    one_reading, one_verdict, runs_answer, top,
 };
 use core_tree::{Bounds, Refusal};
 use outside::{HeldFile, MemSink, MemSource, SureSink, SureSource};
@@ -15,8 +15,6 @@ use std::test::Fail;
 const A: [&str; 2] = ["cbmc", "a.c"];
 
 const USAGE: &str = "usage: cbmc FILE [OPTIONS]\n";
-
-const SAFE: &str = "file a.c unwind 8\nVERIFICATION SUCCESSFUL\n";
 
 const SEVEN: &str = "int main(void){int x=nondet_int();assert(x!=7);return 0;}";
 
@@ -212,38 +210,6 @@ fn bytes_are_checked(rt: HostRuntime) -> Result<(), Fail> {
     runs_answer();
     listing_answers();
     one_reading();
-    Ok(())
-}
-
-/// The texts of a success under these settings.
-static SETTINGS: [(Option<(u32, u32)>, u32, bool, &str); 3] = [
-    (None, 8, true, SAFE),
-    (
-        None,
-        2,
-        false,
-        "file a.c unwind 2\nunwinding assertions off\nVERIFICATION SUCCESSFUL\n",
-    ),
-    (
-        Some((3, 499)),
-        8,
-        true,
-        "generated 3 bytes 499\nfile a.c unwind 8\nVERIFICATION SUCCESSFUL\n",
-    ),
-];
-
-#[test]
-fn settings_stand_in_the_text(rt: HostRuntime) -> Result<(), Fail> {
-    for (generated, unwind, assertions, wanted) in SETTINGS {
-        let head = Head {
-            generated,
-            name: "a.c",
-            unwind,
-            assertions,
-        };
-        let text = success(rt.alloc(), &head)?;
-        assert_eq!(rt; text.as_str(), wanted);
-    }
     Ok(())
 }
 

@@ -1,23 +1,18 @@
 -- A trace of a program is the failure that is told.
-use Rattle.std.proofs.Common.{◌≡◌, ℕ, suc, zero, ◌<◌, ◌≤◌, ◌^◌, true, List, [], ◌∷◌, length, map, Option, Some, None, option_map, Result, Ok, Err, sym, refl, ap, ◌∙◌, subst, arith, All}
-use Rattle.std.specs.Prelude.{slice_get, codes}
-use Rattle.std.specs.Str.{IsAscii, IsUtf8}
-use Rattle.std.proofs.lemmas.Str.{IsUtf8-from_ascii}
+use Rattle.std.proofs.Common.{◌≡◌, ℕ, suc, zero, ◌<◌, ◌≤◌, ◌^◌, true, List, [], ◌∷◌, ◌++◌, length, Option, Some, None, option_map, sym, refl, ap, ◌∙◌, subst, All, arith}
+use Rattle.std.specs.Prelude.{slice_get}
 use Rattle.core_tree.specs.declared.functions.Function.{Function}
 use Rattle.core_tree.specs.declared.functions.Name.{Name}
 use Rattle.core_tree.specs.Trees.{Procedure, TypedFile, view_functions}
 use Rattle.core_tree.specs.Ranges.{Limits}
-use Rattle.std.proofs.lemmas.Bool.Decides.{nat_tests}
-use Rattle.interleave.specs.Inputs.{InputLists}
-use Rattle.report.proofs.Both.{and_both}
 use Rattle.cbmc_top.proofs.Congruent.{SameWords, replays_same}
 use Rattle.interleave.specs.Replay.{Replays}
 use Rattle.interleave.specs.declared.inputs.Trace.{Trace}
-use Rattle.report.specs.Identifiers.{is_letter, is_word_byte, all_word_bytes, is_identifier}
+use Rattle.report.specs.Identifiers.{is_identifier}
 use Rattle.cbmc_top.specs.Spelled.{IsTypedOf}
 use Rattle.run_search.specs.Executions.{bounded_world}
 use Rattle.report.specs.Report.{IsDrawn, IsRow, AreRising, AreMaximal}
-use Rattle.report.specs.Failing.{turns_of}
+use Rattle.report.specs.Failing.{turns_of, drew, rows_in, failure_of}
 use Rattle.cbmc_top.specs.Answers.{name_in, IsFailure}
 use Rattle.cbmc_top.specs.Verdicts.{IsBroken}
 use Rattle.cbmc_top.proofs.Named.{broken_there}
@@ -50,40 +45,42 @@ name_found [] number o e = rw e refl
 name_found (f ∷ functions) zero o e = rw e refl
 name_found (f ∷ functions) (suc n) o e = name_found functions n o e
 
-letter_small : (c : ℕ) → is_letter c ≡ true → c < 128
-letter_small c h = grind (arith, nat_tests)
-
-word_small : (c : ℕ) → is_word_byte c ≡ true → c < 128
-word_small c h = grind (arith, nat_tests)
-
-words_ascii : (cs : List ℕ) → all_word_bytes cs ≡ true → IsAscii cs
-words_ascii [] h i = omega arith
-words_ascii (c ∷ cs) h zero = word_small c (and_both (is_word_byte c) (all_word_bytes cs) h).0
-words_ascii (c ∷ cs) h (suc i) = words_ascii cs (and_both (is_word_byte c) (all_word_bytes cs) h).1 i
-
-identifier_ascii : (cs : List ℕ) → is_identifier cs ≡ true → IsAscii cs
-identifier_ascii [] h i = omega arith
-identifier_ascii (c ∷ cs) h zero = letter_small c (and_both (is_letter c) (all_word_bytes cs) h).0
-identifier_ascii (c ∷ cs) h (suc i) = words_ascii cs (and_both (is_letter c) (all_word_bytes cs) h).1 i
-
-pub identifier_utf8 : (cs : List ℕ) → is_identifier cs ≡ true → IsUtf8 cs
-identifier_utf8 cs h = IsUtf8-from_ascii cs (identifier_ascii cs h)
-
 -- ---- the failure
 
-pub is_failure : (limits : Limits) (core : TypedFile) (t : Trace) (name : List ℕ) (inputs : InputLists) (rows : List (ℕ × ℕ)) → IsBroken limits core t
-    → name_in core t.check.function ≡ Some name → is_identifier name ≡ true → SameWords inputs t.inputs → All IsDrawn inputs → AreRising inputs
-    → turns_of rows ≡ t.schedule → All IsRow rows → 0 < length rows → AreMaximal rows → 1 ≤ t.check.line → t.check.line < 2 ^ 32 → t.check.thread < 2 ^ 32
-    → IsFailure limits core (record { class = t.check.class; line = t.check.line; function = name; thread = t.check.thread; inputs = inputs; rows = rows })
-is_failure limits core t name inputs rows broken found word same drawn rising turns each some maximal positive line thread = record {
+-- the run has turns
+has_rows : (schedule front : List ℕ) (last : ℕ) (rows : List (ℕ × ℕ)) → schedule ≡ front ++ last ∷ [] → turns_of rows ≡ schedule → 0 < length rows
+has_rows schedule front last [] whole turns = absurd (none front last (turns ∙ whole))
+  where
+    none : (front : List ℕ) (last : ℕ) → [] ≡ front ++ last ∷ [] → ⊥
+    none [] last e = cc
+    none (t ∷ front) last e = cc
+has_rows schedule front last (r ∷ rows) whole turns = omega arith
+
+pub is_failure : (limits : Limits) (core : TypedFile) (t : Trace) (name : List ℕ) → IsBroken limits core t
+    → name_in core t.check.function ≡ Some name → is_identifier name ≡ true → SameWords (drew t.inputs) t.inputs → All IsDrawn (drew t.inputs) → AreRising (drew t.inputs)
+    → turns_of (rows_in t.schedule) ≡ t.schedule → All IsRow (rows_in t.schedule) → AreMaximal (rows_in t.schedule) → 1 ≤ t.check.line → t.check.line < 2 ^ 32 → t.check.thread < 2 ^ 32
+    → IsFailure limits core (failure_of t name)
+is_failure limits core t name broken found word same drawn rising turns each maximal positive line thread = record {
   check = t.check;
-  replays = subst (λ schedule. Replays (bounded_world limits core) inputs schedule t.check) (sym turns)
-      (replays_same (bounded_world limits core) t.inputs inputs t.schedule t.check (λ k. sym (same k)) broken);
+  replays = subst (λ schedule. Replays (bounded_world limits core) (drew t.inputs) schedule t.check) (sym turns)
+      (replays_same (bounded_world limits core) t.inputs (drew t.inputs) t.schedule t.check (λ k. sym (same k)) broken);
   class = refl;
   line = refl;
   function = found;
   thread = refl;
-  told = record { first = positive; ranges = record { line = line; function = word; thread = thread; drawn = drawn; rising = rising; rows = each; some = some; maximal = maximal } };
+  told = record {
+    first = positive;
+    ranges = record {
+      line = line;
+      function = word;
+      thread = thread;
+      drawn = drawn;
+      rising = rising;
+      rows = each;
+      some = has_rows t.schedule broken.front broken.last (rows_in t.schedule) broken.whole turns;
+      maximal = maximal;
+    };
+  };
 }
 
 pub same_identifier : (core : TypedFile) (number : ℕ) (name : List ℕ) → (x : List ℕ) × (name_in core number ≡ Some x) × (is_identifier x ≡ true) → name_in core number ≡ Some name → is_identifier name ≡ true

@@ -11,4 +11,3 @@ pub mod FunctionNames
 pub mod TokenNames
 pub mod Named
 pub mod Describing
-pub mod Listed

@@ -14,7 +14,6 @@ use Rattle.cbmc_top.specs.Answers.{Decides}
 use Rattle.run_search.specs.declared.stop.Stop.{Stop}
 use Rattle.run_search.specs.declared.stop.Stop.TheVariants as stops
 use Rattle.report.specs.Failing.{failure_of}
-use Rattle.report.specs.declared.failing.Failing.{Failing}
 use Rattle.cbmc_top.specs.declared.finding.Finding.{Finding}
 use Rattle.cbmc_top.specs.declared.finding.Finding.TheVariants as findings
 use Rattle.cbmc_top.specs.declared.verdict.Verdict.{Verdict}
@@ -22,11 +21,11 @@ use Rattle.cbmc_top.specs.declared.verdict.Verdict.TheVariants as verdicts
 
 abbrev pub answer_of : Finding → Answer
 answer_of (findings.Successful used) = successful used
-answer_of (findings.Failed f) = failed (failure_of f)
+answer_of (findings.Failed f) = failed (failure_of f.trace f.function.bytes.items)
 answer_of (findings.Refused r) = refused r
 answer_of (findings.Limited limit) = limited limit
 answer_of (findings.Budget used) = used_up used
-answer_of (findings.Listed l) = listed (map told_of l.properties.items)
+answer_of (findings.Listed ps) = listed (map told_of ps.items)
 
 -- the finding is the stop
 abbrev pub IsStop : Stop → Finding → Type 0
@@ -45,11 +44,11 @@ IsTraced limits file (findings.Failed f) = (core : TypedFile) × IsFileOf file c
 IsTraced limits file (findings.Refused r) = Unit {0}
 IsTraced limits file (findings.Limited limit) = Unit {0}
 IsTraced limits file (findings.Budget used) = Unit {0}
-IsTraced limits file (findings.Listed l) = Unit {0}
+IsTraced limits file (findings.Listed ps) = Unit {0}
 
--- the trace is that of a failure which decides the file
+-- what is told of the trace, with the name of a function, decides the file
 abbrev pub IsFailure : Limits → ℕ → List ℕ → Trace → Type 0
-IsFailure limits budget file t = (f : Failing) × (f.trace ≡ t) × Decides (checking limits budget) file (failed (failure_of f))
+IsFailure limits budget file t = (function : List ℕ) × Decides (checking limits budget) file (failed (failure_of t function))
 
 -- what is said of a file: an answer that decides it, and what that says of its program
 abbrev pub IsVerdict : Limits → ℕ → List ℕ → Verdict → Type 0

@@ -1,6 +1,6 @@
 //! From the bytes of a file to its program.
 
-ghost use Rattle.std.specs.Prelude.{◌≡◌, ℕ, ◌≤◌, ◌<◌, ◌++◌, length, Ok, Some, None, IsSome, IfOk, IfErr, All, map};
+ghost use Rattle.std.specs.Prelude.{◌≡◌, ℕ, ◌≤◌, ◌<◌, ◌++◌, length, Ok, Some, None, IsSome, IfOk, IfErr, map};
 ghost use Rattle.c_lexer.specs.Cutting.{IsCutInto, bytes_of, last_line_of};
 ghost use Rattle.c_pre.specs.Calls.{IsExpansion};
 ghost use Rattle.c_pre.specs.Headers as headers;
@@ -14,7 +14,7 @@ ghost use Rattle.cbmc_top.specs.Programs.{text_behind, IsTreeOf, IsAccepted};
 ghost use Rattle.cbmc_top.specs.Spelled.{HasSpelling, IsTypedOf};
 ghost use Rattle.cbmc_top.specs.Answers.{Decides, HasNoTree, expansion_answer, lexing_answer, typing_cause};
 ghost use Rattle.run_search.specs.Answers.{listed};
-ghost use Rattle.report.specs.Properties.{told_of, IsNamed};
+ghost use Rattle.report.specs.Properties.{told_of};
 ghost use Rattle.run_search.specs.Stops.{StopsWith};
 ghost use Rattle.cbmc_top.specs.Stops.{IsKnown, IsUncut, IsUnexpanded, HasNoTyping, IsOutside, IsRefused};
 
@@ -30,13 +30,6 @@ use properties::properties;
 use report::Property;
 use run_search::Stop;
 use std::alloc::Global;
-
-/// The loops and assertions of a file.
-#[derive(Drop)]
-pub struct Listing {
-    pub properties: Vec<Property>,
-    pub ghost named: { All (λ p. IsNamed (told_of p)) properties.items },
-}
 
 /// The greatest size of a file in bytes.
 const FILE_BYTES: usize = 1_048_576;
@@ -181,12 +174,12 @@ pub fn accept(alloc: Global, file: &[u8]) -> Result<Admitted, Stop>
 }
 
 /// The loops and assertions of a file in the profile, or the first thing that stops it.
-pub fn list(alloc: Global, file: &[u8]) -> Result<Listing, Stop>
-    ensures found { IfOk result (λ l. Decides listing file.now (listed (map told_of l.properties.items))) }
+pub fn list(alloc: Global, file: &[u8]) -> Result<Vec<Property>, Stop>
+    ensures found { IfOk result (λ ps. Decides listing file.now (listed (map told_of ps.items))) }
     ensures stop { IfErr result (λ s. StopsWith s (Decides listing file.now)) }
 {
     let tree = tree_of(alloc, file)?;
     let _program = admitted(alloc, &tree)?;
     let properties = properties(alloc, &tree)?;
-    Ok(Listing { properties })
+    Ok(properties)
 }

@@ -24,6 +24,7 @@ use crate::reading::bytes_of;
 use crate::reporting::{Report, plain, report_bytes};
 use options::{CommandError, Options, one_command, read_words};
 use outside::{Failed, ReadError, Sink, Source};
+use report::Text;
 use run_search::Used;
 use std::alloc::{AllocError, Global};
 
@@ -63,14 +64,14 @@ fn answer_command<S: Source>(
     ensures held { (other : List ℕ) → S.holds files.new other ≡ S.holds files.old other }
     ensures later { (other : List ℕ) → S.faults files.old other ≤ S.faults files.new other }
     ensures others { (other : List ℕ) → IsUnread (asked_of options.now) other → S.faults files.new other ≡ S.faults files.old other }
-    ensures answered { IfOk result (λ r. IsReportOn (asked_of options.now) (S.holds files.old) (λ n. Rose (S.faults files.old n) (S.faults files.new n)) r.status (string_bytes r.text) r.spent) }
+    ensures answered { IfOk result (λ r. IsReportOn (asked_of options.now) (S.holds files.old) (λ n. Rose (S.faults files.old n) (S.faults files.new n)) r.status r.text r.spent) }
     ensures read_first { IfOk result (λ r. (name : List ℕ) → file_read (asked_of options.now) ≡ Some name → S.faults files.new name ≢ S.faults files.old name → r.status ≡ 8) }
 {
     match bytes_of(alloc, options, files) {
         Ok(bytes) => report_bytes(alloc, options, &bytes),
         Err(ReadError::Failed) => {
             let text = String::from_str(alloc, "read fault\n")?;
-            Ok(plain(8, text))
+            Ok(plain(8, Text::from_string(text)))
         }
         Err(ReadError::Memory) => Err(AllocError),
     }
@@ -78,10 +79,10 @@ fn answer_command<S: Source>(
 
 /// The answer to words that are no command.
 fn usage(alloc: Global) -> Result<Report, AllocError>
-    ensures { IfOk result (λ r. (r.status ≡ 1) × (string_bytes r.text ≡ usage_text) × (r.spent ≡ None)) }
+    ensures { IfOk result (λ r. (r.status ≡ 1) × (r.text ≡ usage_text) × (r.spent ≡ None)) }
 {
     let text = String::from_str(alloc, "usage: cbmc FILE [OPTIONS]\n")?;
-    Ok(plain(1, text))
+    Ok(plain(1, Text::from_string(text)))
 }
 
 /// The answer to the words of a command line.
@@ -93,7 +94,7 @@ fn answer_words<S: Source>(
     ensures held { (other : List ℕ) → S.holds files.new other ≡ S.holds files.old other }
     ensures later { (other : List ℕ) → S.faults files.old other ≤ S.faults files.new other }
     ensures others { (other : List ℕ) → IsUnreadBy (map string_bytes words.now) other → S.faults files.new other ≡ S.faults files.old other }
-    ensures answered { IfOk result (λ r. Reported (map string_bytes words.now) (S.holds files.old) (λ n. Rose (S.faults files.old n) (S.faults files.new n)) r.status (string_bytes r.text) r.spent) }
+    ensures answered { IfOk result (λ r. Reported (map string_bytes words.now) (S.holds files.old) (λ n. Rose (S.faults files.old n) (S.faults files.new n)) r.status r.text r.spent) }
     ensures read_first { IfOk result (λ r. (asked : Asked) (name : List ℕ) → IsCommand (map string_bytes words.now) asked → file_read asked ≡ Some name → S.faults files.new name ≢ S.faults files.old name → r.status ≡ 8) }
 {
     one_command();

@@ -1,19 +1,18 @@
 //! What is found of the bytes of a file.
 
-ghost use Rattle.std.specs.Prelude.{◌≡◌, ◌≤◌, map, All, IfOk, IfErr, OnErr};
+ghost use Rattle.std.specs.Prelude.{◌≡◌, ◌≤◌, IfOk, IfErr, OnErr};
 ghost use Rattle.options.specs.Command.{asked_of};
-ghost use Rattle.report.specs.Properties.{told_of, IsNamed};
 ghost use Rattle.cbmc_top.specs.Answers.{Decides};
 ghost use Rattle.cbmc_top.specs.Command.{Purpose, checking, listing, purpose_of};
 ghost use Rattle.run_search.specs.Stops.{StopsWith};
 ghost use Rattle.cbmc_top.specs.Verdicts.{answer_of, IsStop, IsTraced};
 ghost use Rattle.run_search.specs.declared.stop.Stop.TheVariants as stops;
 
-use crate::accepting::{Listing, accept, list};
-use crate::failing::described;
+use crate::accepting::{accept, list};
+use crate::failing::{Failing, described};
 use core_tree::{Bounds, Limit, Refusal};
 use options::{Job, Options};
-use report::Failing;
+use report::Property;
 use run_search::{Searched, Stop, Used, search};
 use std::alloc::{AllocError, Global};
 
@@ -31,7 +30,7 @@ pub enum Finding {
     /// The clauses of the file, and a log that has used up the budget.
     Budget(Used),
     /// The loops and assertions of the file.
-    Listed(Listing),
+    Listed(Vec<Property>),
 }
 
 /// The program of the file, and what its runs do.
@@ -88,7 +87,7 @@ fn survey(alloc: Global, file: &[u8]) -> Result<Finding, AllocError>
     ensures { IfOk result (λ f. Decides listing file.now (answer_of f)) }
 {
     match list(alloc, file) {
-        Ok(listing) => Ok(Finding::Listed(listing)),
+        Ok(properties) => Ok(Finding::Listed(properties)),
         Err(stop) => stopped(stop),
     }
 }

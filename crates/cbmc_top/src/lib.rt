@@ -19,6 +19,6 @@ mod verdict;
 pub use call::{Done, top};
 pub use laws::{listing_answers, one_answer, one_program, one_verdict, runs_answer};
 pub use options::{Job, Options, Task};
-pub use report::{Head, one_reading, success};
+pub use report::one_reading;
 pub use run_search::Used;
 pub use verdict::{Verdict, check_bytes};

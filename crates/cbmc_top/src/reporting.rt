@@ -1,17 +1,23 @@
 //! What is found of a file, as its text and its status tell it.
 
-ghost use Rattle.std.specs.Prelude.{◌≡◌, ◌≤◌, length, string_bytes, Some, None, IfOk, IfSome};
+ghost use Rattle.std.specs.Prelude.{◌≡◌, ◌≤◌, length, Some, None, IfOk, IfSome};
 ghost use Rattle.options.specs.Command.{asked_of};
 ghost use Rattle.generator.specs.Program.{generated_text};
 ghost use Rattle.report.specs.Heads.{head_of};
+ghost use Rattle.report.specs.Failing.{failure_of};
+ghost use Rattle.report.specs.Report.{success_text as success_bytes, failure_text as failure_bytes};
 ghost use Rattle.cbmc_top.specs.Command.{head_asked, purpose_of};
 ghost use Rattle.cbmc_top.specs.Answers.{spent_of, status_of, text_of};
 ghost use Rattle.cbmc_top.specs.Verdicts.{answer_of};
 ghost use Rattle.cbmc_top.specs.Reports.{IsReported};
 
+use crate::failing::Failing;
 use crate::finding::{Finding, found};
+use core_tree::Name;
 use options::Options;
-use report::{Head, failure, limit, properties_text, refusal, success, used_up};
+use report::{
+    Head, Text, budget_text, failure_text, limit_text, properties_text, refusal_text, success_text,
+};
 use run_search::Used;
 use std::alloc::{AllocError, Global};
 
@@ -19,12 +25,12 @@ use std::alloc::{AllocError, Global};
 #[derive(Drop)]
 pub struct Report {
     pub status: u8,
-    pub text: String,
+    pub text: Text,
     pub spent: Option<Used>,
 }
 
 /// An answer that rests on no log.
-pub fn plain(status: u8, text: String) -> Report
+pub fn plain(status: u8, text: Text) -> Report
     ensures { result ≡ record { status = status; text = text; spent = None } }
 {
     Report {
@@ -35,21 +41,49 @@ pub fn plain(status: u8, text: String) -> Report
 }
 
 /// The first lines of a verdict, where so many bytes were checked.
-fn head(options: &Options, size: usize) -> Head<'_>
+fn head(alloc: Global, options: &Options, size: usize) -> Result<Head, AllocError>
     requires few { size ≤ 1048577 }
     requires size { IfSome options.now.task.generate (λ n. size ≡ length (generated_text n)) }
-    ensures { head_of result ≡ head_asked (asked_of options.now) }
+    ensures { IfOk result (λ h. head_of h ≡ head_asked (asked_of options.now)) }
 {
+    let bytes = Vec::from_slice(alloc, options.name.as_bytes())?;
     let generated = match options.task.generate {
         Some(threads) => Some((threads, size as u32)),
         None => None,
     };
-    Head {
+    Ok(Head {
         generated,
-        name: &options.name,
+        name: Name { bytes },
         unwind: options.bounds.unwind(),
         assertions: options.bounds.assertions(),
-    }
+    })
+}
+
+/// The text of a success, where so many bytes were checked.
+fn success(alloc: Global, options: &Options, size: usize) -> Result<Text, AllocError>
+    requires few { size ≤ 1048577 }
+    requires size { IfSome options.now.task.generate (λ n. size ≡ length (generated_text n)) }
+    ensures { IfOk result (λ text. text ≡ success_bytes (head_asked (asked_of options.now))) }
+{
+    let head = head(alloc, options, size)?;
+    let text = success_text(alloc, &head)?;
+    Ok(text)
+}
+
+/// The text of a failure, where so many bytes were checked.
+fn failure(
+    alloc: Global,
+    options: &Options,
+    size: usize,
+    failing: &Failing,
+) -> Result<Text, AllocError>
+    requires few { size ≤ 1048577 }
+    requires size { IfSome options.now.task.generate (λ n. size ≡ length (generated_text n)) }
+    ensures { IfOk result (λ text. text ≡ failure_bytes (head_asked (asked_of options.now)) (failure_of failing.now.trace failing.now.function.bytes.items)) }
+{
+    let head = head(alloc, options, size)?;
+    let text = failure_text(alloc, &head, &failing.trace, &failing.function)?;
+    Ok(text)
 }
 
 /// The text of what was found, with its status.
@@ -62,13 +96,12 @@ fn report_finding(
     requires few { size ≤ 1048577 }
     requires size { IfSome options.now.task.generate (λ n. size ≡ length (generated_text n)) }
     ensures status { IfOk result (λ r. r.status ≡ status_of (answer_of finding)) }
-    ensures text { IfOk result (λ r. string_bytes r.text ≡ text_of (asked_of options.now) (answer_of finding)) }
+    ensures text { IfOk result (λ r. r.text ≡ text_of (asked_of options.now) (answer_of finding)) }
     ensures spent { IfOk result (λ r. r.spent ≡ spent_of (answer_of finding)) }
 {
-    let head = head(options, size);
     match finding {
         Finding::Successful(used) => {
-            let text = success(alloc, &head)?;
+            let text = success(alloc, options, size)?;
             Ok(Report {
                 status: 0,
                 text,
@@ -76,27 +109,27 @@ fn report_finding(
             })
         }
         Finding::Failed(failing) => {
-            let text = failure(alloc, &head, &failing)?;
+            let text = failure(alloc, options, size, &failing)?;
             Ok(plain(10, text))
         }
         Finding::Refused(refused) => {
-            let text = refusal(alloc, refused)?;
+            let text = refusal_text(alloc, &refused)?;
             Ok(plain(6, text))
         }
-        Finding::Limited(limited) => {
-            let text = limit(alloc, limited)?;
+        Finding::Limited(limit) => {
+            let text = limit_text(alloc, limit)?;
             Ok(plain(7, text))
         }
         Finding::Budget(used) => {
-            let text = used_up(alloc, options.budget)?;
+            let text = budget_text(alloc, options.budget)?;
             Ok(Report {
                 status: 5,
                 text,
                 spent: Some(used),
             })
         }
-        Finding::Listed(listing) => {
-            let text = properties_text(alloc, &listing.properties)?;
+        Finding::Listed(properties) => {
+            let text = properties_text(alloc, &properties)?;
             Ok(plain(0, text))
         }
     }
@@ -106,7 +139,7 @@ fn report_finding(
 pub fn report_bytes(alloc: Global, options: &Options, bytes: &[u8]) -> Result<Report, AllocError>
     requires few { length bytes.now ≤ 1048577 }
     requires size { IfSome options.now.task.generate (λ n. length bytes.now ≡ length (generated_text n)) }
-    ensures { IfOk result (λ r. IsReported (asked_of options.now) bytes.now r.status (string_bytes r.text) r.spent) }
+    ensures { IfOk result (λ r. IsReported (asked_of options.now) bytes.now r.status r.text r.spent) }
 {
     let finding = found(alloc, bytes, options)?;
     report_finding(alloc, options, bytes.len(), finding)

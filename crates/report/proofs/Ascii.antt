@@ -6,7 +6,6 @@ use Rattle.std.proofs.lemmas.Str.{IsUtf8-from_ascii}
 use Rattle.std.specs.Fmt.{decimal}
 use Rattle.std.specs.Prelude.{nat_lt}
 use Rattle.std.specs.Str.{IsAscii, IsUtf8}
-use Rattle.report.specs.Identifiers.{is_letter, is_word_byte, all_word_bytes, is_identifier}
 use Rattle.report.proofs.Both.{and_both}
 
 abbrev pub all_small : List ℕ → Bool
@@ -26,22 +25,3 @@ small_utf8 cs h = IsUtf8-from_ascii cs (small_ascii cs h)
 
 pub decimal_utf8 : (n : ℕ) → n < 2 ^ 64 → IsUtf8 (decimal n)
 decimal_utf8 n small = IsUtf8-from_ascii (decimal n) (IsAscii-decimal n small)
-
-letter_small : (c : ℕ) → is_letter c ≡ true → c < 128
-letter_small c h = grind (arith, nat_tests)
-
-word_small : (c : ℕ) → is_word_byte c ≡ true → c < 128
-word_small c h = grind (arith, nat_tests)
-
-words_ascii : (cs : List ℕ) → all_word_bytes cs ≡ true → IsAscii cs
-words_ascii [] h i = omega arith
-words_ascii (c ∷ cs) h zero = word_small c (and_both (is_word_byte c) (all_word_bytes cs) h).0
-words_ascii (c ∷ cs) h (suc i) = words_ascii cs (and_both (is_word_byte c) (all_word_bytes cs) h).1 i
-
-identifier_ascii : (cs : List ℕ) → is_identifier cs ≡ true → IsAscii cs
-identifier_ascii [] h i = omega arith
-identifier_ascii (c ∷ cs) h zero = letter_small c (and_both (is_letter c) (all_word_bytes cs) h).0
-identifier_ascii (c ∷ cs) h (suc i) = words_ascii cs (and_both (is_letter c) (all_word_bytes cs) h).1 i
-
-pub identifier_utf8 : (cs : List ℕ) → is_identifier cs ≡ true → IsUtf8 cs
-identifier_utf8 cs h = IsUtf8-from_ascii cs (identifier_ascii cs h)

@@ -1,8 +1,11 @@
 -- The threads that drew, among the lists of all inputs.
-use Rattle.std.proofs.Common.{◌≡◌, ℕ, ◌<◌, true, false, cond, eqb, List, [], ◌∷◌, length, map, Some, sym, refl, ◌∙◌, subst, arith}
+use Rattle.std.proofs.Common.{◌≡◌, ℕ, suc, ◌<◌, ◌^◌, true, false, cond, eqb, List, [], ◌∷◌, ◌++◌, length, map, Some, All, Fits, get_or, w64, sym, refl, ap, ◌∙◌, subst, arith}
+use Rattle.std.proofs.lemmas.List.{append-nil}
+use Rattle.std.proofs.lemmas.List.Elements.{All-nil, All-cons, All-head}
+use Rattle.std.specs.List.{flat_map}
 use Rattle.std.proofs.lemmas.Bool.Decides.{nat_tests}
 use Rattle.std.proofs.lemmas.Bool.{false≢true}
-use Rattle.std.specs.Prelude.{unwrap_or, nat_lt}
+use Rattle.std.specs.Prelude.{unwrap_or, nat_lt, ◌==◌}
 use Rattle.std.specs.List.{AllByRecursion}
 use Rattle.std.specs.List.Sorted.{IsStrictlySortedBy}
 use Rattle.std.specs.declared.cmp.Ordering.{Ordering}
@@ -11,7 +14,7 @@ use Rattle.std.specs.Ordering.{nat_cmp}
 use Rattle.std.specs.Map.{lookup}
 use Rattle.std.specs.BTreeMap.{is_at}
 use Rattle.interleave.specs.Inputs.{InputLists, words_of}
-use Rattle.report.specs.Report.{AreRising}
+use Rattle.report.specs.Report.{AreRising, IsDrawn, inputs_line}
 use Rattle.report.specs.Failing.{drew}
 
 -- all threads of the entries are above k
@@ -89,3 +92,46 @@ drew_same (e ∷ es) a t = elim (nat_lt 0 (length e.1)) as (λ b. nat_lt 0 (leng
   | true ↦ λ h. kept t e es (drew es) (drew_same es a.1 t)
   | false ↦ λ h. dropped t e es (empty_is e.1 h) a.0 (drew_same es a.1 t)
 ] refl
+
+-- ---- one thread after the other
+
+words_fit : (words : List ℕ) → ((i : ℕ) → Fits w64 (get_or words i 0)) → All (λ w. w < 2 ^ 64) words
+words_fit [] fit = All-nil (λ w. w < 2 ^ 64)
+words_fit (w ∷ words) fit = All-cons (λ w. w < 2 ^ 64) w words (omega (arith, fit 0)) (words_fit words (λ i. fit (suc i)))
+
+some_drawn : (t w : ℕ) (words : List ℕ) → drew ((t, w ∷ words) ∷ []) ≡ (t, w ∷ words) ∷ []
+some_drawn t w words = let yes : nat_lt 0 (length (w ∷ words)) ≡ true = grind (arith, nat_tests) in rw yes refl
+
+pub drawn_fit : (t : ℕ) (words : List ℕ) → t < 2 ^ 32 → ((i : ℕ) → Fits w64 (get_or words i 0)) → All IsDrawn (drew ((t, words) ∷ []))
+drawn_fit t [] lt fit = All-nil IsDrawn
+drawn_fit t (w ∷ words) lt fit =
+    subst (All IsDrawn) (sym (some_drawn t w words)) (All-cons IsDrawn (t, w ∷ words) [] (record { thread = lt; some = omega arith; words = words_fit (w ∷ words) fit }) (All-nil IsDrawn))
+
+-- the drawn words of all threads fit, where those of the first one and those of the others do
+pub drawn_both : (e : ℕ × List ℕ) (es : InputLists) → All IsDrawn (drew (e ∷ [])) → All IsDrawn (drew es) → All IsDrawn (drew (e ∷ es))
+drawn_both e es first rest = elim (nat_lt 0 (length e.1)) as (λ b. All IsDrawn (cond b (e ∷ []) []) → All IsDrawn (cond b (e ∷ drew es) (drew es))) [
+  | true ↦ λ a. All-cons IsDrawn e (drew es) (All-head IsDrawn e [] a) rest
+  | false ↦ λ a. rest
+] first
+
+-- ---- the lines of the words
+
+pub emptied : (n : ℕ) → (n == 0) ≡ true → n ≡ 0
+emptied n h = grind (arith, nat_tests)
+
+pub filled : (n : ℕ) → (n == 0) ≡ false → 0 < n
+filled n h = grind (arith, nat_tests)
+
+pub no_line : (t : ℕ) (words : List ℕ) → length words ≡ 0 → flat_map inputs_line (drew ((t, words) ∷ [])) ≡ []
+no_line t [] e = refl
+no_line t (w ∷ words) e = absurd (omega (arith, e))
+
+pub one_line : (t : ℕ) (words : List ℕ) → 0 < length words → flat_map inputs_line (drew ((t, words) ∷ [])) ≡ inputs_line (t, words)
+one_line t [] some = absurd (omega (arith, some))
+one_line t (w ∷ words) some = ap (flat_map inputs_line) (some_drawn t w words) ∙ append-nil (inputs_line (t, w ∷ words))
+
+pub lines_both : (e : ℕ × List ℕ) (es : InputLists) → flat_map inputs_line (drew (e ∷ es)) ≡ flat_map inputs_line (drew (e ∷ [])) ++ flat_map inputs_line (drew es)
+lines_both e es = elim (nat_lt 0 (length e.1)) as (λ b. flat_map inputs_line (cond b (e ∷ drew es) (drew es)) ≡ flat_map inputs_line (cond b (e ∷ []) []) ++ flat_map inputs_line (drew es)) [
+  | true ↦ ap (λ (x : List ℕ). x ++ flat_map inputs_line (drew es)) (sym (append-nil (inputs_line e)))
+  | false ↦ refl
+]

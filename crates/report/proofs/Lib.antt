@@ -12,4 +12,6 @@ pub mod Fronts
 pub mod Files
 pub mod Drawing
 pub mod Turns
+pub mod MaximalRows
 pub mod Joining
+pub mod NamedClasses

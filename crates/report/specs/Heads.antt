@@ -3,4 +3,4 @@ use Rattle.report.specs.Report.{Head}
 use Rattle.report.specs.declared.texts.Head.{Head as CodeHead}
 
 abbrev pub head_of : CodeHead → Head
-head_of h = record { generated = h.generated; name = h.name.now; unwind = h.unwind; assertions = h.assertions }
+head_of h = record { generated = h.generated; name = h.name.bytes.items; unwind = h.unwind; assertions = h.assertions }

@@ -7,4 +7,5 @@ pub mod Properties
 pub mod Lines
 pub mod Reading
 pub mod Runs
+pub mod ClassNames
 pub mod Told

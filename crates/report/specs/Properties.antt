@@ -1,8 +1,7 @@
 -- The lines of a file's properties.
-use Rattle.std.specs.Prelude.{◌≡◌, ℕ, true, List, [], ◌∷◌, ◌++◌, codes}
+use Rattle.std.specs.Prelude.{ℕ, List, [], ◌∷◌, ◌++◌, codes}
 use Rattle.std.specs.List.{flat_map}
 use Rattle.std.specs.Fmt.{decimal}
-use Rattle.report.specs.Identifiers.{is_identifier}
 use Rattle.report.specs.declared.properties.Property.{Property}
 use Rattle.report.specs.declared.properties.Property.TheVariants as properties
 
@@ -15,14 +14,6 @@ pub data Told : Type 0 where
 abbrev pub told_of : Property → Told
 told_of (properties.Loop function number line) = loop function.bytes.items number line
 told_of (properties.Assertion line function) = assertion line function.bytes.items
-
-abbrev pub function_of : Told → List ℕ
-function_of (loop function number line) = function
-function_of (assertion line function) = function
-
--- its function's name is an identifier
-abbrev pub IsNamed : Told → Type 0
-IsNamed told = is_identifier (function_of told) ≡ true
 
 abbrev pub property_line : Told → List ℕ
 property_line (loop function number line) = codes "loop " ++ (function ++ (46 ∷ (decimal number ++ (codes " line " ++ (decimal line ++ 10 ∷ [])))))

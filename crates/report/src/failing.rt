@@ -1,20 +1,13 @@
 //! A run that breaks a check, as the texts tell it.
 
-ghost use Rattle.std.specs.Prelude.{◌≡◌, ℕ, ◌+◌, ◌^◌, ◌<◌, ◌≤◌, [], ◌∷◌, ◌++◌, length, OnOk, map, All, IfOk};
+ghost use Rattle.std.specs.Prelude.{◌≡◌, ℕ, ◌+◌, ◌^◌, ◌<◌, ◌≤◌, [], ◌∷◌, ◌++◌, length, map, All, IfOk};
 ghost use Rattle.interleave.specs.Inputs.{words_of};
 ghost use Rattle.report.specs.Report.{IsDrawn, IsRow, AreRising, AreMaximal};
-ghost use Rattle.report.specs.Failing.{turns_of, drew, entry_of, row_of};
+ghost use Rattle.report.specs.Failing.{turns_of, rows_in, drew, row_of};
 
-use interleave::{Inputs, Trace};
+use interleave::Trace;
 use std::alloc::{AllocError, Global};
 use std::marker::Model;
-
-/// The words that a thread drew.
-#[derive(Drop)]
-pub struct Drawn {
-    pub thread: u32,
-    pub words: Vec<u64>,
-}
 
 /// Turns of one thread, one after another.
 #[derive(Clone, Copy)]
@@ -54,47 +47,6 @@ impl Rows {
     }
 }
 
-/// A run that breaks a check: the name of the check's function, the words of each thread that drew, and the schedule as
-/// rows that are as long as can be.
-#[derive(Drop)]
-pub struct Failing {
-    pub trace: Trace,
-    pub function: String,
-    pub inputs: Vec<Drawn>,
-    pub rows: Vec<Row>,
-}
-
-/// Adds the words of a thread, where it drew any.
-fn push_drawn(
-    alloc: Global,
-    all: &mut Vec<Drawn>,
-    thread: u32,
-    words: &[u64],
-) -> Result<(), AllocError>
-    ensures same { OnOk result (map entry_of all.new.items ≡ map entry_of all.old.items ++ drew ((thread, words.now) ∷ [])) }
-    ensures drawn { OnOk result (All IsDrawn (map entry_of all.old.items) → All IsDrawn (map entry_of all.new.items)) }
-{
-    if words.is_empty() {
-        return Ok(());
-    }
-    let words = words.to_vec(alloc)?;
-    all.push(Drawn { thread, words })?;
-    Ok(())
-}
-
-/// The threads that drew, with their words, by rising thread number.
-pub fn drawn_of(alloc: Global, inputs: &Inputs) -> Result<Vec<Drawn>, AllocError>
-    ensures words { IfOk result (λ all. (t : ℕ) → words_of (map entry_of all.items) t ≡ words_of inputs.now t) }
-    ensures drawn { IfOk result (λ all. All IsDrawn (map entry_of all.items)) }
-    ensures rising { IfOk result (λ all. AreRising (map entry_of all.items)) }
-{
-    let mut all = Vec::new(alloc);
-    for (thread, words) in inputs.lists().iter() {
-        push_drawn(alloc, &mut all, *thread, words.as_slice())?;
-    }
-    Ok(all)
-}
-
 /// The last row after one more turn, of this thread. Where it is another one, the row before it is added to the rows.
 fn next_row(rows: &mut Vec<Row>, last: Row, thread: u32) -> Result<Row, AllocError>
     requires { last.turns + 1 < 2 ^ 64 }
@@ -113,15 +65,14 @@ fn next_row(rows: &mut Vec<Row>, last: Row, thread: u32) -> Result<Row, AllocErr
     Ok(Row { thread, turns: 1 })
 }
 
-/// The rows of a schedule.
+/// The rows of a schedule, each as long as can be.
 pub fn rows_of(alloc: Global, schedule: &[u32]) -> Result<Vec<Row>, AllocError>
-    requires { 0 < length schedule.now }
-    ensures turns { IfOk result (λ rows. turns_of (map row_of rows.items) ≡ schedule.now) }
-    ensures rows { IfOk result (λ rows. All IsRow (map row_of rows.items)) }
-    ensures some { IfOk result (λ rows. 0 < length (map row_of rows.items)) }
-    ensures maximal { IfOk result (λ rows. AreMaximal (map row_of rows.items)) }
+    ensures { IfOk result (λ rows. map row_of rows.items ≡ rows_in schedule.now) }
 {
     let mut rows = Vec::new(alloc);
+    if schedule.is_empty() {
+        return Ok(rows);
+    }
     let mut last = Row {
         thread: schedule[0],
         turns: 1,
@@ -131,4 +82,32 @@ pub fn rows_of(alloc: Global, schedule: &[u32]) -> Result<Vec<Row>, AllocError>
     }
     rows.push(last)?;
     Ok(rows)
+}
+
+// The words of a thread fit. Computes nothing.
+fn prove_drawn(thread: u32, words: &[u64])
+    ensures { All IsDrawn (drew ((thread, words.now) ∷ [])) }
+{}
+
+// The rows of a schedule of so many turns fit. Computes nothing.
+fn prove_rows(schedule: &[u32], count: usize)
+    requires { count ≡ length schedule.now }
+    ensures { All IsRow (rows_in schedule.now) }
+{}
+
+/// What the text of a failure tells of the words and the turns of a trace: the words of each thread that drew, the threads
+/// rising, and the turns as rows that are as long as can be. Changes nothing.
+pub fn trace_is_told(trace: &Trace)
+    ensures words { (t : ℕ) → words_of (drew trace.now.inputs) t ≡ words_of trace.now.inputs t }
+    ensures drawn { All IsDrawn (drew trace.now.inputs) }
+    ensures rising { AreRising (drew trace.now.inputs) }
+    ensures turns { turns_of (rows_in trace.now.schedule) ≡ trace.now.schedule }
+    ensures rows { All IsRow (rows_in trace.now.schedule) }
+    ensures maximal { AreMaximal (rows_in trace.now.schedule) }
+{
+    let schedule = trace.schedule.as_slice();
+    prove_rows(schedule, schedule.len());
+    for (thread, words) in trace.inputs.lists().iter() {
+        prove_drawn(*thread, words.as_slice());
+    }
 }

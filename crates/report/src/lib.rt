@@ -7,10 +7,12 @@ mod lines;
 mod properties;
 mod reading;
 mod runs;
+mod text;
 mod texts;
 
-pub use failing::{Drawn, Failing, Row, Rows, drawn_of, rows_of};
+pub use failing::{Row, Rows, trace_is_told};
 pub use laws::one_reading;
 pub use properties::{Property, properties_text};
 pub use reading::{TraceError, TraceText, read_trace};
-pub use texts::{Head, failure, limit, refusal, success, used_up};
+pub use text::Text;
+pub use texts::{Head, budget_text, failure_text, limit_text, refusal_text, success_text};

@@ -3,9 +3,11 @@
 ghost use Rattle.std.specs.Prelude.{◌≡◌, ◌≢◌, ◌+◌, ◌<◌, ◌≤◌, ◌^◌, ◌++◌, ◌∷◌, [], ℕ, true, false, not, ◌==◌, List, All, MatchOption, IfOk, length, map, codes};
 ghost use Rattle.std.specs.Char.{is_ascii_digit};
 ghost use Rattle.std.specs.Fmt.{decimal};
+ghost use Rattle.std.specs.Str.{bytes_eq};
 ghost use Rattle.words.specs.declared.check.Class.{Class};
 ghost use Rattle.report.specs.FileNames.{is_name_byte, all_name_bytes};
 ghost use Rattle.report.specs.Identifiers.{is_letter as letter, is_word_byte as word_byte, all_word_bytes, is_identifier as identifier};
+ghost use Rattle.report.specs.ClassNames.{class_of};
 ghost use Rattle.report.specs.Failing.{row_of};
 ghost use Rattle.report.specs.Lines.{Line as Told, generated, file, off, violated, inputs, schedule, failed, line_text, IsLine, MayStand, place_after, told_line};
 ghost use Rattle.report.specs.Report.{class_name, spaced_words, spaced_rows, line_of, IsFileName, IsRow, AreMaximal};
@@ -15,6 +17,7 @@ use crate::failing::{Row, Rows};
 use crate::runs::{
     Run, behind, in_front, is_line_end, last_number, number, small_number, split_run, value_of,
 };
+use crate::texts::name_of_class;
 use std::alloc::{AllocError, Global};
 use words::Class;
 
@@ -135,31 +138,47 @@ fn file_line(text: &[u8]) -> Option<Line<'_>>
     }
 }
 
+/// Each class of checks.
+const CLASSES: [Class; 18] = [
+    Class::Assertion,
+    Class::Overflow,
+    Class::Division,
+    Class::Shift,
+    Class::Null,
+    Class::InvalidPointer,
+    Class::Lifetime,
+    Class::Bounds,
+    Class::Readonly,
+    Class::MixedSize,
+    Class::Pointer,
+    Class::Free,
+    Class::MallocLimit,
+    Class::Mutex,
+    Class::Join,
+    Class::Return,
+    Class::Unwind,
+    Class::Recursion,
+];
+
+/// Whether this is the name of a class.
+fn is_named(class: Class, name: &[u8]) -> bool
+    ensures { result ≡ bytes_eq (class_name class) name.now }
+{
+    name_of_class(class).as_bytes() == name
+}
+
+/// The first class of the table with this name.
+fn class_listed(name: &[u8]) -> Option<Class>
+    ensures { result ≡ class_of name.now }
+{
+    CLASSES.iter().copied().find(|class| is_named(*class, name))
+}
+
 /// The class with this name.
 fn class_named(name: &[u8]) -> Option<Class>
     ensures { MatchOption result ((class : Class) → name.now ≡ class_name class → ⊥) (λ class. name.now ≡ class_name class) }
 {
-    match name {
-        b"assertion" => Some(Class::Assertion),
-        b"overflow" => Some(Class::Overflow),
-        b"division" => Some(Class::Division),
-        b"shift" => Some(Class::Shift),
-        b"null" => Some(Class::Null),
-        b"invalid-pointer" => Some(Class::InvalidPointer),
-        b"lifetime" => Some(Class::Lifetime),
-        b"bounds" => Some(Class::Bounds),
-        b"readonly" => Some(Class::Readonly),
-        b"mixed-size" => Some(Class::MixedSize),
-        b"pointer" => Some(Class::Pointer),
-        b"free" => Some(Class::Free),
-        b"malloc-limit" => Some(Class::MallocLimit),
-        b"mutex" => Some(Class::Mutex),
-        b"join" => Some(Class::Join),
-        b"return" => Some(Class::Return),
-        b"unwind" => Some(Class::Unwind),
-        b"recursion" => Some(Class::Recursion),
-        _ => None,
-    }
+    class_listed(name)
 }
 
 fn is_letter(byte: u8) -> bool

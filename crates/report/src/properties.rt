@@ -1,13 +1,12 @@
 //! The loops and assertions of a file, as the texts list them.
 
-ghost use Rattle.std.specs.Prelude.{◌≡◌, ◌++◌, map, true, All, IfOk, OnOk, string_bytes};
+ghost use Rattle.std.specs.Prelude.{◌≡◌, ◌++◌, map, IfOk, OnOk};
 ghost use Rattle.std.specs.List.{flat_map};
-ghost use Rattle.report.specs.Properties.{loop, assertion, told_of, IsNamed, property_line, properties_text as listed};
-ghost use Rattle.report.specs.Identifiers.{is_identifier};
+ghost use Rattle.report.specs.Properties.{loop, assertion, told_of, property_line, properties_text as properties_bytes};
 
+use crate::text::Text;
 use core_tree::Name;
 use std::alloc::{AllocError, Global};
-use std::fmt::Write;
 
 /// A loop or an assertion of a file.
 #[derive(Drop)]
@@ -25,71 +24,72 @@ pub enum Property {
     },
 }
 
-/// Appends a name.
-fn push_name(text: &mut String, name: &Name) -> Result<(), AllocError>
-    requires { is_identifier name.now.bytes.items ≡ true }
-    ensures { OnOk result (string_bytes text.new ≡ string_bytes text.old ++ name.now.bytes.items) }
-{
-    let Ok(shown) = str::from_utf8(&name.bytes) else {
-        unreachable!()
-    };
-    text.push_str(shown)
-}
-
 /// Appends the line of a loop.
-fn push_loop(text: &mut String, function: &Name, number: u32, line: u32) -> Result<(), AllocError>
-    requires { is_identifier function.now.bytes.items ≡ true }
-    ensures { OnOk result (string_bytes text.new ≡ string_bytes text.old ++ property_line (loop function.now.bytes.items number line)) }
+fn push_loop(
+    text: &mut Text,
+    alloc: Global,
+    function: &Name,
+    number: u32,
+    line: u32,
+) -> Result<(), AllocError>
+    ensures { OnOk result (text.new ≡ text.old ++ property_line (loop function.now.bytes.items number line)) }
 {
-    text.push_str("loop ")?;
-    push_name(text, function)?;
-    write!(text, ".{number} line {line}\n")?;
+    let back = format!(in alloc; ".{number} line {line}\n")?;
+    text.push("loop ")?;
+    text.push_name(function)?;
+    text.push(back.as_str())?;
     Ok(())
 }
 
 /// Appends the line of an assertion.
-fn push_assertion(text: &mut String, line: u32, function: &Name) -> Result<(), AllocError>
-    requires { is_identifier function.now.bytes.items ≡ true }
-    ensures { OnOk result (string_bytes text.new ≡ string_bytes text.old ++ property_line (assertion line function.now.bytes.items)) }
+fn push_assertion(
+    text: &mut Text,
+    alloc: Global,
+    line: u32,
+    function: &Name,
+) -> Result<(), AllocError>
+    ensures { OnOk result (text.new ≡ text.old ++ property_line (assertion line function.now.bytes.items)) }
 {
-    write!(text, "assertion line {line} function ")?;
-    push_name(text, function)?;
-    text.push_str("\n")?;
+    let front = format!(in alloc; "assertion line {line} function ")?;
+    text.push(front.as_str())?;
+    text.push_name(function)?;
+    text.push("\n")?;
     Ok(())
 }
 
 /// Appends the line of a loop or an assertion.
-fn push_property(text: &mut String, property: &Property) -> Result<(), AllocError>
-    requires { IsNamed (told_of property.now) }
-    ensures { OnOk result (string_bytes text.new ≡ string_bytes text.old ++ property_line (told_of property.now)) }
+fn push_property(text: &mut Text, alloc: Global, property: &Property) -> Result<(), AllocError>
+    ensures { OnOk result (text.new ≡ text.old ++ property_line (told_of property.now)) }
 {
     match property {
         Property::Loop {
             function,
             number,
             line,
-        } => push_loop(text, function, *number, *line),
-        Property::Assertion { line, function } => push_assertion(text, *line, function),
+        } => push_loop(text, alloc, function, *number, *line),
+        Property::Assertion { line, function } => push_assertion(text, alloc, *line, function),
     }
 }
 
 /// Appends a line for each loop or assertion.
-fn push_properties(text: &mut String, properties: &[Property]) -> Result<(), AllocError>
-    requires { All (λ p. IsNamed (told_of p)) properties.now }
-    ensures { OnOk result (string_bytes text.new ≡ string_bytes text.old ++ flat_map (λ p. property_line (told_of p)) properties.now) }
+fn push_properties(
+    text: &mut Text,
+    alloc: Global,
+    properties: &[Property],
+) -> Result<(), AllocError>
+    ensures { OnOk result (text.new ≡ text.old ++ flat_map (λ p. property_line (told_of p)) properties.now) }
 {
     for property in properties {
-        push_property(text, property)?;
+        push_property(text, alloc, property)?;
     }
     Ok(())
 }
 
-/// The text that lists loops and assertions, a line for each, in this order. Their functions' names are identifiers.
-pub fn properties_text(alloc: Global, properties: &[Property]) -> Result<String, AllocError>
-    requires { All (λ p. IsNamed (told_of p)) properties.now }
-    ensures { IfOk result (λ text. string_bytes text ≡ listed (map told_of properties.now)) }
+/// The text that lists loops and assertions, a line for each, in this order.
+pub fn properties_text(alloc: Global, properties: &[Property]) -> Result<Text, AllocError>
+    ensures { IfOk result (λ text. text ≡ properties_bytes (map told_of properties.now)) }
 {
-    let mut text = String::new(alloc);
-    push_properties(&mut text, properties)?;
+    let mut text = Text::new(alloc);
+    push_properties(&mut text, alloc, properties)?;
     Ok(text)
 }

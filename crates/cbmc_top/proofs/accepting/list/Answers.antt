@@ -3,12 +3,10 @@ use Rattle.c_tree.specs.Statements.{view_file}
 use Rattle.core_tree.specs.Trees.{view_core}
 use Rattle.report.specs.Properties.{told_of}
 use Rattle.run_search.specs.Answers.{listed}
-use Rattle.cbmc_top.specs.Programs.{text_behind}
 use Rattle.cbmc_top.specs.Command.{listing}
 use Rattle.cbmc_top.specs.Answers.{Decides}
 use Rattle.cbmc_top.specs.Stops.{IsRefused}
 use Rattle.cbmc_top.proofs.Results.{err_on}
-use Rattle.cbmc_top.proofs.Listed.{listed_named}
 use Rattle.cbmc_top.proofs.Stages.{stop_map, refused_decides, accepted_after}
 use Rattle.cbmc_top.proofs.accepting.list.Goals as goal
 
@@ -28,6 +26,3 @@ returns-clause-found c =
       short = c.in_ok-tree.ensures.short;
       program = record { tree = tree; is_tree = c.in_ok-tree.ensures.found; typed = c.in_ok-_program.ensures.typed; in_profile = c.in_ok-_program.ensures.in_profile };
     }) (ap listed c.in_ok-properties.ensures)
-
-pub invariant_of-result : goal.invariant_of-result
-invariant_of-result c = record { named = listed_named (text_behind c.args.file.now) (view_file c.in_ok-tree.tree) _ c.in_ok-properties.ensures c.in_ok-tree.ensures.spelled }

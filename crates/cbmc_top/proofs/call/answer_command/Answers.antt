@@ -1,5 +1,4 @@
 use Rattle.std.proofs.Common.{◌≡◌, ◌≢◌, ℕ, List, Option, Some, None, Err, ◌≤◌, length, subst, sym, ap, refl, ◌∙◌}
-use Rattle.std.specs.Prelude.{string_bytes}
 use Rattle.outside.specs.Count.{Rose}
 use Rattle.options.specs.Command.{asked_of}
 use Rattle.run_search.specs.Answers.{read_fault}
@@ -15,8 +14,8 @@ returns-in-Ok-clause-answered g c =
     let asked = asked_of c.args.options.now in
     let bytes = c.in-Ok.bytes.items in
     ok_map c.report_bytes.result _ _ c.report_bytes.ensures (λ (r : Report) x.
-    report_on asked (g.S.Source.holds c.args.files.now) _ bytes r.status (string_bytes r.text) r.spent c.in-Ok.ensures.bytes
-    (subst (λ b. IsReported asked b r.status (string_bytes r.text) r.spent) c.deref.ensures.value x))
+    report_on asked (g.S.Source.holds c.args.files.now) _ bytes r.status r.text r.spent c.in-Ok.ensures.bytes
+    (subst (λ b. IsReported asked b r.status r.text r.spent) c.deref.ensures.value x))
 
 pub returns-in_ok-text-in-Err-Failed-clause-answered : goal.returns-in_ok-text-in-Err-Failed-clause-answered
 returns-in_ok-text-in-Err-Failed-clause-answered g c =
@@ -27,7 +26,7 @@ returns-in_ok-text-in-Err-Failed-clause-answered g c =
       answer = read_fault;
       answered = fault_answered asked (g.S.Source.holds c.args.files.now) _ file.0 file.1 ((c.in-Err-Failed.ensures.cause file.0 file.1).rose failed);
       status_is = ap (λ (r : Report). r.status) c.plain.ensures;
-      text_is = ap (λ (r : Report). string_bytes r.text) c.plain.ensures ∙ c.in_ok-text-in-Err-Failed.ensures.ok;
+      text_is = ap (λ (r : Report). r.text) c.plain.ensures ∙ c.from_string.ensures ∙ c.in_ok-text-in-Err-Failed.ensures.ok;
       spent_is = ap (λ (r : Report). r.spent) c.plain.ensures;
     }
 

@@ -13,13 +13,13 @@ use Rattle.cbmc_top.proofs.call.answer_words.Goals as goal
 pub returns-in-Ok-clause-answered : goal.returns-in-Ok-clause-answered
 returns-in-Ok-clause-answered g c =
     ok_map c.answer_command.result _ _ c.answer_command.ensures.answered (λ (r : Report) x.
-    command_reported (map string_bytes c.args.words.now) _ _ (asked_of c.in-Ok.options) r.status (string_bytes r.text) r.spent c.in-Ok.ensures.options
+    command_reported (map string_bytes c.args.words.now) _ _ (asked_of c.in-Ok.options) r.status r.text r.spent c.in-Ok.ensures.options
     (head_of_command (map string_bytes c.args.words.now) (asked_of c.in-Ok.options) c.in-Ok.ensures.options (IsUtf8-string_bytes c.in-Ok.options.name) c.in-Ok.options.named) x)
 
 pub returns-in-Err-Usage-clause-answered : goal.returns-in-Err-Usage-clause-answered
 returns-in-Err-Usage-clause-answered g c =
     ok_map c.usage.result _ _ c.usage.ensures (λ (r : Report) x.
-    usage_reported (map string_bytes c.args.words.now) _ _ r.status (string_bytes r.text) r.spent (c.in-Err-Usage.ensures.usage c.in-Err-Usage.field-0-is) x.0 x.1 x.2)
+    usage_reported (map string_bytes c.args.words.now) _ _ r.status r.text r.spent (c.in-Err-Usage.ensures.usage c.in-Err-Usage.field-0-is) x.0 x.1 x.2)
 
 pub returns-in-Ok-clause-others : goal.returns-in-Ok-clause-others
 returns-in-Ok-clause-others g c = λ other unread. c.answer_command.ensures.others other (unread (asked_of c.in-Ok.options) c.in-Ok.ensures.options)

@@ -1,5 +1,4 @@
 use Rattle.std.proofs.Common.{ap, ◌∙◌, subst}
-use Rattle.std.specs.Prelude.{string_bytes}
 use Rattle.outside.specs.Sink.{appended}
 use Rattle.cbmc_top.specs.Answers.{TookPart}
 use Rattle.cbmc_top.proofs.Causes.{success_is, list_is, budget_is, spent_is, given_is, failure_is, complete_of, listed_of, limited_is, limited_of, refused_is, refused_of, usage_is, usage_of, fault_is}
@@ -58,7 +57,7 @@ returns-in-Err-write_all-clause-write_fault g c = λ e.
       c.in-Err-write_all.ensures.fault,
       (
         r.answer,
-        string_bytes c.in-Ok.report.text,
+        c.in-Ok.report.text,
         r.answered,
         subst (TookPart (g.K.Sink.taken c.args.out.now) (g.K.Sink.taken c.write_all.new.out)) c.as_bytes.ensures.value c.in-Err-write_all.ensures.part,
       ),

@@ -15,7 +15,7 @@ returns-in-Refuted-clause-found c =
 
 pub returns-in-Broken-clause-found : goal.returns-in-Broken-clause-found
 returns-in-Broken-clause-found c =
-    accepted_decides c.args.bounds.now c.args.budget c.args.file.now (view_core c.in_ok-program.program) None (failed (failure_of c.in_ok-failing-in-Broken.failing)) c.in_ok-program.ensures.found c.in_ok-searched.ensures.counts
+    accepted_decides c.args.bounds.now c.args.budget c.args.file.now (view_core c.in_ok-program.program) None (failed (failure_of c.in_ok-failing-in-Broken.failing.trace c.in_ok-failing-in-Broken.failing.function.bytes.items)) c.in_ok-program.ensures.found c.in_ok-searched.ensures.counts
     c.in_ok-failing-in-Broken.ensures.failure
 
 pub returns-clause-found : goal.returns-clause-found

@@ -1,4 +1,4 @@
-use Rattle.std.proofs.Common.{subst, refl}
+use Rattle.std.proofs.Common.{subst}
 use Rattle.run_search.specs.Answers.{successful, used_up}
 use Rattle.cbmc_top.specs.Command.{checking}
 use Rattle.cbmc_top.specs.Answers.{Decides}
@@ -23,7 +23,7 @@ returns-in-Failed c =
     let file = c.args.file.now in
     let found = subst (λ (f : Finding). Decides (checking limits budget) file (answer_of f)) c.in-Failed.is c.in_ok-used.ensures.found in
     let traced = subst (λ (f : Finding). IsTraced limits file f) c.in-Failed.is c.in_ok-used.ensures.traced in
-    ((c.in-Failed.failing, refl, found), traced)
+    ((c.in-Failed.failing.function.bytes.items, found), traced)
 
 pub returns-in-Budget : goal.returns-in-Budget
 returns-in-Budget c =

@@ -1,4 +1,4 @@
-use Rattle.std.proofs.Common.{◌≡◌, ℕ, List, [], ◌∷◌, ◌++◌, string_bytes, ap, ◌∙◌}
+use Rattle.std.proofs.Common.{◌≡◌, ℕ, List, [], ◌∷◌, ◌++◌, ap, ◌∙◌}
 use mathlib.Core.List.{append_assoc}
 use Rattle.std.specs.Prelude.{codes}
 use Rattle.std.specs.Fmt.{decimal}
@@ -12,6 +12,7 @@ pub returns : goal.returns
 returns c =
     let name = c.args.function.now.bytes.items in
     let d = decimal c.args.line in
-    three_pieces (string_bytes c.args.text.now) (codes "assertion line " ++ (d ++ codes " function ")) name (10 ∷ []) _ _ _
-    c.in_ok-write.ensures.bytes c.in_ok-push_name.ensures c.in_ok-push_str.ensures.bytes
-    ∙ ap (λ (z : List ℕ). string_bytes c.args.text.now ++ z) (regroup d name)
+    three_pieces c.args.text.now (codes "assertion line " ++ (d ++ codes " function ")) name (10 ∷ []) _ _ _
+    (c.in_ok-push.ensures.ok ∙ ap (λ z. c.args.text.now ++ z) (c.as_str.ensures.value ∙ c.in_ok-front.ensures.ok))
+    c.in_ok-push_name.ensures.ok c.in_ok-push-2.ensures.ok
+    ∙ ap (λ (z : List ℕ). c.args.text.now ++ z) (regroup d name)
