@@ -3,14 +3,7 @@
 #![tactic(auto)]
 
 #[cfg(test)]
-mod checker_tests;
-#[cfg(test)]
-mod form_tests;
-#[cfg(test)]
-mod graph_tests;
-#[cfg(test)]
 mod lexer_tests;
-pub mod node_values;
 #[cfg(test)]
 mod outside_tests;
 #[cfg(test)]
@@ -19,7 +12,5 @@ mod store_tests;
 mod turn_tests;
 #[cfg(test)]
 mod type_tests;
-#[cfg(test)]
-mod value_tests;
 #[cfg(test)]
 mod word_tests;

@@ -127,31 +127,50 @@ fn union_of(alloc: Global, layouts: &mut Layouts, members: Vec<Ty>) -> Result<u3
     completed(alloc, layouts, RecordKind::Union, members)
 }
 
+/// Records of integers: a struct, a union, and a small struct.
+fn records_of_integers(alloc: Global, all: &mut Layouts) -> Result<[u32; 3], Fail> {
+    // struct { char a; long b; short c; }
+    let long = structure(alloc, all, vec![in alloc; CHAR, LONG, SHORT]?)?;
+    // union { int i; short h; }
+    let word = union_of(alloc, all, vec![in alloc; INT, SHORT]?)?;
+    // struct { _Bool a; short b; char c; }
+    let small = structure(alloc, all, vec![in alloc; BOOL, SHORT, CHAR]?)?;
+    Ok([long, word, small])
+}
+
+/// A struct with the record within it, and a union with an array.
+fn records_of_more(alloc: Global, all: &mut Layouts, long: u32) -> Result<[u32; 2], Fail> {
+    // struct { struct long inner; char d; }
+    let outer = structure(alloc, all, vec![in alloc; Ty::Record(long), CHAR]?)?;
+    // union { char c[9]; int i; }
+    let text = Ty::array(alloc, CHAR, 9, all)?;
+    let bytes = union_of(alloc, all, vec![in alloc; text, INT]?)?;
+    Ok([outer, bytes])
+}
+
+/// A struct with an array of the small one, and one with the union and an array.
+fn records_of_records(
+    alloc: Global,
+    all: &mut Layouts,
+    small: u32,
+    word: u32,
+) -> Result<[u32; 2], Fail> {
+    // struct { struct small rows[3]; int n; }
+    let rows = Ty::array(alloc, Ty::Record(small), 3, all)?;
+    let table = structure(alloc, all, vec![in alloc; rows, INT]?)?;
+    // struct { char a; union word u; short h[3]; }
+    let halves = Ty::array(alloc, SHORT, 3, all)?;
+    let mixed = structure(alloc, all, vec![in alloc; CHAR, Ty::Record(word), halves]?)?;
+    Ok([table, mixed])
+}
+
 #[test]
 fn layouts_are_those_of_a_c_compiler(rt: HostRuntime) -> Result<(), Fail> {
     let alloc = rt.alloc();
     let mut all = Layouts::new(alloc);
-    // struct { char a; long b; short c; }
-    let long = structure(alloc, &mut all, vec![in alloc; CHAR, LONG, SHORT]?)?;
-    // union { int i; short h; }
-    let word = union_of(alloc, &mut all, vec![in alloc; INT, SHORT]?)?;
-    // struct { _Bool a; short b; char c; }
-    let small = structure(alloc, &mut all, vec![in alloc; BOOL, SHORT, CHAR]?)?;
-    // struct { struct long inner; char d; }
-    let outer = structure(alloc, &mut all, vec![in alloc; Ty::Record(long), CHAR]?)?;
-    // union { char c[9]; int i; }
-    let text = Ty::array(alloc, CHAR, 9, &all)?;
-    let bytes = union_of(alloc, &mut all, vec![in alloc; text, INT]?)?;
-    // struct { struct small rows[3]; int n; }
-    let rows = Ty::array(alloc, Ty::Record(small), 3, &all)?;
-    let table = structure(alloc, &mut all, vec![in alloc; rows, INT]?)?;
-    // struct { char a; union word u; short h[3]; }
-    let halves = Ty::array(alloc, SHORT, 3, &all)?;
-    let mixed = structure(
-        alloc,
-        &mut all,
-        vec![in alloc; CHAR, Ty::Record(word), halves]?,
-    )?;
+    let [long, word, small] = records_of_integers(alloc, &mut all)?;
+    let [outer, bytes] = records_of_more(alloc, &mut all, long)?;
+    let [table, mixed] = records_of_records(alloc, &mut all, small, word)?;
     let expected = [
         (long, "24 8 [0, 8, 16]"),
         (word, "4 4 [0, 0]"),

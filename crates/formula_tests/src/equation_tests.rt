@@ -430,78 +430,124 @@ fn told(words: &[Word], event: &Event) -> Option<&'static str> {
     }
 }
 
-#[test]
-fn events_of_a_choice(rt: HostRuntime) -> Result<(), Fail> {
-    let alloc = rt.alloc();
-    let store = Store::new(alloc);
-    let unrolled = Unrolled::new(vec![in alloc; choice(alloc)?]?, 0, store);
+// The values of the variables; and of each event its line, and what it tells where they have these.
+type Told<'a> = (&'a [u64], &'a [(u32, Option<&'a str>)]);
+
+// Whether the events have these lines and tell this where the variables have these values.
+fn tell(
+    alloc: Global,
+    dag: &Dag,
+    events: &[Event],
+    (values, wanted): Told<'_>,
+) -> Result<bool, AllocError> {
+    let values = Vec::from_slice(alloc, values)?;
+    let words = dag.words(alloc, &Valuation::from_values(values))?;
+    if events.len() != wanted.len() {
+        return Ok(false);
+    }
+    for (event, (line, text)) in events.iter().zip(wanted) {
+        if event.line != *line || told(&words, event) != *text {
+            return Ok(false);
+        }
+    }
+    Ok(true)
+}
+
+// The first row that the events of the code's one thread tell otherwise.
+fn wrong_row(alloc: Global, code: Code, rows: &[Told<'_>]) -> Result<Option<usize>, AllocError>
+    requires { is_flat_code code ≡ true }
+{
+    let unrolled = Unrolled::new(vec![in alloc; code]?, 0, Store::new(alloc));
     let mut dag = Dag::new(alloc);
     let forms = threads(alloc, &unrolled, &mut dag)?;
-    assert_eq!(rt; forms.len(), 1);
-    // The input, and what each of the three events tells.
-    let rows = [
-        (0, Some("draws"), Some("breaks")),
-        (3, Some("draws 3"), None),
-        (0x8000_0000, Some("draws"), None),
-    ];
-    for (input, first, second) in rows.iter() {
-        let valuation = Valuation::from_values(vec![in alloc; *input]?);
-        let words = dag.words(alloc, &valuation)?;
-        let events = forms[0].events();
-        assert_eq!(rt; events.len(), 3);
-        assert_eq!(rt; events[0].line, 1);
-        assert_eq!(rt; events[1].line, 3);
-        assert_eq!(rt; told(&words, &events[0]), *first, "input {input}");
-        assert_eq!(rt; told(&words, &events[1]), *second, "input {input}");
-        assert_eq!(rt; told(&words, &events[2]), Some("exits"), "input {input}");
+    for (i, row) in rows.iter().enumerate() {
+        if forms.len() != 1 || !tell(alloc, &dag, forms[0].events(), *row)? {
+            return Ok(Some(i));
+        }
     }
+    Ok(None)
+}
+
+// The input, and what each of the three events tells.
+static CHOICES: [Told<'static>; 3] = [
+    (
+        &[0],
+        &[(1, Some("draws")), (3, Some("breaks")), (4, Some("exits"))],
+    ),
+    (&[3], &[(1, Some("draws 3")), (3, None), (4, Some("exits"))]),
+    (
+        &[0x8000_0000],
+        &[(1, Some("draws")), (3, None), (4, Some("exits"))],
+    ),
+];
+
+#[test]
+fn events_of_a_choice(rt: HostRuntime) -> Result<(), Fail> {
+    let code = choice(rt.alloc())?;
+    assert_eq!(rt; wrong_row(rt.alloc(), code, &CHOICES)?, None);
     Ok(())
 }
+
+// The input, and what the draw and the assertion tell.
+static SIDES: [Told<'static>; 2] = [
+    (&[0], &[(1, Some("draws")), (3, None)]),
+    (&[9], &[(1, Some("draws")), (3, Some("breaks"))]),
+];
 
 #[test]
 fn registers_set_on_one_side(rt: HostRuntime) -> Result<(), Fail> {
-    let alloc = rt.alloc();
-    let store = Store::new(alloc);
-    let unrolled = Unrolled::new(vec![in alloc; one_sided(alloc)?]?, 0, store);
-    let mut dag = Dag::new(alloc);
-    let forms = threads(alloc, &unrolled, &mut dag)?;
-    // The input, and what the assertion tells.
-    let rows = [(0, None), (9, Some("breaks"))];
-    for (input, second) in rows.iter() {
-        let valuation = Valuation::from_values(vec![in alloc; *input]?);
-        let words = dag.words(alloc, &valuation)?;
-        let events = forms[0].events();
-        assert_eq!(rt; events.len(), 2);
-        assert_eq!(rt; told(&words, &events[1]), *second, "input {input}");
-    }
+    let code = one_sided(rt.alloc())?;
+    assert_eq!(rt; wrong_row(rt.alloc(), code, &SIDES)?, None);
     Ok(())
 }
 
+// The input, and what the draw and the three assertions tell.
+static PIECES: [Told<'static>; 6] = [
+    (
+        &[0x0807_0605_0403_0201],
+        &[(1, Some("draws")), (7, None), (8, None), (9, None)],
+    ),
+    (
+        &[0x0807_0605_0403_ffff],
+        &[(1, Some("draws")), (7, None), (8, None), (9, None)],
+    ),
+    (
+        &[0x0807_0605_0403_0504],
+        &[(1, Some("draws")), (7, None), (8, None), (9, None)],
+    ),
+    (
+        &[0x0907_0605_0403_0201],
+        &[
+            (1, Some("draws")),
+            (7, Some("breaks")),
+            (8, None),
+            (9, None),
+        ],
+    ),
+    (
+        &[0x0807_0605_1403_0201],
+        &[
+            (1, Some("draws")),
+            (7, Some("breaks")),
+            (8, None),
+            (9, None),
+        ],
+    ),
+    (
+        &[0x0807_0615_0403_0201],
+        &[
+            (1, Some("draws")),
+            (7, Some("breaks")),
+            (8, None),
+            (9, Some("breaks")),
+        ],
+    ),
+];
+
 #[test]
 fn bytes_of_blocks(rt: HostRuntime) -> Result<(), Fail> {
-    let alloc = rt.alloc();
-    let store = Store::new(alloc);
-    let unrolled = Unrolled::new(vec![in alloc; pieces(alloc)?]?, 0, store);
-    let mut dag = Dag::new(alloc);
-    let forms = threads(alloc, &unrolled, &mut dag)?;
-    // The input, and what the first and the last assertion tell.
-    let rows = [
-        (0x0807_0605_0403_0201, None, None),
-        (0x0807_0605_0403_ffff, None, None),
-        (0x0807_0605_0403_0504, None, None),
-        (0x0907_0605_0403_0201, Some("breaks"), None),
-        (0x0807_0605_1403_0201, Some("breaks"), None),
-        (0x0807_0615_0403_0201, Some("breaks"), Some("breaks")),
-    ];
-    for (input, first, last) in rows.iter() {
-        let valuation = Valuation::from_values(vec![in alloc; *input]?);
-        let words = dag.words(alloc, &valuation)?;
-        let events = forms[0].events();
-        assert_eq!(rt; events.len(), 4);
-        assert_eq!(rt; told(&words, &events[1]), *first, "input {input}");
-        assert_eq!(rt; told(&words, &events[2]), None, "input {input}");
-        assert_eq!(rt; told(&words, &events[3]), *last, "input {input}");
-    }
+    let code = pieces(rt.alloc())?;
+    assert_eq!(rt; wrong_row(rt.alloc(), code, &PIECES)?, None);
     Ok(())
 }
 
@@ -584,30 +630,38 @@ fn accesses(alloc: Global) -> Result<Code, AllocError>
     Ok(Code::new(registers, blocks, instructions, true))
 }
 
+// The words of the read's answer, which are the variables 0 and 7, of 64 and of 24 bits: the byte that is tested is the lowest
+// but two of the second. Then what the read, the write and the end tell.
+static READS: [Told<'static>; 4] = [
+    (
+        &[9, 0, 0, 0, 0, 0, 0, 0x030000],
+        &[
+            (1, Some("reads")),
+            (4, Some("writes 3")),
+            (5, Some("exits")),
+        ],
+    ),
+    (
+        &[9, 0, 0, 0, 0, 0, 0, 0x3030000],
+        &[
+            (1, Some("reads")),
+            (4, Some("writes 3")),
+            (5, Some("exits")),
+        ],
+    ),
+    (
+        &[9, 0, 0, 0, 0, 0, 0, 0x040003],
+        &[(1, Some("reads")), (4, None), (5, Some("exits"))],
+    ),
+    (
+        &[9, 0, 0, 0, 0, 0, 0, 0],
+        &[(1, Some("reads")), (4, None), (5, Some("exits"))],
+    ),
+];
+
 #[test]
 fn reads_are_answered_in_words(rt: HostRuntime) -> Result<(), Fail> {
-    let alloc = rt.alloc();
-    // The second word of the read's answer, whose lowest byte but two is the one that is tested, and what
-    // the write tells.
-    let rows = [
-        (0x030000, Some("writes 3")),
-        (0x3030000, Some("writes 3")),
-        (0x040003, None),
-        (0, None),
-    ];
-    for (second, write) in &rows {
-        let mut dag = Dag::new(alloc);
-        let unrolled = Unrolled::new(vec![in alloc; accesses(alloc)?]?, 0, Store::new(alloc));
-        let forms = threads(alloc, &unrolled, &mut dag)?;
-        // the read's variables are 0 and 7, of 64 and of 24 bits
-        let values = vec![in alloc; 9, 0, 0, 0, 0, 0, 0, *second]?;
-        let words = dag.words(alloc, &Valuation::from_values(values))?;
-        assert_eq!(rt; forms.len(), 1);
-        let events = forms[0].events();
-        assert_eq!(rt; events.len(), 3);
-        assert_eq!(rt; told(&words, &events[0]), Some("reads"));
-        assert_eq!(rt; told(&words, &events[1]), *write, "second word {second}");
-        assert_eq!(rt; told(&words, &events[2]), Some("exits"));
-    }
+    let code = accesses(rt.alloc())?;
+    assert_eq!(rt; wrong_row(rt.alloc(), code, &READS)?, None);
     Ok(())
 }

@@ -178,52 +178,60 @@ fn random_small_forms(rt: HostRuntime) -> Result<(), Fail> {
     Ok(())
 }
 
+// Pigeons and holes, and whether each pigeon can have one of its own.
+static HOLES: [(u32, u32, bool); 4] = [(5, 4, false), (4, 4, true), (0, 0, true), (1, 0, false)];
+
+const A: (u32, bool) = (0, false);
+
+const B: (u32, bool) = (1, false);
+
+const C: (u32, bool) = (2, false);
+
+const NOT_A: (u32, bool) = (0, true);
+
+const NOT_B: (u32, bool) = (1, true);
+
+const NOT_C: (u32, bool) = (2, true);
+
+// Clauses, and whether they have a model.
+type Form<'a> = (&'a [&'a [(u32, bool)]], bool);
+
+static FORMS: [Form<'static>; 5] = [
+    (&[&[A, NOT_A]], true),
+    (&[&[A], &[NOT_A]], false),
+    (&[&[A, B], &[NOT_A, B], &[A, NOT_B]], true),
+    (&[&[A, A], &[NOT_A, B], &[NOT_B, C], &[NOT_C]], false),
+    (&[&[A, B], &[NOT_A, B], &[A, NOT_B], &[NOT_A, NOT_B]], false),
+];
+
+// The form of these clauses.
+fn form_of_rows(alloc: Global, rows: &[&[(u32, bool)]]) -> Result<Cnf, Fail> {
+    let mut clauses = Vec::new(alloc);
+    for row in rows {
+        clauses.push(Vec::from_slice(alloc, row)?)?;
+    }
+    form_of(alloc, &clauses)
+}
+
+// The first row whose form is answered otherwise.
+fn wrong_form(alloc: Global, rows: &[Form<'_>]) -> Result<Option<usize>, Fail> {
+    for (i, (clauses, expected)) in rows.iter().enumerate() {
+        let cnf = form_of_rows(alloc, clauses)?;
+        if fits(alloc, &cnf)? != *expected {
+            return Ok(Some(i));
+        }
+    }
+    Ok(None)
+}
+
 #[test]
 fn pigeons_and_small_forms(rt: HostRuntime) -> Result<(), Fail> {
     let alloc = rt.alloc();
-    for (count, holes, expected) in [(5, 4, false), (4, 4, true), (0, 0, true), (1, 0, false)] {
+    for (count, holes, expected) in HOLES {
         let cnf = pigeons(alloc, count, holes)?;
         assert_eq!(rt; fits(alloc, &cnf)?, expected, "{count} {holes}");
     }
-    let (a, b, c) = ((0, false), (1, false), (2, false));
-    let (not_a, not_b, not_c) = ((0, true), (1, true), (2, true));
-    let forms = vec![in alloc;
-        (vec![in alloc; vec![in alloc; a, not_a]?]?, true),
-        (
-            vec![in alloc; vec![in alloc; a]?, vec![in alloc; not_a]?]?,
-            false
-        ),
-        (
-            vec![in alloc;
-                vec![in alloc; a, b]?,
-                vec![in alloc; not_a, b]?,
-                vec![in alloc; a, not_b]?
-            ]?,
-            true
-        ),
-        (
-            vec![in alloc;
-                vec![in alloc; a, a]?,
-                vec![in alloc; not_a, b]?,
-                vec![in alloc; not_b, c]?,
-                vec![in alloc; not_c]?
-            ]?,
-            false
-        ),
-        (
-            vec![in alloc;
-                vec![in alloc; a, b]?,
-                vec![in alloc; not_a, b]?,
-                vec![in alloc; a, not_b]?,
-                vec![in alloc; not_a, not_b]?
-            ]?,
-            false
-        ),
-    ]?;
-    for (clauses, expected) in &forms {
-        let cnf = form_of(alloc, clauses)?;
-        assert_eq!(rt; fits(alloc, &cnf)?, *expected);
-    }
+    assert_eq!(rt; wrong_form(alloc, &FORMS)?, None);
     Ok(())
 }
 
@@ -511,6 +519,20 @@ fn only_number(
     }
 }
 
+// The number that the operation on new variables of this width gives where they have these numbers.
+fn number_given(
+    alloc: Global,
+    operation: Operation,
+    width: u32,
+    x: u32,
+    y: u32,
+) -> Result<Option<u32>, Fail> {
+    let mut cnf = Cnf::new(alloc);
+    let a = variables(alloc, &mut cnf, width)?;
+    let b = variables(alloc, &mut cnf, width)?;
+    only_number(alloc, &mut cnf, operation, (&a, x), (&b, y))
+}
+
 #[test]
 fn gates_of_small_words(rt: HostRuntime) -> Result<(), Fail> {
     let alloc = rt.alloc();
@@ -518,10 +540,7 @@ fn gates_of_small_words(rt: HostRuntime) -> Result<(), Fail> {
         for (i, operation) in OPERATIONS.into_iter().enumerate() {
             for x in 0..=mask {
                 for y in 0..=mask {
-                    let mut cnf = Cnf::new(alloc);
-                    let a = variables(alloc, &mut cnf, width)?;
-                    let b = variables(alloc, &mut cnf, width)?;
-                    let number = only_number(alloc, &mut cnf, operation, (&a, x), (&b, y))?;
+                    let number = number_given(alloc, operation, width, x, y)?;
                     assert_eq!(rt;
                         number,
                         Some(expected(operation, width, mask, x, y)),
@@ -554,25 +573,33 @@ fn is_free(operation: Operation, y: u32) -> bool {
     }
 }
 
+// The number that the operation gives of variables that have a number and a constant, and how many variables the form then has.
+fn number_with_constant(
+    alloc: Global,
+    operation: Operation,
+    width: u32,
+    x: u32,
+    y: u32,
+) -> Result<(Option<u32>, u32), Fail> {
+    let mut cnf = Cnf::new(alloc);
+    let one = cnf.fresh()?;
+    add(alloc, &mut cnf, &[one])?;
+    let a = variables(alloc, &mut cnf, width)?;
+    let b = constants(alloc, one, width, y)?;
+    let number = only_number(alloc, &mut cnf, operation, (&a, x), (&b, y))?;
+    Ok((number, cnf.variables()))
+}
+
 #[test]
 fn gates_with_a_constant(rt: HostRuntime) -> Result<(), Fail> {
-    let alloc = rt.alloc();
     let (width, mask) = (3, 7);
     for (i, operation) in OPERATIONS.into_iter().enumerate() {
         for (x, y) in [(5, 0), (3, 1), (7, 2), (6, 3), (1, 4), (2, 7)] {
-            let mut cnf = Cnf::new(alloc);
-            let one = cnf.fresh()?;
-            add(alloc, &mut cnf, &[one])?;
-            let a = variables(alloc, &mut cnf, width)?;
-            let b = constants(alloc, one, width, y)?;
-            let number = only_number(alloc, &mut cnf, operation, (&a, x), (&b, y))?;
-            assert_eq!(rt;
-                number,
-                Some(expected(operation, width, mask, x, y)),
-                "operation {i} {x} {y}"
-            );
+            let (number, variables) = number_with_constant(rt.alloc(), operation, width, x, y)?;
+            let wanted = Some(expected(operation, width, mask, x, y));
+            assert_eq!(rt; number, wanted, "operation {i} {x} {y}");
             assert!(rt;
-                !is_free(operation, y) || cnf.variables() == 4,
+                !is_free(operation, y) || variables == 4,
                 "operation {i} {y}"
             );
         }

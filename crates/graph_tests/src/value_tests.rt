@@ -17,47 +17,62 @@ fn value_of(rt: &HostRuntime, dag: &Dag, id: Id) -> Result<u64, Fail> {
     Ok(0)
 }
 
-#[test]
-fn operations_give_what_c_gives(rt: HostRuntime) -> Result<(), Fail> {
+// What is made of minus seven and two, as values of type int.
+#[derive(Clone, Copy)]
+enum Operation {
+    Divide,
+    Remainder,
+    ShiftRight,
+    Less,
+    ToByte,
+    ToLong,
+    ToBool,
+}
+
+// Each operation with its value.
+static OPERATIONS: [(Operation, u64); 7] = [
+    (Operation::Divide, 4_294_967_293),
+    (Operation::Remainder, 4_294_967_295),
+    (Operation::ShiftRight, 4_294_967_294),
+    (Operation::Less, 1),
+    (Operation::ToByte, 249),
+    (Operation::ToLong, 18_446_744_073_709_551_609),
+    (Operation::ToBool, 1),
+];
+
+// The value of the node of an operation; conversions are of minus seven.
+fn found(rt: &HostRuntime, operation: Operation) -> Result<u64, Fail> {
     let int = IntegerType::Int;
     let mut dag = Dag::new(rt.alloc());
-    let minus_seven = dag.make(Node::Constant(4_294_967_289, 32))?;
-    let two = dag.make(Node::Constant(2, 32))?;
-    let quotient = arithmetic(
-        &mut dag,
-        ArithmeticOperator::Divide,
-        int,
-        int,
-        minus_seven,
-        two,
-    )?;
-    let rest = arithmetic(
-        &mut dag,
-        ArithmeticOperator::Remainder,
-        int,
-        int,
-        minus_seven,
-        two,
-    )?;
-    let half = arithmetic(
-        &mut dag,
-        ArithmeticOperator::ShiftRight,
-        int,
-        int,
-        minus_seven,
-        two,
-    )?;
-    let less = compared(&mut dag, Comparison::Less, int, minus_seven, two)?;
-    let narrow = converted(&mut dag, int, IntegerType::UnsignedChar, minus_seven)?;
-    let wide = converted(&mut dag, int, IntegerType::Long, minus_seven)?;
-    let truth = converted(&mut dag, int, IntegerType::Bool, minus_seven)?;
-    assert_eq!(rt; value_of(&rt, &dag, quotient)?, 4_294_967_293);
-    assert_eq!(rt; value_of(&rt, &dag, rest)?, 4_294_967_295);
-    assert_eq!(rt; value_of(&rt, &dag, half)?, 4_294_967_294);
-    assert_eq!(rt; value_of(&rt, &dag, less)?, 1);
-    assert_eq!(rt; value_of(&rt, &dag, narrow)?, 249);
-    assert_eq!(rt; value_of(&rt, &dag, wide)?, 18_446_744_073_709_551_609);
-    assert_eq!(rt; value_of(&rt, &dag, truth)?, 1);
+    let a = dag.make(Node::Constant(4_294_967_289, 32))?;
+    let b = dag.make(Node::Constant(2, 32))?;
+    let id = match operation {
+        Operation::Divide => arithmetic(&mut dag, ArithmeticOperator::Divide, int, int, a, b),
+        Operation::Remainder => arithmetic(&mut dag, ArithmeticOperator::Remainder, int, int, a, b),
+        Operation::ShiftRight => {
+            arithmetic(&mut dag, ArithmeticOperator::ShiftRight, int, int, a, b)
+        }
+        Operation::Less => compared(&mut dag, Comparison::Less, int, a, b),
+        Operation::ToByte => converted(&mut dag, int, IntegerType::UnsignedChar, a),
+        Operation::ToLong => converted(&mut dag, int, IntegerType::Long, a),
+        Operation::ToBool => converted(&mut dag, int, IntegerType::Bool, a),
+    }?;
+    value_of(rt, &dag, id)
+}
+
+// The first row whose operation gives something else.
+fn wrong_operation(rt: &HostRuntime, rows: &[(Operation, u64)]) -> Result<Option<usize>, Fail> {
+    for (i, (operation, value)) in rows.iter().enumerate() {
+        if found(rt, *operation)? != *value {
+            return Ok(Some(i));
+        }
+    }
+    Ok(None)
+}
+
+#[test]
+fn operations_give_what_c_gives(rt: HostRuntime) -> Result<(), Fail> {
+    assert_eq!(rt; wrong_operation(&rt, &OPERATIONS)?, None);
     Ok(())
 }
 

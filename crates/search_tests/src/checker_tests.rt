@@ -197,37 +197,81 @@ fn is_refuted(alloc: Global, case: &Case) -> Result<bool, Fail> {
     Ok(ends_empty)
 }
 
-// A form over three variables, and steps of which each clause follows and most numbers are live.
+// Draws the clauses of a form over three variables, and notes them as live.
+fn draw_form(
+    alloc: Global,
+    draws: &mut Draws,
+    form: &mut Vec<Vec<Lit>>,
+    clauses: &mut Vec<Option<Vec<Lit>>>,
+) -> Result<(), Fail> {
+    for _ in 0..6 + draws.below(5) % 5 {
+        let count = 1 + draws.below(3) % 3;
+        let clause = draws.literals(alloc, count)?;
+        clauses.push(Some(Vec::from_slice(alloc, &clause)?))?;
+        form.push(clause)?;
+    }
+    Ok(())
+}
+
+// Draws whether a clause is deleted.
+fn draw_deletion(
+    draws: &mut Draws,
+    number: usize,
+    steps: &mut Vec<Step>,
+    clauses: &mut Vec<Option<Vec<Lit>>>,
+) -> Result<(), Fail> {
+    if draws.below(6) == 0 {
+        steps.push(Step::Delete(number))?;
+        if let Some(clause) = clauses.get_mut(number) {
+            *clause = None;
+        }
+    }
+    Ok(())
+}
+
+// Draws a clause, and adds it where it follows.
+fn draw_addition(
+    alloc: Global,
+    draws: &mut Draws,
+    number: usize,
+    steps: &mut Vec<Step>,
+    clauses: &mut Vec<Option<Vec<Lit>>>,
+) -> Result<(), Fail> {
+    let count = draws.below(3);
+    let clause = draws.literals(alloc, count)?;
+    if is_implied(alloc, clauses, &clause)? {
+        clauses.push(Some(Vec::from_slice(alloc, &clause)?))?;
+        let hints = vec![in alloc; number, draws.below(9), draws.below(12)]?;
+        steps.push(Step::Add(clause, hints))?;
+    }
+    Ok(())
+}
+
+// Draws steps of which each clause follows and most numbers are live.
+fn draw_steps(
+    alloc: Global,
+    draws: &mut Draws,
+    steps: &mut Vec<Step>,
+    clauses: &mut Vec<Option<Vec<Lit>>>,
+) -> Result<(), Fail> {
+    for _ in 0..8 {
+        let number = draws.below(clauses.len());
+        draw_deletion(draws, number, steps, clauses)?;
+        draw_addition(alloc, draws, number, steps, clauses)?;
+    }
+    steps.push(Step::Add(Vec::new(alloc), Vec::new(alloc)))?;
+    Ok(())
+}
+
+// A form over three variables, and steps behind it.
 fn drawn_case(alloc: Global, draws: &mut Draws) -> Result<Case, Fail> {
     let mut case = Case {
         form: Vec::new(alloc),
         steps: Vec::new(alloc),
     };
     let mut clauses = Vec::new(alloc);
-    for _ in 0..6 + draws.below(5) % 5 {
-        let count = 1 + draws.below(3) % 3;
-        let clause = draws.literals(alloc, count)?;
-        clauses.push(Some(Vec::from_slice(alloc, &clause)?))?;
-        case.form.push(clause)?;
-    }
-    for _ in 0..8 {
-        let number = draws.below(clauses.len());
-        if draws.below(6) == 0 {
-            case.steps.push(Step::Delete(number))?;
-            if let Some(clause) = clauses.get_mut(number) {
-                *clause = None;
-            }
-        }
-        let count = draws.below(3);
-        let clause = draws.literals(alloc, count)?;
-        if is_implied(alloc, &clauses, &clause)? {
-            clauses.push(Some(Vec::from_slice(alloc, &clause)?))?;
-            let hints = vec![in alloc; number, draws.below(9), draws.below(12)]?;
-            case.steps.push(Step::Add(clause, hints))?;
-        }
-    }
-    case.steps
-        .push(Step::Add(Vec::new(alloc), Vec::new(alloc)))?;
+    draw_form(alloc, draws, &mut case.form, &mut clauses)?;
+    draw_steps(alloc, draws, &mut case.steps, &mut clauses)?;
     Ok(case)
 }
 

@@ -108,25 +108,44 @@ fn wrong_value(
     None
 }
 
+// Makes nodes; whether each fits.
+fn are_made(dag: &mut Dag, nodes: &[Node]) -> bool {
+    for node in nodes {
+        if made(dag, *node).is_none() {
+            return false;
+        }
+    }
+    true
+}
+
+// The first row whose node fits.
+fn fitting_node(dag: &Dag, rows: &[Node]) -> Option<usize> {
+    for (i, node) in rows.iter().enumerate() {
+        if dag.fits(*node) {
+            return Some(i);
+        }
+    }
+    None
+}
+
 #[test]
 fn each_node_has_its_value(rt: HostRuntime) -> Result<(), Fail> {
     let alloc = rt.alloc();
     let valuation = Valuation::from_values(Vec::from_slice(alloc, &VALUES)?);
     let mut dag = Dag::new(alloc);
-    for node in &FIRST {
-        assert_eq!(rt; made(&mut dag, *node).is_some(), true);
-    }
-    for (i, node) in MISFITS.iter().enumerate() {
-        assert!(rt; !dag.fits(*node), "row {i}");
-    }
-    assert_eq!(rt;
+    assert!(rt; are_made(&mut dag, &FIRST));
+    assert_eq!(rt; fitting_node(&dag, &MISFITS), None);
+    let wrong = (
         wrong_value(alloc, &mut dag, &valuation, &NODE_VALUES),
-        None
+        wrong_value(alloc, &mut dag, &valuation, &ROWS),
     );
-    assert_eq!(rt; wrong_value(alloc, &mut dag, &valuation, &ROWS), None);
+    assert_eq!(rt; wrong, (None, None));
     let count = FIRST.len() + NODE_VALUES.len() + ROWS.len();
-    assert_eq!(rt; dag.nodes().len(), count);
-    assert_eq!(rt; dag.words(alloc, &valuation)?.len(), dag.len());
+    let words = dag.words(alloc, &valuation)?.len();
+    assert_eq!(rt;
+        (dag.nodes().len(), dag.len(), words),
+        (count, count, count)
+    );
     Ok(())
 }
 
@@ -187,35 +206,62 @@ static FOLDED: [(Node, Node); 17] = [
     (Node::Join(FREE, SIX), Node::Join(FREE, SIX)),
 ];
 
+// The first row whose node is kept as another one.
+fn wrong_folding(dag: &mut Dag, rows: &[(Node, Node)]) -> Option<usize> {
+    for (i, (node, kept)) in rows.iter().enumerate() {
+        let id = made(dag, *node).unwrap_or(PAST);
+        if node_at(dag, id) != Some(*kept) {
+            return Some(i);
+        }
+    }
+    None
+}
+
 #[test]
-fn constants_are_folded_and_a_long_chain_is_evaluated(rt: HostRuntime) -> Result<(), Fail> {
-    let alloc = rt.alloc();
-    let valuation = Valuation::from_values(Vec::from_slice(alloc, &[3])?);
+fn a_valuation_gives_its_values_back(rt: HostRuntime) -> Result<(), Fail> {
+    let valuation = Valuation::from_values(Vec::from_slice(rt.alloc(), &[3])?);
     assert_eq!(rt;
         (valuation.value(0), valuation.value(1), valuation.values()),
         (3, 0, &[3][..])
     );
-    let mut dag = Dag::new(alloc);
-    for node in &FOLDED_FIRST {
-        assert_eq!(rt; made(&mut dag, *node).is_some(), true);
-    }
-    for (i, (node, kept)) in FOLDED.iter().enumerate() {
-        let id = made(&mut dag, *node).unwrap_or(PAST);
-        assert!(rt; node_at(&dag, id) == Some(*kept), "row {i}");
-    }
-    assert_eq!(rt; made(&mut dag, Node::Choice(TRUE, FREE, SIX)), Some(FREE));
-    assert_eq!(rt; dag.len(), FOLDED_FIRST.len() + FOLDED.len() - 1);
+    assert_eq!(rt; valuation.into_values().as_slice(), &[3][..]);
+    Ok(())
+}
+
+#[test]
+fn constants_are_folded(rt: HostRuntime) -> Result<(), Fail> {
+    let mut dag = Dag::new(rt.alloc());
+    assert!(rt; are_made(&mut dag, &FOLDED_FIRST));
+    assert_eq!(rt; wrong_folding(&mut dag, &FOLDED), None);
+    let chosen = made(&mut dag, Node::Choice(TRUE, FREE, SIX));
+    let count = FOLDED_FIRST.len() + FOLDED.len() - 1;
+    assert_eq!(rt; (chosen, dag.len()), (Some(FREE), count));
+    Ok(())
+}
+
+// The last of a million sums of the variable and SEVENs.
+fn long_sum(dag: &mut Dag) -> Id {
     let mut last = FREE;
     for _ in 0..1_000_000 {
         let next = Node::Binary(BinaryOperator::Add, last, SEVEN);
-        last = made(&mut dag, next).unwrap_or(PAST);
+        last = made(dag, next).unwrap_or(PAST);
     }
-    let word = value_of(alloc, &dag, &valuation, last);
-    assert_eq!(rt; word.map(|word| word.bits()), Some(0xc3));
+    last
+}
+
+#[test]
+fn a_long_chain_is_evaluated(rt: HostRuntime) -> Result<(), Fail> {
+    let alloc = rt.alloc();
+    let valuation = Valuation::from_values(Vec::from_slice(alloc, &[3])?);
+    let mut dag = Dag::new(alloc);
+    assert!(rt; are_made(&mut dag, &FOLDED_FIRST));
+    let last = long_sum(&mut dag);
     let sum = sum_of_bytes(&mut dag)?;
-    let word = value_of(alloc, &dag, &valuation, sum);
-    assert_eq!(rt; word.map(|word| word.bits()), Some(16));
-    assert_eq!(rt; valuation.into_values().as_slice(), &[3][..]);
+    let words = (
+        value_of(alloc, &dag, &valuation, last).map(|word| word.bits()),
+        value_of(alloc, &dag, &valuation, sum).map(|word| word.bits()),
+    );
+    assert_eq!(rt; words, (Some(0xc3), Some(16)));
     Ok(())
 }
 

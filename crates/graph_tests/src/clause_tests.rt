@@ -2,7 +2,7 @@
 
 // Goals that are solved as clauses, and the laws of the operators.
 
-use base_tests::node_values::{NODE_VALUES, YES};
+use crate::node_values::{NODE_VALUES, YES};
 use bit_blast::{blast, lift};
 use cdcl_core::{Answer, solve};
 use std::alloc::{AllocError, Global};
@@ -401,26 +401,46 @@ static BIT_NEVER: [&[u8]; 4] = [b"k0=cab+=~&", b"dag+=~", b"iu=~", b"k7=nx=~&"];
 // So the product by the sum is the sum of products at each next bit, whatever the words are.
 static NEXT_BIT: &[u8] = b"cab+=igh+=&dag+=&ebh+=&fci+=&fde+=~&";
 
-#[test]
-fn a_product_by_a_sum_is_the_sum_of_products(rt: HostRuntime) -> Result<(), Fail> {
-    let alloc = rt.alloc();
-    for bit in 0..8 {
-        let mut words = Words::new(alloc)?;
-        let place = made(&mut words.dag, Node::Constant(bit, 8))?;
-        words.name(b'k', place)?;
-        for (name, text) in &BIT {
-            let id = words.word(alloc, text)?;
-            words.name(*name, id)?;
-        }
-        for text in &BIT_NEVER {
-            assert!(rt; words.is_never(alloc, text)?, "{bit} {text:?}");
+// The words of this bit.
+fn words_of_bit(alloc: Global, bit: u64) -> Result<Words, Fail> {
+    let mut words = Words::new(alloc)?;
+    let place = made(&mut words.dag, Node::Constant(bit, 8))?;
+    words.name(b'k', place)?;
+    for (name, text) in &BIT {
+        let id = words.word(alloc, text)?;
+        words.name(*name, id)?;
+    }
+    Ok(words)
+}
+
+// The first text that can be 1 with the words of this bit.
+fn wrong_bit(alloc: Global, bit: u64) -> Result<Option<usize>, Fail> {
+    let mut words = words_of_bit(alloc, bit)?;
+    for (i, text) in BIT_NEVER.iter().enumerate() {
+        if !words.is_never(alloc, text)? {
+            return Ok(Some(i));
         }
     }
+    Ok(None)
+}
+
+// The words of a step, as variables.
+fn words_of_step(alloc: Global) -> Result<Words, Fail> {
     let mut words = Words::new(alloc)?;
     for (number, name) in b"abcdefghi".iter().enumerate() {
         let id = made(&mut words.dag, Node::Variable(number as u32, 8))?;
         words.name(*name, id)?;
     }
+    Ok(words)
+}
+
+#[test]
+fn a_product_by_a_sum_is_the_sum_of_products(rt: HostRuntime) -> Result<(), Fail> {
+    let alloc = rt.alloc();
+    for bit in 0..8 {
+        assert_eq!(rt; wrong_bit(alloc, bit)?, None, "{bit}");
+    }
+    let mut words = words_of_step(alloc)?;
     assert!(rt; words.is_never(alloc, NEXT_BIT)?);
     Ok(())
 }

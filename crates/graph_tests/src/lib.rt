@@ -1,0 +1,11 @@
+//! Tests of graphs of words: what their nodes mean, the nodes of values, and the clauses of goals.
+#![tactic(auto)]
+
+#[cfg(test)]
+mod clause_tests;
+#[cfg(test)]
+mod graph_tests;
+#[cfg(test)]
+mod node_values;
+#[cfg(test)]
+mod value_tests;
