@@ -1,0 +1,4 @@
+pub mod Levels
+pub mod Kept
+pub mod Filling
+pub mod Differing
