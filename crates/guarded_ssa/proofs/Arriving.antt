@@ -8,6 +8,8 @@ use Rattle.word_dag.specs.declared.nodes.Node.{Node}
 use Rattle.word_dag.specs.Growth.{Extends}
 use Rattle.goto_prog.specs.declared.code.Instruction.{Instruction}
 use Rattle.goto_prog.specs.Meaning.{Memory}
+use Rattle.cell_trees.specs.Trees.{Arena, Keeps}
+use Rattle.cell_trees.proofs.Kept.{keeps_itself}
 use Rattle.goto_prog.specs.CodeThread.{Listing}
 use Rattle.guarded_ssa.specs.declared.slots.Slot.{Slot}
 use Rattle.guarded_ssa.specs.declared.pass.Pass.{Pass}
@@ -15,13 +17,8 @@ use Rattle.guarded_ssa.specs.Arrivals.{Arrivals, either, arrived}
 use Rattle.guarded_ssa.specs.Forms.{FormIn, EventIn}
 use Rattle.guarded_ssa.specs.Reads.{Alike, AllAlike}
 use Rattle.guarded_ssa.specs.Held.{SlotIn, PendingIn, PassIn, Arrives, guarded, arrival, arrivals}
-use Rattle.guarded_ssa.proofs.Needs.{all_alike_itself, alike_itself, either_alike}
+use Rattle.guarded_ssa.proofs.Needs.{all_alike_itself}
 use Rattle.guarded_ssa.proofs.Stays.{form_stays, all_pending_stay, arrivals_stay}
-
-set_set : {X : Type 0} (xs : List X) (n : ℕ) (x y : X) → slice_set (slice_set xs n x) n y ≡ slice_set xs n y
-set_set [] n x y = refl
-set_set (z ∷ xs) zero x y = refl
-set_set (z ∷ xs) (suc n) x y = ap (λ ys. z ∷ ys) (set_set xs n x y)
 
 -- one of the arrivals is changed into one that is like what arrives
 alike_set : (registers : ℕ) (until : List ℕ) (p q n : ℕ) (ws : Arrivals) (x y z : Option Memory) → q ≡ p + n → n < length ws → Alike registers until q x (either y (get_or ws n z)) → AllAlike registers until p (slice_set ws n x) (arrived n y ws)
@@ -34,68 +31,78 @@ past n y [] l = refl
 past zero y (w ∷ ws) l = absurd (omega (arith, l))
 past (suc n) y (w ∷ ws) l = ap (λ xs. w ∷ xs) (past n y ws (omega (arith, l)))
 
-arrival_at : (v : ℕ → ℕ) (d : List Node) (code : Listing) (pending : List (Option Slot)) (n : ℕ) (z : Option Slot) → n < length pending → get_or (arrivals v d code pending) n None ≡ arrival v d code (get_or pending n z)
-arrival_at v d code [] n z lt = absurd (omega (arith, lt))
-arrival_at v d code (s ∷ pending) zero z lt = refl
-arrival_at v d code (s ∷ pending) (suc n) z lt = arrival_at v d code pending n z (omega (arith, lt))
+arrival_at : (v : ℕ → ℕ) (d : List Node) (trees : Arena) (code : Listing) (pending : List (Option Slot)) (n : ℕ) (z : Option Slot) → n < length pending → get_or (arrivals v d trees code pending) n None ≡ arrival v d trees code (get_or pending n z)
+arrival_at v d trees code [] n z lt = absurd (omega (arith, lt))
+arrival_at v d trees code (s ∷ pending) zero z lt = refl
+arrival_at v d trees code (s ∷ pending) (suc n) z lt = arrival_at v d trees code pending n z (omega (arith, lt))
 
--- what is needed of a slot meets another
-pub meets_alike : (v : ℕ → ℕ) (registers : ℕ) (until : List ℕ) (code : Listing) (q : ℕ) (s needed t : Slot) (there : Option Slot) (d e : List Node) → Alike registers until q (guarded v d code needed) (guarded v d code s) → guarded v e code t ≡ either (guarded v d code needed) (arrival v d code there)
-    → Alike registers until q (guarded v e code t) (either (guarded v d code s) (arrival v d code there))
-meets_alike v registers until code q s needed t there d e alike is =
-    let w = arrival v d code there in
-    subst (λ m. Alike registers until q m (either (guarded v d code s) w)) (sym is) (either_alike registers until q (guarded v d code needed) (guarded v d code s) w w alike (alike_itself registers until q w))
-
-pub arrives_there : (until : List ℕ) (code : Listing) (place q n : ℕ) (s t : Slot) (there z : Option Slot) (d e : List Node) (old new : Pass) → Extends d e → PassIn d code old → SlotIn e code t
+pub arrives_there : (until : List ℕ) (code : Listing) (place q n : ℕ) (s t : Slot) (there z : Option Slot) (d e : List Node) (old new : Pass) → Extends d e → Keeps old.trees new.trees → PassIn d code old → SlotIn e new.trees code t
     → n < length old.pending.items → q ≡ place + 1 + n → there ≡ get_or old.pending.items n z
-    → ((v : ℕ → ℕ) → Alike (length code.registers) until q (guarded v e code t) (either (guarded v d code s) (arrival v d code there)))
-    → new.events.items ≡ old.events.items → new.pending.items ≡ slice_set (slice_set old.pending.items n None) n (Some t) → Arrives until code place n s d e old new
-arrives_there until code place q n s t there z d e old new x within slot lt at is alike events pending =
-    let set : new.pending.items ≡ slice_set old.pending.items n (Some t) = pending ∙ set_set old.pending.items n None (Some t) in
+    → ((v : ℕ → ℕ) → Alike (length code.registers) until q (guarded v e new.trees code t) (either (guarded v d old.trees code s) (arrival v d old.trees code there)))
+    → new.events.items ≡ old.events.items → new.pending.items ≡ slice_set old.pending.items n (Some t) → Arrives until code place n s d e old new
+arrives_there until code place q n s t there z d e old new x k within slot lt at is alike events pending =
     record {
       within = record {
         events = subst (FormIn e) (sym events) (form_stays d e x old.events.items within.events);
-        pending = subst (All (PendingIn e code)) (sym set) (All-set (PendingIn e code) old.pending.items n (Some t) slot (all_pending_stay d e x code old.pending.items within.pending));
+        pending = subst (All (PendingIn e new.trees code)) (sym pending) (All-set (PendingIn e new.trees code) old.pending.items n (Some t) slot (all_pending_stay d e x old.trees new.trees k code old.pending.items within.pending));
       };
-      size = ap length set ∙ length-set old.pending.items n (Some t);
+      keeps = k;
+      size = ap length pending ∙ length-set old.pending.items n (Some t);
       told = events;
       leads = λ v.
-          let ws = arrivals v d code old.pending.items in
-          let same : arrivals v e code new.pending.items ≡ slice_set ws n (guarded v e code t) =
-          ap (map (arrival v e code)) set ∙ map-set (arrival v e code) old.pending.items n (Some t) ∙ ap (λ xs. slice_set xs n (guarded v e code t)) (arrivals_stay d e x v code old.pending.items within.pending) in
-          let there_arrival : get_or ws n None ≡ arrival v d code there = arrival_at v d code old.pending.items n z lt ∙ ap (arrival v d code) (sym is) in
-          let l : n < length ws = omega (arith, lt, length-map old.pending.items (arrival v d code)) in
-          let h : Alike (length code.registers) until q (guarded v e code t) (either (guarded v d code s) (get_or ws n None)) = subst (λ w. Alike (length code.registers) until q (guarded v e code t) (either (guarded v d code s) w)) (sym there_arrival) (alike v) in
-          subst (λ xs. AllAlike (length code.registers) until (suc place) xs (arrived n (guarded v d code s) ws)) (sym same) (alike_set (length code.registers) until (suc place) q n ws (guarded v e code t) (guarded v d code s) None (omega (arith, at)) l h);
+          let ws = arrivals v d old.trees code old.pending.items in
+          let same : arrivals v e new.trees code new.pending.items ≡ slice_set ws n (guarded v e new.trees code t) =
+          ap (map (arrival v e new.trees code)) pending ∙ map-set (arrival v e new.trees code) old.pending.items n (Some t)
+          ∙ ap (λ xs. slice_set xs n (guarded v e new.trees code t)) (arrivals_stay d e x old.trees new.trees k v code old.pending.items within.pending) in
+          let there_arrival : get_or ws n None ≡ arrival v d old.trees code there = arrival_at v d old.trees code old.pending.items n z lt ∙ ap (arrival v d old.trees code) (sym is) in
+          let l : n < length ws = omega (arith, lt, length-map old.pending.items (arrival v d old.trees code)) in
+          let h : Alike (length code.registers) until q (guarded v e new.trees code t) (either (guarded v d old.trees code s) (get_or ws n None)) =
+          subst (λ w. Alike (length code.registers) until q (guarded v e new.trees code t) (either (guarded v d old.trees code s) w)) (sym there_arrival) (alike v) in
+          subst (λ xs. AllAlike (length code.registers) until (suc place) xs (arrived n (guarded v d old.trees code s) ws)) (sym same)
+          (alike_set (length code.registers) until (suc place) q n ws (guarded v e new.trees code t) (guarded v d old.trees code s) None (omega (arith, at)) l h);
     }
 
-pub arrives_past : (until : List ℕ) (code : Listing) (place n : ℕ) (s : Slot) (d : List Node) (old new : Pass) → PassIn d code old → length old.pending.items ≤ n
-    → new.events.items ≡ old.events.items → new.pending.items ≡ old.pending.items → Arrives until code place n s d d old new
-arrives_past until code place n s d old new within le events pending = record {
-  within = record { events = subst (FormIn d) (sym events) within.events; pending = subst (All (PendingIn d code)) (sym pending) within.pending };
-  size = ap length pending;
-  told = events;
+-- nothing changes
+arrives_not : (until : List ℕ) (code : Listing) (place n : ℕ) (s : Slot) (d : List Node) (p : Pass) → PassIn d code p → ((v : ℕ → ℕ) → arrived n (guarded v d p.trees code s) (arrivals v d p.trees code p.pending.items) ≡ arrivals v d p.trees code p.pending.items) → Arrives until code place n s d d p p
+arrives_not until code place n s d p within same = record {
+  within = within;
+  keeps = keeps_itself p.trees;
+  size = refl;
+  told = refl;
   leads = λ v.
-      let ws = arrivals v d code old.pending.items in
-      let l : length ws ≤ n = omega (arith, le, length-map old.pending.items (arrival v d code)) in
-      let same : arrivals v d code new.pending.items ≡ arrived n (guarded v d code s) ws = ap (map (arrival v d code)) pending ∙ sym (past n (guarded v d code s) ws l) in
-      subst (λ xs. AllAlike (length code.registers) until (suc place) (arrivals v d code new.pending.items) xs) same (all_alike_itself (length code.registers) until (suc place) (arrivals v d code new.pending.items));
+      let ws = arrivals v d p.trees code p.pending.items in
+      subst (AllAlike (length code.registers) until (suc place) ws) (sym (same v)) (all_alike_itself (length code.registers) until (suc place) ws);
 }
+
+-- no place is so far ahead
+pub arrives_past : (until : List ℕ) (code : Listing) (place n : ℕ) (s : Slot) (d : List Node) (p : Pass) → PassIn d code p → length p.pending.items ≤ n → Arrives until code place n s d d p p
+arrives_past until code place n s d p within le =
+    arrives_not until code place n s d p within (λ v. past n (guarded v d p.trees code s) (arrivals v d p.trees code p.pending.items) (omega (arith, le, length-map p.pending.items (arrival v d p.trees code))))
+
+-- the slot never arrives
+pub arrived_none : (n : ℕ) (ws : Arrivals) → arrived n None ws ≡ ws
+arrived_none n [] = refl
+arrived_none zero (w ∷ ws) = refl
+arrived_none (suc n) (w ∷ ws) = ap (λ xs. w ∷ xs) (arrived_none n ws)
+
+pub arrives_never : (until : List ℕ) (code : Listing) (place n : ℕ) (s : Slot) (d : List Node) (p : Pass) → PassIn d code p → ((v : ℕ → ℕ) → guarded v d p.trees code s ≡ None) → Arrives until code place n s d d p p
+arrives_never until code place n s d p within never =
+    arrives_not until code place n s d p within (λ v. let ws = arrivals v d p.trees code p.pending.items in ap (λ w. arrived n w ws) (never v) ∙ arrived_none n ws)
 
 -- ---- at the start
 
-pub start_in : (d : List Node) (code : Listing) (p : Pass) (s : Slot) (n : ℕ) → SlotIn d code s → p.events.items ≡ [] → p.pending.items ≡ Some s ∷ replicate n None → PassIn d code p
+pub start_in : (d : List Node) (code : Listing) (p : Pass) (s : Slot) (n : ℕ) → SlotIn d p.trees code s → p.events.items ≡ [] → p.pending.items ≡ Some s ∷ replicate n None → PassIn d code p
 start_in d code p s n slot none is = record {
   events = subst (FormIn d) (sym none) (All-nil (EventIn d));
-  pending = subst (All (PendingIn d code)) (sym is) (All-cons (PendingIn d code) (Some s) (replicate n None) slot (All-replicate (PendingIn d code) n None tt));
+  pending = subst (All (PendingIn d p.trees code)) (sym is) (All-cons (PendingIn d p.trees code) (Some s) (replicate n None) slot (All-replicate (PendingIn d p.trees code) n None tt));
 }
 
-no_arrivals : (v : ℕ → ℕ) (d : List Node) (code : Listing) (n : ℕ) → arrivals v d code (replicate n None) ≡ replicate n None
-no_arrivals v d code zero = refl
-no_arrivals v d code (suc n) = ap (λ ws. None ∷ ws) (no_arrivals v d code n)
+no_arrivals : (v : ℕ → ℕ) (d : List Node) (trees : Arena) (code : Listing) (n : ℕ) → arrivals v d trees code (replicate n None) ≡ replicate n None
+no_arrivals v d trees code zero = refl
+no_arrivals v d trees code (suc n) = ap (λ ws. None ∷ ws) (no_arrivals v d trees code n)
 
-pub followed_arrivals : (v : ℕ → ℕ) (d : List Node) (code : Listing) (s : Slot) (m : Memory) (is own : List Instruction) (pending : List (Option Slot)) → guarded v d code s ≡ Some m → is ≡ own → pending ≡ Some s ∷ replicate (length is) None
-    → arrivals v d code pending ≡ Some m ∷ replicate (length own) None
-followed_arrivals v d code s m is own pending first same e =
-    let rest = no_arrivals v d code (length is) ∙ ap (λ (xs : List Instruction). replicate {A = Option Memory} (length xs) None) same in
-    ap (arrivals v d code) e ∙ (λ k. first k ∷ rest k)
+pub followed_arrivals : (v : ℕ → ℕ) (d : List Node) (trees : Arena) (code : Listing) (s : Slot) (m : Memory) (is own : List Instruction) (pending : List (Option Slot)) → guarded v d trees code s ≡ Some m → is ≡ own → pending ≡ Some s ∷ replicate (length is) None
+    → arrivals v d trees code pending ≡ Some m ∷ replicate (length own) None
+followed_arrivals v d trees code s m is own pending first same e =
+    let rest = no_arrivals v d trees code (length is) ∙ ap (λ (xs : List Instruction). replicate {A = Option Memory} (length xs) None) same in
+    ap (arrivals v d trees code) e ∙ (λ k. first k ∷ rest k)

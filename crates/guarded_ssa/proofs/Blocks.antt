@@ -12,9 +12,9 @@ use Rattle.word_dag.specs.declared.nodes.Id.{Id}
 use Rattle.goto_prog.specs.Fitting.{is_block}
 use Rattle.goto_prog.specs.Meaning.{bytes_of}
 use Rattle.goto_prog.proofs.Registers.{both, test_below}
-use Rattle.guarded_ssa.specs.declared.registers.Live.{Live}
-use Rattle.guarded_ssa.specs.Registers.{find, word_or_0, words_from, bytes_from, id_or, ids_from}
+use Rattle.guarded_ssa.specs.Registers.{word_or_0, words_from, bytes_from, id_or, ids_from}
 use Rattle.guarded_ssa.specs.Held.{total, stored, starts_from}
+use Rattle.guarded_ssa.proofs.CellWords.{words_same}
 
 -- ---- bytes put in the place of others
 
@@ -161,88 +161,84 @@ no_block (n ∷ sizes) bytes (suc b) le = no_block sizes (drop n bytes) b (omega
 -- ---- the words of bytes that follow one another
 
 module _ (f : Id → ℕ) where
-  pub byte_words : (ls : List Live) (k n : ℕ) → length (bytes_from f ls k n) ≡ n
-  byte_words ls k zero = refl
-  byte_words ls k (suc n) = ap suc (byte_words ls (suc k) n)
+  pub byte_words : (g : ℕ → Option Id) (k n : ℕ) → length (bytes_from f g k n) ≡ n
+  byte_words g k zero = refl
+  byte_words g k (suc n) = ap suc (byte_words g (suc k) n)
 
-  take_words : (ls : List Live) (k a n : ℕ) → a ≤ n → take a (bytes_from f ls k n) ≡ bytes_from f ls k a
-  take_words ls k zero n le = refl
-  take_words ls k (suc a) zero le = absurd (omega (arith, le))
-  take_words ls k (suc a) (suc n) le = ap (λ (ws : List ℕ). word_or_0 f (find ls k) ∷ ws) (take_words ls (suc k) a n (omega (arith, le)))
+  take_words : (g : ℕ → Option Id) (k a n : ℕ) → a ≤ n → take a (bytes_from f g k n) ≡ bytes_from f g k a
+  take_words g k zero n le = refl
+  take_words g k (suc a) zero le = absurd (omega (arith, le))
+  take_words g k (suc a) (suc n) le = ap (λ (ws : List ℕ). word_or_0 f (g k) ∷ ws) (take_words g (suc k) a n (omega (arith, le)))
 
-  drop_words : (ls : List Live) (k a n j m : ℕ) → j ≡ k + a → n ≡ a + m → drop a (bytes_from f ls k n) ≡ bytes_from f ls j m
-  drop_words ls k zero n j m j_is n_is = let p : k ≡ j = omega (arith, j_is) in let q : n ≡ m = omega (arith, n_is) in λ i. bytes_from f ls (p i) (q i)
-  drop_words ls k (suc a) zero j m j_is n_is = absurd (omega (arith, n_is))
-  drop_words ls k (suc a) (suc n) j m j_is n_is = drop_words ls (suc k) a n j m (omega (arith, j_is)) (omega (arith, n_is))
+  drop_words : (g : ℕ → Option Id) (k a n j m : ℕ) → j ≡ k + a → n ≡ a + m → drop a (bytes_from f g k n) ≡ bytes_from f g j m
+  drop_words g k zero n j m j_is n_is = let p : k ≡ j = omega (arith, j_is) in let q : n ≡ m = omega (arith, n_is) in λ i. bytes_from f g (p i) (q i)
+  drop_words g k (suc a) zero j m j_is n_is = absurd (omega (arith, n_is))
+  drop_words g k (suc a) (suc n) j m j_is n_is = drop_words g (suc k) a n j m (omega (arith, j_is)) (omega (arith, n_is))
 
-  split_words : (ls : List Live) (k a n j m : ℕ) → j ≡ k + a → n ≡ a + m → bytes_from f ls k n ≡ bytes_from f ls k a ++ bytes_from f ls j m
-  split_words ls k a n j m j_is n_is =
-      let p = take_words ls k a n (omega (arith, n_is)) in
-      let q = drop_words ls k a n j m j_is n_is in
-      sym (take-append-drop a (bytes_from f ls k n)) ∙ (λ i. p i ++ q i)
+  split_words : (g : ℕ → Option Id) (k a n j m : ℕ) → j ≡ k + a → n ≡ a + m → bytes_from f g k n ≡ bytes_from f g k a ++ bytes_from f g j m
+  split_words g k a n j m j_is n_is =
+      let p = take_words g k a n (omega (arith, n_is)) in
+      let q = drop_words g k a n j m j_is n_is in
+      sym (take-append-drop a (bytes_from f g k n)) ∙ (λ i. p i ++ q i)
 
-  pub words_alike : (ls ms : List Live) (k : ℕ) (ts : List IntegerType) → ((c : ℕ) → k ≤ c → c < k + length ts → find ms c ≡ find ls c) → words_from f ms k ts ≡ words_from f ls k ts
-  words_alike ls ms k [] h = refl
-  words_alike ls ms k (t ∷ ts) h =
-      let a = ap (word_or_0 f) (h k (omega arith) (omega arith)) in
-      let b = words_alike ls ms (suc k) ts (λ c le lt. h c (omega (arith, le)) (omega (arith, lt))) in
+  pub words_alike : (g g' : ℕ → Option Id) (k : ℕ) (ts : List IntegerType) → ((c : ℕ) → k ≤ c → c < k + length ts → g' c ≡ g c) → words_from f g' k ts ≡ words_from f g k ts
+  words_alike g g' k ts h = words_same f f g g' k ts (λ c le lt. ap (word_or_0 f) (h c le lt))
+
+  pub bytes_alike : (g g' : ℕ → Option Id) (k n : ℕ) → ((c : ℕ) → k ≤ c → c < k + n → g' c ≡ g c) → bytes_from f g' k n ≡ bytes_from f g k n
+  bytes_alike g g' k n h = words_alike g g' k (replicate n types.Char) (λ c le lt. h c le (omega (arith, lt, length-replicate n types.Char)))
+
+  pub no_bytes : (g' : ℕ → Option Id) (at n : ℕ) → ((k : ℕ) → k < n → g' (at + k) ≡ None) → bytes_from f g' at n ≡ zeros n
+  no_bytes g' at zero here = refl
+  no_bytes g' at (suc n) here =
+      let first : at ≡ at + 0 = omega arith in
+      let a = ap (word_or_0 f) (ap g' first ∙ here 0 (omega arith)) in
+      let b = no_bytes g' (suc at) n (λ k lt. (let next : suc at + k ≡ at + suc k = omega arith in ap g' next ∙ here (suc k) (omega (arith, lt)))) in
       λ i. a i ∷ b i
 
-  pub bytes_alike : (ls ms : List Live) (k n : ℕ) → ((c : ℕ) → k ≤ c → c < k + n → find ms c ≡ find ls c) → bytes_from f ms k n ≡ bytes_from f ls k n
-  bytes_alike ls ms k n h = words_alike ls ms k (replicate n types.Char) (λ c le lt. h c le (omega (arith, lt, length-replicate n types.Char)))
-
-  pub no_bytes : (ms : List Live) (at n : ℕ) → ((k : ℕ) → k < n → find ms (at + k) ≡ None) → bytes_from f ms at n ≡ zeros n
-  no_bytes ms at zero here = refl
-  no_bytes ms at (suc n) here =
+  new_bytes : (g' : ℕ → Option Id) (at count rest : ℕ) (ids : List Id) → count ≡ length ids + rest → ((k : ℕ) → k < count → g' (at + k) ≡ slice_get ids k) → bytes_from f g' at count ≡ map f ids ++ zeros rest
+  new_bytes g' at count rest [] e here = let same : count ≡ rest = omega (arith, e) in no_bytes g' at count here ∙ ap zeros same
+  new_bytes g' at zero rest (i ∷ ids) e here = absurd (omega (arith, e))
+  new_bytes g' at (suc count) rest (i ∷ ids) e here =
       let first : at ≡ at + 0 = omega arith in
-      let a = ap (word_or_0 f) (ap (find ms) first ∙ here 0 (omega arith)) in
-      let b = no_bytes ms (suc at) n (λ k lt. (let next : suc at + k ≡ at + suc k = omega arith in ap (find ms) next ∙ here (suc k) (omega (arith, lt)))) in
-      λ i. a i ∷ b i
-
-  new_bytes : (ms : List Live) (at count rest : ℕ) (ids : List Id) → count ≡ length ids + rest → ((k : ℕ) → k < count → find ms (at + k) ≡ slice_get ids k) → bytes_from f ms at count ≡ map f ids ++ zeros rest
-  new_bytes ms at count rest [] e here = let same : count ≡ rest = omega (arith, e) in no_bytes ms at count here ∙ ap zeros same
-  new_bytes ms at zero rest (i ∷ ids) e here = absurd (omega (arith, e))
-  new_bytes ms at (suc count) rest (i ∷ ids) e here =
-      let first : at ≡ at + 0 = omega arith in
-      let a = ap (word_or_0 f) (ap (find ms) first ∙ here 0 (omega arith)) in
-      let b = new_bytes ms (suc at) count rest ids (omega (arith, e)) (λ k lt. (let next : suc at + k ≡ at + suc k = omega arith in ap (find ms) next ∙ here (suc k) (omega (arith, lt)))) in
+      let a = ap (word_or_0 f) (ap g' first ∙ here 0 (omega arith)) in
+      let b = new_bytes g' (suc at) count rest ids (omega (arith, e)) (λ k lt. (let next : suc at + k ≡ at + suc k = omega arith in ap g' next ∙ here (suc k) (omega (arith, lt)))) in
       λ j. a j ∷ b j
 
   -- bytes that are replaced
-  pub put_words : (ls ms : List Live) (first o n count : ℕ) (ids : List Id) → o + count ≤ n → length ids ≤ count → ((k : ℕ) → k < first + o → find ms k ≡ find ls k) → ((k : ℕ) → k < count → find ms (first + o + k) ≡ slice_get ids k)
-      → ((k : ℕ) → first + o + count ≤ k → find ms k ≡ find ls k) → bytes_from f ms first n ≡ put_at o (map f ids ++ zeros (count - length ids)) (bytes_from f ls first n)
-  put_words ls ms first o n count ids fits few front here behind =
+  pub put_words : (g g' : ℕ → Option Id) (first o n count : ℕ) (ids : List Id) → o + count ≤ n → length ids ≤ count → ((k : ℕ) → k < first + o → g' k ≡ g k) → ((k : ℕ) → k < count → g' (first + o + k) ≡ slice_get ids k)
+      → ((k : ℕ) → first + o + count ≤ k → g' k ≡ g k) → bytes_from f g' first n ≡ put_at o (map f ids ++ zeros (count - length ids)) (bytes_from f g first n)
+  put_words g g' first o n count ids fits few front here behind =
       let at = first + o in
       let m = n - (o + count) in
       let W = map f ids ++ zeros (count - length ids) in
       let long : length W ≡ count = omega (arith, few, length-append (map f ids) (zeros (count - length ids)), length-map ids f, length-replicate {A = ℕ} (count - length ids) 0) in
       let all : n ≡ o + (count + m) = omega (arith, fits) in
-      let a : bytes_from f ms first o ≡ take o (bytes_from f ls first n) = bytes_alike ls ms first o (λ c le lt. front c lt) ∙ sym (take_words ls first o n (omega (arith, fits))) in
-      let b : bytes_from f ms at count ≡ W = new_bytes ms at count (count - length ids) ids (omega (arith, few)) here in
-      let c : bytes_from f ms (at + count) m ≡ drop (o + length W) (bytes_from f ls first n) =
-      bytes_alike ls ms (at + count) m (λ k le lt. behind k le) ∙ sym (drop_words ls first (o + length W) n (at + count) m (omega (arith, long)) (omega (arith, long, fits))) in
-      split_words ms first o n at (count + m) refl all ∙ ap (λ ys. bytes_from f ms first o ++ ys) (split_words ms at count (count + m) (at + count) m refl refl) ∙ (λ i. a i ++ (b i ++ c i))
+      let a : bytes_from f g' first o ≡ take o (bytes_from f g first n) = bytes_alike g g' first o (λ c le lt. front c lt) ∙ sym (take_words g first o n (omega (arith, fits))) in
+      let b : bytes_from f g' at count ≡ W = new_bytes g' at count (count - length ids) ids (omega (arith, few)) here in
+      let c : bytes_from f g' (at + count) m ≡ drop (o + length W) (bytes_from f g first n) =
+      bytes_alike g g' (at + count) m (λ k le lt. behind k le) ∙ sym (drop_words g first (o + length W) n (at + count) m (omega (arith, long)) (omega (arith, long, fits))) in
+      split_words g' first o n at (count + m) refl all ∙ ap (λ ys. bytes_from f g' first o ++ ys) (split_words g' at count (count + m) (at + count) m refl refl) ∙ (λ i. a i ++ (b i ++ c i))
 
   -- a block, and some bytes of it
-  pub block_words : (ls : List Live) (first b : ℕ) (sizes : List ℕ) → b < length sizes → block_of (stored sizes (bytes_from f ls first (total sizes))) b ≡ bytes_from f ls (first + total (take b sizes)) (slice_index sizes b)
-  block_words ls first b sizes lt =
+  pub block_words : (g : ℕ → Option Id) (first b : ℕ) (sizes : List ℕ) → b < length sizes → block_of (stored sizes (bytes_from f g first (total sizes))) b ≡ bytes_from f g (first + total (take b sizes)) (slice_index sizes b)
+  block_words g first b sizes lt =
       let start = total (take b sizes) in
       let size = slice_index sizes b in
       let end = block_ends sizes b lt in
       let m = total sizes - start in
-      block_is sizes (bytes_from f ls first (total sizes)) b lt ∙ ap (take size) (drop_words ls first start (total sizes) (first + start) m refl (omega (arith, end))) ∙ take_words ls (first + start) size m (omega (arith, end))
+      block_is sizes (bytes_from f g first (total sizes)) b lt ∙ ap (take size) (drop_words g first start (total sizes) (first + start) m refl (omega (arith, end))) ∙ take_words g (first + start) size m (omega (arith, end))
 
-  pub some_words : (ls : List Live) (first b offset count at : ℕ) (sizes : List ℕ) → is_within sizes b offset count ≡ true → at ≡ first + total (take b sizes) + offset
-      → bytes_of (stored sizes (bytes_from f ls first (total sizes))) b offset count ≡ bytes_from f ls at count
-  some_words ls first b offset count at sizes there at_is =
+  pub some_words : (g : ℕ → Option Id) (first b offset count at : ℕ) (sizes : List ℕ) → is_within sizes b offset count ≡ true → at ≡ first + total (take b sizes) + offset
+      → bytes_of (stored sizes (bytes_from f g first (total sizes))) b offset count ≡ bytes_from f g at count
+  some_words g first b offset count at sizes there at_is =
       let parts = lies sizes b offset count there in
       let size = slice_index sizes b in
-      ap (λ (bs : List ℕ). take count (drop offset bs)) (block_words ls first b sizes parts.0)
-      ∙ ap (take count) (drop_words ls (first + total (take b sizes)) offset size at (size - offset) at_is (omega (arith, parts.1))) ∙ take_words ls at count (size - offset) (omega (arith, parts.1))
+      ap (λ (bs : List ℕ). take count (drop offset bs)) (block_words g first b sizes parts.0)
+      ∙ ap (take count) (drop_words g (first + total (take b sizes)) offset size at (size - offset) at_is (omega (arith, parts.1))) ∙ take_words g at count (size - offset) (omega (arith, parts.1))
 
-  pub ids_words : (ls : List Live) (other : Id) (k n : ℕ) → f other ≡ 0 → map f (ids_from ls other k n) ≡ bytes_from f ls k n
-  ids_words ls other k zero h = refl
-  ids_words ls other k (suc n) h = let a = word_of (find ls k) in let b = ids_words ls other (suc k) n h in λ i. a i ∷ b i
+  pub ids_words : (g : ℕ → Option Id) (other : Id) (k n : ℕ) → f other ≡ 0 → map f (ids_from g other k n) ≡ bytes_from f g k n
+  ids_words g other k zero h = refl
+  ids_words g other k (suc n) h = let a = word_of (g k) in let b = ids_words g other (suc k) n h in λ i. a i ∷ b i
     where
       word_of : (x : Option Id) → f (id_or other x) ≡ word_or_0 f x
       word_of None = h

@@ -1,9 +1,8 @@
--- What a valuation sees stays in a graph that has grown.
-use Rattle.std.proofs.Common.{◌≡◌, ℕ, false, List, [], ◌∷◌, ◌++◌, length, Option, Some, None, inl, inr, refl, sym, ap, ◌∙◌}
-use Rattle.std.specs.Prelude.{◌==◌, slice_index_or, replicate, if◌then◌else◌}
+-- What a valuation sees stays in a graph and in trees that have grown.
+use Rattle.std.proofs.Common.{◌≡◌, ℕ, ◌≤◌, false, List, [], ◌∷◌, ◌++◌, length, Option, Some, None, refl, sym, ap, subst, ◌∙◌}
+use Rattle.std.specs.Prelude.{slice_index_or, replicate, if◌then◌else◌}
 use Rattle.std.specs.List.{All}
 use Rattle.std.proofs.lemmas.List.Elements.{All-head, All-tail, All-weaker}
-use Rattle.std.proofs.lemmas.Bool.{cases_Bool}
 use Rattle.words.specs.BitVector.{word}
 use Rattle.actions.specs.declared.action.Action.TheVariants as actions
 use Rattle.actions.specs.declared.action.Answer.TheVariants as answers
@@ -19,85 +18,88 @@ use Rattle.c_values.specs.Variables.{pointer_to}
 use Rattle.guarded_ssa.specs.Runs.{bytes_of_words}
 use Rattle.word_dag.proofs.Grown.{within_stays, all_within_stays, map_stays, map_widths_stay}
 use Rattle.value_nodes.specs.Values.{IsWord, IsValue}
+use Rattle.cell_trees.specs.declared.arena.Root.{Root}
+use Rattle.cell_trees.specs.Trees.{Arena, span, looked, Keeps}
+use Rattle.cell_trees.proofs.Kept.{keeps_itself, root_stays, looked_stays}
 use Rattle.goto_prog.specs.CodeThread.{Listing}
 use Rattle.guarded_ssa.specs.declared.forms.Event.{Event}
 use Rattle.guarded_ssa.specs.declared.forms.EventKind.{EventKind}
 use Rattle.guarded_ssa.specs.declared.forms.EventKind.TheVariants.{Draw, Read, Write, Exit, Check, Assume}
-use Rattle.guarded_ssa.specs.declared.registers.Live.{Live}
 use Rattle.guarded_ssa.specs.declared.registers.Zeros.{Zeros}
 use Rattle.guarded_ssa.specs.declared.slots.Slot.{Slot}
 use Rattle.guarded_ssa.specs.declared.pass.Pass.{Pass}
 use Rattle.guarded_ssa.specs.Arrivals.{asked, stopped}
 use Rattle.guarded_ssa.specs.Forms.{IsBit, KindIn, EventIn, FormIn, kind_seen, event_seen, seen}
-use Rattle.guarded_ssa.specs.Registers.{ZerosIn, IsLive, AreLive, find, word_or_0, words_from}
-use Rattle.guarded_ssa.proofs.Sorted.{found, past, words_same}
+use Rattle.guarded_ssa.specs.Registers.{ZerosIn, TreeIn, word_or_0, words_from}
+use Rattle.guarded_ssa.proofs.CellWords.{words_same}
 use Rattle.guarded_ssa.specs.Held.{SlotIn, PendingIn, PassIn, cells, total, stored, held, guarded, arrival, arrivals}
 
 module _ (d e : List Node) (x : Extends d e) where
   pub word_stays : (i : Id) (w : ℕ) → IsWord d i w → IsWord e i w
   word_stays i w h = record { there = within_stays d e i x h.there; width_is = x.width_stays i h.there ∙ h.width_is }
 
-  zeros_stay : (z : Zeros) → ZerosIn d z → ZerosIn e z
+  pub zeros_stay : (z : Zeros) → ZerosIn d z → ZerosIn e z
   zeros_stay z h = record { byte = zero_stays z.byte 8 h.byte; short = zero_stays z.short 16 h.short; int = zero_stays z.int 32 h.int; long = zero_stays z.long 64 h.long }
     where
       zero_stays : (i : Id) (w : ℕ) → IsValue d i w (λ v. 0) → IsValue e i w (λ v. 0)
       zero_stays i w h = record { there = within_stays d e i x h.there; width_is = x.width_stays i h.there ∙ h.width_is; value_is = λ v. x.value_stays v i h.there ∙ h.value_is v }
 
-  pub all_live_stay : (ts : List IntegerType) (ls : List Live) → All (IsLive d ts) ls → All (IsLive e ts) ls
-  all_live_stay ts ls h = All-weaker (IsLive d ts) (IsLive e ts) (λ l k. word_stays l.id (type_width (slice_index_or ts l.cell types.Int)) k) ls h
+  word_or_0_stays : (v : ℕ → ℕ) (o : Option Id) → ((i : Id) → o ≡ Some i → Within d i) → word_or_0 (value v e) o ≡ word_or_0 (value v d) o
+  word_or_0_stays v None h = refl
+  word_or_0_stays v (Some i) h = x.value_stays v i (h i refl)
 
-  pub live_stay : (ts : List IntegerType) (ls : List Live) → AreLive d ts ls → AreLive e ts ls
-  live_stay ts ls h = record { rise = h.rise; words = all_live_stay ts ls h.words }
+  -- ---- cells
 
-  pub found_stays : (v : ℕ → ℕ) (ts : List IntegerType) (r : ℕ) (ls : List Live) → All (IsLive d ts) ls → word_or_0 (value v e) (find ls r) ≡ word_or_0 (value v d) (find ls r)
-  found_stays v ts r [] h = refl
-  found_stays v ts r (l ∷ ls) h =
-      let here = x.value_stays v l.id (All-head (IsLive d ts) l ls h).there in
-      let rest = found_stays v ts r ls (All-tail (IsLive d ts) l ls h) in
-      elim (cases_Bool (l.cell == r)) [
-        | inl on ↦ ap (word_or_0 (value v e)) (found l ls r on) ∙ here ∙ sym (ap (word_or_0 (value v d)) (found l ls r on))
-        | inr off ↦ ap (word_or_0 (value v e)) (past l ls r off) ∙ rest ∙ sym (ap (word_or_0 (value v d)) (past l ls r off))
-      ]
+  module _ (trees trees' : Arena) (k : Keeps trees trees') where
+    pub tree_stays : (ts : List IntegerType) (r : Root) → TreeIn d trees ts r → TreeIn e trees' ts r
+    tree_stays ts r h = record {
+      room = subst (λ n. length ts ≤ span n) (sym k.depth) h.room;
+      root = root_stays trees trees' r k h.root;
+      live = λ c i is. word_stays i (type_width (slice_index_or ts c types.Int)) (h.live c i (sym (looked_stays trees trees' r c k h.root) ∙ is));
+    }
 
-  pub words_of_stay : (v : ℕ → ℕ) (ts us : List IntegerType) (k : ℕ) (ls : List Live) → All (IsLive d ts) ls → words_from (value v e) ls k us ≡ words_from (value v d) ls k us
-  words_of_stay v ts us k ls h = words_same (value v e) (value v d) ls ls k us (λ n. found_stays v ts n ls h)
+    pub cell_stays : (v : ℕ → ℕ) (ts : List IntegerType) (r : Root) (c : ℕ) → TreeIn d trees ts r → word_or_0 (value v e) (looked trees' r c) ≡ word_or_0 (value v d) (looked trees r c)
+    cell_stays v ts r c h = ap (word_or_0 (value v e)) (looked_stays trees trees' r c k h.root) ∙ word_or_0_stays v (looked trees r c) (λ i is. (h.live c i is).there)
 
-  pub slot_stays : (code : Listing) (s : Slot) → SlotIn d code s → SlotIn e code s
-  slot_stays code s h = record {
-    guard = word_stays s.guard 1 h.guard;
-    zeros = zeros_stay s.zeros h.zeros;
-    live = live_stay (cells code) s.live h.live;
-  }
+    pub words_of_stay : (v : ℕ → ℕ) (ts us : List IntegerType) (n : ℕ) (r : Root) → TreeIn d trees ts r → words_from (value v e) (looked trees' r) n us ≡ words_from (value v d) (looked trees r) n us
+    words_of_stay v ts us n r h = words_same (value v d) (value v e) (looked trees r) (looked trees' r) n us (λ c le lt. cell_stays v ts r c h)
 
-  pub held_stays : (v : ℕ → ℕ) (code : Listing) (s : Slot) → SlotIn d code s → held v e code s ≡ held v d code s
-  held_stays v code s h =
-      let q = words_of_stay v (cells code) code.registers 0 s.live h.live.words in
-      let r = words_of_stay v (cells code) (replicate (total code.blocks) types.Char) (length code.registers) s.live h.live.words in
-      λ i. record { registers = q i; blocks = stored code.blocks (r i) }
+    pub slot_stays : (code : Listing) (s : Slot) → SlotIn d trees code s → SlotIn e trees' code s
+    slot_stays code s h = record {
+      guard = word_stays s.guard 1 h.guard;
+      zeros = zeros_stay s.zeros h.zeros;
+      tree = tree_stays (cells code) s.root h.tree;
+    }
 
-  pub guarded_stays : (v : ℕ → ℕ) (code : Listing) (s : Slot) → SlotIn d code s → guarded v e code s ≡ guarded v d code s
-  guarded_stays v code s h =
-      let p = x.value_stays v s.guard h.guard.there in
-      let q = held_stays v code s h in
-      λ i. if holds (p i) then Some (q i) else None
+    pub held_stays : (v : ℕ → ℕ) (code : Listing) (s : Slot) → SlotIn d trees code s → held v e trees' code s ≡ held v d trees code s
+    held_stays v code s h =
+        let q = words_of_stay v (cells code) code.registers 0 s.root h.tree in
+        let r = words_of_stay v (cells code) (replicate (total code.blocks) types.Char) (length code.registers) s.root h.tree in
+        λ i. record { registers = q i; blocks = stored code.blocks (r i) }
 
-  pending_stays : (code : Listing) (s : Option Slot) → PendingIn d code s → PendingIn e code s
-  pending_stays code None h = tt
-  pending_stays code (Some s) h = slot_stays code s h
+    pub guarded_stays : (v : ℕ → ℕ) (code : Listing) (s : Slot) → SlotIn d trees code s → guarded v e trees' code s ≡ guarded v d trees code s
+    guarded_stays v code s h =
+        let p = x.value_stays v s.guard h.guard.there in
+        let q = held_stays v code s h in
+        λ i. if holds (p i) then Some (q i) else None
 
-  arrival_stays : (v : ℕ → ℕ) (code : Listing) (s : Option Slot) → PendingIn d code s → arrival v e code s ≡ arrival v d code s
-  arrival_stays v code None h = refl
-  arrival_stays v code (Some s) h = guarded_stays v code s h
+    pending_stays : (code : Listing) (s : Option Slot) → PendingIn d trees code s → PendingIn e trees' code s
+    pending_stays code None h = tt
+    pending_stays code (Some s) h = slot_stays code s h
 
-  pub arrivals_stay : (v : ℕ → ℕ) (code : Listing) (pending : List (Option Slot)) → All (PendingIn d code) pending → arrivals v e code pending ≡ arrivals v d code pending
-  arrivals_stay v code [] h = refl
-  arrivals_stay v code (s ∷ pending) h =
-      let p = arrival_stays v code s (All-head (PendingIn d code) s pending h) in
-      let q = arrivals_stay v code pending (All-tail (PendingIn d code) s pending h) in
-      λ i. p i ∷ q i
+    arrival_stays : (v : ℕ → ℕ) (code : Listing) (s : Option Slot) → PendingIn d trees code s → arrival v e trees' code s ≡ arrival v d trees code s
+    arrival_stays v code None h = refl
+    arrival_stays v code (Some s) h = guarded_stays v code s h
 
-  pub all_pending_stay : (code : Listing) (pending : List (Option Slot)) → All (PendingIn d code) pending → All (PendingIn e code) pending
-  all_pending_stay code pending h = All-weaker (PendingIn d code) (PendingIn e code) (λ s k. pending_stays code s k) pending h
+    pub arrivals_stay : (v : ℕ → ℕ) (code : Listing) (pending : List (Option Slot)) → All (PendingIn d trees code) pending → arrivals v e trees' code pending ≡ arrivals v d trees code pending
+    arrivals_stay v code [] h = refl
+    arrivals_stay v code (s ∷ pending) h =
+        let p = arrival_stays v code s (All-head (PendingIn d trees code) s pending h) in
+        let q = arrivals_stay v code pending (All-tail (PendingIn d trees code) s pending h) in
+        λ i. p i ∷ q i
+
+    pub all_pending_stay : (code : Listing) (pending : List (Option Slot)) → All (PendingIn d trees code) pending → All (PendingIn e trees' code) pending
+    all_pending_stay code pending h = All-weaker (PendingIn d trees code) (PendingIn e trees' code) (λ s k. pending_stays code s k) pending h
 
   -- ---- events
 
@@ -140,5 +142,16 @@ module _ (d e : List Node) (x : Extends d e) where
       let q = seen_stays v es (All-tail (EventIn d) event es h) in
       λ i. p i ++ q i
 
+  -- the same where the trees are the same
+  pub slot_grows : (trees : Arena) (code : Listing) (s : Slot) → SlotIn d trees code s → SlotIn e trees code s
+  slot_grows trees code s h = slot_stays trees trees (keeps_itself trees) code s h
+
+  -- the events and the memories of a pass
+  pub pass_moves : (code : Listing) (p q : Pass) → Keeps p.trees q.trees → q.events.items ≡ p.events.items → q.pending.items ≡ p.pending.items → PassIn d code p → PassIn e code q
+  pass_moves code p q k events pending h = record {
+    events = subst (FormIn e) (sym events) (form_stays p.events.items h.events);
+    pending = subst (All (PendingIn e q.trees code)) (sym pending) (all_pending_stay p.trees q.trees k code p.pending.items h.pending);
+  }
+
   pub pass_stays : (code : Listing) (p : Pass) → PassIn d code p → PassIn e code p
-  pass_stays code p h = record { events = form_stays p.events.items h.events; pending = all_pending_stay code p.pending.items h.pending }
+  pass_stays code p h = pass_moves code p p (keeps_itself p.trees) refl refl h

@@ -2,6 +2,7 @@
 use Rattle.std.proofs.Common.{◌≡◌, ℕ, zero, suc, ◌+◌, ◌<◌, ◌≤◌, true, false, List, [], ◌∷◌, ◌++◌, length, drop, get_or, Option, Some, None, refl, sym, ap, subst, ◌∙◌, arith, append_assoc}
 use Rattle.std.specs.Prelude.{replicate}
 use Rattle.std.specs.Prelude.{slice_get}
+use Rattle.std.specs.List.{All}
 use Rattle.std.proofs.Math.Seq.{drop-cons}
 use Rattle.std.proofs.lemmas.List.{length-map}
 use Rattle.std.proofs.lemmas.Option.{slice_get-get_or}
@@ -14,7 +15,8 @@ use Rattle.word_dag.specs.declared.nodes.Node.{Node}
 use Rattle.goto_prog.specs.declared.code.Instruction.{Instruction}
 use Rattle.goto_prog.specs.Meaning.{Memory, does, places}
 use Rattle.goto_prog.specs.Threads.{behaving}
-use Rattle.goto_prog.specs.CodeThread.{Listing}
+use Rattle.cell_trees.specs.Trees.{Arena}
+use Rattle.goto_prog.specs.CodeThread.{Listing, first_memory}
 use Rattle.guarded_ssa.specs.declared.forms.Event.{Event}
 use Rattle.guarded_ssa.specs.declared.slots.Slot.{Slot}
 use Rattle.guarded_ssa.specs.declared.pass.Pass.{Pass}
@@ -30,45 +32,45 @@ use Rattle.guarded_ssa.proofs.Valuations.{is_form}
 use Rattle.guarded_ssa.proofs.Passing.{append_nil}
 
 -- a place that is reached with a slot
-pub visits_slot : (until : List ℕ) (code : Listing) (place : ℕ) (i : Instruction) (d e : List Node) (p p1 q : Pass) (s : Slot) → p.pending.items ≡ Some s ∷ p1.pending.items → p1.events.items ≡ p.events.items
+pub visits_slot : (until : List ℕ) (code : Listing) (place : ℕ) (i : Instruction) (d e : List Node) (p p1 q : Pass) (s : Slot) → p.pending.items ≡ Some s ∷ p1.pending.items → p1.events.items ≡ p.events.items → p1.trees ≡ p.trees
     → Passes until code place i.line i.function i.operation s d e p1 q → Visits until code place i d e p q
-visits_slot until code place i d e p p1 q s pending events passes = record {
+visits_slot until code place i d e p p1 q s pending events trees passes = record {
   within = passes.within;
   size = ap suc passes.size ∙ ap length (sym pending);
   goes = λ v rest covers.
-      let w = guarded v d code s in
-      let ws = arrivals v d code p1.pending.items in
-      let xs = arrivals v e code q.pending.items in
+      let w = guarded v d p1.trees code s in
+      let ws = arrivals v d p1.trees code p1.pending.items in
+      let xs = arrivals v e q.trees code q.pending.items in
       let before = seen v d p1.events.items in
       let told_here = on w (tells v (length code.instructions) place i.line i.function i.operation) in
       let step : told_here ++ told v (length code.instructions) (suc place) rest xs ≡ told v (length code.instructions) place (i ∷ rest) (w ∷ ws) = told_step (length code.registers) until v (length code.instructions) place i rest w ws xs covers (passes.leads v) in
       ap (λ ys. ys ++ told v (length code.instructions) (suc place) rest xs) (passes.told v) ∙ append_assoc before told_here (told v (length code.instructions) (suc place) rest xs) ∙ ap (λ ys. before ++ ys) step
-      ∙ (let a = ap (seen v d) events in let b = ap (λ ps. told v (length code.instructions) place (i ∷ rest) (arrivals v d code ps)) (sym pending) in λ k. a k ++ b k);
+      ∙ (let a = ap (seen v d) events in let b : told v (length code.instructions) place (i ∷ rest) (w ∷ ws) ≡ told v (length code.instructions) place (i ∷ rest) (arrivals v d p.trees code p.pending.items) = (λ k. told v (length code.instructions) place (i ∷ rest) (arrivals v d (trees k) code (sym pending k))) in λ k. a k ++ b k);
 }
 
 -- one that isn't
-pub visits_none : (until : List ℕ) (code : Listing) (place : ℕ) (i : Instruction) (d : List Node) (p q : Pass) → PassIn d code q → p.pending.items ≡ None ∷ q.pending.items → q.events.items ≡ p.events.items → Visits until code place i d d p q
-visits_none until code place i d p q within pending events = record {
+pub visits_none : (until : List ℕ) (code : Listing) (place : ℕ) (i : Instruction) (d : List Node) (p q : Pass) → PassIn d code q → p.pending.items ≡ None ∷ q.pending.items → q.events.items ≡ p.events.items → q.trees ≡ p.trees → Visits until code place i d d p q
+visits_none until code place i d p q within pending events trees = record {
   within = within;
   size = ap length (sym pending);
   goes = λ v rest covers.
-      let ws = arrivals v d code q.pending.items in
+      let ws = arrivals v d q.trees code q.pending.items in
       let a = ap (seen v d) events in
       let b : told v (length code.instructions) (suc place) rest ws ≡ told v (length code.instructions) place (i ∷ rest) (None ∷ ws) = ap (told v (length code.instructions) (suc place) rest) (sym (leaves_none v (length code.instructions) place i.operation ws)) in
-      let c = ap (λ ps. told v (length code.instructions) place (i ∷ rest) (arrivals v d code ps)) (sym pending) in
+      let c : told v (length code.instructions) place (i ∷ rest) (None ∷ ws) ≡ told v (length code.instructions) place (i ∷ rest) (arrivals v d p.trees code p.pending.items) = (λ k. told v (length code.instructions) place (i ∷ rest) (arrivals v d (trees k) code (sym pending k))) in
       λ k. a k ++ ((b ∙ c) k);
 }
 
 -- what is left once the first is taken
-pub popped_in : (d : List Node) (code : Listing) (p q : Pass) (first : Option Slot) → PassIn d code p → p.pending.items ≡ first ∷ q.pending.items → q.events.items ≡ p.events.items → PassIn d code q
-popped_in d code p q first within pending events = record {
+pub popped_in : (d : List Node) (code : Listing) (p q : Pass) (first : Option Slot) → PassIn d code p → p.pending.items ≡ first ∷ q.pending.items → q.events.items ≡ p.events.items → q.trees ≡ p.trees → PassIn d code q
+popped_in d code p q first within pending events trees = record {
   events = subst (FormIn d) (sym events) within.events;
-  pending = All-tail (PendingIn d code) first q.pending.items (All-same (PendingIn d code) (first ∷ q.pending.items) p.pending.items (sym pending) within.pending);
+  pending = subst (λ w. All (PendingIn d w code) q.pending.items) (sym trees) (All-tail (PendingIn d p.trees code) first q.pending.items (All-same (PendingIn d p.trees code) (first ∷ q.pending.items) p.pending.items (sym pending) within.pending));
 }
 
-pub popped_first : (d : List Node) (code : Listing) (p q : Pass) (s : Slot) → PassIn d code p → p.pending.items ≡ Some s ∷ q.pending.items → SlotIn d code s
+pub popped_first : (d : List Node) (code : Listing) (p q : Pass) (s : Slot) → PassIn d code p → p.pending.items ≡ Some s ∷ q.pending.items → SlotIn d p.trees code s
 popped_first d code p q s within pending =
-    All-head (PendingIn d code) (Some s) q.pending.items (All-same (PendingIn d code) (Some s ∷ q.pending.items) p.pending.items (sym pending) within.pending)
+    All-head (PendingIn d p.trees code) (Some s) q.pending.items (All-same (PendingIn d p.trees code) (Some s ∷ q.pending.items) p.pending.items (sym pending) within.pending)
 
 -- ---- all of it
 
@@ -79,16 +81,16 @@ covers_drop registers until p (suc k) q (i ∷ code) e h = covers_drop registers
 
 pub visited : (until : List ℕ) (code : Listing) (place : ℕ) (z : Instruction) (all : (ℕ → ℕ) → Arrivals) (d e : List Node) (p q : Pass) → place < length code.instructions → Covers (length code.registers) until 0 code.instructions
     → Visits until code place (get_or code.instructions place z) d e p q
-    → ((v : ℕ → ℕ) → seen v d p.events.items ++ told v (length code.instructions) place (drop place code.instructions) (arrivals v d code p.pending.items) ≡ told v (length code.instructions) 0 code.instructions (all v))
-    → (v : ℕ → ℕ) → seen v e q.events.items ++ told v (length code.instructions) (place + 1) (drop (place + 1) code.instructions) (arrivals v e code q.pending.items) ≡ told v (length code.instructions) 0 code.instructions (all v)
+    → ((v : ℕ → ℕ) → seen v d p.events.items ++ told v (length code.instructions) place (drop place code.instructions) (arrivals v d p.trees code p.pending.items) ≡ told v (length code.instructions) 0 code.instructions (all v))
+    → (v : ℕ → ℕ) → seen v e q.events.items ++ told v (length code.instructions) (place + 1) (drop (place + 1) code.instructions) (arrivals v e q.trees code q.pending.items) ≡ told v (length code.instructions) 0 code.instructions (all v)
 visited until code place z all d e p q lt covers visits so v =
     let i = get_or code.instructions place z in
     let rest = drop (suc place) code.instructions in
     let n : place + 1 ≡ suc place = omega arith in
     let front : drop place code.instructions ≡ i ∷ rest = drop-cons code.instructions place z lt in
-    ap (λ m. seen v e q.events.items ++ told v (length code.instructions) m (drop m code.instructions) (arrivals v e code q.pending.items)) n
+    ap (λ m. seen v e q.events.items ++ told v (length code.instructions) m (drop m code.instructions) (arrivals v e q.trees code q.pending.items)) n
     ∙ visits.goes v rest (covers_drop (length code.registers) until 0 (suc place) (suc place) code.instructions (omega arith) covers)
-    ∙ ap (λ xs. seen v d p.events.items ++ told v (length code.instructions) place xs (arrivals v d code p.pending.items)) (sym front) ∙ so v
+    ∙ ap (λ xs. seen v d p.events.items ++ told v (length code.instructions) place xs (arrivals v d p.trees code p.pending.items)) (sym front) ∙ so v
 
 drop_all : (n : ℕ) (xs : List Instruction) → length xs ≤ n → drop n xs ≡ []
 drop_all zero [] l = refl
@@ -97,13 +99,13 @@ drop_all (suc n) [] l = refl
 drop_all (suc n) (x ∷ xs) l = drop_all n xs (omega (arith, l))
 
 pub visited_all : (code : Listing) (place : ℕ) (all : (ℕ → ℕ) → Arrivals) (d : List Node) (p : Pass) → length code.instructions ≤ place
-    → ((v : ℕ → ℕ) → seen v d p.events.items ++ told v (length code.instructions) place (drop place code.instructions) (arrivals v d code p.pending.items) ≡ told v (length code.instructions) 0 code.instructions (all v))
+    → ((v : ℕ → ℕ) → seen v d p.events.items ++ told v (length code.instructions) place (drop place code.instructions) (arrivals v d p.trees code p.pending.items) ≡ told v (length code.instructions) 0 code.instructions (all v))
     → (v : ℕ → ℕ) → seen v d p.events.items ≡ told v (length code.instructions) 0 code.instructions (all v)
 visited_all code place all d p le so v =
-    sym (ap (λ xs. seen v d p.events.items ++ told v (length code.instructions) place xs (arrivals v d code p.pending.items)) (drop_all place code.instructions le) ∙ append_nil (seen v d p.events.items)) ∙ so v
+    sym (ap (λ xs. seen v d p.events.items ++ told v (length code.instructions) place xs (arrivals v d p.trees code p.pending.items)) (drop_all place code.instructions le) ∙ append_nil (seen v d p.events.items)) ∙ so v
 
-pub visited_none : (code : Listing) (all : (ℕ → ℕ) → Arrivals) (d : List Node) (p : Pass) → p.events.items ≡ [] → ((v : ℕ → ℕ) → arrivals v d code p.pending.items ≡ all v)
-    → (v : ℕ → ℕ) → seen v d p.events.items ++ told v (length code.instructions) 0 code.instructions (arrivals v d code p.pending.items) ≡ told v (length code.instructions) 0 code.instructions (all v)
+pub visited_none : (code : Listing) (all : (ℕ → ℕ) → Arrivals) (d : List Node) (p : Pass) → p.events.items ≡ [] → ((v : ℕ → ℕ) → arrivals v d p.trees code p.pending.items ≡ all v)
+    → (v : ℕ → ℕ) → seen v d p.events.items ++ told v (length code.instructions) 0 code.instructions (arrivals v d p.trees code p.pending.items) ≡ told v (length code.instructions) 0 code.instructions (all v)
 visited_none code all d p none same v = let a = ap (seen v d) none in let b = same v in λ i. a i ++ told v (length code.instructions) 0 code.instructions (b i)
 
 -- ---- the form
@@ -130,10 +132,16 @@ pub one_form : (d : List Node) (g : List Form) (es : List Event) (objects : Obje
     → ((v : ℕ → ℕ) → seen v d es ≡ told v (length code.instructions) 0 code.instructions (Some m ∷ replicate (length code.instructions) None)) → AreForms (does behaving false 0 code.instructions m) objects d g
 one_form d g es objects code m is within same = subst (AreForms (does behaving false 0 code.instructions m) objects d) (sym is) (form_of d es code.instructions m same, within, refl)
 
-pub start_size : (d : List Node) (code : Listing) (pending : List (Option Slot)) (m : Memory) (n : ℕ) → ((v : ℕ → ℕ) → arrivals v d code pending ≡ Some m ∷ replicate n None) → length pending + 0 ≡ n + 1
-start_size d code pending m n is =
+-- at the start of the code that a plan is of
+pub started : (own code : Listing) (d : List Node) (p : Pass) → own ≡ code → PassIn d own p → ((v : ℕ → ℕ) → arrivals v d p.trees own p.pending.items ≡ Some (first_memory own) ∷ replicate (length own.instructions) None)
+    → PassIn d code p × ((v : ℕ → ℕ) → arrivals v d p.trees code p.pending.items ≡ Some (first_memory code) ∷ replicate (length code.instructions) None)
+started own code d p same within arrives =
+    (subst (λ k. PassIn d k p) same within, subst (λ (k : Listing). (v : ℕ → ℕ) → arrivals v d p.trees k p.pending.items ≡ Some (first_memory k) ∷ replicate (length k.instructions) None) same arrives)
+
+pub start_size : (d : List Node) (trees : Arena) (code : Listing) (pending : List (Option Slot)) (m : Memory) (n : ℕ) → ((v : ℕ → ℕ) → arrivals v d trees code pending ≡ Some m ∷ replicate n None) → length pending + 0 ≡ n + 1
+start_size d trees code pending m n is =
     let v : ℕ → ℕ = λ x. 0 in
-    omega (arith, length-map pending (arrival v d code), ap length (is v), length_none n)
+    omega (arith, length-map pending (arrival v d trees code), ap length (is v), length_none n)
 
 pub fits_in : (code own : Listing) (is : List Instruction) (place : ℕ) (z : Instruction) → own ≡ code → is ≡ code.instructions → code_fits code.registers code.blocks code.instructions ≡ true → place < length is
     → operation_fits own.registers own.blocks (length (drop (place + 1) own.instructions)) (get_or is place z).operation ≡ true

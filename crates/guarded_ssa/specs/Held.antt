@@ -6,6 +6,7 @@ use Rattle.c_values.specs.Variables.{Variables}
 use Rattle.word_dag.specs.declared.nodes.Node.{Node}
 use Rattle.word_dag.specs.Meaning.{value, holds}
 use Rattle.value_nodes.specs.Values.{IsWord}
+use Rattle.cell_trees.specs.Trees.{Arena, looked, Keeps}
 use Rattle.goto_prog.specs.Meaning.{Memory}
 use Rattle.goto_prog.specs.CodeThread.{Listing}
 use Rattle.guarded_ssa.specs.declared.liveness.Plan.{Plan}
@@ -16,7 +17,7 @@ use Rattle.goto_prog.specs.declared.code.Operation.{Operation}
 use Rattle.goto_prog.specs.declared.code.Instruction.{Instruction}
 use Rattle.guarded_ssa.specs.Arrivals.{arrived, on, tells, leaves, told}
 use Rattle.guarded_ssa.specs.Reads.{AllAlike, Covers}
-use Rattle.guarded_ssa.specs.Registers.{ZerosIn, AreLive, words_from, bytes_from}
+use Rattle.guarded_ssa.specs.Registers.{ZerosIn, TreeIn, words_from, bytes_from}
 use Rattle.guarded_ssa.specs.Forms.{FormIn, event_seen, seen}
 
 -- how many bytes blocks of these sizes have
@@ -62,11 +63,11 @@ pub record IsPlan (p : Plan) : Type 0 where
 
 -- ---- slots
 
-module _ (v : ℕ → ℕ) (d : List Node) (code : Listing) where
+module _ (v : ℕ → ℕ) (d : List Node) (t : Arena) (code : Listing) where
   abbrev pub held : Slot → Memory
   held s = record {
-    registers = words_from (value v d) s.live 0 code.registers;
-    blocks = stored code.blocks (bytes_from (value v d) s.live (length code.registers) (total code.blocks));
+    registers = words_from (value v d) (looked t s.root) 0 code.registers;
+    blocks = stored code.blocks (bytes_from (value v d) (looked t s.root) (length code.registers) (total code.blocks));
   }
 
   -- the memory with which the slot is reached, if it is
@@ -80,45 +81,46 @@ module _ (v : ℕ → ℕ) (d : List Node) (code : Listing) where
   abbrev pub arrivals : List (Option Slot) → List (Option Memory)
   arrivals pending = map arrival pending
 
-pub record SlotIn (d : List Node) (code : Listing) (s : Slot) : Type 0 where
+pub record SlotIn (d : List Node) (t : Arena) (code : Listing) (s : Slot) : Type 0 where
   pub guard : IsWord d s.guard 1
   pub zeros : ZerosIn d s.zeros
-  pub live : AreLive d (cells code) s.live
+  pub tree : TreeIn d t (cells code) s.root
 
-abbrev pub PendingIn : List Node → Listing → Option Slot → Type 0
-PendingIn d code None = Unit {0}
-PendingIn d code (Some s) = SlotIn d code s
+abbrev pub PendingIn : List Node → Arena → Listing → Option Slot → Type 0
+PendingIn d t code None = Unit {0}
+PendingIn d t code (Some s) = SlotIn d t code s
 
 -- ---- a pass over code
 
 pub record PassIn (d : List Node) (code : Listing) (p : Pass) : Type 0 where
   pub events : FormIn d p.events.items
-  pub pending : All (PendingIn d code) p.pending.items
+  pub pending : All (PendingIn d p.trees code) p.pending.items
 
 -- a slot has arrived n places behind the next
 pub record Arrives (until : List ℕ) (code : Listing) (place n : ℕ) (s : Slot) (d e : List Node) (p q : Pass) : Type 0 where
   pub within : PassIn e code q
+  pub keeps : Keeps p.trees q.trees
   pub size : length q.pending.items ≡ length p.pending.items
   pub told : q.events.items ≡ p.events.items
-  pub leads : (v : ℕ → ℕ) → AllAlike (length code.registers) until (suc place) (arrivals v e code q.pending.items) (arrived n (guarded v d code s) (arrivals v d code p.pending.items))
+  pub leads : (v : ℕ → ℕ) → AllAlike (length code.registers) until (suc place) (arrivals v e q.trees code q.pending.items) (arrived n (guarded v d p.trees code s) (arrivals v d p.trees code p.pending.items))
 
 -- an event is told, and a slot has arrived at the next place
 pub record Tells (until : List ℕ) (code : Listing) (place : ℕ) (event : Event) (s : Slot) (d e : List Node) (p q : Pass) : Type 0 where
   pub within : PassIn e code q
   pub size : length q.pending.items ≡ length p.pending.items
   pub told : (v : ℕ → ℕ) → seen v e q.events.items ≡ seen v d p.events.items ++ event_seen v d event
-  pub leads : (v : ℕ → ℕ) → AllAlike (length code.registers) until (suc place) (arrivals v e code q.pending.items) (arrived 0 (guarded v d code s) (arrivals v d code p.pending.items))
+  pub leads : (v : ℕ → ℕ) → AllAlike (length code.registers) until (suc place) (arrivals v e q.trees code q.pending.items) (arrived 0 (guarded v d p.trees code s) (arrivals v d p.trees code p.pending.items))
 
 -- an operation reached with a slot has told its events, and has led to other places
 pub record Passes (until : List ℕ) (code : Listing) (place line function : ℕ) (o : Operation) (s : Slot) (d e : List Node) (p q : Pass) : Type 0 where
   pub within : PassIn e code q
   pub size : length q.pending.items ≡ length p.pending.items
-  pub told : (v : ℕ → ℕ) → seen v e q.events.items ≡ seen v d p.events.items ++ on (guarded v d code s) (tells v (length code.instructions) place line function o)
-  pub leads : (v : ℕ → ℕ) → AllAlike (length code.registers) until (suc place) (arrivals v e code q.pending.items) (leaves v (length code.instructions) place o (guarded v d code s) (arrivals v d code p.pending.items))
+  pub told : (v : ℕ → ℕ) → seen v e q.events.items ≡ seen v d p.events.items ++ on (guarded v d p.trees code s) (tells v (length code.instructions) place line function o)
+  pub leads : (v : ℕ → ℕ) → AllAlike (length code.registers) until (suc place) (arrivals v e q.trees code q.pending.items) (leaves v (length code.instructions) place o (guarded v d p.trees code s) (arrivals v d p.trees code p.pending.items))
 
 -- an instruction has been passed over: what the events and the rest of the code tell is the same as before it
 pub record Visits (until : List ℕ) (code : Listing) (place : ℕ) (i : Instruction) (d e : List Node) (p q : Pass) : Type 0 where
   pub within : PassIn e code q
   pub size : suc (length q.pending.items) ≡ length p.pending.items
   pub goes : (v : ℕ → ℕ) (rest : List Instruction) → Covers (length code.registers) until (suc place) rest
-      → seen v e q.events.items ++ told v (length code.instructions) (suc place) rest (arrivals v e code q.pending.items) ≡ seen v d p.events.items ++ told v (length code.instructions) place (i ∷ rest) (arrivals v d code p.pending.items)
+      → seen v e q.events.items ++ told v (length code.instructions) (suc place) rest (arrivals v e q.trees code q.pending.items) ≡ seen v d p.events.items ++ told v (length code.instructions) place (i ∷ rest) (arrivals v d p.trees code p.pending.items)

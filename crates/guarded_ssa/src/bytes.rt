@@ -8,15 +8,17 @@ ghost use Rattle.word_dag.specs.Growth.{Extends};
 ghost use Rattle.word_dag.specs.Meaning.{value};
 ghost use Rattle.value_nodes.specs.Values.{IsValue, AreBytes};
 ghost use Rattle.value_nodes.specs.Bytes.{AreBytesOf};
+ghost use Rattle.cell_trees.specs.Trees.{Keeps};
 ghost use Rattle.goto_prog.specs.Fitting.{is_block, has_bytes};
 ghost use Rattle.goto_prog.specs.Meaning.{with_blocks, bytes_of, calculated};
 ghost use Rattle.guarded_ssa.specs.Arrivals.{updated};
 ghost use Rattle.guarded_ssa.specs.Held.{SlotIn, IsPlan, held, guarded, total, counted, owners_from, starts_from};
 
 use crate::liveness::Plan;
-use crate::registers::{ids_from, replaced};
+use crate::registers::ids_from;
 use crate::slots::Slot;
 use c_types::IntegerType;
+use cell_trees::Trees;
 use goto_prog::Operation;
 use std::alloc::{AllocError, Global};
 use value_nodes::{loaded, stored};
@@ -120,28 +122,22 @@ impl Slot {
     pub fn bytes(
         &self,
         dag: &Dag,
+        trees: &Trees,
         plan: &Plan,
         b: usize,
         offset: u32,
         count: u32,
     ) -> Result<Vec<Id>, AllocError>
         requires plan { IsPlan plan.now }
-        requires within { SlotIn dag.now plan.now.code.now self.now }
+        requires within { SlotIn dag.now trees.now plan.now.code.now self.now }
         requires there { is_within plan.now.code.now.blocks b offset count ≡ true }
-        ensures made { IfOk result (λ ids. AreBytesOf dag.now ids.items (λ v. bytes_of (held v dag.now plan.now.code.now self.now).blocks b offset count)) }
+        ensures made { IfOk result (λ ids. AreBytesOf dag.now ids.items (λ v. bytes_of (held v dag.now trees.now plan.now.code.now self.now).blocks b offset count)) }
         ensures size { IfOk result (λ ids. length ids.items ≡ count) }
     {
         let _ = dag.nodes();
         let start = plan.start_of(b) + offset as usize;
         let zero = self.zeros.byte;
-        let ids = ids_from(
-            plan.alloc,
-            &self.live,
-            &plan.types,
-            zero,
-            start,
-            count as usize,
-        )?;
+        let ids = ids_from(plan.alloc, trees, self.root, zero, start, count as usize)?;
         Ok(ids)
     }
 
@@ -149,18 +145,19 @@ impl Slot {
     pub fn loaded(
         &self,
         dag: &mut Dag,
+        trees: &Trees,
         plan: &Plan,
         b: usize,
         offset: u32,
         type_: IntegerType,
     ) -> Result<Id, AllocError>
         requires plan { IsPlan plan.now }
-        requires within { SlotIn dag.old plan.now.code.now self.now }
+        requires within { SlotIn dag.old trees.now plan.now.code.now self.now }
         requires there { is_within plan.now.code.now.blocks b offset (bytes type_) ≡ true }
         ensures extends { Extends dag.old dag.new }
-        ensures made { IfOk result (λ i. IsValue dag.new i (type_width type_) (λ v. read_variable (held v dag.old plan.now.code.now self.now).blocks b offset type_)) }
+        ensures made { IfOk result (λ i. IsValue dag.new i (type_width type_) (λ v. read_variable (held v dag.old trees.now plan.now.code.now self.now).blocks b offset type_)) }
     {
-        let bytes = self.bytes(dag, plan, b, offset, type_.size())?;
+        let bytes = self.bytes(dag, trees, plan, b, offset, type_.size())?;
         let id = loaded(dag, type_, 0, &bytes)?;
         Ok(id)
     }
@@ -169,6 +166,7 @@ impl Slot {
     fn replaced(
         self,
         dag: &Dag,
+        trees: &mut Trees,
         plan: &Plan,
         block: usize,
         offset: u32,
@@ -176,21 +174,21 @@ impl Slot {
         new: &[Id],
     ) -> Result<Slot, AllocError>
         requires plan { IsPlan plan.now }
-        requires within { SlotIn dag.now plan.now.code.now self }
+        requires within { SlotIn dag.now trees.old plan.now.code.now self }
         requires block { is_within plan.now.code.now.blocks block offset count ≡ true }
         requires few { length new.now ≤ count }
         requires new { AreBytes dag.now new.now }
-        ensures within { IfOk result (SlotIn dag.now plan.now.code.now) }
-        ensures guarded { IfOk result (λ s. (v : ℕ → ℕ) → guarded v dag.now plan.now.code.now s ≡ updated (λ m. with_blocks m (put_bytes m.blocks block offset (map (value v dag.now) new.now ++ zeros (count - length new.now)))) (guarded v dag.now plan.now.code.now self)) }
+        ensures keeps { Keeps trees.old trees.new }
+        ensures within { IfOk result (SlotIn dag.now trees.new plan.now.code.now) }
+        ensures guarded { IfOk result (λ s. (v : ℕ → ℕ) → guarded v dag.now trees.new plan.now.code.now s ≡ updated (λ m. with_blocks m (put_bytes m.blocks block offset (map (value v dag.now) new.now ++ zeros (count - length new.now)))) (guarded v dag.now trees.old plan.now.code.now self)) }
     {
         let _ = dag.nodes();
         let start = plan.start_of(block) + offset as usize;
-        let live = replaced(plan.alloc, self.live, &plan.types, dag, start, count, new)?;
+        let root = trees.replaced(self.root, start, count, new)?;
         Ok(Slot {
             guard: self.guard,
             zeros: self.zeros,
-            live,
-            kept: self.kept,
+            root,
         })
     }
 
@@ -198,19 +196,21 @@ impl Slot {
     pub fn written(
         self,
         dag: &Dag,
+        trees: &mut Trees,
         plan: &Plan,
         block: usize,
         offset: u32,
         new: &[Id],
     ) -> Result<Slot, AllocError>
         requires plan { IsPlan plan.now }
-        requires within { SlotIn dag.now plan.now.code.now self }
+        requires within { SlotIn dag.now trees.old plan.now.code.now self }
         requires block { is_within plan.now.code.now.blocks block offset (length new.now) ≡ true }
         requires new { AreBytes dag.now new.now }
-        ensures within { IfOk result (SlotIn dag.now plan.now.code.now) }
-        ensures guarded { IfOk result (λ s. (v : ℕ → ℕ) → guarded v dag.now plan.now.code.now s ≡ updated (λ m. with_blocks m (put_bytes m.blocks block offset (map (value v dag.now) new.now))) (guarded v dag.now plan.now.code.now self)) }
+        ensures keeps { Keeps trees.old trees.new }
+        ensures within { IfOk result (SlotIn dag.now trees.new plan.now.code.now) }
+        ensures guarded { IfOk result (λ s. (v : ℕ → ℕ) → guarded v dag.now trees.new plan.now.code.now s ≡ updated (λ m. with_blocks m (put_bytes m.blocks block offset (map (value v dag.now) new.now))) (guarded v dag.now trees.old plan.now.code.now self)) }
     {
-        let next = self.replaced(dag, plan, block, offset, new.len(), new)?;
+        let next = self.replaced(dag, trees, plan, block, offset, new.len(), new)?;
         Ok(next)
     }
 
@@ -218,6 +218,7 @@ impl Slot {
     pub fn stored(
         self,
         dag: &mut Dag,
+        trees: &mut Trees,
         plan: &Plan,
         block: usize,
         offset: u32,
@@ -225,17 +226,18 @@ impl Slot {
         operand: usize,
     ) -> Result<Slot, AllocError>
         requires plan { IsPlan plan.now }
-        requires within { SlotIn dag.old plan.now.code.now self }
+        requires within { SlotIn dag.old trees.old plan.now.code.now self }
         requires operand { has_bytes plan.now.code.now.registers operand count ≡ true }
         requires block { is_within plan.now.code.now.blocks block offset count ≡ true }
         ensures extends { Extends dag.old dag.new }
-        ensures within { IfOk result (SlotIn dag.new plan.now.code.now) }
-        ensures guarded { IfOk result (λ s. (v : ℕ → ℕ) → guarded v dag.new plan.now.code.now s ≡ updated (calculated (Operation.Store block offset count operand)) (guarded v dag.old plan.now.code.now self)) }
+        ensures keeps { Keeps trees.old trees.new }
+        ensures within { IfOk result (SlotIn dag.new trees.new plan.now.code.now) }
+        ensures guarded { IfOk result (λ s. (v : ℕ → ℕ) → guarded v dag.new trees.new plan.now.code.now s ≡ updated (calculated (Operation.Store block offset count operand)) (guarded v dag.old trees.old plan.now.code.now self)) }
     {
-        let id = self.register(dag, plan, operand);
+        let id = self.register(dag, trees, plan, operand);
         let type_ = plan.code.registers()[operand];
         let bytes = stored(plan.alloc, dag, type_, id, count as usize)?;
-        let next = self.written(dag, plan, block, offset, &bytes)?;
+        let next = self.written(dag, trees, plan, block, offset, &bytes)?;
         Ok(next)
     }
 
@@ -243,18 +245,20 @@ impl Slot {
     pub fn cleared(
         self,
         dag: &Dag,
+        trees: &mut Trees,
         plan: &Plan,
         block: usize,
         size: u32,
     ) -> Result<Slot, AllocError>
         requires plan { IsPlan plan.now }
-        requires within { SlotIn dag.now plan.now.code.now self }
+        requires within { SlotIn dag.now trees.old plan.now.code.now self }
         requires block { is_block plan.now.code.now.blocks block size ≡ true }
-        ensures within { IfOk result (SlotIn dag.now plan.now.code.now) }
-        ensures guarded { IfOk result (λ s. (v : ℕ → ℕ) → guarded v dag.now plan.now.code.now s ≡ updated (calculated (Operation.Clear block size)) (guarded v dag.now plan.now.code.now self)) }
+        ensures keeps { Keeps trees.old trees.new }
+        ensures within { IfOk result (SlotIn dag.now trees.new plan.now.code.now) }
+        ensures guarded { IfOk result (λ s. (v : ℕ → ℕ) → guarded v dag.now trees.new plan.now.code.now s ≡ updated (calculated (Operation.Clear block size)) (guarded v dag.now trees.old plan.now.code.now self)) }
     {
         let none: Vec<Id> = Vec::new(plan.alloc);
-        let next = self.replaced(dag, plan, block, 0, size as usize, &none)?;
+        let next = self.replaced(dag, trees, plan, block, 0, size as usize, &none)?;
         Ok(next)
     }
 
@@ -263,20 +267,22 @@ impl Slot {
     pub fn with_bytes_copied(
         self,
         dag: &Dag,
+        trees: &mut Trees,
         plan: &Plan,
         into: (usize, u32),
         from: (usize, u32),
         count: u32,
     ) -> Result<Slot, AllocError>
         requires plan { IsPlan plan.now }
-        requires within { SlotIn dag.now plan.now.code.now self }
+        requires within { SlotIn dag.now trees.old plan.now.code.now self }
         requires into { is_within plan.now.code.now.blocks into.0 into.1 count ≡ true }
         requires from { is_within plan.now.code.now.blocks from.0 from.1 count ≡ true }
-        ensures within { IfOk result (SlotIn dag.now plan.now.code.now) }
-        ensures guarded { IfOk result (λ s. (v : ℕ → ℕ) → guarded v dag.now plan.now.code.now s ≡ updated (calculated (Operation.CopyBytes into.0 into.1 from.0 from.1 count)) (guarded v dag.now plan.now.code.now self)) }
+        ensures keeps { Keeps trees.old trees.new }
+        ensures within { IfOk result (SlotIn dag.now trees.new plan.now.code.now) }
+        ensures guarded { IfOk result (λ s. (v : ℕ → ℕ) → guarded v dag.now trees.new plan.now.code.now s ≡ updated (calculated (Operation.CopyBytes into.0 into.1 from.0 from.1 count)) (guarded v dag.now trees.old plan.now.code.now self)) }
     {
-        let bytes = self.bytes(dag, plan, from.0, from.1, count)?;
-        let next = self.written(dag, plan, into.0, into.1, &bytes)?;
+        let bytes = self.bytes(dag, trees, plan, from.0, from.1, count)?;
+        let next = self.written(dag, trees, plan, into.0, into.1, &bytes)?;
         Ok(next)
     }
 }

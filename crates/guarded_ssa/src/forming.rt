@@ -25,7 +25,7 @@ fn events_of(alloc: Global, dag: &mut Dag, code: &Code) -> Result<Vec<Event>, Al
         return Err(AllocError);
     }
     let plan = Plan::new(alloc, code)?;
-    let mut pass = Pass::start(alloc, dag, code)?;
+    let mut pass = Pass::start(dag, &plan)?;
     for place in 0..instructions.len() {
         pass.visit(dag, &plan, place, instructions[place])?;
     }

@@ -4,7 +4,6 @@
 
 mod answers;
 mod bytes;
-mod cells;
 mod forming;
 mod forms;
 mod liveness;

@@ -43,20 +43,22 @@ use crate::liveness::Plan;
 use crate::slots::Slot;
 use crate::values::class_of;
 use c_types::IntegerType;
+use cell_trees::Trees;
 use core_tree::ArithmeticOperator;
-use goto_prog::{Code, Condition, Instruction, Operation};
+use goto_prog::{Condition, Instruction, Operation};
 use std::alloc::{AllocError, Global};
 use std::collections::VecDeque;
 use value_nodes::zero_test;
 use word_dag::{Dag, Node};
 use words::Class;
 
-/// A pass over code: the events that were told so far, and for each place from the next on the memory with
-/// which it is reached.
+/// A pass over code: the events that were told so far, for each place from the next on the memory with which it is
+/// reached, and the trees of all these memories.
 #[derive(Drop)]
 pub struct Pass {
     pub events: Vec<Event>,
     pub pending: VecDeque<Option<Slot>>,
+    pub trees: Trees,
 }
 
 // The slot, and then this many places without one.
@@ -79,22 +81,25 @@ fn way(taken: bool, count: usize) -> usize
 }
 
 impl Pass {
-    /// At the start of code.
-    pub fn start(alloc: Global, dag: &mut Dag, code: &Code) -> Result<Pass, AllocError>
+    /// At the start of the code of a plan.
+    pub fn start(dag: &mut Dag, plan: &Plan) -> Result<Pass, AllocError>
+        requires { IsPlan plan.now }
         ensures extends { Extends dag.old dag.new }
-        ensures within { IfOk result (PassIn dag.new code.now) }
+        ensures within { IfOk result (PassIn dag.new plan.now.code.now) }
         ensures events { IfOk result (λ p. p.events.items ≡ []) }
-        ensures arrivals { IfOk result (λ p. (v : ℕ → ℕ) → arrivals v dag.new code.now p.pending.items ≡ Some (first_memory code.now) ∷ replicate (length code.now.instructions) None) }
+        ensures arrivals { IfOk result (λ p. (v : ℕ → ℕ) → arrivals v dag.new p.trees plan.now.code.now p.pending.items ≡ Some (first_memory plan.now.code.now) ∷ replicate (length plan.now.code.now.instructions) None) }
     {
-        let slot = Slot::start(alloc, dag, code)?;
-        let pending = followed(alloc, slot, code.instructions().len())?;
+        let trees = Trees::new(plan.alloc, plan.types.len())?;
+        let slot = Slot::start(dag, &trees, plan)?;
+        let pending = followed(plan.alloc, slot, plan.code.instructions().len())?;
         Ok(Pass {
-            events: Vec::new(alloc),
+            events: Vec::new(plan.alloc),
             pending,
+            trees,
         })
     }
 
-    /// A slot arrives n places behind the next.
+    /// A slot arrives n places behind the next, if it is reached ever.
     pub fn arrive(
         &mut self,
         dag: &mut Dag,
@@ -106,17 +111,19 @@ impl Pass {
         requires plan { IsPlan plan.now }
         requires room { place + length self.old.pending.items < 2 ^ 64 }
         requires within { PassIn dag.old plan.now.code.now self.old }
-        requires slot { SlotIn dag.old plan.now.code.now slot }
+        requires slot { SlotIn dag.old self.old.trees plan.now.code.now slot }
         ensures extends { Extends dag.old dag.new }
         ensures arrives { OnOk result (Arrives plan.now.until.items plan.now.code.now place n slot dag.old dag.new self.old self.new) }
     {
-        if n < self.pending.len() {
-            let there = self.pending[n].take();
-            let straight = n == 0 && there.is_none();
-            let needed = slot.needed(dag, plan, place + 1 + n, straight)?;
-            let slot = needed.met(dag, plan, there)?;
-            self.pending[n] = Some(slot);
+        if n >= self.pending.len() {
+            return Ok(());
         }
+        if slot.is_never(dag, &self.trees, plan) {
+            return Ok(());
+        }
+        let there = self.pending[n];
+        let met = slot.met(dag, &mut self.trees, plan, place + 1 + n, n == 0, there)?;
+        self.pending[n] = Some(met);
         Ok(())
     }
 
@@ -124,6 +131,7 @@ impl Pass {
     fn tell(&mut self, event: Event) -> Result<(), AllocError>
         ensures events { OnOk result (self.new.events.items ≡ self.old.events.items ++ event ∷ []) }
         ensures pending { self.new.pending.items ≡ self.old.pending.items }
+        ensures trees { self.new.trees ≡ self.old.trees }
     {
         self.events.push(event)?;
         Ok(())
@@ -141,7 +149,7 @@ impl Pass {
         requires plan { IsPlan plan.now }
         requires room { place + length self.old.pending.items < 2 ^ 64 }
         requires within { PassIn dag.old plan.now.code.now self.old }
-        requires slot { SlotIn dag.old plan.now.code.now slot }
+        requires slot { SlotIn dag.old self.old.trees plan.now.code.now slot }
         requires event { EventIn dag.old event }
         ensures extends { Extends dag.old dag.new }
         ensures tells { OnOk result (Tells plan.now.until.items plan.now.code.now place event slot dag.old dag.new self.old self.new) }
@@ -163,13 +171,13 @@ impl Pass {
         requires plan { IsPlan plan.now }
         requires room { place + length self.old.pending.items < 2 ^ 64 }
         requires within { PassIn dag.old plan.now.code.now self.old }
-        requires slot { SlotIn dag.old plan.now.code.now slot }
+        requires slot { SlotIn dag.old self.old.trees plan.now.code.now slot }
         requires fits { operation_fits plan.now.code.now.registers plan.now.code.now.blocks 0 i.operation ≡ true }
         requires calculation { is_calculation i.operation ≡ true }
         ensures extends { Extends dag.old dag.new }
         ensures passes { OnOk result (Passes plan.now.until.items plan.now.code.now place i.line i.function (i.operation) slot dag.old dag.new self.old self.new) }
     {
-        let next = slot.calculated(dag, plan, i.operation)?;
+        let next = slot.calculated(dag, &mut self.trees, plan, i.operation)?;
         self.arrive(dag, plan, place, 0, next)?;
         Ok(())
     }
@@ -187,7 +195,7 @@ impl Pass {
         requires plan { IsPlan plan.now }
         requires room { place + length self.old.pending.items < 2 ^ 64 }
         requires within { PassIn dag.old plan.now.code.now self.old }
-        requires slot { SlotIn dag.old plan.now.code.now slot }
+        requires slot { SlotIn dag.old self.old.trees plan.now.code.now slot }
         ensures extends { Extends dag.old dag.new }
         ensures passes { OnOk result (Passes plan.now.until.items plan.now.code.now place i.line i.function (Operation.Skip count) slot dag.old dag.new self.old self.new) }
     {
@@ -210,13 +218,13 @@ impl Pass {
         requires plan { IsPlan plan.now }
         requires room { place + length self.old.pending.items < 2 ^ 64 }
         requires within { PassIn dag.old plan.now.code.now self.old }
-        requires slot { SlotIn dag.old plan.now.code.now slot }
+        requires slot { SlotIn dag.old self.old.trees plan.now.code.now slot }
         requires operand { is_there plan.now.code.now.registers operand ≡ true }
         ensures extends { Extends dag.old dag.new }
         ensures passes { OnOk result (Passes plan.now.until.items plan.now.code.now place i.line i.function (Operation.SkipIfZero operand count) slot dag.old dag.new self.old self.new) }
     {
         let _ = i;
-        let (zero, other) = slot.split(dag, plan, operand)?;
+        let (zero, other) = slot.split(dag, &self.trees, plan, operand)?;
         self.arrive(dag, plan, place, 0, other)?;
         self.arrive(dag, plan, place, count, zero)?;
         Ok(())
@@ -236,12 +244,12 @@ impl Pass {
         requires plan { IsPlan plan.now }
         requires room { place + length self.old.pending.items < 2 ^ 64 }
         requires within { PassIn dag.old plan.now.code.now self.old }
-        requires slot { SlotIn dag.old plan.now.code.now slot }
+        requires slot { SlotIn dag.old self.old.trees plan.now.code.now slot }
         requires operand { is_there plan.now.code.now.registers operand ≡ true }
         ensures extends { Extends dag.old dag.new }
         ensures passes { OnOk result (Passes plan.now.until.items plan.now.code.now place i.line i.function (Operation.SkipIfZero operand count) slot dag.old dag.new self.old self.new) }
     {
-        match slot.decided(dag, plan, operand) {
+        match slot.decided(dag, &self.trees, plan, operand) {
             Some(zero) => {
                 let n = way(zero, count);
                 self.arrive(dag, plan, place, n, slot)?;
@@ -267,12 +275,12 @@ impl Pass {
         requires plan { IsPlan plan.now }
         requires room { place + length self.old.pending.items < 2 ^ 64 }
         requires within { PassIn dag.old plan.now.code.now self.old }
-        requires slot { SlotIn dag.old plan.now.code.now slot }
+        requires slot { SlotIn dag.old self.old.trees plan.now.code.now slot }
         requires fits { check_fits plan.now.code.now.registers condition ≡ true }
         ensures extends { Extends dag.old dag.new }
         ensures passes { OnOk result (Passes plan.now.until.items plan.now.code.now place i.line i.function (Operation.Check condition) slot dag.old dag.new self.old self.new) }
     {
-        let failing = slot.fails(dag, plan, condition)?;
+        let failing = slot.fails(dag, &self.trees, plan, condition)?;
         let class = class_of(condition);
         let event = Event {
             guard: slot.guard,
@@ -297,12 +305,12 @@ impl Pass {
         requires plan { IsPlan plan.now }
         requires room { place + length self.old.pending.items < 2 ^ 64 }
         requires within { PassIn dag.old plan.now.code.now self.old }
-        requires slot { SlotIn dag.old plan.now.code.now slot }
+        requires slot { SlotIn dag.old self.old.trees plan.now.code.now slot }
         requires operand { is_there plan.now.code.now.registers operand ≡ true }
         ensures extends { Extends dag.old dag.new }
         ensures passes { OnOk result (Passes plan.now.until.items plan.now.code.now place i.line i.function (Operation.Assert operand) slot dag.old dag.new self.old self.new) }
     {
-        let node = slot.register(dag, plan, operand);
+        let node = slot.register(dag, &self.trees, plan, operand);
         let failing = zero_test(dag, node)?;
         let event = Event {
             guard: slot.guard,
@@ -330,12 +338,12 @@ impl Pass {
         requires plan { IsPlan plan.now }
         requires room { place + length self.old.pending.items < 2 ^ 64 }
         requires within { PassIn dag.old plan.now.code.now self.old }
-        requires slot { SlotIn dag.old plan.now.code.now slot }
+        requires slot { SlotIn dag.old self.old.trees plan.now.code.now slot }
         requires operand { is_there plan.now.code.now.registers operand ≡ true }
         ensures extends { Extends dag.old dag.new }
         ensures passes { OnOk result (Passes plan.now.until.items plan.now.code.now place i.line i.function (Operation.Assume operand) slot dag.old dag.new self.old self.new) }
     {
-        let node = slot.register(dag, plan, operand);
+        let node = slot.register(dag, &self.trees, plan, operand);
         let failing = zero_test(dag, node)?;
         let event = Event {
             guard: slot.guard,
@@ -361,7 +369,7 @@ impl Pass {
         requires plan { IsPlan plan.now }
         requires room { place + length self.old.pending.items < 2 ^ 64 }
         requires within { PassIn dag.old plan.now.code.now self.old }
-        requires slot { SlotIn dag.old plan.now.code.now slot }
+        requires slot { SlotIn dag.old self.old.trees plan.now.code.now slot }
         requires place { place < 2 ^ 32 }
         requires into { is_there plan.now.code.now.registers into ≡ true }
         requires positive { 1 ≤ bits }
@@ -378,7 +386,7 @@ impl Pass {
             function: i.function,
             kind: EventKind::Draw { bits, answer },
         };
-        let next = slot.put(dag, plan, into, word)?;
+        let next = slot.put(dag, &mut self.trees, plan, into, word)?;
         self.tell_and_go(dag, plan, place, next, event)?;
         Ok(())
     }
@@ -398,7 +406,7 @@ impl Pass {
         requires plan { IsPlan plan.now }
         requires room { place + length self.old.pending.items < 2 ^ 64 }
         requires within { PassIn dag.old plan.now.code.now self.old }
-        requires slot { SlotIn dag.old plan.now.code.now slot }
+        requires slot { SlotIn dag.old self.old.trees plan.now.code.now slot }
         requires place { place < 2 ^ 32 }
         requires few { length plan.now.code.now.instructions < 2 ^ 33 }
         requires into { is_within plan.now.code.now.blocks into.0 into.1 count ≡ true }
@@ -419,7 +427,7 @@ impl Pass {
                 answer: Nodes::new(answer),
             },
         };
-        let next = slot.written(dag, plan, into.0, into.1, &bytes)?;
+        let next = slot.written(dag, &mut self.trees, plan, into.0, into.1, &bytes)?;
         self.tell_and_go(dag, plan, place, next, event)?;
         Ok(())
     }
@@ -439,12 +447,12 @@ impl Pass {
         requires plan { IsPlan plan.now }
         requires room { place + length self.old.pending.items < 2 ^ 64 }
         requires within { PassIn dag.old plan.now.code.now self.old }
-        requires slot { SlotIn dag.old plan.now.code.now slot }
+        requires slot { SlotIn dag.old self.old.trees plan.now.code.now slot }
         requires from { is_within plan.now.code.now.blocks from.0 from.1 count ≡ true }
         ensures extends { Extends dag.old dag.new }
         ensures passes { OnOk result (Passes plan.now.until.items plan.now.code.now place i.line i.function (Operation.WriteObject into.0 into.1 from.0 from.1 count) slot dag.old dag.new self.old self.new) }
     {
-        let bytes = slot.bytes(dag, plan, from.0, from.1, count)?;
+        let bytes = slot.bytes(dag, &self.trees, plan, from.0, from.1, count)?;
         let event = Event {
             guard: slot.guard,
             line: i.line,
@@ -469,7 +477,7 @@ impl Pass {
         slot: Slot,
     ) -> Result<(), AllocError>
         requires within { PassIn dag.now plan.now.code.now self.old }
-        requires slot { SlotIn dag.now plan.now.code.now slot }
+        requires slot { SlotIn dag.now self.old.trees plan.now.code.now slot }
         ensures passes { OnOk result (Passes plan.now.until.items plan.now.code.now place i.line i.function Operation.Exit slot dag.now dag.now self.old self.new) }
     {
         let event = Event {
@@ -495,7 +503,7 @@ impl Pass {
         requires plan { IsPlan plan.now }
         requires room { place + length self.old.pending.items < 2 ^ 64 }
         requires within { PassIn dag.old plan.now.code.now self.old }
-        requires slot { SlotIn dag.old plan.now.code.now slot }
+        requires slot { SlotIn dag.old self.old.trees plan.now.code.now slot }
         ensures extends { Extends dag.old dag.new }
         ensures passes { OnOk result (Passes plan.now.until.items plan.now.code.now place i.line i.function (Operation.Fail class) slot dag.old dag.new self.old self.new) }
     {
@@ -524,7 +532,7 @@ impl Pass {
         requires plan { IsPlan plan.now }
         requires room { place + length self.old.pending.items < 2 ^ 64 }
         requires within { PassIn dag.old plan.now.code.now self.old }
-        requires slot { SlotIn dag.old plan.now.code.now slot }
+        requires slot { SlotIn dag.old self.old.trees plan.now.code.now slot }
         requires stops { is_flat i.operation ≡ false }
         ensures extends { Extends dag.old dag.new }
         ensures passes { OnOk result (Passes plan.now.until.items plan.now.code.now place i.line i.function (i.operation) slot dag.old dag.new self.old self.new) }
@@ -553,7 +561,7 @@ impl Pass {
         requires plan { IsPlan plan.now }
         requires room { place + length self.old.pending.items < 2 ^ 64 }
         requires within { PassIn dag.old plan.now.code.now self.old }
-        requires slot { SlotIn dag.old plan.now.code.now slot }
+        requires slot { SlotIn dag.old self.old.trees plan.now.code.now slot }
         requires place { place < 2 ^ 32 }
         requires few { length plan.now.code.now.instructions < 2 ^ 33 }
         requires fits { operation_fits plan.now.code.now.registers plan.now.code.now.blocks (length (drop (place + 1) plan.now.code.now.instructions)) i.operation ≡ true }

@@ -1,25 +1,21 @@
-//! Cells of two slots that meet (the phi functions of SSA).
+//! Cells of slots: the registers, and then the bytes of the blocks, one block behind the other, each with its node
+//! (static single assignment: a cell has one node at each place), and two slots' cells that meet (the phi functions).
 
-ghost use Rattle.std.specs.Prelude.{◌≡◌, ◌==◌, ℕ, ◌+◌, ◌^◌, ◌<◌, ◌≤◌, ◌⊎◌, ◌++◌, true, Some, All, length, take, drop, slice_index, nat_lt, IfOk, if◌then◌else◌};
-ghost use Rattle.std.specs.List.{filter};
+ghost use Rattle.std.specs.Prelude.{◌≡◌, ℕ, ◌+◌, ◌^◌, ◌<◌, true, length, slice_index_or, IfOk, if◌then◌else◌};
+ghost use Rattle.c_types.specs.Integers.{width as type_width};
 ghost use Rattle.word_dag.specs.Growth.{Extends};
-ghost use Rattle.value_nodes.specs.Values.{IsWord};
-ghost use Rattle.goto_prog.specs.Fitting.{is_there};
-ghost use Rattle.guarded_ssa.specs.Registers.{Rises, IsLive, AreLive, ZerosIn, Written, Merged, Replaced, find, place_of, least, head_id, head_count, zero_of, ids_from, lives_from};
+ghost use Rattle.word_dag.specs.Meaning.{value, holds};
+ghost use Rattle.value_nodes.specs.Values.{IsWord, IsValue};
+ghost use Rattle.cell_trees.specs.Trees.{looked, Keeps};
+ghost use Rattle.guarded_ssa.specs.Held.{IsPlan};
+ghost use Rattle.guarded_ssa.specs.Registers.{ZerosIn, TreeIn, Merged, zero_of, word_or_0, id_or, ids_from, is_needed};
 
-use crate::cells::Cells;
+use crate::liveness::Plan;
 use c_types::IntegerType;
+use cell_trees::{Root, Trees};
 use std::alloc::{AllocError, Global};
 use value_nodes::{chosen, constant};
 use word_dag::{Dag, Id};
-
-/// A cell that is set, and its node. The cells are the registers, and then the bytes of the blocks, one block
-/// behind the other.
-#[derive(Clone, Copy)]
-pub struct Live {
-    pub cell: usize,
-    pub id: Id,
-}
 
 /// The nodes that are 0, one for each width of a type.
 #[derive(Clone, Copy)]
@@ -67,203 +63,162 @@ impl Zeros {
     }
 }
 
-// How many cells stand in front of this one, by halves.
-fn place_of(live: &Cells, cell: usize) -> usize
-    requires { (n : ℕ) × Rises 0 live.now n }
-    ensures is { result ≡ place_of live.now cell }
-    ensures within { result ≤ length live.now }
-{
-    let mut low = 0;
-    let mut high = live.len();
-    while low < high {
-        let middle = low + (high - low) / 2;
-        if live.get(middle).cell < cell {
-            low = middle + 1;
-        } else {
-            high = middle;
-        }
-    }
-    low
-}
-
-/// The node of a cell, if it is set.
-pub fn find(live: &Cells, cell: usize) -> Option<Id>
-    requires { (n : ℕ) × Rises 0 live.now n }
-    ensures { result ≡ find live.now cell }
-{
-    let place = place_of(live, cell);
-    if place < live.len() {
-        let set = live.get(place);
-        if set.cell == cell {
-            return Some(set.id);
-        }
-    }
-    None
-}
-
-/// The cells with one of them set.
-pub fn written(
-    live: Cells,
-    types: &[IntegerType],
+// The node of a cell, that of 0 where it isn't set.
+fn node_of(
     dag: &Dag,
+    trees: &Trees,
+    types: &[IntegerType],
+    zeros: Zeros,
+    root: Root,
     cell: usize,
-    id: Id,
-) -> Result<Cells, AllocError>
-    requires live { AreLive dag.now types.now live }
-    requires there { is_there types.now cell ≡ true }
-    requires id { IsLive dag.now types.now (record { cell = cell; id = id }) }
-    ensures { IfOk result (λ r. Written dag.now types.now live cell id r) }
+) -> Id
+    requires zeros { ZerosIn dag.now zeros }
+    requires tree { TreeIn dag.now trees.now types.now root }
+    requires there { cell < length types.now }
+    ensures { IsValue dag.now result (type_width (slice_index_or types.now cell IntegerType.Int)) (λ v. word_or_0 (value v dag.now) (looked trees.now root cell)) }
 {
     let _ = dag.nodes();
-    let _ = types.len();
-    let place = place_of(&live, cell);
-    let set = Live { cell, id };
-    if place < live.len() && live.get(place).cell == cell {
-        return Ok(live.with_set(place, set));
+    match trees.look(root, cell) {
+        Some(id) => id,
+        None => zeros.of(types[cell]),
     }
-    let cells = live.with_inserted(place, set)?;
-    Ok(cells)
 }
 
-/// The cells whose register or block an instruction from the place on reads.
-pub fn needed(
-    alloc: Global,
-    until: &[usize],
-    owner: &[usize],
-    place: usize,
-    live: &Cells,
-) -> Result<Cells, AllocError>
-    requires live { Rises 0 live.now (length owner.now) }
-    requires owner { (c : ℕ) → c < length owner.now → slice_index owner.now c < length until.now }
-    ensures { IfOk result (λ r. r ≡ filter (λ l. nat_lt place (slice_index until.now (slice_index owner.now l.cell))) live.now) }
+// A node, or the other one where there is none.
+fn node_or(id: Option<Id>, other: Id) -> Id
+    ensures { result ≡ id_or other id }
 {
-    let mut kept = Vec::new(alloc);
-    for i in 0..live.len() {
-        let set = live.get(i);
-        if place < until[owner[set.cell]] {
-            kept.push(set)?;
-        }
+    match id {
+        Some(id) => id,
+        None => other,
     }
-    Ok(Cells::of(alloc, kept))
 }
 
 /// The nodes of so many cells from one on, of which those that aren't set have the other node.
 pub fn ids_from(
     alloc: Global,
-    live: &Cells,
-    types: &[IntegerType],
+    trees: &Trees,
+    root: Root,
     other: Id,
     at: usize,
     count: usize,
 ) -> Result<Vec<Id>, AllocError>
-    requires live { Rises 0 live.now (length types.now) }
-    requires there { at + count ≤ length types.now }
-    ensures { IfOk result (λ r. r.items ≡ ids_from live.now other at count) }
+    requires { at + count < 2 ^ 64 }
+    ensures { IfOk result (λ r. r.items ≡ ids_from (looked trees.now root) other at count) }
 {
-    let _ = types.len();
     let mut ids = Vec::with_capacity(alloc, count)?;
-    let mut i = place_of(live, at);
     for k in 0..count {
-        let (id, next) = taken(live, i, at + k, other);
+        let id = node_or(trees.look(root, at + k), other);
         ids.push(id)?;
-        i = next;
     }
     Ok(ids)
 }
 
-// The cells, and then those from one on set to these nodes.
-fn followed(mut live: Vec<Live>, at: usize, ids: &[Id]) -> Result<Vec<Live>, AllocError>
-    requires { at + length ids.now < 2 ^ 64 }
-    ensures { IfOk result (λ r. r.items ≡ live.items ++ lives_from at ids.now) }
+// Whether an instruction from the place on reads the register or block of a cell.
+fn is_needed(plan: &Plan, place: usize, cell: usize) -> bool
+    requires { IsPlan plan.now }
+    ensures { result ≡ is_needed plan.now.until.items plan.now.owner.items place cell }
 {
-    for k in 0..ids.len() {
-        live.push(Live {
-            cell: at + k,
-            id: ids[k],
-        })?;
+    if cell >= plan.owner.len() {
+        return false;
     }
-    Ok(live)
+    place < plan.until[plan.owner[cell]]
 }
 
-/// The cells with so many from one on replaced: the first of them are set to these nodes, and no others.
-pub fn replaced(
-    alloc: Global,
-    live: Cells,
-    types: &[IntegerType],
-    dag: &Dag,
-    at: usize,
-    count: usize,
-    ids: &[Id],
-) -> Result<Cells, AllocError>
-    requires live { AreLive dag.now types.now live }
-    requires there { at + count ≤ length types.now }
-    requires few { length ids.now ≤ count }
-    requires ids { All (IsLive dag.now types.now) (lives_from at ids.now) }
-    ensures { IfOk result (λ r. Replaced dag.now types.now live at count ids.now r) }
-{
-    let _ = dag.nodes();
-    let _ = types.len();
-    let first = place_of(&live, at);
-    let last = place_of(&live, at + count);
-    let new = followed(Vec::with_capacity(alloc, ids.len())?, at, ids)?;
-    let cells = live.with_replaced(alloc, first, last, &new)?;
-    Ok(cells)
-}
-
-// The first of the cells that stand at these places and behind them.
-fn least(first: &Cells, i: usize, second: &Cells, j: usize) -> usize
-    requires { (i < length first.now) ⊎ (j < length second.now) }
-    ensures { result ≡ least (drop i first.now) (drop j second.now) }
-{
-    if j < second.len() && (i >= first.len() || second.get(j).cell < first.get(i).cell) {
-        second.get(j).cell
-    } else {
-        first.get(i).cell
-    }
-}
-
-// The node of a cell where it stands at this place, else the other node, and the place that follows.
-fn taken(live: &Cells, i: usize, cell: usize, other: Id) -> (Id, usize)
-    ensures id { result.0 ≡ head_id (drop i live.now) cell other }
-    ensures next { result.1 ≡ i + head_count (drop i live.now) cell }
-{
-    if i < live.len() && live.get(i).cell == cell {
-        (live.get(i).id, i + 1)
-    } else {
-        (other, i)
-    }
-}
-
-/// The cells that are set on one of two sides, or on both: of the first side where the test is true,
-/// else of the second. On a side where a cell isn't set, it is 0.
-pub fn merged(
-    alloc: Global,
+// A tree with a cell set to what it is on the first of two sides where the test is true, else on the second, if an
+// instruction from the place on reads it. A cell that nobody reads any more costs no node: it is dropped, or stays.
+fn with_choice(
     dag: &mut Dag,
+    trees: &mut Trees,
+    plan: &Plan,
+    place: usize,
+    drops: bool,
     zeros: Zeros,
-    types: &[IntegerType],
     test: Id,
-    first: &Cells,
-    second: &Cells,
-) -> Result<Cells, AllocError>
+    sides: (Root, Root),
+    root: Root,
+    cell: usize,
+) -> Result<Root, AllocError>
+    requires plan { IsPlan plan.now }
     requires zeros { ZerosIn dag.old zeros }
     requires test { IsWord dag.old test 1 }
-    requires first { AreLive dag.old types.now first.now }
-    requires second { AreLive dag.old types.now second.now }
+    requires first { TreeIn dag.old trees.old plan.now.types.items sides.0 }
+    requires second { TreeIn dag.old trees.old plan.now.types.items sides.1 }
+    requires root { TreeIn dag.old trees.old plan.now.types.items root }
     ensures extends { Extends dag.old dag.new }
-    ensures merged { IfOk result (λ r. Merged dag.old dag.new types.now test first.now second.now r) }
+    ensures keeps { Keeps trees.old trees.new }
+    ensures tree { IfOk result (TreeIn dag.new trees.new plan.now.types.items) }
+    ensures chosen { IfOk result (λ r. is_needed plan.now.until.items plan.now.owner.items place cell ≡ true → (v : ℕ → ℕ) → word_or_0 (value v dag.new) (looked trees.new r cell) ≡ (if holds (value v dag.old test) then word_or_0 (value v dag.old) (looked trees.old sides.0 cell) else word_or_0 (value v dag.old) (looked trees.old sides.1 cell))) }
+    ensures others { IfOk result (λ r. (c : ℕ) → (cell ≡ c → ⊥) → looked trees.new r c ≡ looked trees.old root c) }
 {
-    let mut live = Vec::with_capacity(alloc, first.len())?;
-    let mut i = 0;
-    let mut j = 0;
-    while i < first.len() || j < second.len() {
-        let cell = least(first, i, second, j);
-        let zero = zeros.of(types[cell]);
-        let (one, next_i) = taken(first, i, cell, zero);
-        let (other, next_j) = taken(second, j, cell, zero);
-        let id = chosen(dag, test, one, other)?;
-        live.push(Live { cell, id })?;
-        i = next_i;
-        j = next_j;
+    if !is_needed(plan, place, cell) {
+        let rest = without(dag, trees, plan, drops, root, cell)?;
+        return Ok(rest);
     }
-    Ok(Cells::of(alloc, live))
+    let one = node_of(dag, trees, &plan.types, zeros, sides.0, cell);
+    let other = node_of(dag, trees, &plan.types, zeros, sides.1, cell);
+    let id = chosen(dag, test, one, other)?;
+    let next = trees.put(root, cell, id)?;
+    Ok(next)
+}
+
+// A tree with a cell dropped, if it is set and is to be dropped.
+fn without(
+    dag: &Dag,
+    trees: &mut Trees,
+    plan: &Plan,
+    drops: bool,
+    root: Root,
+    cell: usize,
+) -> Result<Root, AllocError>
+    requires { TreeIn dag.now trees.old plan.now.types.items root }
+    ensures keeps { Keeps trees.old trees.new }
+    ensures tree { IfOk result (TreeIn dag.now trees.new plan.now.types.items) }
+    ensures others { IfOk result (λ r. (c : ℕ) → (cell ≡ c → ⊥) → looked trees.new r c ≡ looked trees.old root c) }
+{
+    if drops && cell < plan.types.len() && trees.look(root, cell).is_some() {
+        let rest = trees.without(root, cell)?;
+        return Ok(rest);
+    }
+    Ok(root)
+}
+
+// The second of two sides where the code goes straight on, else the first.
+fn begun(straight: bool, sides: (Root, Root)) -> Root
+    ensures { result ≡ (if straight then sides.1 else sides.0) }
+{
+    if straight { sides.1 } else { sides.0 }
+}
+
+/// The tree of two sides that meet at a place: each cell that an instruction from there on reads is that of the first
+/// side where the test is true, else that of the second. What the sides share isn't looked at. A cell that differs and
+/// that nobody reads any more is as the first side has it; where the code goes straight on into the place, it is dropped.
+pub fn merged(
+    dag: &mut Dag,
+    trees: &mut Trees,
+    plan: &Plan,
+    place: usize,
+    straight: bool,
+    zeros: Zeros,
+    test: Id,
+    sides: (Root, Root),
+) -> Result<Root, AllocError>
+    requires plan { IsPlan plan.now }
+    requires zeros { ZerosIn dag.old zeros }
+    requires test { IsWord dag.old test 1 }
+    requires first { TreeIn dag.old trees.old plan.now.types.items sides.0 }
+    requires second { TreeIn dag.old trees.old plan.now.types.items sides.1 }
+    ensures extends { Extends dag.old dag.new }
+    ensures keeps { Keeps trees.old trees.new }
+    ensures merged { IfOk result (Merged dag.old dag.new trees.old trees.new plan.now.types.items plan.now.until.items plan.now.owner.items place test sides.0 sides.1) }
+{
+    let _ = dag.nodes();
+    let cells = trees.differing(plan.alloc, sides.0, sides.1)?;
+    let mut root = begun(straight, sides);
+    for k in 0..cells.len() {
+        root = with_choice(
+            dag, trees, plan, place, straight, zeros, test, sides, root, cells[k],
+        )?;
+    }
+    Ok(root)
 }

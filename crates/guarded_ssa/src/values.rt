@@ -13,9 +13,9 @@ ghost use Rattle.guarded_ssa.specs.Held.{SlotIn, IsPlan, held};
 ghost use Rattle.guarded_ssa.specs.Results.{sets_register, into_of, result_of, class_of};
 
 use crate::liveness::Plan;
-use crate::registers::find;
 use crate::slots::Slot;
 use c_types::IntegerType;
+use cell_trees::Trees;
 use core_tree::{ArithmeticOperator, SignOperator};
 use goto_prog::{Condition, Operation};
 use std::alloc::AllocError;
@@ -28,57 +28,58 @@ use words::Class;
 
 impl Slot {
     /// The node of a register.
-    pub fn register(&self, dag: &Dag, plan: &Plan, r: usize) -> Id
-        requires within { SlotIn dag.now plan.now.code.now self.now }
+    pub fn register(&self, dag: &Dag, trees: &Trees, plan: &Plan, r: usize) -> Id
+        requires within { SlotIn dag.now trees.now plan.now.code.now self.now }
         requires there { is_there plan.now.code.now.registers r ≡ true }
         ensures word { IsWord dag.now result (type_width (slice_index_or plan.now.code.now.registers r IntegerType.Int)) }
-        ensures value { (v : ℕ → ℕ) → value v dag.now result ≡ register (held v dag.now plan.now.code.now self.now) r }
+        ensures value { (v : ℕ → ℕ) → value v dag.now result ≡ register (held v dag.now trees.now plan.now.code.now self.now) r }
     {
         let _ = dag.nodes();
-        match find(&self.live, r) {
+        match trees.look(self.root, r) {
             Some(id) => id,
             None => self.zeros.of(plan.code.registers()[r]),
         }
     }
 
     /// The node of a register of a type.
-    pub fn number(&self, dag: &Dag, plan: &Plan, r: usize, type_: IntegerType) -> Id
-        requires within { SlotIn dag.now plan.now.code.now self.now }
+    pub fn number(&self, dag: &Dag, trees: &Trees, plan: &Plan, r: usize, type_: IntegerType) -> Id
+        requires within { SlotIn dag.now trees.now plan.now.code.now self.now }
         requires there { is_register plan.now.code.now.registers r type_ ≡ true }
         ensures word { IsWord dag.now result (type_width type_) }
-        ensures value { (v : ℕ → ℕ) → value v dag.now result ≡ register (held v dag.now plan.now.code.now self.now) r }
+        ensures value { (v : ℕ → ℕ) → value v dag.now result ≡ register (held v dag.now trees.now plan.now.code.now self.now) r }
     {
-        self.register(dag, plan, r)
+        self.register(dag, trees, plan, r)
     }
 
     /// The node of a register as wide as a type.
-    pub fn wide(&self, dag: &Dag, plan: &Plan, r: usize, type_: IntegerType) -> Id
-        requires within { SlotIn dag.now plan.now.code.now self.now }
+    pub fn wide(&self, dag: &Dag, trees: &Trees, plan: &Plan, r: usize, type_: IntegerType) -> Id
+        requires within { SlotIn dag.now trees.now plan.now.code.now self.now }
         requires there { is_wide plan.now.code.now.registers r type_ ≡ true }
         ensures word { IsWord dag.now result (type_width type_) }
-        ensures value { (v : ℕ → ℕ) → value v dag.now result ≡ register (held v dag.now plan.now.code.now self.now) r }
+        ensures value { (v : ℕ → ℕ) → value v dag.now result ≡ register (held v dag.now trees.now plan.now.code.now self.now) r }
     {
-        self.register(dag, plan, r)
+        self.register(dag, trees, plan, r)
     }
 
     // What a conversion gives.
     fn convert(
         &self,
         dag: &mut Dag,
+        trees: &Trees,
         plan: &Plan,
         into: usize,
         from: IntegerType,
         to: IntegerType,
         operand: usize,
     ) -> Result<Id, AllocError>
-        requires within { SlotIn dag.old plan.now.code.now self.now }
+        requires within { SlotIn dag.old trees.now plan.now.code.now self.now }
         requires into { is_register plan.now.code.now.registers into to ≡ true }
         requires operand { is_register plan.now.code.now.registers operand from ≡ true }
         ensures extends { Extends dag.old dag.new }
-        ensures made { IfOk result (λ i. IsValue dag.new i (type_width (slice_index_or plan.now.code.now.registers into IntegerType.Int)) (λ v. converted from to (register (held v dag.old plan.now.code.now self.now) operand))) }
+        ensures made { IfOk result (λ i. IsValue dag.new i (type_width (slice_index_or plan.now.code.now.registers into IntegerType.Int)) (λ v. converted from to (register (held v dag.old trees.now plan.now.code.now self.now) operand))) }
     {
         let _ = into;
-        let a = self.number(dag, plan, operand, from);
+        let a = self.number(dag, trees, plan, operand, from);
         let id = converted(dag, from, to, a)?;
         Ok(id)
     }
@@ -87,20 +88,21 @@ impl Slot {
     fn sign(
         &self,
         dag: &mut Dag,
+        trees: &Trees,
         plan: &Plan,
         into: usize,
         operator: SignOperator,
         type_: IntegerType,
         operand: usize,
     ) -> Result<Id, AllocError>
-        requires within { SlotIn dag.old plan.now.code.now self.now }
+        requires within { SlotIn dag.old trees.now plan.now.code.now self.now }
         requires into { is_register plan.now.code.now.registers into type_ ≡ true }
         requires operand { is_register plan.now.code.now.registers operand type_ ≡ true }
         ensures extends { Extends dag.old dag.new }
-        ensures made { IfOk result (λ i. IsValue dag.new i (type_width (slice_index_or plan.now.code.now.registers into IntegerType.Int)) (λ v. sign_value operator type_ (register (held v dag.old plan.now.code.now self.now) operand))) }
+        ensures made { IfOk result (λ i. IsValue dag.new i (type_width (slice_index_or plan.now.code.now.registers into IntegerType.Int)) (λ v. sign_value operator type_ (register (held v dag.old trees.now plan.now.code.now self.now) operand))) }
     {
         let _ = into;
-        let a = self.number(dag, plan, operand, type_);
+        let a = self.number(dag, trees, plan, operand, type_);
         let id = sign(dag, operator, type_, a)?;
         Ok(id)
     }
@@ -109,35 +111,42 @@ impl Slot {
     fn arithmetic(
         &self,
         dag: &mut Dag,
+        trees: &Trees,
         plan: &Plan,
         into: usize,
         operator: ArithmeticOperator,
         types: (IntegerType, IntegerType),
         operands: (usize, usize),
     ) -> Result<Id, AllocError>
-        requires within { SlotIn dag.old plan.now.code.now self.now }
+        requires within { SlotIn dag.old trees.now plan.now.code.now self.now }
         requires operands { are_operands_of operator types.0 types.1 ≡ true }
         requires into { is_register plan.now.code.now.registers into types.0 ≡ true }
         requires left { is_register plan.now.code.now.registers operands.0 types.0 ≡ true }
         requires right { is_register plan.now.code.now.registers operands.1 types.1 ≡ true }
         ensures extends { Extends dag.old dag.new }
-        ensures made { IfOk result (λ i. IsValue dag.new i (type_width (slice_index_or plan.now.code.now.registers into IntegerType.Int)) (λ v. arithmetic_value operator types.0 (register (held v dag.old plan.now.code.now self.now) operands.0) (register (held v dag.old plan.now.code.now self.now) operands.1))) }
+        ensures made { IfOk result (λ i. IsValue dag.new i (type_width (slice_index_or plan.now.code.now.registers into IntegerType.Int)) (λ v. arithmetic_value operator types.0 (register (held v dag.old trees.now plan.now.code.now self.now) operands.0) (register (held v dag.old trees.now plan.now.code.now self.now) operands.1))) }
     {
         let _ = into;
-        let a = self.number(dag, plan, operands.0, types.0);
-        let b = self.number(dag, plan, operands.1, types.1);
+        let a = self.number(dag, trees, plan, operands.0, types.0);
+        let b = self.number(dag, trees, plan, operands.1, types.1);
         let id = arithmetic(dag, operator, types.0, types.1, a, b)?;
         Ok(id)
     }
 
     /// What an operation gives a register.
-    pub fn result(&self, dag: &mut Dag, plan: &Plan, operation: Operation) -> Result<Id, AllocError>
+    pub fn result(
+        &self,
+        dag: &mut Dag,
+        trees: &Trees,
+        plan: &Plan,
+        operation: Operation,
+    ) -> Result<Id, AllocError>
         requires plan { IsPlan plan.now }
-        requires within { SlotIn dag.old plan.now.code.now self.now }
+        requires within { SlotIn dag.old trees.now plan.now.code.now self.now }
         requires fits { operation_fits plan.now.code.now.registers plan.now.code.now.blocks 0 operation ≡ true }
         requires sets { sets_register operation ≡ true }
         ensures extends { Extends dag.old dag.new }
-        ensures made { IfOk result (λ i. IsValue dag.new i (type_width (slice_index_or plan.now.code.now.registers (into_of operation) IntegerType.Int)) (λ v. result_of operation (held v dag.old plan.now.code.now self.now))) }
+        ensures made { IfOk result (λ i. IsValue dag.new i (type_width (slice_index_or plan.now.code.now.registers (into_of operation) IntegerType.Int)) (λ v. result_of operation (held v dag.old trees.now plan.now.code.now self.now))) }
     {
         match operation {
             Operation::Constant { into, bits } => {
@@ -145,25 +154,25 @@ impl Slot {
                 let id = constant(dag, bits, type_)?;
                 Ok(id)
             }
-            Operation::Copy { operand, .. } => Ok(self.register(dag, plan, operand)),
+            Operation::Copy { operand, .. } => Ok(self.register(dag, trees, plan, operand)),
             Operation::Load {
                 type_,
                 block,
                 offset,
                 ..
-            } => self.loaded(dag, plan, block, offset, type_),
+            } => self.loaded(dag, trees, plan, block, offset, type_),
             Operation::Convert {
                 into,
                 from,
                 to,
                 operand,
-            } => self.convert(dag, plan, into, from, to, operand),
+            } => self.convert(dag, trees, plan, into, from, to, operand),
             Operation::Sign {
                 into,
                 operator,
                 type_,
                 operand,
-            } => self.sign(dag, plan, into, operator, type_, operand),
+            } => self.sign(dag, trees, plan, into, operator, type_, operand),
             Operation::Arithmetic {
                 into,
                 operator,
@@ -174,6 +183,7 @@ impl Slot {
             } => {
                 self.arithmetic(
                     dag,
+                    trees,
                     plan,
                     into,
                     operator,
@@ -188,12 +198,12 @@ impl Slot {
                 right,
                 ..
             } => {
-                let a = self.number(dag, plan, left, type_);
-                let b = self.number(dag, plan, right, type_);
+                let a = self.number(dag, trees, plan, left, type_);
+                let b = self.number(dag, trees, plan, right, type_);
                 compared(dag, operator, type_, a, b)
             }
             Operation::IsZero { operand, .. } => {
-                let a = self.register(dag, plan, operand);
+                let a = self.register(dag, trees, plan, operand);
                 is_zero(dag, a)
             }
             _ => unreachable!(),
@@ -202,20 +212,26 @@ impl Slot {
 
     /// Whether a check is broken.
     #[tactic(auto, using(crate::proofs::Ranged::ranged_same))]
-    pub fn fails(&self, dag: &mut Dag, plan: &Plan, condition: Condition) -> Result<Id, AllocError>
-        requires within { SlotIn dag.old plan.now.code.now self.now }
+    pub fn fails(
+        &self,
+        dag: &mut Dag,
+        trees: &Trees,
+        plan: &Plan,
+        condition: Condition,
+    ) -> Result<Id, AllocError>
+        requires within { SlotIn dag.old trees.now plan.now.code.now self.now }
         requires fits { check_fits plan.now.code.now.registers condition ≡ true }
         ensures extends { Extends dag.old dag.new }
-        ensures made { IfOk result (λ i. IsTest dag.new i (λ v. is_some (check_class condition (held v dag.old plan.now.code.now self.now)))) }
+        ensures made { IfOk result (λ i. IsTest dag.new i (λ v. is_some (check_class condition (held v dag.old trees.now plan.now.code.now self.now)))) }
     {
         match condition {
             Condition::Divisor { divisor } => {
-                let b = self.register(dag, plan, divisor);
+                let b = self.register(dag, trees, plan, divisor);
                 zero_test(dag, b)
             }
             Condition::Quotient { type_, left, right } => {
-                let a = self.number(dag, plan, left, type_);
-                let b = self.wide(dag, plan, right, type_);
+                let a = self.number(dag, trees, plan, left, type_);
+                let b = self.wide(dag, trees, plan, right, type_);
                 quotient_fails(dag, type_, a, b)
             }
             Condition::Range {
@@ -224,12 +240,12 @@ impl Slot {
                 left,
                 right,
             } => {
-                let a = self.number(dag, plan, left, type_);
-                let b = self.wide(dag, plan, right, type_);
+                let a = self.number(dag, trees, plan, left, type_);
+                let b = self.wide(dag, trees, plan, right, type_);
                 range_fails(dag, operator, type_, a, b)
             }
             Condition::Negation { type_, operand } => {
-                let a = self.number(dag, plan, operand, type_);
+                let a = self.number(dag, trees, plan, operand, type_);
                 negation_fails(dag, type_, a)
             }
             Condition::Count {
@@ -237,7 +253,7 @@ impl Slot {
                 count_type,
                 count,
             } => {
-                let b = self.number(dag, plan, count, count_type);
+                let b = self.number(dag, trees, plan, count, count_type);
                 count_fails(dag, type_, count_type, b)
             }
             Condition::LeftShift {
@@ -246,12 +262,12 @@ impl Slot {
                 left,
                 count,
             } => {
-                let a = self.number(dag, plan, left, type_);
-                let b = self.number(dag, plan, count, count_type);
+                let a = self.number(dag, trees, plan, left, type_);
+                let b = self.number(dag, trees, plan, count, count_type);
                 left_shift_fails(dag, type_, count_type, a, b)
             }
             Condition::Returned { returned } => {
-                let a = self.register(dag, plan, returned);
+                let a = self.register(dag, trees, plan, returned);
                 zero_test(dag, a)
             }
         }

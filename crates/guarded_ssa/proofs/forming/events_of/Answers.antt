@@ -1,19 +1,21 @@
-use Rattle.std.proofs.Common.{◌∷◌, ◌<◌, List, subst, arith, length, Some, None}
+use Rattle.std.proofs.Common.{ap, ◌∷◌, ◌<◌, List, subst, arith, length, Some, None}
 use Rattle.std.specs.Prelude.{replicate}
 use Rattle.word_dag.proofs.Grown.{extends_more}
 use Rattle.goto_prog.specs.declared.code.Instruction.{Instruction}
 use Rattle.goto_prog.specs.declared.code.Operation.TheVariants as operations
 use Rattle.goto_prog.specs.CodeThread.{first_memory}
-use Rattle.guarded_ssa.proofs.Visiting.{start_size, fits_in, visits_own, visited, visited_none}
+use Rattle.guarded_ssa.proofs.Visiting.{started, start_size, fits_in, visits_own, visited, visited_none, visited_all}
 use Rattle.guarded_ssa.proofs.forming.events_of.Goals as goal
 
 pub loop-place-init : goal.loop-place-init
-loop-place-init c = record {
-  extends = c.start.ensures.extends;
-  within = c.in_ok-pass.ensures.within;
-  size = start_size c.start.new.dag c.args.code.now c.in_ok-pass.pass.pending.items (first_memory c.args.code.now) (length c.args.code.now.instructions) c.in_ok-pass.ensures.arrivals;
-  goes = visited_none c.args.code.now (λ v. Some (first_memory c.args.code.now) ∷ replicate (length c.args.code.now.instructions) None) c.start.new.dag c.in_ok-pass.pass c.in_ok-pass.ensures.events c.in_ok-pass.ensures.arrivals;
-}
+loop-place-init c =
+    let start = started c.in_ok-plan.plan.code.now c.args.code.now c.start.new.dag c.in_ok-pass.pass c.in_ok-plan.ensures.code c.in_ok-pass.ensures.within c.in_ok-pass.ensures.arrivals in
+    record {
+      extends = c.start.ensures.extends;
+      within = start.0;
+      size = start_size c.start.new.dag c.in_ok-pass.pass.trees c.args.code.now c.in_ok-pass.pass.pending.items (first_memory c.args.code.now) (length c.args.code.now.instructions) start.1;
+      goes = visited_none c.args.code.now (λ v. Some (first_memory c.args.code.now) ∷ replicate (length c.args.code.now.instructions) None) c.start.new.dag c.in_ok-pass.pass c.in_ok-pass.ensures.events start.1;
+    }
 
 pub visit-requires-clause-fits : goal.visit-requires-clause-fits
 visit-requires-clause-fits c = fits_in c.args.code.now _ _ _ _ c.in_ok-plan.ensures.code c.instructions-instructions.ensures.is c.instructions-instructions.ensures.fits c.loop-place-test.true
@@ -30,3 +32,7 @@ loop-place-preserved c =
       goes = visited c.in_ok-plan.plan.until.items c.args.code.now c.loop-place.place z (λ v. Some (first_memory c.args.code.now) ∷ replicate (length c.args.code.now.instructions) None) c.loop-place.dag c.visit.new.dag c.loop-place.pass c.visit.new.self
           (subst (λ (xs : List Instruction). c.loop-place.place < length xs) c.instructions-instructions.ensures.is c.loop-place-test.true) c.in_ok-plan.ensures.covers visits c.loop-place.invariant.goes;
     }
+
+pub returns-clause-told : goal.returns-clause-told
+returns-clause-told c =
+    visited_all c.args.code.now c.loop-place.place (λ v. Some (first_memory c.args.code.now) ∷ replicate (length c.args.code.now.instructions) None) c.loop-place.dag c.loop-place.pass (omega (arith, c.loop-place-test.false, ap length c.instructions-instructions.ensures.is)) c.loop-place.invariant.goes

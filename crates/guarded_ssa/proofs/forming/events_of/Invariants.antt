@@ -12,6 +12,6 @@ invariant-loop-place l = record {
   extends : Extends l.fn.dag l.dag;
   within : PassIn l.dag l.code l.pass;
   size : length l.pass.pending.items + l.place ≡ length l.code.instructions + 1;
-  goes : (v : ℕ → ℕ) → seen v l.dag l.pass.events.items ++ told v (length l.code.instructions) l.place (drop l.place l.code.instructions) (arrivals v l.dag l.code l.pass.pending.items)
+  goes : (v : ℕ → ℕ) → seen v l.dag l.pass.events.items ++ told v (length l.code.instructions) l.place (drop l.place l.code.instructions) (arrivals v l.dag l.pass.trees l.code l.pass.pending.items)
       ≡ told v (length l.code.instructions) 0 l.code.instructions (Some (first_memory l.code) ∷ replicate (length l.code.instructions) None);
 }

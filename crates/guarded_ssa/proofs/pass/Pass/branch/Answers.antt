@@ -11,7 +11,7 @@ pub arrive-requires-2-clause-room : goal.arrive-requires-2-clause-room
 arrive-requires-2-clause-room c = omega (arith, c.requires.room, c.in_ok-arrive.ensures.arrives.size)
 
 pub arrive-requires-2-clause-slot : goal.arrive-requires-2-clause-slot
-arrive-requires-2-clause-slot c = slot_stays _ _ c.arrive.ensures.extends _ _ c.in_ok-zero.ensures.first_within
+arrive-requires-2-clause-slot c = slot_stays _ _ c.arrive.ensures.extends c.args.self.now.trees c.arrive.new.self.trees c.in_ok-arrive.ensures.arrives.keeps _ _ c.in_ok-zero.ensures.first_within
 
 pub returns-clause-passes : goal.returns-clause-passes
 returns-clause-passes c =

@@ -1,4 +1,4 @@
-use Rattle.guarded_ssa.proofs.Stays.{pass_stays, slot_stays}
+use Rattle.guarded_ssa.proofs.Stays.{pass_stays, slot_grows}
 use Rattle.guarded_ssa.proofs.Passing.{passes_checked, failing_in}
 use Rattle.guarded_ssa.proofs.pass.Pass.check.Goals as goal
 
@@ -6,10 +6,10 @@ pub tell_and_go-requires-clause-within : goal.tell_and_go-requires-clause-within
 tell_and_go-requires-clause-within c = pass_stays _ _ c.fails.ensures.extends _ _ c.requires.within
 
 pub tell_and_go-requires-clause-slot : goal.tell_and_go-requires-clause-slot
-tell_and_go-requires-clause-slot c = slot_stays _ _ c.fails.ensures.extends _ _ c.requires.slot
+tell_and_go-requires-clause-slot c = slot_grows _ _ c.fails.ensures.extends _ _ _ c.requires.slot
 
 pub tell_and_go-requires-clause-event : goal.tell_and_go-requires-clause-event
-tell_and_go-requires-clause-event c = failing_in _ _ c.args.plan.now.code.now c.args.slot _ _ _ _ _ c.fails.ensures.extends c.requires.slot c.in_ok-failing.ensures.made
+tell_and_go-requires-clause-event c = failing_in _ _ _ c.args.plan.now.code.now c.args.slot _ _ _ _ _ c.fails.ensures.extends c.requires.slot c.in_ok-failing.ensures.made
 
 pub returns-clause-passes : goal.returns-clause-passes
 returns-clause-passes c =

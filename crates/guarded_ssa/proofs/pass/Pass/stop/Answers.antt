@@ -2,7 +2,7 @@ use Rattle.guarded_ssa.proofs.Passing.{passes_stopped, stopped_in}
 use Rattle.guarded_ssa.proofs.pass.Pass.stop.Goals as goal
 
 pub tell_and_go-requires-clause-event : goal.tell_and_go-requires-clause-event
-tell_and_go-requires-clause-event c = stopped_in _ c.args.plan.now.code.now c.args.slot _ _ c.requires.slot
+tell_and_go-requires-clause-event c = stopped_in _ c.args.self.now.trees c.args.plan.now.code.now c.args.slot _ _ c.requires.slot
 
 pub returns-clause-passes : goal.returns-clause-passes
 returns-clause-passes c =

@@ -9,5 +9,5 @@ returns-clause-made c = record {
   there = c.in_ok-id.ensures.made.there;
   width_is = c.in_ok-id.ensures.made.width_is;
   value_is = λ v. c.in_ok-id.ensures.made.value_is v
-      ∙ load_same c.args.type_ (held v c.args.dag.now c.args.plan.now.code.now c.args.self.now).blocks c.args.b c.args.offset c.size.result _ c.size.ensures.is (ap (map (value v c.args.dag.now)) c.deref.ensures.value ∙ c.in_ok-bytes.ensures.made.values_are v);
+      ∙ load_same c.args.type_ (held v c.args.dag.now c.args.trees.now c.args.plan.now.code.now c.args.self.now).blocks c.args.b c.args.offset c.size.result _ c.size.ensures.is (ap (map (value v c.args.dag.now)) c.deref.ensures.value ∙ c.in_ok-bytes.ensures.made.values_are v);
 }

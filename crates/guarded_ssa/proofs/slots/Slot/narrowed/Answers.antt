@@ -5,10 +5,10 @@ use Rattle.guarded_ssa.proofs.slots.Slot.narrowed.Goals as goal
 
 pub returns-clause-within : goal.returns-clause-within
 returns-clause-within c =
-    let t : Slot = record { guard = c.in_ok-guard.guard; zeros = c.args.self.zeros; live = c.args.self.live; kept = c.args.self.kept } in
-    narrowed_in _ _ _ c.args.self t _ c.both.ensures.extends c.requires.within c.in_ok-guard.ensures.made refl refl
+    let t : Slot = record { guard = c.in_ok-guard.guard; zeros = c.args.self.zeros; root = c.args.self.root } in
+    narrowed_in _ _ c.args.trees.now c.args.plan.now.code.now c.args.self t c.both.ensures.extends c.requires.within refl _ c.in_ok-guard.ensures.made refl
 
 pub returns-clause-guarded : goal.returns-clause-guarded
 returns-clause-guarded c =
-    let t : Slot = record { guard = c.in_ok-guard.guard; zeros = c.args.self.zeros; live = c.args.self.live; kept = c.args.self.kept } in
-    narrowed_guarded _ _ c.args.plan.now.code.now c.args.self t c.args.test c.both.ensures.extends c.requires.within c.in_ok-guard.ensures.made refl
+    let t : Slot = record { guard = c.in_ok-guard.guard; zeros = c.args.self.zeros; root = c.args.self.root } in
+    narrowed_guarded _ _ c.args.trees.now c.args.plan.now.code.now c.args.self t c.both.ensures.extends c.requires.within refl c.args.test c.in_ok-guard.ensures.made

@@ -7,4 +7,4 @@ written-requires-clause-block c = within_by_size _ _ _ c.args.count _ c.requires
 
 pub returns-clause-guarded : goal.returns-clause-guarded
 returns-clause-guarded c = λ v.
-    copy_guarded v c.args.dag.now c.args.plan.now.code.now c.args.self c.in_ok-next.next c.args.into.0 c.args.into.1 c.args.from.0 c.args.from.1 c.args.count c.in_ok-bytes.bytes.items c.deref.result.now c.deref.ensures.value (c.in_ok-bytes.ensures.made.values_are v) (c.in_ok-next.ensures.guarded v)
+    copy_guarded v c.args.dag.now c.args.trees.now c.written.new.trees c.args.plan.now.code.now c.args.self c.in_ok-next.next c.args.into.0 c.args.into.1 c.args.from.0 c.args.from.1 c.args.count c.in_ok-bytes.bytes.items c.deref.result.now c.deref.ensures.value (c.in_ok-bytes.ensures.made.values_are v) (c.in_ok-next.ensures.guarded v)
