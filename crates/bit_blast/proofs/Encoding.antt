@@ -6,7 +6,7 @@ use Rattle.sat_form.specs.Numbers.{value_of}
 use Rattle.words.specs.Operators.{low_bits, logical_shift}
 use Rattle.word_dag.specs.declared.nodes.Node.{Node}
 use Rattle.word_dag.specs.Meaning.{node_width, node_value}
-use Rattle.gate_arith.specs.Truth.{IsNumber}
+use Rattle.gate_bits.specs.Truth.{IsNumber}
 use Rattle.bit_blast.specs.Numbers.{literals_at, numbers_of, counts_of, lifted}
 
 pub literals_within : (n : ℕ) (lists : List (List Literal)) (k : ℕ) → AreWithin n lists → IsWithin n (literals_at lists k)

@@ -8,3 +8,4 @@ pub mod Promises
 pub mod Rearranging
 pub mod Encoding
 pub mod Stepping
+pub mod Determined

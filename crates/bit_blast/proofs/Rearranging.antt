@@ -8,14 +8,15 @@ use Rattle.std.proofs.lemmas.List.{take-append-drop, take_more, take_all, length
 use Rattle.std.proofs.lemmas.Nat.{pow-add, mod-mul-add, div-mul-add}
 use Rattle.words.specs.Operators.{low_bits, logical_shift, sign_extension}
 use Rattle.words.proofs.Widths.{sign_extension_low, sign_extension_high}
-use Rattle.sat_form.specs.Satisfaction.{Literal, Form, literal_value, inverse_of, clause_value, Satisfies, IsWithin}
+use Rattle.sat_form.specs.Satisfaction.{Literal, Form, literal_value, inverse_of, clause_value, Satisfies, IsWithin, AgreeBelow}
 use Rattle.sat_form.specs.Numbers.{bit_value, value_of}
 use Rattle.sat_form.proofs.Truth.{AgreeBelow-refl, Satisfies-push, literal_value-inverse_of}
 use Rattle.sat_form.proofs.Within.{IsWithin-append, IsWithin-push, IsWithin-at}
 use Rattle.sat_form.proofs.Numbering.{value_of-append, value_of-below}
 use Rattle.word_dag.specs.Meaning.{joined}
-use Rattle.gate_arith.specs.Growth.{Grows, known_clauses, known_part}
-use Rattle.gate_arith.specs.Truth.{IsTruth, IsNumber}
+use Rattle.gate_bits.specs.Growth.{known_clauses, known_part}
+use Rattle.gate_arith.specs.Growth.{Grows}
+use Rattle.gate_bits.specs.Truth.{IsTruth, IsNumber}
 use Rattle.gate_arith.proofs.Knowing.{known-holds}
 
 one_bit : (b : Bool) → bit_value b + 2 * 0 ≡ bit_value b
@@ -36,6 +37,7 @@ grows_state f g one has e =
       within = ((omega (arith, has.within, variables), tt), tt);
       extends = λ x all. (x, AgreeBelow-refl f.variables x, subst (Satisfies x) (sym clauses) (Satisfies-push x f.clauses (one ∷ []) all (on x (known-holds x f.clauses all))));
       freely = λ x all. (x, AgreeBelow-refl f.variables x, Satisfies-push x (known_clauses f.clauses) (one ∷ []) all (on x all));
+      determined = λ x y agree first second. subst (λ (n : ℕ). AgreeBelow n x y) (sym variables) agree;
     }
 
 -- ---- the bits of a number

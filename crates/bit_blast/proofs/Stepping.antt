@@ -13,8 +13,9 @@ use Rattle.word_dag.specs.Fitting.{are_alike, fits, is_ordered}
 use Rattle.word_dag.proofs.Folds.{length_widths, width-take}
 use Rattle.word_dag.proofs.Order.{fits-at, width_is_final}
 use Rattle.word_dag.proofs.Bounds.{width_is_range}
-use Rattle.gate_arith.specs.Growth.{Grows, added_to, known_part}
-use Rattle.gate_arith.specs.Truth.{IsTruth, IsNumber}
+use Rattle.gate_bits.specs.Growth.{known_part}
+use Rattle.gate_arith.specs.Growth.{Grows, added_to}
+use Rattle.gate_bits.specs.Truth.{IsTruth, IsNumber}
 use Rattle.gate_arith.proofs.Knowing.{IsTruth-known_later}
 use Rattle.bit_blast.specs.Numbers.{literals_at, numbers_of, counts_of, lifted}
 use Rattle.bit_blast.specs.Reach.{operands, node_at, AreMarks}

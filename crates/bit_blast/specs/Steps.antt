@@ -6,7 +6,7 @@ use Rattle.word_dag.specs.declared.nodes.Node.{Node}
 use Rattle.word_dag.specs.Meaning.{node_width, node_value, widths}
 use Rattle.word_dag.specs.Fitting.{is_ordered}
 use Rattle.gate_arith.specs.Growth.{Grows, added_to}
-use Rattle.gate_arith.specs.Truth.{IsNumber}
+use Rattle.gate_bits.specs.Truth.{IsNumber}
 use Rattle.bit_blast.specs.Numbers.{literals_at, numbers_of, lifted}
 use Rattle.bit_blast.specs.Reach.{node_at, AreMarks}
 use Rattle.bit_blast.specs.Variables.{IsBeginning}

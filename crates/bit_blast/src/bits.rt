@@ -7,10 +7,11 @@ ghost use Rattle.sat_form.specs.Satisfaction.{Form, literal_value, Satisfies, Is
 ghost use Rattle.sat_form.specs.Numbers.{value_of};
 ghost use Rattle.words.specs.Operators.{low_bits, logical_shift, sign_extension};
 ghost use Rattle.word_dag.specs.Meaning.{joined};
-ghost use Rattle.gate_arith.specs.Growth.{Grows, added_to, known_part};
-ghost use Rattle.gate_arith.specs.Truth.{IsTruth, IsNumber};
+ghost use Rattle.gate_bits.specs.Growth.{known_part};
+ghost use Rattle.gate_arith.specs.Growth.{Grows, added_to};
+ghost use Rattle.gate_bits.specs.Truth.{IsTruth, IsNumber};
 
-use gate_arith::Lits;
+use gate_bits::Lits;
 use sat_form::{Cnf, Lit};
 use std::alloc::{AllocError, Global};
 

@@ -1,12 +1,12 @@
 //! The clauses of a goal and of all nodes that it rests on.
 
 ghost use Rattle.std.specs.Prelude.{◌≡◌, ℕ, Bool, true, IsTrue, length, IfOk};
-ghost use Rattle.sat_form.specs.Satisfaction.{AreWithin, Satisfies};
+ghost use Rattle.sat_form.specs.Satisfaction.{AgreeBelow, AreWithin, Satisfies};
 ghost use Rattle.word_dag.specs.Meaning.{width, value};
 ghost use Rattle.word_dag.specs.Growth.{Within};
 ghost use Rattle.word_dag.specs.Fitting.{is_ordered};
-ghost use Rattle.gate_arith.specs.Growth.{known_part};
-ghost use Rattle.gate_arith.specs.Truth.{IsTruth};
+ghost use Rattle.gate_bits.specs.Growth.{known_part};
+ghost use Rattle.gate_bits.specs.Truth.{IsTruth};
 ghost use Rattle.bit_blast.specs.Numbers.{literals_at, lifted};
 ghost use Rattle.bit_blast.specs.Reach.{AreMarks};
 ghost use Rattle.bit_blast.specs.Variables.{variable_width, IsBeginning, Spells};
@@ -16,7 +16,7 @@ use crate::encode::node_literals;
 use crate::lists::LitLists;
 use crate::marks::marks_of;
 use crate::variables::{fresh_lists, variable_widths};
-use gate_arith::Lits;
+use gate_bits::Lits;
 use sat_form::{Cnf, Lit};
 use std::alloc::{AllocError, Global};
 use word_dag::{Dag, Id, Node};
@@ -72,7 +72,7 @@ fn encode(
 
 /// The form of a goal, a truth value of a graph: clauses of which each valuation that makes the goal
 /// true is a model, and of which each model is such a valuation. There are clauses for the nodes that
-/// the goal is computed from, and for no other node. The only error is that there is no memory or no
+/// the goal is computed from, and for no other node, and no variable that the valuation leaves free. The only error is that there is no memory or no
 /// room for more variables.
 pub fn blast(alloc: Global, dag: &Dag, goal: Id) -> Result<Blasted, AllocError>
     requires there { Within dag.now goal }
@@ -80,6 +80,7 @@ pub fn blast(alloc: Global, dag: &Dag, goal: Id) -> Result<Blasted, AllocError>
     ensures steps { IfOk result (λ b. IsBlasted dag.now goal.index b.map b.cnf) }
     ensures extends { IfOk result (λ b. (v : ℕ → ℕ) → value v dag.now goal ≡ 1 → (x : ℕ → Bool) × Spells dag.now b.map v x × Satisfies x b.cnf.clauses) }
     ensures lifts { IfOk result (λ b. (x : ℕ → Bool) → Satisfies x b.cnf.clauses → value (lifted b.map x) dag.now goal ≡ 1) }
+    ensures determined { IfOk result (λ b. (x y : ℕ → Bool) → Satisfies x b.cnf.clauses → Satisfies y b.cnf.clauses → ((k : ℕ) → lifted b.map x k ≡ lifted b.map y k) → AgreeBelow b.cnf.variables x y) }
 {
     let marks = marks_of(alloc, dag, goal)?;
     let (mut cnf, map, one) = begin(alloc, dag)?;

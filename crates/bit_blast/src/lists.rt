@@ -3,7 +3,7 @@
 ghost use Rattle.std.specs.Prelude.{◌≡◌, ◌≤◌, [], ◌∷◌, ◌++◌, length, OnOk, OnErr};
 ghost use Rattle.bit_blast.specs.Numbers.{literals_at};
 
-use gate_arith::Lits;
+use gate_bits::Lits;
 use sat_form::Lit;
 use std::alloc::{AllocError, Global};
 use std::marker::Model;

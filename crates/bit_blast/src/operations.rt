@@ -7,12 +7,13 @@ ghost use Rattle.sat_form.specs.Satisfaction.{IsWithin};
 ghost use Rattle.sat_form.specs.Numbers.{value_of};
 ghost use Rattle.word_dag.specs.Meaning.{bit_value, binary_value, shift_value, comparison_value, fits_value, holds};
 ghost use Rattle.gate_arith.specs.Growth.{Grows, added_to};
-ghost use Rattle.gate_arith.specs.Truth.{IsTruth, IsNumber};
+ghost use Rattle.gate_bits.specs.Truth.{IsTruth, IsNumber};
 
 use gate_arith::{
-    Lits, Shift, adder, choice, conjunction, difference, difference_fits, disjunction, divider,
-    equal, exclusive, left_shift_fits, less, multiplier, product_fits, shifter, sum_fits,
+    Shift, adder, choice, conjunction, difference, difference_fits, disjunction, divider, equal,
+    exclusive, left_shift_fits, less, multiplier, product_fits, shifter, sum_fits,
 };
+use gate_bits::Lits;
 use sat_form::{Cnf, Lit};
 use std::alloc::{AllocError, Global};
 use word_dag::{BinaryOperator, Comparison, FitsTest, ShiftKind};

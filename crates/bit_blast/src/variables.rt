@@ -6,7 +6,7 @@ ghost use Rattle.bit_blast.specs.Numbers.{literals_at};
 ghost use Rattle.bit_blast.specs.Variables.{width_read, variable_width, plain, plain_literals, AreConsecutive};
 
 use crate::lists::LitLists;
-use gate_arith::Lits;
+use gate_bits::Lits;
 use sat_form::{Cnf, Lit};
 use std::alloc::{AllocError, Global};
 use word_dag::Node;

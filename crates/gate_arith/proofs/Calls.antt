@@ -1,10 +1,11 @@
 -- One call: what the gates make in a part stands behind the form's clauses.
 use Rattle.std.proofs.Common.{◌≡◌, ℕ, ◌≤◌, Bool, true, false, ◌&&◌, ◌||◌, List, [], ◌∷◌, ◌++◌, refl, sym, ap, ◌∙◌, subst, arith}
 use Rattle.sat_form.specs.Satisfaction.{Literal, Form, Satisfies, IsWithin, AreWithin, AgreeBelow}
-use Rattle.sat_form.proofs.Truth.{Satisfies-append, Satisfies-agree}
+use Rattle.sat_form.proofs.Truth.{Satisfies-append, Satisfies-back, Satisfies-agree}
 use Rattle.sat_form.proofs.Within.{AreWithin-weaker, AreWithin-append}
-use Rattle.gate_arith.specs.Growth.{Grows, GrowsFreely, IsPart, added_to, known_clauses, known_part}
-use Rattle.gate_arith.specs.Truth.{IsTruth, IsNumber}
+use Rattle.gate_bits.specs.Growth.{GrowsFreely, known_clauses, known_part}
+use Rattle.gate_arith.specs.Growth.{Grows, IsPart, added_to}
+use Rattle.gate_bits.specs.Truth.{IsTruth, IsNumber}
 use Rattle.gate_arith.proofs.Knowing.{known-holds, known-within}
 use Rattle.gate_arith.proofs.Steps.{Grows-refl, Grows-same, added_to-is}
 
@@ -13,10 +14,10 @@ pub Grows-part : {f p q g : Form} → IsPart f p → GrowsFreely p q → g ≡ r
 Grows-part {f} {p} {q} {g} part grows is =
     let clauses : g.clauses ≡ f.clauses ++ q.clauses = ap (λ (e : Form). e.clauses) is in
     let variables : g.variables ≡ q.variables = ap (λ (e : Form). e.variables) is in
-    let same : p.variables ≡ f.variables = part.variables in
+    let same_variables : p.variables ≡ f.variables = part.variables in
     let more : p.variables ≤ q.variables = grows.variables in
     let within : AreWithin q.variables q.clauses = subst (AreWithin q.variables) (sym grows.clauses) (AreWithin-append q.variables p.clauses grows.added (AreWithin-weaker p.variables q.variables p.clauses more part.within) grows.within) in
-    let agree : (x : ℕ → Bool) → AgreeBelow f.variables x (grows.extends x).0 = λ x. subst (λ (n : ℕ). AgreeBelow n x (grows.extends x).0) same (grows.extends x).1 in
+    let agree : (x : ℕ → Bool) → AgreeBelow f.variables x (grows.extends x).0 = λ x. subst (λ (n : ℕ). AgreeBelow n x (grows.extends x).0) same_variables (grows.extends x).1 in
     let whole : (x : ℕ → Bool) → Satisfies x (known_clauses f.clauses) → Satisfies (grows.extends x).0 q.clauses =
     λ x all.
     let one = grows.extends x in
@@ -35,6 +36,9 @@ Grows-part {f} {p} {q} {g} part grows is =
           let one = grows.extends x in
           let old : Satisfies one.0 (known_clauses f.clauses) = Satisfies-agree f.variables x one.0 (known_clauses f.clauses) (agree x) (known-within f.variables f.clauses part.form_within) all in
           (one.0, agree x, Satisfies-append one.0 (known_clauses f.clauses) q.clauses old (whole x all));
+      determined = λ x y same one two.
+          let behind : (z : ℕ → Bool) → Satisfies z q.clauses → Satisfies z grows.added = λ z all. Satisfies-back z p.clauses grows.added (subst (Satisfies z) grows.clauses all) in
+          subst (λ (n : ℕ). AgreeBelow n x y) (sym variables) (grows.determined x y (subst (λ (n : ℕ). AgreeBelow n x y) (sym same_variables) same) (behind x one) (behind y two));
     }
 
 pub Part_none : (f p : Form) → AreWithin f.variables f.clauses → p ≡ record { variables = f.variables; clauses = [] } → IsPart f p

@@ -13,31 +13,19 @@ use Rattle.sat_form.proofs.Numbering.{value_of-below, value_of-append}
 use Rattle.sat_form.proofs.Within.{IsWithin-append}
 use Rattle.words.specs.Operators.{word_negation, unsigned_quotient, unsigned_remainder, signed_quotient, signed_remainder}
 use Rattle.words.proofs.Division.{unsigned_quotient_zero, unsigned_remainder_zero, quotient_unique, signed_remainder_zero, signed_quotient_low_low, signed_quotient_low_high, signed_quotient_high_low, signed_quotient_high_high, signed_remainder_low_low, signed_remainder_low_high, signed_remainder_high_low, signed_remainder_high_high}
-use Rattle.gate_arith.specs.Growth.{GrowsFreely}
-use Rattle.gate_arith.specs.Truth.{IsTruth, IsNumber, AreTruths, differs}
-use Rattle.gate_arith.specs.Sums.{IsSum}
+use Rattle.gate_bits.specs.Growth.{GrowsFreely}
+use Rattle.gate_bits.specs.Truth.{IsTruth, IsNumber, AreTruths, differs}
+use Rattle.gate_bits.specs.Sums.{IsSum}
 use Rattle.gate_arith.specs.Shifts.{turned_value}
 use Rattle.gate_arith.specs.Quotients.{IsDivided, IsStep, negated_if}
-use Rattle.gate_arith.proofs.Growing.{front}
-use Rattle.gate_arith.proofs.Parts.{IsWithin-take, IsWithin-replicate}
-use Rattle.gate_arith.proofs.Adding.{value_of-push, length-push, power_more, low_sum}
+use Rattle.gate_bits.proofs.Growing.{front}
+use Rattle.gate_bits.proofs.Parts.{IsWithin-take, IsWithin-replicate}
+use Rattle.gate_bits.proofs.Inverting.{value_of-inverses}
+use Rattle.gate_bits.proofs.Adding.{value_of-push, length-push, power_more, low_sum}
 use Rattle.gate_arith.proofs.Multiplying.{value_of-fill, value_of-take}
 use Rattle.gate_arith.proofs.Shifting.{turned_value-false, turned_value-true}
 
-suc_is : (n : ℕ) → n + 1 ≡ suc n
-suc_is n = omega arith
-
 -- ---- the complement of a divisor
-
-both_bits : (b : Bool) → bit_value (not b) + bit_value b ≡ 1
-both_bits true = refl
-both_bits false = refl
-
-pub value_of-inverses : (x : ℕ → Bool) (ls : List Literal) → value_of (map inverse_of ls) x + value_of ls x + 1 ≡ 2 ^ length ls
-value_of-inverses x [] = refl
-value_of-inverses x (l ∷ ls) =
-    let one : bit_value (literal_value x (inverse_of l)) + bit_value (literal_value x l) ≡ 1 = ap (λ (b : Bool). bit_value b + bit_value (literal_value x l)) (literal_value-inverse_of x l) ∙ both_bits (literal_value x l) in
-    omega (arith, one, value_of-inverses x ls, power_more (length ls), ap (λ (n : ℕ). 2 ^ n) (suc_is (length ls)))
 
 pub complement_value : (x : ℕ → Bool) (b complement : List Literal) (one : Literal) → complement ≡ map inverse_of b ++ one ∷ [] → literal_value x one ≡ true → value_of complement x + value_of b x + 1 ≡ 2 ^ (length b + 1)
 complement_value x b complement one is on =
@@ -46,10 +34,6 @@ complement_value x b complement one is on =
     ap (λ (m : List Literal). value_of m x) is ∙ value_of-push x (map inverse_of b) one ∙ ap (λ (n : ℕ). value_of (map inverse_of b) x + 2 ^ n * bit_value (literal_value x one)) width in
     let top : 2 ^ length b * bit_value (literal_value x one) ≡ 2 ^ length b * 1 = ap (λ (t : Bool). 2 ^ length b * bit_value t) on in
     omega (arith, pushed, top, value_of-inverses x b, power_more (length b))
-
-pub IsWithin-inverses : (n : ℕ) (ls : List Literal) → IsWithin n ls → IsWithin n (map inverse_of ls)
-IsWithin-inverses n [] within = tt
-IsWithin-inverses n (l ∷ ls) within = (within.0, IsWithin-inverses n ls within.1)
 
 pub IsWithin-set : (n : ℕ) (ls : List Literal) (i : ℕ) (l : Literal) → IsWithin n ls → l.variable < n → IsWithin n (set ls i l)
 IsWithin-set n ls i l within one = recursion_from_All (λ m. m.variable < n) (set ls i l) (All-set (λ m. m.variable < n) ls i l one (All-from_recursion (λ m. m.variable < n) ls within))

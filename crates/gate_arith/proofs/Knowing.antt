@@ -2,8 +2,9 @@
 use Rattle.std.proofs.Common.{ℕ, Bool, List, [], ◌∷◌, ◌++◌, refl, subst, arith}
 use Rattle.sat_form.specs.Satisfaction.{Literal, Form, Satisfies, AreWithin}
 use Rattle.sat_form.proofs.Truth.{Satisfies-front}
-use Rattle.gate_arith.specs.Growth.{Grows, known_clauses, known_part}
-use Rattle.gate_arith.specs.Truth.{IsTruth}
+use Rattle.gate_bits.specs.Growth.{known_clauses, known_part}
+use Rattle.gate_arith.specs.Growth.{Grows}
+use Rattle.gate_bits.specs.Truth.{IsTruth}
 
 -- it is one of the clauses
 pub known-holds : (x : ℕ → Bool) (cs : List (List Literal)) → Satisfies x cs → Satisfies x (known_clauses cs)

@@ -1,15 +1,7 @@
-pub mod Growing
-pub mod Tables
-pub mod Cells
-pub mod Adding
-pub mod Comparing
-pub mod Listing
-pub mod Parts
 pub mod Multiplying
 pub mod Shifting
 pub mod Dividing
 pub mod Knowing
 pub mod Steps
 pub mod Calls
-pub mod Wording
 pub mod Fitting

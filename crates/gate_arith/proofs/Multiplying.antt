@@ -9,12 +9,12 @@ use Rattle.sat_form.specs.Numbers.{bit_value, value_of}
 use Rattle.sat_form.proofs.Numbering.{value_of-append, value_of-below}
 use Rattle.words.specs.Operators.{word_sum, word_product, left_shift}
 use Rattle.words.proofs.Powers.{pow_split}
-use Rattle.gate_arith.specs.Growth.{GrowsFreely}
-use Rattle.gate_arith.specs.Truth.{IsTruth, IsNumber, IsFixed}
-use Rattle.gate_arith.specs.Sums.{IsSum}
-use Rattle.gate_arith.proofs.Growing.{front, IsTruth-kept}
-use Rattle.gate_arith.proofs.Parts.{IsWithin-replicate}
-use Rattle.gate_arith.proofs.Adding.{Sum_word, value_of-push}
+use Rattle.gate_bits.specs.Growth.{GrowsFreely}
+use Rattle.gate_bits.specs.Truth.{IsTruth, IsNumber, IsFixed}
+use Rattle.gate_bits.specs.Sums.{IsSum}
+use Rattle.gate_bits.proofs.Growing.{front, IsTruth-kept}
+use Rattle.gate_bits.proofs.Parts.{IsWithin-replicate}
+use Rattle.gate_bits.proofs.Adding.{Sum_word, value_of-push}
 
 -- ---- lists
 

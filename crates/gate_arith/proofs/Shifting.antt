@@ -13,11 +13,11 @@ use Rattle.words.proofs.Shifts.{left_shift_out, logical_shift_out, arithmetic_sh
 use Rattle.words.proofs.Powers.{pow_doubled, pow_grows}
 use Rattle.gate_arith.specs.declared.shifts.Shift.{Shift}
 use Rattle.gate_arith.specs.declared.shifts.Shift.TheVariants.{Left, Logical, Arithmetic}
-use Rattle.gate_arith.specs.Growth.{GrowsFreely}
-use Rattle.gate_arith.specs.Truth.{IsTruth, IsNumber, AreTruths, differs}
+use Rattle.gate_bits.specs.Growth.{GrowsFreely}
+use Rattle.gate_bits.specs.Truth.{IsTruth, IsNumber, AreTruths, differs}
 use Rattle.gate_arith.specs.Shifts.{IsShiftedDown, IsShifted, IsConstant, shifted, turned_value}
-use Rattle.gate_arith.proofs.Growing.{front}
-use Rattle.gate_arith.proofs.Adding.{value_of-push, length-push, power_more}
+use Rattle.gate_bits.proofs.Growing.{front}
+use Rattle.gate_bits.proofs.Adding.{value_of-push, length-push, power_more}
 use Rattle.gate_arith.proofs.Multiplying.{value_of-moved_up, value_of-take}
 
 number_choice : (b : Bool) (p q : List Bool) → number_of (if b then p else q) ≡ (if b then number_of p else number_of q)

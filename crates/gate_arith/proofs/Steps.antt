@@ -5,8 +5,9 @@ use Rattle.std.proofs.lemmas.List.{append-nil}
 use Rattle.sat_form.specs.Satisfaction.{Literal, Form, Satisfies}
 use Rattle.sat_form.proofs.Truth.{Satisfies-append, Satisfies-front, Satisfies-back, Satisfies-agree, AgreeBelow-refl, AgreeBelow-trans}
 use Rattle.sat_form.proofs.Within.{IsWithin-weaker, AreWithin-weaker, AreWithin-append}
-use Rattle.gate_arith.specs.Growth.{Grows, added_to, known_clauses}
-use Rattle.gate_arith.specs.Truth.{IsTruth, IsNumber}
+use Rattle.gate_bits.specs.Growth.{known_clauses}
+use Rattle.gate_arith.specs.Growth.{Grows, added_to}
+use Rattle.gate_bits.specs.Truth.{IsTruth, IsNumber}
 use Rattle.gate_arith.proofs.Knowing.{known-front, known-whole}
 
 -- ---- growth
@@ -19,6 +20,7 @@ Grows-refl f = record {
   within = tt;
   extends = λ x all. (x, AgreeBelow-refl f.variables x, all);
   freely = λ x all. (x, AgreeBelow-refl f.variables x, Satisfies-append x (known_clauses f.clauses) [] all refl);
+  determined = λ x y agree one two. agree;
 }
 
 pub Grows-same : (f g : Form) → g ≡ f → Grows f g
@@ -44,6 +46,10 @@ Grows-then {f} {g} {h} first second = record {
         AgreeBelow-trans f.variables g.variables x one.0 two.0 first.variables one.1 two.1,
         Satisfies-append two.0 (known_clauses f.clauses) (first.added ++ second.added) old (Satisfies-append two.0 first.added second.added middle last),
       );
+  determined = λ x y agree one two.
+      second.determined x y
+      (first.determined x y agree (Satisfies-front x first.added second.added one) (Satisfies-front y first.added second.added two))
+      (Satisfies-back x first.added second.added one) (Satisfies-back y first.added second.added two);
 }
 
 -- ---- what was added

@@ -3,7 +3,7 @@ use Rattle.std.specs.Prelude.{◌≡◌, ℕ, ◌/◌, ◌^◌, ◌<◌, Bool, f
 use Rattle.sat_form.specs.Satisfaction.{Literal, Form, literal_value, Satisfies, IsWithin}
 use Rattle.sat_form.specs.Numbers.{number_of, value_of}
 use Rattle.words.specs.Operators.{left_shift, logical_shift, arithmetic_shift}
-use Rattle.gate_arith.specs.Truth.{differs}
+use Rattle.gate_bits.specs.Truth.{differs}
 use Rattle.gate_arith.specs.declared.shifts.Shift.{Shift}
 use Rattle.gate_arith.specs.declared.shifts.Shift.TheVariants.{Left, Logical, Arithmetic}
 

@@ -6,22 +6,14 @@
 //! constant, and then begins its clauses with that one again.
 #![tactic(auto)]
 
-mod bits;
-mod gates;
-mod lists;
-mod lits;
 mod operations;
-mod orders;
 mod products;
 mod quotients;
 mod ranges;
 mod shifts;
-mod sums;
 
-pub use bits::complement;
-pub use lits::Lits;
 pub use operations::{
-    adder, choice, conjunction, difference, difference_fits, disjunction, divider, equal,
+    adder, all, any, choice, conjunction, difference, difference_fits, disjunction, divider, equal,
     exclusive, left_shift_fits, less, multiplier, negation, product_fits, shifter, sum_fits,
 };
 pub use shifts::Shift;

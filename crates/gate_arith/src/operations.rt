@@ -3,19 +3,19 @@
 #![tactic(auto, using(crate::proofs::Calls::parts))]
 
 ghost use Rattle.std.specs.Prelude.{◌≡◌, ◌+◌, ◌<◌, ◌≤◌, IfOk, length, nat_eq, nat_lt, bit_and, bit_or, bit_xor, if◌then◌else◌};
+ghost use Rattle.std.specs.List.{list_all, list_any};
 ghost use Rattle.sat_form.specs.Satisfaction.{literal_value, IsWithin};
 ghost use Rattle.sat_form.specs.Numbers.{bit_value, value_of};
 ghost use Rattle.words.specs.Operators.{word_sum, word_difference, word_product, word_negation, signed_lt, sum_fits, difference_fits, product_fits, left_shift_fits};
 ghost use Rattle.gate_arith.specs.Growth.{Grows, IsPart, added_to};
-ghost use Rattle.gate_arith.specs.Truth.{IsTruth, IsNumber};
+ghost use Rattle.gate_bits.specs.Truth.{IsTruth, IsNumber};
 ghost use Rattle.gate_arith.specs.Quotients.{quotient_by, remainder_by};
 ghost use Rattle.gate_arith.specs.Shifts.{shifted};
 
-use crate::bits::Bitwise;
-use crate::gates::known;
-use crate::lits::Lits;
 use crate::shifts::Shift;
-use crate::{bits, orders, products, quotients, ranges, shifts, sums};
+use crate::{products, quotients, ranges, shifts};
+use gate_bits::bits::Bitwise;
+use gate_bits::{Lits, bits, known, orders, sums};
 use sat_form::{Cnf, Lit};
 use std::alloc::{AllocError, Global};
 
@@ -242,6 +242,32 @@ pub fn exclusive(alloc: Global, cnf: &mut Cnf, a: &[Lit], b: &[Lit]) -> Result<L
     let bits = bits::bit_by_bit(alloc, &mut part, Bitwise::Xor, a, b)?;
     cnf.append(part)?;
     Ok(bits)
+}
+
+/// Whether each of the literals is true. One gate: a clause of them all, and one of two literals for each.
+/// After an error the form may have grown, and each assignment that satisfied it still extends.
+pub fn all(alloc: Global, cnf: &mut Cnf, literals: &[Lit]) -> Result<Lit, AllocError>
+    requires { IsWithin cnf.old.variables literals.now }
+    ensures grows { Grows cnf.old cnf.new }
+    ensures is { IfOk result (λ l. IsTruth (added_to cnf.old cnf.new) l (λ x. list_all (literal_value x) literals.now)) }
+{
+    let mut part = part_of(alloc, cnf)?;
+    let truth = gate_bits::all(alloc, &mut part, literals)?;
+    cnf.append(part)?;
+    Ok(truth)
+}
+
+/// Whether at least one of the literals is true, by one gate.
+/// After an error the form may have grown, and each assignment that satisfied it still extends.
+pub fn any(alloc: Global, cnf: &mut Cnf, literals: &[Lit]) -> Result<Lit, AllocError>
+    requires { IsWithin cnf.old.variables literals.now }
+    ensures grows { Grows cnf.old cnf.new }
+    ensures is { IfOk result (λ l. IsTruth (added_to cnf.old cnf.new) l (λ x. list_any (literal_value x) literals.now)) }
+{
+    let mut part = part_of(alloc, cnf)?;
+    let truth = gate_bits::any(alloc, &mut part, literals)?;
+    cnf.append(part)?;
+    Ok(truth)
 }
 
 /// The first of two numbers where `test` is true, else the second (C11 6.5.15p4).

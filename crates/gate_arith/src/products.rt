@@ -1,18 +1,16 @@
 //! Multipliers.
 
-#![tactic(auto, using(crate::proofs::Growing::growth))]
+#![tactic(auto, using(gate_bits::proofs::Growing::growth))]
 
 ghost use Rattle.std.specs.Prelude.{◌≡◌, ◌*◌, ◌<◌, ◌≤◌, false, IfOk, length};
 ghost use Rattle.sat_form.specs.Satisfaction.{literal_value, IsWithin};
 ghost use Rattle.sat_form.specs.Numbers.{bit_value, value_of};
 ghost use Rattle.words.specs.Operators.{word_sum, word_product, left_shift};
-ghost use Rattle.gate_arith.specs.Growth.{GrowsFreely};
-ghost use Rattle.gate_arith.specs.Truth.{IsTruth, IsNumber};
+ghost use Rattle.gate_bits.specs.Growth.{GrowsFreely};
+ghost use Rattle.gate_bits.specs.Truth.{IsTruth, IsNumber};
 
-use crate::gates::{constant, truth_of};
-use crate::lists::{masked, moved_up};
-use crate::lits::Lits;
-use crate::sums::sum;
+use gate_bits::sums::sum;
+use gate_bits::{Lits, constant, masked, moved_up, truth_of};
 use sat_form::{Cnf, Lit};
 use std::alloc::{AllocError, Global};
 

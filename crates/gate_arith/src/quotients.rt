@@ -1,20 +1,18 @@
 //! Dividers.
 
-#![tactic(auto, using(crate::proofs::Growing::growth))]
+#![tactic(auto, using(gate_bits::proofs::Growing::growth))]
 
 ghost use Rattle.std.specs.Prelude.{◌≡◌, ◌+◌, ◌-◌, ◌<◌, ◌≤◌, [], ◌∷◌, ◌++◌, false, true, IfOk, length, map, take, replicate};
 ghost use Rattle.sat_form.specs.Satisfaction.{literal_value, inverse_of, IsWithin};
 ghost use Rattle.sat_form.specs.Numbers.{value_of};
 ghost use Rattle.words.specs.Operators.{word_negation, unsigned_quotient, unsigned_remainder, signed_quotient, signed_remainder};
-ghost use Rattle.gate_arith.specs.Growth.{GrowsFreely};
-ghost use Rattle.gate_arith.specs.Truth.{IsTruth, IsNumber};
+ghost use Rattle.gate_bits.specs.Growth.{GrowsFreely};
+ghost use Rattle.gate_bits.specs.Truth.{IsTruth, IsNumber};
 ghost use Rattle.gate_arith.specs.Quotients.{IsDivided, IsStep, negated_if, quotient_by, remainder_by};
 
-use crate::gates::{constant, xor};
-use crate::lists::{chosen, inverses, masked, turned};
-use crate::lits::Lits;
-use crate::orders::equal;
-use crate::sums::sum;
+use gate_bits::orders::equal;
+use gate_bits::sums::sum;
+use gate_bits::{Lits, chosen, constant, inverses, masked, turned, xor};
 use sat_form::{Cnf, Lit};
 use std::alloc::{AllocError, Global};
 

@@ -1,21 +1,20 @@
 //! Whether a result lies in the range of its type.
 
-#![tactic(auto, using(crate::proofs::Growing::growth))]
+#![tactic(auto, using(gate_bits::proofs::Growing::growth))]
 
 ghost use Rattle.std.specs.Prelude.{◌≡◌, ℕ, ◌+◌, ◌-◌, ◌*◌, ◌^◌, ◌<◌, ◌≤◌, [], ◌∷◌, ◌++◌, false, not, IfOk, length, replicate, nat_lt};
 ghost use Rattle.sat_form.specs.Satisfaction.{literal_value, inverse_of, IsWithin};
 ghost use Rattle.sat_form.specs.Numbers.{bit_value, value_of};
 ghost use Rattle.words.specs.Operators.{sum_fits, difference_fits, product_fits, left_shift_fits};
-ghost use Rattle.gate_arith.specs.Growth.{GrowsFreely};
-ghost use Rattle.gate_arith.specs.Truth.{IsTruth, IsNumber, differs, most};
+ghost use Rattle.gate_bits.specs.Growth.{GrowsFreely};
+ghost use Rattle.gate_bits.specs.Truth.{IsTruth, IsNumber, differs, most};
 ghost use Rattle.gate_arith.specs.Ranges.{magnitude, IsShiftInRange};
 
-use crate::gates::{and, constant, majority, or, xor};
-use crate::lists::inverses;
-use crate::orders::{borrow, equal};
 use crate::products::multiplier;
 use crate::quotients::negated;
 use crate::shifts::{number, shifted_up, stages};
+use gate_bits::orders::{borrow, equal};
+use gate_bits::{and, constant, inverses, majority, or, xor};
 use sat_form::{Cnf, Lit};
 use std::alloc::{AllocError, Global};
 

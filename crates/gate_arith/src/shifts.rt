@@ -1,19 +1,17 @@
 //! Shifters.
 
-#![tactic(auto, using(crate::proofs::Growing::growth))]
+#![tactic(auto, using(gate_bits::proofs::Growing::growth))]
 
 ghost use Rattle.std.specs.Prelude.{◌≡◌, ◌+◌, ◌-◌, ◌*◌, ◌^◌, ◌<◌, ◌≤◌, false, true, IfOk, length};
 ghost use Rattle.sat_form.specs.Satisfaction.{literal_value, IsWithin};
 ghost use Rattle.sat_form.specs.Numbers.{bit_value, value_of};
 ghost use Rattle.words.specs.Operators.{left_shift};
-ghost use Rattle.gate_arith.specs.Growth.{GrowsFreely};
-ghost use Rattle.gate_arith.specs.Truth.{IsTruth, IsNumber};
+ghost use Rattle.gate_bits.specs.Growth.{GrowsFreely};
+ghost use Rattle.gate_bits.specs.Truth.{IsTruth, IsNumber};
 ghost use Rattle.gate_arith.specs.Shifts.{IsShiftedDown, IsShifted, IsConstant, shifted};
 
-use crate::gates::{constant, flipped};
-use crate::lists::{chosen, masked, moved_down, moved_up};
-use crate::lits::Lits;
-use crate::orders::borrow;
+use gate_bits::orders::borrow;
+use gate_bits::{Lits, chosen, constant, flipped, masked, moved_down, moved_up};
 use sat_form::{Cnf, Lit};
 use std::alloc::{AllocError, Global};
 

@@ -7,10 +7,11 @@ ghost use Rattle.sat_form.specs.Satisfaction.{IsWithin};
 
 use cdcl_core::{Answer, solve};
 use gate_arith::{
-    Lits, Shift, adder, choice, complement, conjunction, difference, difference_fits, disjunction,
-    divider, equal, exclusive, left_shift_fits, less, multiplier, negation, product_fits, shifter,
-    sum_fits,
+    Shift, adder, choice, conjunction, difference, difference_fits, disjunction, divider, equal,
+    exclusive, left_shift_fits, less, multiplier, negation, product_fits, shifter, sum_fits,
 };
+use gate_bits::Lits;
+use gate_bits::bits::complement;
 use refutation_check::Checker;
 use sat_form::{Assignment, Clause, Cnf, Entry, Hints, Lit, Log, is_model, is_within};
 use std::alloc::{AllocError, Global};

@@ -1,4 +1,5 @@
 use Rattle.bit_blast.proofs.Consecutive.{AreConsecutive-within}
+use Rattle.bit_blast.proofs.Determined.{blasted_determined}
 use Rattle.bit_blast.proofs.Promises.{blasted_from, goal_within, blasted_extends, blasted_lifts}
 use Rattle.bit_blast.proofs.blasting.blast.Goals as goal
 
@@ -15,3 +16,7 @@ returns-clause-extends c =
 pub returns-clause-lifts : goal.returns-clause-lifts
 returns-clause-lifts c =
     blasted_lifts _ _ _ _ (blasted_from _ _ _ _ _ _ _ _ _ _ _ c.nodes.ensures.is c.nodes.ensures.ordered c.requires.there c.requires.bit c.in_ok-marks.ensures c.deref.ensures.value c.in_ok-cnf.ensures.begins c.in_ok-literals.ensures c.get.ensures.is c.in_ok-add.ensures.ok)
+
+pub returns-clause-determined : goal.returns-clause-determined
+returns-clause-determined c =
+    blasted_determined _ _ _ _ (blasted_from _ _ _ _ _ _ _ _ _ _ _ c.nodes.ensures.is c.nodes.ensures.ordered c.requires.there c.requires.bit c.in_ok-marks.ensures c.deref.ensures.value c.in_ok-cnf.ensures.begins c.in_ok-literals.ensures c.get.ensures.is c.in_ok-add.ensures.ok)

@@ -1,9 +1,9 @@
 use Rattle.std.proofs.Common.{◌≡◌, ◌-◌, List, ◌++◌, take, replicate, length, sym, ◌∙◌, subst}
 use Rattle.sat_form.specs.Satisfaction.{Literal, IsWithin}
-use Rattle.gate_arith.specs.Sums.{IsSum}
-use Rattle.gate_arith.proofs.Growing.{IsWithin-kept}
+use Rattle.gate_bits.specs.Sums.{IsSum}
+use Rattle.gate_bits.proofs.Growing.{IsWithin-kept}
 use Rattle.gate_arith.proofs.Multiplying.{Row_is, Row_none}
-use Rattle.gate_arith.proofs.Parts.{IsWithin-moved_up}
+use Rattle.gate_bits.proofs.Parts.{IsWithin-moved_up}
 use Rattle.gate_arith.proofs.products.add_row.Goals as goal
 
 pub returns-in-Some-false-clause-is : goal.returns-in-Some-false-clause-is

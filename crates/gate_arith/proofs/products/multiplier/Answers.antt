@@ -2,7 +2,7 @@ use Rattle.std.proofs.Common.{length, sym, ◌∙◌}
 use Rattle.std.proofs.lemmas.Result.{IfOk-weaker}
 use Rattle.sat_form.specs.Numbers.{value_of}
 use Rattle.words.specs.Operators.{word_product}
-use Rattle.gate_arith.specs.Truth.{IsNumber}
+use Rattle.gate_bits.specs.Truth.{IsNumber}
 use Rattle.gate_arith.proofs.Multiplying.{product_turned}
 use Rattle.gate_arith.proofs.products.multiplier.Goals as goal
 

@@ -3,8 +3,8 @@ use Rattle.std.proofs.lemmas.List.{take_more, length-take-le}
 use Rattle.sat_form.specs.Satisfaction.{Literal}
 use Rattle.sat_form.specs.Numbers.{value_of}
 use Rattle.words.specs.Operators.{word_product}
-use Rattle.gate_arith.specs.Truth.{IsNumber}
-use Rattle.gate_arith.proofs.Growing.{GrowsFreely-then, IsTruth-kept, IsWithin-kept}
+use Rattle.gate_bits.specs.Truth.{IsNumber}
+use Rattle.gate_bits.proofs.Growing.{GrowsFreely-then, IsTruth-kept, IsWithin-kept}
 use Rattle.gate_arith.proofs.Multiplying.{Product_none, Product_more}
 use Rattle.gate_arith.proofs.products.product.Goals as goal
 

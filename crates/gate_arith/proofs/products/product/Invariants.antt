@@ -1,8 +1,8 @@
 use Rattle.std.proofs.Common.{false, take, length}
 use Rattle.sat_form.specs.Numbers.{value_of}
 use Rattle.words.specs.Operators.{word_product}
-use Rattle.gate_arith.specs.Growth.{GrowsFreely}
-use Rattle.gate_arith.specs.Truth.{IsTruth, IsNumber}
+use Rattle.gate_bits.specs.Growth.{GrowsFreely}
+use Rattle.gate_bits.specs.Truth.{IsTruth, IsNumber}
 use Rattle.gate_arith.proofs.products.product.Given as goal
 
 abbrev pub invariant-loop-i : goal.invariant-loop-i

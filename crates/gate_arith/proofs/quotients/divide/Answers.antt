@@ -4,11 +4,12 @@ use Rattle.std.proofs.Math.Seq.{drop-cons}
 use Rattle.sat_form.specs.Satisfaction.{Literal, Form, literal_value, inverse_of, IsWithin}
 use Rattle.sat_form.proofs.Truth.{literal_value-inverse_of}
 use Rattle.sat_form.proofs.Within.{IsWithin-push}
-use Rattle.gate_arith.specs.Truth.{IsTruth}
+use Rattle.gate_bits.specs.Truth.{IsTruth}
 use Rattle.gate_arith.specs.Quotients.{IsDivided, IsStep}
-use Rattle.gate_arith.proofs.Growing.{GrowsFreely-refl, GrowsFreely-then, IsTruth-kept, IsWithin-kept}
-use Rattle.gate_arith.proofs.Parts.{IsWithin-replicate}
-use Rattle.gate_arith.proofs.Dividing.{Divided_none, Divided_more, complement_value, IsWithin-inverses, IsWithin-set}
+use Rattle.gate_bits.proofs.Growing.{GrowsFreely-refl, GrowsFreely-then, IsTruth-kept, IsWithin-kept}
+use Rattle.gate_bits.proofs.Parts.{IsWithin-replicate}
+use Rattle.gate_arith.proofs.Dividing.{Divided_none, Divided_more, complement_value, IsWithin-set}
+use Rattle.gate_bits.proofs.Inverting.{IsWithin-inverses}
 use Rattle.gate_arith.proofs.quotients.divide.Goals as goal
 
 turned : (f : Form) (off one : Literal) → IsTruth f off (λ x. false) → one ≡ inverse_of off → IsTruth f one (λ x. true)

@@ -1,7 +1,7 @@
 use Rattle.std.proofs.Common.{◌≡◌, true, drop, length}
 use Rattle.sat_form.specs.Satisfaction.{IsWithin}
-use Rattle.gate_arith.specs.Growth.{GrowsFreely}
-use Rattle.gate_arith.specs.Truth.{IsTruth}
+use Rattle.gate_bits.specs.Growth.{GrowsFreely}
+use Rattle.gate_bits.specs.Truth.{IsTruth}
 use Rattle.gate_arith.specs.Quotients.{IsDivided}
 use Rattle.gate_arith.proofs.quotients.divide.Given as goal
 

@@ -1,9 +1,9 @@
 use Rattle.std.proofs.Common.{◌≡◌, List, ◌∷◌, ◌++◌, map, length, sym, ap, ◌∙◌, subst}
 use Rattle.std.specs.Prelude.{if◌then◌else◌}
 use Rattle.sat_form.specs.Satisfaction.{Literal, literal_value}
-use Rattle.gate_arith.specs.Truth.{AreTruths}
-use Rattle.gate_arith.specs.Sums.{IsSum}
-use Rattle.gate_arith.proofs.Growing.{IsTruth-kept}
+use Rattle.gate_bits.specs.Truth.{AreTruths}
+use Rattle.gate_bits.specs.Sums.{IsSum}
+use Rattle.gate_bits.proofs.Growing.{IsTruth-kept}
 use Rattle.gate_arith.proofs.Dividing.{Step_is}
 use Rattle.gate_arith.proofs.quotients.divide_step.Goals as goal
 

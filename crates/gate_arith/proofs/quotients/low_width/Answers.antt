@@ -1,4 +1,4 @@
-use Rattle.std.proofs.Common.{◌≡◌, ◌≤◌, ◌-◌, suc, length, sym, ◌∙◌, refl, arith}
+use Rattle.std.proofs.Common.{◌≡◌, ◌≤◌, ◌-◌, suc, length, refl, arith}
 use Rattle.gate_arith.proofs.Dividing.{one_trimmed, same_literal}
 use Rattle.gate_arith.proofs.quotients.low_width.Goals as goal
 

@@ -1,6 +1,6 @@
 use Rattle.std.proofs.Common.{List, subst}
 use Rattle.sat_form.specs.Satisfaction.{Literal}
-use Rattle.gate_arith.specs.Sums.{IsSum}
+use Rattle.gate_bits.specs.Sums.{IsSum}
 use Rattle.gate_arith.proofs.Dividing.{Negated_is}
 use Rattle.std.proofs.Common.{length}
 use Rattle.gate_arith.proofs.quotients.negated.Goals as goal

@@ -2,10 +2,10 @@ use Rattle.std.proofs.Common.{◌-◌, List, take, length, sym, subst, arith}
 use Rattle.sat_form.specs.Satisfaction.{Literal, IsWithin, literal_value}
 use Rattle.sat_form.specs.Numbers.{value_of}
 use Rattle.words.specs.Operators.{unsigned_quotient, unsigned_remainder}
-use Rattle.gate_arith.specs.Truth.{IsNumber}
+use Rattle.gate_bits.specs.Truth.{IsNumber}
 use Rattle.gate_arith.specs.Quotients.{negated_if}
-use Rattle.gate_arith.proofs.Growing.{GrowsFreely-then, IsNumber-kept, IsWithin-kept}
-use Rattle.gate_arith.proofs.Parts.{last_of}
+use Rattle.gate_bits.proofs.Growing.{GrowsFreely-then, IsNumber-kept, IsWithin-kept}
+use Rattle.gate_bits.proofs.Parts.{last_of}
 use Rattle.gate_arith.proofs.Dividing.{Signed_quotient_is, Signed_remainder_is}
 use Rattle.gate_arith.proofs.quotients.signed_division.Goals as goal
 

@@ -1,7 +1,7 @@
 use Rattle.std.proofs.Common.{◌≤◌, length, take, arith}
 use Rattle.std.proofs.lemmas.List.{length-take-le}
 use Rattle.words.specs.Operators.{unsigned_quotient, unsigned_remainder}
-use Rattle.gate_arith.proofs.Growing.{IsTruth-kept}
+use Rattle.gate_bits.proofs.Growing.{IsTruth-kept}
 use Rattle.gate_arith.proofs.Dividing.{Trimmed_is}
 use Rattle.gate_arith.proofs.quotients.trimmed_division.Goals as goal
 

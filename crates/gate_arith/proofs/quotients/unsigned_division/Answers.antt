@@ -2,8 +2,8 @@ use Rattle.std.proofs.Common.{List, length, nat_eq, subst}
 use Rattle.std.specs.Prelude.{if◌then◌else◌}
 use Rattle.sat_form.specs.Satisfaction.{Literal, literal_value}
 use Rattle.sat_form.specs.Numbers.{value_of}
-use Rattle.gate_arith.specs.Truth.{IsTruth, IsNumber}
-use Rattle.gate_arith.proofs.Growing.{GrowsFreely-then, IsTruth-kept, IsNumber-kept}
+use Rattle.gate_bits.specs.Truth.{IsTruth, IsNumber}
+use Rattle.gate_bits.proofs.Growing.{GrowsFreely-then, IsTruth-kept, IsNumber-kept}
 use Rattle.gate_arith.proofs.Dividing.{Quotient_is, Remainder_is}
 use Rattle.gate_arith.proofs.quotients.unsigned_division.Goals as goal
 

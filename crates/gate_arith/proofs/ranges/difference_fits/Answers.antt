@@ -2,8 +2,8 @@ use Rattle.std.proofs.Common.{◌≡◌, ℕ, ◌-◌, not, List, [], ◌∷◌,
 use Rattle.std.proofs.lemmas.List.{length-take-le}
 use Rattle.std.proofs.lemmas.Result.{IfOk-weaker}
 use Rattle.sat_form.specs.Satisfaction.{Literal, literal_value}
-use Rattle.gate_arith.specs.Truth.{IsTruth, differs, most}
-use Rattle.gate_arith.proofs.Parts.{last_of}
+use Rattle.gate_bits.specs.Truth.{IsTruth, differs, most}
+use Rattle.gate_bits.proofs.Parts.{last_of}
 use Rattle.gate_arith.proofs.Fitting.{Difference_fits}
 use Rattle.gate_arith.proofs.ranges.difference_fits.Goals as goal
 

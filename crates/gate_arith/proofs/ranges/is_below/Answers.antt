@@ -2,7 +2,7 @@ use Rattle.std.proofs.Common.{◌≡◌, ◌-◌, ◌++◌, ◌∷◌, List, len
 use Rattle.std.proofs.lemmas.Result.{IfOk-weaker}
 use Rattle.sat_form.specs.Satisfaction.{Literal, IsWithin}
 use Rattle.sat_form.specs.Numbers.{value_of}
-use Rattle.gate_arith.specs.Truth.{IsTruth}
+use Rattle.gate_bits.specs.Truth.{IsTruth}
 use Rattle.gate_arith.proofs.Fitting.{Below_is, IsWithin-limit}
 use Rattle.gate_arith.proofs.ranges.is_below.Goals as goal
 

@@ -2,8 +2,8 @@ use Rattle.std.proofs.Common.{◌||◌, List, nat_lt, nat_eq, refl, subst, arith
 use Rattle.std.proofs.lemmas.Result.{IfOk-weaker}
 use Rattle.sat_form.specs.Satisfaction.{Literal, literal_value}
 use Rattle.sat_form.specs.Numbers.{value_of}
-use Rattle.gate_arith.specs.Truth.{IsTruth}
-use Rattle.gate_arith.proofs.Growing.{GrowsFreely-then}
+use Rattle.gate_bits.specs.Truth.{IsTruth}
+use Rattle.gate_bits.proofs.Growing.{GrowsFreely-then}
 use Rattle.gate_arith.proofs.Fitting.{Left_shift_fits}
 use Rattle.gate_arith.proofs.ranges.left_shift_fits.Goals as goal
 

@@ -3,10 +3,10 @@ use Rattle.std.proofs.lemmas.Result.{IfOk-weaker}
 use Rattle.sat_form.specs.Satisfaction.{Literal, literal_value, IsWithin}
 use Rattle.sat_form.specs.Numbers.{bit_value, value_of}
 use Rattle.words.specs.Operators.{word_product}
-use Rattle.gate_arith.specs.Truth.{IsTruth, IsNumber}
+use Rattle.gate_bits.specs.Truth.{IsTruth, IsNumber}
 use Rattle.gate_arith.specs.Ranges.{magnitude}
-use Rattle.gate_arith.proofs.Growing.{GrowsFreely-then, IsNumber-kept, IsWithin-kept}
-use Rattle.gate_arith.proofs.Parts.{last_of}
+use Rattle.gate_bits.proofs.Growing.{GrowsFreely-then, IsNumber-kept, IsWithin-kept}
+use Rattle.gate_bits.proofs.Parts.{last_of}
 use Rattle.gate_arith.proofs.Fitting.{Product_fits}
 use Rattle.gate_arith.proofs.ranges.product_fits.Goals as goal
 

@@ -3,7 +3,7 @@ use Rattle.std.proofs.lemmas.Result.{IfOk-weaker}
 use Rattle.sat_form.specs.Satisfaction.{Literal, literal_value}
 use Rattle.sat_form.specs.Numbers.{bit_value, value_of}
 use Rattle.words.specs.Operators.{left_shift}
-use Rattle.gate_arith.specs.Truth.{IsTruth, IsNumber}
+use Rattle.gate_bits.specs.Truth.{IsTruth, IsNumber}
 use Rattle.gate_arith.proofs.Fitting.{Shift_fits}
 use Rattle.gate_arith.proofs.ranges.shift_fits.Goals as goal
 

@@ -2,9 +2,9 @@ use Rattle.std.proofs.Common.{◌≡◌, ℕ, ◌-◌, not, List, [], ◌∷◌,
 use Rattle.std.proofs.lemmas.List.{length-take-le}
 use Rattle.std.proofs.lemmas.Result.{IfOk-weaker}
 use Rattle.sat_form.specs.Satisfaction.{Literal, literal_value, inverse_of, IsWithin}
-use Rattle.gate_arith.specs.Truth.{IsTruth, differs, most}
-use Rattle.gate_arith.proofs.Parts.{last_of, IsWithin-take}
-use Rattle.gate_arith.proofs.Dividing.{IsWithin-inverses}
+use Rattle.gate_bits.specs.Truth.{IsTruth, differs, most}
+use Rattle.gate_bits.proofs.Parts.{last_of, IsWithin-take}
+use Rattle.gate_bits.proofs.Inverting.{IsWithin-inverses}
 use Rattle.gate_arith.proofs.Fitting.{Sum_fits}
 use Rattle.gate_arith.proofs.ranges.sum_fits.Goals as goal
 

@@ -2,7 +2,7 @@ use Rattle.std.proofs.Common.{ℕ, ◌+◌, ◌*◌, ◌/◌, ◌^◌, List, len
 use Rattle.sat_form.specs.Satisfaction.{Literal, IsWithin}
 use Rattle.sat_form.specs.Numbers.{value_of}
 use Rattle.sat_form.proofs.Within.{IsWithin-push}
-use Rattle.gate_arith.proofs.Adding.{length-push}
+use Rattle.gate_bits.proofs.Adding.{length-push}
 use Rattle.gate_arith.proofs.Shifting.{Digit_more}
 use Rattle.gate_arith.proofs.shifts.number.Goals as goal
 

@@ -3,7 +3,7 @@ use Rattle.std.proofs.lemmas.List.{take_more, length-take-le}
 use Rattle.sat_form.specs.Satisfaction.{Literal}
 use Rattle.sat_form.specs.Numbers.{value_of}
 use Rattle.gate_arith.specs.Shifts.{IsShiftedDown}
-use Rattle.gate_arith.proofs.Growing.{GrowsFreely-then}
+use Rattle.gate_bits.proofs.Growing.{GrowsFreely-then}
 use Rattle.gate_arith.proofs.Shifting.{distance_is, distance_fits, Down_more}
 use Rattle.gate_arith.proofs.shifts.shifted_down.Goals as goal
 

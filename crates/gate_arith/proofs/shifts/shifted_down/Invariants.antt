@@ -1,6 +1,6 @@
 use Rattle.std.proofs.Common.{take}
 use Rattle.sat_form.specs.Numbers.{value_of}
-use Rattle.gate_arith.specs.Growth.{GrowsFreely}
+use Rattle.gate_bits.specs.Growth.{GrowsFreely}
 use Rattle.gate_arith.specs.Shifts.{IsShiftedDown}
 use Rattle.gate_arith.proofs.shifts.shifted_down.Given as goal
 

@@ -3,8 +3,8 @@ use Rattle.std.proofs.lemmas.List.{take_more, length-take-le}
 use Rattle.sat_form.specs.Satisfaction.{Literal}
 use Rattle.sat_form.specs.Numbers.{value_of}
 use Rattle.words.specs.Operators.{left_shift}
-use Rattle.gate_arith.specs.Truth.{IsNumber}
-use Rattle.gate_arith.proofs.Growing.{GrowsFreely-refl, GrowsFreely-then, IsTruth-kept}
+use Rattle.gate_bits.specs.Truth.{IsNumber}
+use Rattle.gate_bits.proofs.Growing.{GrowsFreely-refl, GrowsFreely-then, IsTruth-kept}
 use Rattle.gate_arith.proofs.Shifting.{distance_is, distance_fits, Up_none, Up_more}
 use Rattle.gate_arith.proofs.shifts.shifted_up.Goals as goal
 

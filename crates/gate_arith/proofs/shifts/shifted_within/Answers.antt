@@ -5,7 +5,7 @@ use Rattle.sat_form.specs.Numbers.{value_of}
 use Rattle.gate_arith.specs.declared.shifts.Shift.{Shift}
 use Rattle.gate_arith.specs.declared.shifts.Shift.TheVariants.{Arithmetic}
 use Rattle.gate_arith.specs.Shifts.{IsShiftedDown, IsShifted}
-use Rattle.gate_arith.proofs.Parts.{last_of}
+use Rattle.gate_bits.proofs.Parts.{last_of}
 use Rattle.gate_arith.proofs.Shifting.{Shifted_logical, Shifted_arithmetic}
 use Rattle.gate_arith.proofs.shifts.shifted_within.Goals as goal
 

@@ -2,9 +2,9 @@ use Rattle.std.proofs.Common.{List, length, nat_lt, refl, sym, subst, arith}
 use Rattle.sat_form.specs.Satisfaction.{Literal, literal_value}
 use Rattle.sat_form.specs.Numbers.{value_of}
 use Rattle.std.specs.Prelude.{if◌then◌else◌}
-use Rattle.gate_arith.specs.Truth.{IsTruth, IsNumber}
+use Rattle.gate_bits.specs.Truth.{IsTruth, IsNumber}
 use Rattle.gate_arith.specs.Shifts.{shifted}
-use Rattle.gate_arith.proofs.Growing.{GrowsFreely-then, IsTruth-kept}
+use Rattle.gate_bits.proofs.Growing.{GrowsFreely-then, IsTruth-kept}
 use Rattle.gate_arith.proofs.Shifting.{Shifted_any}
 use Rattle.gate_arith.proofs.shifts.shifter.Goals as goal
 

@@ -3,7 +3,7 @@ use Rattle.std.specs.Prelude.{if◌then◌else◌}
 use Rattle.std.proofs.lemmas.List.{length-replicate}
 use Rattle.std.proofs.lemmas.Result.{IfOk-weaker}
 use Rattle.sat_form.specs.Satisfaction.{Literal, literal_value}
-use Rattle.gate_arith.specs.Truth.{AreTruths}
+use Rattle.gate_bits.specs.Truth.{AreTruths}
 use Rattle.gate_arith.proofs.Shifting.{Stage_up}
 use Rattle.gate_arith.proofs.shifts.stage_up.Goals as goal
 

@@ -1,0 +1,9 @@
+pub mod Growing
+pub mod Tables
+pub mod Parts
+pub mod Cells
+pub mod Adding
+pub mod Inverting
+pub mod Comparing
+pub mod Listing
+pub mod Wording

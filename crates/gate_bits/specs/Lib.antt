@@ -1,0 +1,5 @@
+pub mod Growth
+pub mod Truth
+pub mod Clauses
+pub mod Sums
+pub mod Bitwise
