@@ -8,4 +8,5 @@ pub mod Promises
 pub mod Rearranging
 pub mod Encoding
 pub mod Stepping
+pub mod Gathering
 pub mod Determined

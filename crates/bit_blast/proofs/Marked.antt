@@ -6,11 +6,12 @@ use Rattle.std.proofs.lemmas.Bool.{cases_eq, cases_lt, false≢true}
 use Rattle.std.proofs.lemmas.List.{get_or-set_same, get_or-set_other, get_or_past, length-take-le, length-set, length-replicate}
 use Rattle.std.proofs.lemmas.List.Elements.{All-contains, All-from_recursion}
 use Rattle.word_dag.specs.declared.nodes.Node.{Node}
-use Rattle.word_dag.specs.declared.nodes.Node.TheVariants.{Constant, Variable, Not, Negate, Binary, Shift, Compare, Fits, Choice, ZeroExtend, SignExtend, Cut, Join}
-use Rattle.word_dag.specs.Meaning.{widths}
+use Rattle.word_dag.specs.declared.nodes.Node.TheVariants.{Constant, Variable, Not, Negate, Binary, Shift, Compare, Fits, Choice, ZeroExtend, SignExtend, Cut, Join, Quantify}
+use Rattle.word_dag.specs.Meaning.{places, widths}
 use Rattle.word_dag.specs.Fitting.{fits, is_ordered}
 use Rattle.word_dag.proofs.Folds.{length_widths}
 use Rattle.word_dag.proofs.Order.{fits-at}
+use Rattle.word_dag.proofs.Places.{places_below, places_more, bits}
 use Rattle.word_dag.proofs.Operands.{there, alike, chosen, widened, part, joint}
 use Rattle.bit_blast.specs.Reach.{operands, node_at, Leads, IsUnder, AreMarks}
 use Rattle.bit_blast.specs.Marking.{with_marks}
@@ -31,6 +32,7 @@ operands_there ws (ZeroExtend a w) h = ((widened ws a w h).there, tt)
 operands_there ws (SignExtend a w) h = ((widened ws a w h).there, tt)
 operands_there ws (Cut a low w) h = ((part ws a low w h).there, tt)
 operands_there ws (Join high low) h = let p = joint ws high low h in (p.left, (p.right, tt))
+operands_there ws (Quantify q first count) h = places_below first.index count (length ws) (bits ws first.index count h).within
 
 -- a node reads earlier nodes
 pub operands_earlier : (ns : List Node) (k : ℕ) → is_ordered ns ≡ true → k < length ns → AllByRecursion (λ j. j < k) (operands (node_at ns k))
@@ -84,6 +86,18 @@ with_marks-sets marks (i ∷ js) h = (
   with_marks-keeps (set marks i true) js i (get_or-set_same marks i true false h.0),
   with_marks-sets (set marks i true) js (each-weaker (λ j. j < length marks) (λ j. j < length (set marks i true)) (λ j l. omega (arith, length-set marks i true)) js h.1),
 )
+
+-- one mark more
+with_marks-push : (marks : List Bool) (js : List ℕ) (j : ℕ) → with_marks marks (js ++ j ∷ []) ≡ set (with_marks marks js) j true
+with_marks-push marks [] j = refl
+with_marks-push marks (i ∷ js) j = with_marks-push (set marks i true) js j
+
+pub marks_more : (marks old new : List Bool) (first count j : ℕ) → old ≡ with_marks marks (places first count) → j ≡ first + count → new ≡ set old j true → new ≡ with_marks marks (places first (count + 1))
+marks_more marks old new first count j so place is =
+    is ∙ (λ k. set (so k) (place k) true) ∙ sym (with_marks-push marks (places first count) (first + count)) ∙ ap (with_marks marks) (sym (places_more first count))
+
+pub marked_inside : (marks now : List Bool) (first count j : ℕ) → now ≡ with_marks marks (places first count) → j < length marks → j < length now
+marked_inside marks now first count j so l = omega (arith, l, ap (λ (bs : List Bool). length bs) so, length-with_marks marks (places first count))
 
 set_only : (P : ℕ → Type 0) (marks : List Bool) (i : ℕ) → ((j : ℕ) → Marked marks j → P j) → P i → (j : ℕ) → Marked (set marks i true) j → P j
 set_only P marks i old new j h = elim (cases_eq j i) [ inl e ↦ subst P (sym e) new | inr e ↦ old j (sym (get_or-set_other marks i j true false e) ∙ h) ]

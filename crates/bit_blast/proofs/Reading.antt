@@ -5,8 +5,9 @@ use Rattle.std.proofs.lemmas.Bool.Decides.{nat_tests}
 use Rattle.words.specs.Operators.{word_negation, word_complement, low_bits, logical_shift, sign_extension}
 use Rattle.words.proofs.Powers.{mod-mod_narrower}
 use Rattle.word_dag.specs.declared.nodes.Node.{Node}
-use Rattle.word_dag.specs.declared.nodes.Node.TheVariants.{Constant, Variable, Not, Negate, Binary, Shift, Compare, Fits, Choice, ZeroExtend, SignExtend, Cut, Join}
-use Rattle.word_dag.specs.Meaning.{bit_value, holds, joined, binary_value, shift_value, comparison_value, fits_value, node_width, node_value, values_from, values}
+use Rattle.word_dag.specs.declared.nodes.Node.TheVariants.{Constant, Variable, Not, Negate, Binary, Shift, Compare, Fits, Choice, ZeroExtend, SignExtend, Cut, Join, Quantify}
+use Rattle.word_dag.proofs.Places.{at_same}
+use Rattle.word_dag.specs.Meaning.{bit_value, holds, joined, places, quantified, binary_value, shift_value, comparison_value, fits_value, node_width, node_value, values_from, values}
 use Rattle.bit_blast.specs.Reach.{operands}
 use Rattle.bit_blast.specs.Variables.{width_read, variable_width}
 
@@ -28,6 +29,7 @@ node_width-read ws us (ZeroExtend a w) g = refl
 node_width-read ws us (SignExtend a w) g = refl
 node_width-read ws us (Cut a low w) g = refl
 node_width-read ws us (Join high low) g = λ k. g.0 k + g.1.0 k
+node_width-read ws us (Quantify q first count) g = refl
 
 pub node_value-read : (v : ℕ → ℕ) (ws vs us xs : List ℕ) (n : Node) → SameAt ws us (operands n) → SameAt vs xs (operands n) → node_value v us xs n ≡ node_value v ws vs n
 node_value-read v ws vs us xs (Constant bits w) g e = refl
@@ -43,6 +45,7 @@ node_value-read v ws vs us xs (ZeroExtend a w) g e = e.0
 node_value-read v ws vs us xs (SignExtend a w) g e = λ k. sign_extension (g.0 k) w (e.0 k)
 node_value-read v ws vs us xs (Cut a low w) g e = λ k. low_bits w (logical_shift (e.0 k) low)
 node_value-read v ws vs us xs (Join high low) g e = λ k. joined (g.1.0 k) (e.0 k) (e.1.0 k)
+node_value-read v ws vs us xs (Quantify q first count) g e = λ k. bit_value (quantified q (at_same vs xs (places first.index count) e k))
 
 -- ---- the variables
 
@@ -68,6 +71,7 @@ node_value-low u v widths ws vs (ZeroExtend a w) e l = refl
 node_value-low u v widths ws vs (SignExtend a w) e l = refl
 node_value-low u v widths ws vs (Cut a low w) e l = refl
 node_value-low u v widths ws vs (Join high low) e l = refl
+node_value-low u v widths ws vs (Quantify q first count) e l = refl
 
 values_from-low : (u v : ℕ → ℕ) (widths : ℕ → ℕ) (ws vs : List ℕ) (ns : List Node) → ((k : ℕ) → u k ≡ low_bits (widths k) (v k)) → ((k : ℕ) → variable_width ns k ≤ widths k) → values_from u ws vs ns ≡ values_from v ws vs ns
 values_from-low u v widths ws vs [] e l = refl

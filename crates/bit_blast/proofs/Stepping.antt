@@ -7,9 +7,10 @@ use Rattle.sat_form.specs.Satisfaction.{Literal, Form, AreWithin}
 use Rattle.sat_form.proofs.Within.{AreWithin-weaker}
 use Rattle.word_dag.specs.declared.nodes.Id.{Id}
 use Rattle.word_dag.specs.declared.nodes.Node.{Node}
-use Rattle.word_dag.specs.declared.nodes.Node.TheVariants.{Constant, Variable, Not, Negate, Binary, Shift, Compare, Fits, Choice, ZeroExtend, SignExtend, Cut, Join}
-use Rattle.word_dag.specs.Meaning.{node_width, node_value, widths}
+use Rattle.word_dag.specs.declared.nodes.Node.TheVariants.{Constant, Variable, Not, Negate, Binary, Shift, Compare, Fits, Choice, ZeroExtend, SignExtend, Cut, Join, Quantify}
+use Rattle.word_dag.specs.Meaning.{places, node_width, node_value, widths}
 use Rattle.word_dag.specs.Fitting.{are_alike, fits, is_ordered}
+use Rattle.word_dag.proofs.Places.{ones_read}
 use Rattle.word_dag.proofs.Folds.{length_widths, width-take}
 use Rattle.word_dag.proofs.Order.{fits-at, width_is_final}
 use Rattle.word_dag.proofs.Bounds.{width_is_range}
@@ -45,6 +46,7 @@ fits-read ws us (ZeroExtend a w) e g = λ k. nat_lt a.index (e k) && nat_le (g.0
 fits-read ws us (SignExtend a w) e g = λ k. nat_lt a.index (e k) && nat_le (g.0 k) w && nat_le w 64
 fits-read ws us (Cut a low w) e g = λ k. nat_lt a.index (e k) && nat_le 1 w && nat_le (low + w) (g.0 k)
 fits-read ws us (Join high low) e g = λ k. nat_lt high.index (e k) && nat_lt low.index (e k) && nat_le (g.0 k + g.1.0 k) 64
+fits-read ws us (Quantify q first count) e g = λ k. nat_le (first.index + count) (e k) && ones_read ws us (places first.index count) g k
 
 -- ---- the variable of a node
 

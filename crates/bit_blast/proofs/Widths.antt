@@ -6,7 +6,7 @@ use Rattle.std.proofs.lemmas.Bool.{cases_eq}
 use Rattle.std.proofs.lemmas.Bool.Decides.{nat_tests}
 use Rattle.std.proofs.lemmas.Grind.{get_or_default_zero}
 use Rattle.word_dag.specs.declared.nodes.Node.{Node}
-use Rattle.word_dag.specs.declared.nodes.Node.TheVariants.{Constant, Variable, Not, Negate, Binary, Shift, Compare, Fits, Choice, ZeroExtend, SignExtend, Cut, Join}
+use Rattle.word_dag.specs.declared.nodes.Node.TheVariants.{Constant, Variable, Not, Negate, Binary, Shift, Compare, Fits, Choice, ZeroExtend, SignExtend, Cut, Join, Quantify}
 use Rattle.word_dag.specs.Meaning.{node_width}
 use Rattle.word_dag.specs.Fitting.{fits, are_fitting, is_ordered}
 use Rattle.word_dag.proofs.Operands.{both, width_range}
@@ -74,6 +74,7 @@ read_short ws (ZeroExtend a w) k h = omega arith
 read_short ws (SignExtend a w) k h = omega arith
 read_short ws (Cut a low w) k h = omega arith
 read_short ws (Join high low) k h = omega arith
+read_short ws (Quantify q first count) k h = omega arith
 
 width_short_from : (ws : List ℕ) (ns : List Node) (k : ℕ) → are_fitting ws ns ≡ true → variable_width ns k ≤ 64
 width_short_from ws [] k h = omega arith

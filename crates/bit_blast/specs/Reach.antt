@@ -2,7 +2,8 @@
 use Rattle.std.specs.Prelude.{◌≡◌, ℕ, Bool, false, IsTrue, ◌↔◌, List, [], ◌∷◌, length, slice_index_or}
 use Rattle.std.specs.List.{Contains}
 use Rattle.word_dag.specs.declared.nodes.Node.{Node}
-use Rattle.word_dag.specs.declared.nodes.Node.TheVariants.{Constant, Variable, Not, Negate, Binary, Shift, Compare, Fits, Choice, ZeroExtend, SignExtend, Cut, Join}
+use Rattle.word_dag.specs.declared.nodes.Node.TheVariants.{Constant, Variable, Not, Negate, Binary, Shift, Compare, Fits, Choice, ZeroExtend, SignExtend, Cut, Join, Quantify}
+use Rattle.word_dag.specs.Meaning.{places}
 
 -- the places of the nodes that a node reads
 abbrev pub operands : Node → List ℕ
@@ -19,6 +20,7 @@ operands (ZeroExtend a w) = a.index ∷ []
 operands (SignExtend a w) = a.index ∷ []
 operands (Cut a low w) = a.index ∷ []
 operands (Join high low) = high.index ∷ low.index ∷ []
+operands (Quantify q first count) = places first.index count
 
 -- the node at a place; a constant where there is none
 abbrev pub node_at : List Node → ℕ → Node

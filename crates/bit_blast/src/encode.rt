@@ -2,11 +2,11 @@
 
 #![tactic(auto, using(gate_arith::proofs::Steps::steps))]
 
-ghost use Rattle.std.specs.Prelude.{◌≡◌, ℕ, ◌<◌, ◌≤◌, true, Bool, IsTrue, IfOk, length};
+ghost use Rattle.std.specs.Prelude.{◌≡◌, ℕ, ◌+◌, ◌^◌, ◌<◌, ◌≤◌, true, Bool, IsTrue, IfOk, length, map};
 ghost use Rattle.std.specs.List.{AllByRecursion};
-ghost use Rattle.sat_form.specs.Satisfaction.{IsWithin, AreWithin};
+ghost use Rattle.sat_form.specs.Satisfaction.{literal_value, IsWithin, AreWithin};
 ghost use Rattle.sat_form.specs.Numbers.{value_of};
-ghost use Rattle.word_dag.specs.Meaning.{at, node_width, node_value};
+ghost use Rattle.word_dag.specs.Meaning.{at, bit_value, places, at_places, node_width, node_value};
 ghost use Rattle.word_dag.specs.Fitting.{fits};
 ghost use Rattle.gate_bits.specs.Growth.{known_part};
 ghost use Rattle.gate_arith.specs.Growth.{Grows, added_to};
@@ -17,7 +17,7 @@ ghost use Rattle.bit_blast.specs.Variables.{width_read};
 
 use crate::bits::{constant, cut, join, sign_extended, zero_extended};
 use crate::lists::LitLists;
-use crate::operations::{binary, choose, compare, result_fits, shift};
+use crate::operations::{binary, choose, compare, quantify, result_fits, shift};
 use gate_arith::negation;
 use gate_bits::Lits;
 use gate_bits::bits::complement;
@@ -36,6 +36,26 @@ fn read<'a>(lists: &'a LitLists, cnf: &Cnf, id: Id) -> &'a [Lit]
     ensures number { (x : ℕ → Bool) → value_of result.now x ≡ at (numbers_of lists.now x) id }
 {
     lists.get(id.index)
+}
+
+// The literals of so many operands of one bit each, from a place on.
+#[tactic(auto, using(gate_arith::proofs::Steps::steps, crate::proofs::Gathering::list_there))]
+fn bits_from(
+    alloc: Global,
+    lists: &LitLists,
+    first: usize,
+    count: usize,
+) -> Result<Vec<Lit>, AllocError>
+    requires { AllByRecursion (λ j. length (literals_at lists.now j) ≡ 1) (places first count) }
+    ensures within { IfOk result (λ r. (n : ℕ) → AreWithin n lists.now → IsWithin n r.items) }
+    ensures values { IfOk result (λ r. (x : ℕ → Bool) → map (λ l. bit_value (literal_value x l)) r.items ≡ at_places (numbers_of lists.now x) (places first count)) }
+{
+    let _ = lists.len();
+    let mut literals = Vec::with_capacity(alloc, count)?;
+    for at in 0..count {
+        literals.push(lists.get(first + at)[0])?;
+    }
+    Ok(literals)
 }
 
 /// The literals of a node over those of the nodes before it and of the variables of the graph.
@@ -103,5 +123,9 @@ pub fn node_literals(
         Node::SignExtend(a, width) => Ok(sign_extended(alloc, read(before, cnf, a), width)?),
         Node::Cut(a, low, width) => Ok(cut(alloc, read(before, cnf, a), low, width)?),
         Node::Join(high, low) => Ok(join(alloc, read(before, cnf, high), read(before, cnf, low))?),
+        Node::Quantify(quantifier, first, count) => {
+            let literals = bits_from(alloc, before, first.index, count)?;
+            quantify(alloc, cnf, quantifier, &literals)
+        }
     }
 }

@@ -3,11 +3,22 @@
 ghost use Rattle.std.specs.Prelude.{◌≡◌, ◌<◌, length, IfOk};
 ghost use Rattle.std.specs.List.{AllByRecursion};
 ghost use Rattle.word_dag.specs.Growth.{Within};
+ghost use Rattle.word_dag.specs.Meaning.{places};
 ghost use Rattle.bit_blast.specs.Reach.{operands, AreMarks};
 ghost use Rattle.bit_blast.specs.Marking.{with_marks};
 
 use std::alloc::{AllocError, Global};
 use word_dag::{Dag, Id, Node};
+
+// Sets so many marks from a place on.
+fn mark_places(marks: &mut Vec<bool>, first: usize, count: usize)
+    requires { AllByRecursion (λ j. j < length marks.old.items) (places first count) }
+    ensures { marks.new.items ≡ with_marks marks.old.items (places first count) }
+{
+    for at in 0..count {
+        marks[first + at] = true;
+    }
+}
 
 // Sets the marks of the nodes that this node reads.
 fn mark_operands(marks: &mut Vec<bool>, node: Node)
@@ -34,6 +45,7 @@ fn mark_operands(marks: &mut Vec<bool>, node: Node)
             marks[a.index] = true;
             marks[b.index] = true;
         }
+        Node::Quantify(_, first, count) => mark_places(marks, first.index, count),
     }
 }
 

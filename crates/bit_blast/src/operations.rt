@@ -2,21 +2,21 @@
 
 #![tactic(auto, using(gate_arith::proofs::Steps::steps))]
 
-ghost use Rattle.std.specs.Prelude.{◌≡◌, ◌<◌, ◌≤◌, [], ◌∷◌, IfOk, length, if◌then◌else◌};
-ghost use Rattle.sat_form.specs.Satisfaction.{IsWithin};
+ghost use Rattle.std.specs.Prelude.{◌≡◌, ◌<◌, ◌≤◌, [], ◌∷◌, IfOk, length, map, if◌then◌else◌};
+ghost use Rattle.sat_form.specs.Satisfaction.{literal_value, IsWithin};
 ghost use Rattle.sat_form.specs.Numbers.{value_of};
-ghost use Rattle.word_dag.specs.Meaning.{bit_value, binary_value, shift_value, comparison_value, fits_value, holds};
+ghost use Rattle.word_dag.specs.Meaning.{bit_value, binary_value, shift_value, comparison_value, fits_value, holds, quantified};
 ghost use Rattle.gate_arith.specs.Growth.{Grows, added_to};
 ghost use Rattle.gate_bits.specs.Truth.{IsTruth, IsNumber};
 
 use gate_arith::{
-    Shift, adder, choice, conjunction, difference, difference_fits, disjunction, divider, equal,
-    exclusive, left_shift_fits, less, multiplier, product_fits, shifter, sum_fits,
+    Shift, adder, all, any, choice, conjunction, difference, difference_fits, disjunction, divider,
+    equal, exclusive, left_shift_fits, less, multiplier, product_fits, shifter, sum_fits,
 };
 use gate_bits::Lits;
 use sat_form::{Cnf, Lit};
 use std::alloc::{AllocError, Global};
-use word_dag::{BinaryOperator, Comparison, FitsTest, ShiftKind};
+use word_dag::{BinaryOperator, Comparison, FitsTest, Quantifier, ShiftKind};
 
 /// The literals of an operation on two words of one width.
 pub fn binary(
@@ -125,6 +125,29 @@ pub fn result_fits(
         FitsTest::LeftShift => left_shift_fits(alloc, cnf, a, b)?,
     };
     bit(alloc, literal)
+}
+
+/// The literal that tells whether all, or any, of some literals are true, as a word of width 1.
+pub fn quantify(
+    alloc: Global,
+    cnf: &mut Cnf,
+    quantifier: Quantifier,
+    literals: &[Lit],
+) -> Result<Lits, AllocError>
+    requires { IsWithin cnf.old.variables literals.now }
+    ensures grows { Grows cnf.old cnf.new }
+    ensures is { IfOk result (λ r. IsNumber (added_to cnf.old cnf.new) 1 r (λ x. bit_value (quantified quantifier (map (λ l. bit_value (literal_value x l)) literals.now)))) }
+{
+    match quantifier {
+        Quantifier::All => {
+            let each = all(alloc, cnf, literals)?;
+            Ok(bit(alloc, each)?)
+        }
+        Quantifier::Any => {
+            let one = any(alloc, cnf, literals)?;
+            Ok(bit(alloc, one)?)
+        }
+    }
 }
 
 /// The literals of a choice by a word of width 1.

@@ -1,18 +1,22 @@
 -- Nodes over those that stand for their operands, and what is known as the graph grows.
-use Rattle.std.proofs.Common.{◌≡◌, ℕ, ◌+◌, ◌<◌, ◌≤◌, Bool, true, false, cond, List, [], ◌∷◌, ◌++◌, length, get_or, Option, Some, None, refl, sym, ap, subst, ◌∙◌, arith, below_more}
-use Rattle.std.specs.Prelude.{◌==◌, IfSome, if◌then◌else◌}
+use Rattle.std.proofs.Common.{◌≡◌, ℕ, ◌+◌, ◌<◌, ◌≤◌, Bool, true, false, cond, List, [], ◌∷◌, ◌++◌, length, get_or, map, Option, Some, None, refl, sym, ap, subst, ◌∙◌, arith, below_more}
+use Rattle.std.specs.Prelude.{All, ◌==◌, IfSome, if◌then◌else◌}
+use Rattle.std.specs.List.{AllByRecursion}
+use Rattle.std.proofs.lemmas.List.Elements.{All-from_recursion}
 use Rattle.std.specs.Ordering.{nat_cmp}
 use Rattle.std.specs.BTreeMap.{is_at}
 use Rattle.std.specs.Cmp.{unsigned_tied}
-use Rattle.std.proofs.lemmas.List.{get_or_append_left, get_or_push, get_or_default, length_push}
+use Rattle.std.proofs.lemmas.List.{get_or_append_left, get_or_push, get_or_default, length_push, map-append}
+use Rattle.word_dag.proofs.Places.{places_more}
 use Rattle.std.proofs.lemmas.Bool.Decides.{nat_tests}
 use Rattle.words.specs.Operators.{word_negation, word_complement, low_bits, logical_shift, sign_extension}
 use Rattle.word_dag.specs.declared.nodes.Id.{Id}
 use Rattle.word_dag.specs.declared.nodes.Node.{Node}
-use Rattle.word_dag.specs.declared.nodes.Node.TheVariants.{Constant, Variable, Not, Negate, Binary, Shift, Compare, Fits, Choice, ZeroExtend, SignExtend, Cut, Join}
-use Rattle.word_dag.specs.Meaning.{bit_value, holds, joined, binary_value, shift_value, comparison_value, fits_value, node_width, node_value, widths, values, width, value}
+use Rattle.word_dag.specs.declared.nodes.Node.TheVariants.{Constant, Variable, Not, Negate, Binary, Shift, Compare, Fits, Choice, ZeroExtend, SignExtend, Cut, Join, Quantify}
+use Rattle.word_dag.specs.declared.nodes.Quantifier.{Quantifier}
+use Rattle.word_dag.specs.Meaning.{bit_value, holds, joined, places, at_places, quantified, binary_value, shift_value, comparison_value, fits_value, node_width, node_value, widths, values, width, value}
 use Rattle.word_dag.specs.Fitting.{is_ordered}
-use Rattle.word_dag.specs.Growth.{Within, Extends, Makes, IsFitting}
+use Rattle.word_dag.specs.Growth.{Within, Extends, Makes, IsTruthValue, Quantifies, IsFitting}
 use Rattle.word_dag.proofs.Grown.{extends_itself, extends_more}
 use Rattle.word_dag.proofs.Order.{width_is_final, value_is_final}
 use Rattle.rewritten_nodes.specs.declared.known.Known.{Known}
@@ -36,6 +40,7 @@ module _ (d : List Node) (ids : List Id) (there : (a : Id) → a.index < length 
   over_fits (SignExtend a w) f b = (there a b, omega (arith, wide a b, f.1), f.2)
   over_fits (Cut a low w) f b = (there a b, f.1, omega (arith, wide a b, f.2))
   over_fits (Join high low) f b = (there high b.0, there low b.1, omega (arith, wide high b.0, wide low b.1, f.2))
+  over_fits (Quantify q first count) f b = f
 
   pub over_width : (n : Node) → IsBelow (length ids) n → node_width (widths d) (over ids n) ≡ node_width (widths d) n
   over_width (Constant bits w) b = refl
@@ -51,6 +56,7 @@ module _ (d : List Node) (ids : List Id) (there : (a : Id) → a.index < length 
   over_width (SignExtend a w) b = refl
   over_width (Cut a low w) b = refl
   over_width (Join high low) b = let p = wide high b.0 in let q = wide low b.1 in λ k. p k + q k
+  over_width (Quantify q first count) b = refl
 
   pub over_value : (v : ℕ → ℕ) → ((a : Id) → a.index < length ids → value v d (image ids a) ≡ value v d a) → (n : Node) → IsBelow (length ids) n
       → node_value v (widths d) (values v d) (over ids n) ≡ node_value v (widths d) (values v d) n
@@ -67,6 +73,28 @@ module _ (d : List Node) (ids : List Id) (there : (a : Id) → a.index < length 
   over_value v same (SignExtend a w) b = let p = wide a b in let q = same a b in λ k. sign_extension (p k) w (q k)
   over_value v same (Cut a low w) b = let q = same a b in λ k. low_bits w (logical_shift (q k) low)
   over_value v same (Join high low) b = let p = wide low b.1 in let q = same high b.0 in let r = same low b.1 in λ k. joined (p k) (q k) (r k)
+  over_value v same (Quantify q first count) b = refl
+
+  -- the nodes that stand for those of a list
+  image_bits : (js : List ℕ) → AllByRecursion (λ j. j < length ids) js → AllByRecursion (λ j. width d (record { index = j }) ≡ 1) js → AllByRecursion (IsTruthValue d) (map (λ j. image ids (record { index = j })) js)
+  image_bits [] b ones = tt
+  image_bits (j ∷ js) b ones =
+      (record { there = there (record { index = j }) b.0; width_is = wide (record { index = j }) b.0 ∙ ones.0 }, image_bits js b.1 ones.1)
+
+  pub images_bits : (js : List ℕ) → AllByRecursion (λ j. j < length ids) js → AllByRecursion (λ j. width d (record { index = j }) ≡ 1) js → All (IsTruthValue d) (map (λ j. image ids (record { index = j })) js)
+  images_bits js b ones = All-from_recursion (IsTruthValue d) (map (λ j. image ids (record { index = j })) js) (image_bits js b ones)
+
+  pub images_values : (v : ℕ → ℕ) → ((a : Id) → a.index < length ids → value v d (image ids a) ≡ value v d a) → (js : List ℕ) → AllByRecursion (λ j. j < length ids) js → map (value v d) (map (λ j. image ids (record { index = j })) js) ≡ at_places (values v d) js
+  images_values v same [] b = refl
+  images_values v same (j ∷ js) b = let p = same (record { index = j }) b.0 in λ k. p k ∷ images_values v same js b.1 k
+
+-- one of a list more
+pub images_more : (ids read : List Id) (first at : ℕ) (old new : List Id) (other : Id) → read ≡ ids → old ≡ map (λ j. image ids (record { index = j })) (places first at) → other ≡ image read (record { index = first + at }) → new ≡ old ++ other ∷ [] → new ≡ map (λ j. image ids (record { index = j })) (places first (at + 1))
+images_more ids read first at old new other same so is pushed =
+    pushed
+    ∙ (λ k. so k ++ (is ∙ ap (λ (rs : List Id). image rs (record { index = first + at })) same) k ∷ [])
+    ∙ sym (map-append (λ j. image ids (record { index = j })) (places first at) ((first + at) ∷ []))
+    ∙ ap (map (λ j. image ids (record { index = j }))) (sym (places_more first at))
 
 -- ---- the node at the place that is next
 
@@ -92,6 +120,30 @@ module _ (d : List Node) (k : Known) (n : Node) (ordered : is_ordered d ≡ true
   pub next_value : (e : List Node) (m : Node) (i : Id) → m ≡ over k.ids.items n → Makes d e m i → (v : ℕ → ℕ) → Agrees v d k → value v e i ≡ value v d (record { index = length k.ids.items })
   next_value e m i is made v agrees =
       made.value_is v ∙ ap (node_value v (widths d) (values v d)) is ∙ over_value d k.ids.items within.there within.widths v agrees.images n below ∙ value_here v
+
+  module _ (q : Quantifier) (first : Id) (count : ℕ) (images : List Id) (is : n ≡ Quantify q first count) (standing : images ≡ map (λ j. image k.ids.items (record { index = j })) (places first.index count)) where
+    places_known : AllByRecursion (λ j. j < length k.ids.items) (places first.index count)
+    places_known = subst (IsBelow (length k.ids.items)) is below
+
+    ones : IsFitting d (Quantify q first count)
+    ones = subst (IsFitting d) is (fitting_at d (length k.ids.items) n ordered more at)
+
+    pub list_fits : All (IsTruthValue d) images
+    list_fits = subst (All (IsTruthValue d)) (sym standing) (images_bits d k.ids.items within.there within.widths (places first.index count) places_known ones.1)
+
+    pub list_short : first.index + count ≤ length d
+    list_short = ones.0
+
+    pub list_width : (e : List Node) (i : Id) → Quantifies d e q images i → width e i ≡ width d (record { index = length k.ids.items })
+    list_width e i made = made.width_is ∙ ap (node_width (widths d)) (sym is) ∙ width_here
+
+    pub list_value : (e : List Node) (i : Id) → Quantifies d e q images i → (v : ℕ → ℕ) → Agrees v d k → value v e i ≡ value v d (record { index = length k.ids.items })
+    list_value e i made v agrees =
+        made.value_is v
+        ∙ (λ j. bit_value (quantified q (map (value v d) (standing j))))
+        ∙ (λ j. bit_value (quantified q (images_values d k.ids.items within.there within.widths v agrees.images (places first.index count) places_known j)))
+        ∙ ap (node_value v (widths d) (values v d)) (sym is)
+        ∙ value_here v
 
   pub variable_width : (i : Id) (x w : ℕ) → n ≡ Variable x w → width d i ≡ w → width d i ≡ width d (record { index = length k.ids.items })
   variable_width i x w is wide = wide ∙ ap (node_width (widths d)) (sym is) ∙ width_here

@@ -5,7 +5,7 @@ use Rattle.std.specs.BTreeMap as tree
 use Rattle.words.specs.Operators.{low_bits}
 use Rattle.word_dag.specs.declared.nodes.Id.{Id}
 use Rattle.word_dag.specs.declared.nodes.Node.{Node}
-use Rattle.word_dag.specs.declared.nodes.Node.TheVariants.{Constant, Variable, Not, Negate, Binary, Shift, Compare, Fits, Choice, ZeroExtend, SignExtend, Cut, Join}
+use Rattle.word_dag.specs.declared.nodes.Node.TheVariants.{Constant, Variable, Not, Negate, Binary, Shift, Compare, Fits, Choice, ZeroExtend, SignExtend, Cut, Join, Quantify}
 use Rattle.word_dag.specs.Meaning.{width, value}
 use Rattle.word_dag.specs.Growth.{Within}
 use Rattle.rewritten_nodes.specs.declared.known.Known.{Known}
@@ -14,7 +14,7 @@ use Rattle.rewritten_nodes.specs.declared.known.Known.{Known}
 abbrev pub image : List Id → Id → Id
 image ids a = slice_index_or ids a.index a
 
--- the node over those that stand for its operands
+-- the node over those that stand for its operands; one over a list as it is
 abbrev pub over : List Id → Node → Node
 over ids (Constant bits w) = Constant bits w
 over ids (Variable x w) = Variable x w
@@ -29,6 +29,7 @@ over ids (ZeroExtend a w) = ZeroExtend (image ids a) w
 over ids (SignExtend a w) = SignExtend (image ids a) w
 over ids (Cut a low w) = Cut (image ids a) low w
 over ids (Join high low) = Join (image ids high) (image ids low)
+over ids (Quantify q first count) = Quantify q first count
 
 -- the node of a known variable
 abbrev pub known_at : Known → ℕ → Option Id

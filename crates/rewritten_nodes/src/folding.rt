@@ -8,8 +8,8 @@ ghost use Rattle.rewritten_nodes.specs.Same.{IsTruth, AreConjuncts, IsSide, IsSa
 use std::alloc::AllocError;
 use word_dag::{BinaryOperator, Dag, Id, Node};
 
-// The truth value of a node that is a constant of width 1.
-fn truth(dag: &Dag, id: Id) -> Option<bool>
+/// The truth value of a node that is a constant of width 1.
+pub fn truth(dag: &Dag, id: Id) -> Option<bool>
     requires { Within dag.now id }
     ensures { IfSome result (IsTruth dag.now id) }
 {

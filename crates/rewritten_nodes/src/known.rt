@@ -1,14 +1,14 @@
 //! What is known of the variables of a graph, and the nodes that stand for its nodes where it holds.
 
-ghost use Rattle.std.specs.Prelude.{◌≡◌, ◌<◌, ◌≤◌, ℕ, List, length, IfOk, IfSome, OnOk};
+ghost use Rattle.std.specs.Prelude.{◌≡◌, ◌+◌, ◌<◌, ◌≤◌, ℕ, List, length, map, IfOk, IfSome, OnOk};
 ghost use Rattle.words.specs.Operators.{low_bits};
 ghost use Rattle.word_dag.specs.Growth.{Within, Extends};
-ghost use Rattle.word_dag.specs.Meaning.{width, value};
+ghost use Rattle.word_dag.specs.Meaning.{width, value, places};
 ghost use Rattle.word_dag.specs.declared.nodes.Node.{Node};
-ghost use Rattle.rewritten_nodes.specs.Images.{KnownIn, Agrees};
+ghost use Rattle.rewritten_nodes.specs.Images.{image, KnownIn, Agrees};
 
 use crate::folding::simplified;
-use crate::operands::over;
+use crate::operands::{image, over};
 use std::alloc::{AllocError, Global};
 use std::collections::BTreeMap;
 use word_dag::{Dag, Id, Node};
@@ -17,6 +17,7 @@ use word_dag::{Dag, Id, Node};
 /// needed so far, the nodes that have their values where the known variables have those of theirs.
 #[derive(Drop)]
 pub struct Known {
+    alloc: Global,
     ids: Vec<Id>,
     nodes: BTreeMap<u32, Id>,
 }
@@ -28,6 +29,7 @@ impl Known {
         ensures agrees { (v : ℕ → ℕ) (d : List Node) → Agrees v d result }
     {
         Known {
+            alloc,
             ids: Vec::new(alloc),
             nodes: BTreeMap::new(alloc),
         }
@@ -65,6 +67,24 @@ impl Known {
         }
     }
 
+    // The nodes that stand for so many nodes from a place on, and whether one of them is another.
+    fn images(&self, first: usize, count: usize) -> Result<(Vec<Id>, bool), AllocError>
+        requires { first + count ≤ length self.now.ids.items }
+        ensures { IfOk result (λ r. r.0.items ≡ map (λ j. image self.now.ids.items (record { index = j })) (places first count)) }
+    {
+        let mut images = Vec::with_capacity(self.alloc, count)?;
+        let mut differs = false;
+        for at in 0..count {
+            let id = Id { index: first + at };
+            let other = image(&self.ids, id);
+            if other != id {
+                differs = true;
+            }
+            images.push(other)?;
+        }
+        Ok((images, differs))
+    }
+
     // The node that stands for the first one that has none yet.
     fn next(&self, dag: &mut Dag) -> Result<Id, AllocError>
         requires within { KnownIn dag.old self.now }
@@ -84,6 +104,14 @@ impl Known {
                 Some(known) => Ok(known),
                 None => Ok(id),
             };
+        }
+        if let Node::Quantify(quantifier, first, count) = node {
+            let (images, differs) = self.images(first.index, count)?;
+            if !differs {
+                return Ok(id);
+            }
+            let made = dag.quantify(quantifier, &images)?;
+            return Ok(made);
         }
         let other = over(&self.ids, node);
         if other == node {

@@ -6,5 +6,5 @@ mod folding;
 mod known;
 mod operands;
 
-pub use folding::{side, simplified};
+pub use folding::{side, simplified, truth};
 pub use known::Known;

@@ -5,8 +5,8 @@ ghost use Rattle.rewritten_nodes.specs.Images.{image, over};
 
 use word_dag::{Id, Node};
 
-// The node that stands for a node, which is itself where the list doesn't reach it.
-fn image(ids: &[Id], id: Id) -> Id
+/// The node that stands for a node, which is itself where the list doesn't reach it.
+pub fn image(ids: &[Id], id: Id) -> Id
     ensures { result ≡ image ids.now id }
 {
     if id.index < ids.len() {
@@ -16,7 +16,8 @@ fn image(ids: &[Id], id: Id) -> Id
     }
 }
 
-/// The node over those that stand for its operands.
+/// The node over those that stand for its operands. A node over a list is left as it is: those that stand for
+/// the nodes of the list need not stand one behind the other.
 pub fn over(ids: &[Id], node: Node) -> Node
     ensures { result ≡ over ids.now node }
 {
@@ -37,5 +38,6 @@ pub fn over(ids: &[Id], node: Node) -> Node
         Node::SignExtend(a, width) => Node::SignExtend(image(ids, a), width),
         Node::Cut(a, low, width) => Node::Cut(image(ids, a), low, width),
         Node::Join(high, low) => Node::Join(image(ids, high), image(ids, low)),
+        Node::Quantify(_, _, _) => node,
     }
 }

@@ -8,12 +8,12 @@ use Rattle.std.proofs.lemmas.Bool.Decides.{Decides-ltb}
 use Rattle.words.proofs.Ranges.{below_wider, low_bits_below, word_sum_below, word_difference_below, word_product_below, word_negation_below, word_complement_below, left_shift_below, unsigned_quotient_below, unsigned_remainder_below, logical_shift_below, signed_quotient_below, signed_remainder_below, arithmetic_shift_below, sign_extension_below, bit_and_below, bit_or_below, bit_xor_below}
 use Rattle.word_dag.specs.declared.nodes.Id.{Id}
 use Rattle.word_dag.specs.declared.nodes.Node.{Node}
-use Rattle.word_dag.specs.declared.nodes.Node.TheVariants.{Constant, Variable, Not, Negate, Binary, Shift, Compare, Fits, Choice, ZeroExtend, SignExtend, Cut, Join}
+use Rattle.word_dag.specs.declared.nodes.Node.TheVariants.{Constant, Variable, Not, Negate, Binary, Shift, Compare, Fits, Choice, ZeroExtend, SignExtend, Cut, Join, Quantify}
 use Rattle.word_dag.specs.declared.nodes.BinaryOperator.{BinaryOperator}
 use Rattle.word_dag.specs.declared.nodes.BinaryOperator.TheVariants.{Add, Subtract, Multiply, UnsignedDivide, SignedDivide, UnsignedRemainder, SignedRemainder, And, Or, Xor}
 use Rattle.word_dag.specs.declared.nodes.ShiftKind.{ShiftKind}
 use Rattle.word_dag.specs.declared.nodes.ShiftKind.TheVariants.{Left, Logical, Arithmetic}
-use Rattle.word_dag.specs.Meaning.{at, bit_value, holds, joined, binary_value, shift_value, comparison_value, fits_value, node_width, node_value, widths, values, width, value}
+use Rattle.word_dag.specs.Meaning.{at, bit_value, holds, joined, places, at_places, quantified, binary_value, shift_value, comparison_value, fits_value, node_width, node_value, widths, values, width, value}
 use Rattle.word_dag.specs.Fitting.{is_width, fits, is_ordered}
 use Rattle.word_dag.specs.Growth.{Within}
 use Rattle.word_dag.proofs.Folds.{length_widths, length-values, widths-push, values-push}
@@ -81,6 +81,7 @@ node_below v ws vs (Cut a low w) g h = low_bits_below w _
 node_below v ws vs (Join high low) g h =
     let p = joint ws high low h in
     joined_below (at ws high) (at ws low) (at vs high) (at vs low) (g.below high.index p.left) (g.below low.index p.right)
+node_below v ws vs (Quantify q first count) g h = bit_below (quantified q (at_places vs (places first.index count)))
 
 pub record AreWidths (ws : List ℕ) : Type 0 where
   pub each : (i : ℕ) → i < length ws → IsWidth (get_or ws i 0)
@@ -111,6 +112,7 @@ node_range ws (Join high low) g h =
     let p = joint ws high low h in
     let q = g.each high.index p.left in
     record { positive = omega (arith, q.positive); at_most_64 = p.at_most_64 }
+node_range ws (Quantify q first count) g h = record { positive = omega arith; at_most_64 = omega arith }
 
 -- ---- all nodes
 

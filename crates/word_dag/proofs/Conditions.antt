@@ -5,11 +5,12 @@ use Rattle.std.proofs.lemmas.Bool.{le-leb, lt-ltb}
 use Rattle.std.proofs.lemmas.Bool.Decides.{Decides-ltb}
 use Rattle.word_dag.specs.declared.nodes.Id.{Id}
 use Rattle.word_dag.specs.declared.nodes.Node.{Node}
-use Rattle.word_dag.specs.declared.nodes.Node.TheVariants.{Constant, Variable, Not, Negate, Binary, Shift, Compare, Fits, Choice, ZeroExtend, SignExtend, Cut, Join}
+use Rattle.word_dag.specs.declared.nodes.Node.TheVariants.{Constant, Variable, Not, Negate, Binary, Shift, Compare, Fits, Choice, ZeroExtend, SignExtend, Cut, Join, Quantify}
 use Rattle.word_dag.specs.Meaning.{widths, width}
 use Rattle.word_dag.specs.Fitting.{is_width, is_there, are_alike, fits}
 use Rattle.word_dag.specs.Growth.{Within, IsFitting}
 use Rattle.word_dag.proofs.Folds.{length_widths}
+use Rattle.word_dag.proofs.Places.{bits, bits_from}
 use Rattle.word_dag.proofs.Operands.{both, there, alike, width_range, chosen, widened, part, joint}
 
 -- ---- from the condition
@@ -37,6 +38,7 @@ fits_from d (ZeroExtend a w) h = both_true (both_true (there_from d a h.0) (le-l
 fits_from d (SignExtend a w) h = both_true (both_true (there_from d a h.0) (le-leb (width d a) w h.1)) (le-leb w 64 h.2)
 fits_from d (Cut a low w) h = both_true (both_true (there_from d a h.0) (le-leb 1 w h.1)) (le-leb (low + w) (width d a) h.2)
 fits_from d (Join high low) h = both_true (both_true (there_from d high h.0) (there_from d low h.1)) (le-leb (width d high + width d low) 64 h.2)
+fits_from d (Quantify q first count) h = bits_from (widths d) first.index count (omega (arith, length_widths d, h.0)) h.1
 
 -- ---- from the test
 
@@ -62,3 +64,4 @@ fitting_from d (ZeroExtend a w) h = let p = widened (widths d) a w h in (within_
 fitting_from d (SignExtend a w) h = let p = widened (widths d) a w h in (within_from d a p.there, p.not_narrower, p.at_most_64)
 fitting_from d (Cut a low w) h = let p = part (widths d) a low w h in (within_from d a p.there, p.positive, p.within)
 fitting_from d (Join high low) h = let p = joint (widths d) high low h in (within_from d high p.left, within_from d low p.right, p.at_most_64)
+fitting_from d (Quantify q first count) h = let p = bits (widths d) first.index count h in (omega (arith, length_widths d, p.within), p.ones)

@@ -1,4 +1,5 @@
 pub mod Folds
+pub mod Places
 pub mod Operands
 pub mod Order
 pub mod Bounds
@@ -6,4 +7,5 @@ pub mod Operations
 pub mod Grown
 pub mod Steps
 pub mod Conditions
+pub mod Copies
 pub mod Truth

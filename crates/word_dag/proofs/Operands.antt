@@ -5,9 +5,10 @@ use Rattle.std.proofs.lemmas.Bool.{leb-true}
 use Rattle.words.specs.Operators.{word_negation, word_complement, low_bits, logical_shift, sign_extension}
 use Rattle.word_dag.specs.declared.nodes.Id.{Id}
 use Rattle.word_dag.specs.declared.nodes.Node.{Node}
-use Rattle.word_dag.specs.declared.nodes.Node.TheVariants.{Constant, Variable, Not, Negate, Binary, Shift, Compare, Fits, Choice, ZeroExtend, SignExtend, Cut, Join}
-use Rattle.word_dag.specs.Meaning.{at, bit_value, holds, joined, binary_value, shift_value, comparison_value, fits_value, node_width, node_value}
+use Rattle.word_dag.specs.declared.nodes.Node.TheVariants.{Constant, Variable, Not, Negate, Binary, Shift, Compare, Fits, Choice, ZeroExtend, SignExtend, Cut, Join, Quantify}
+use Rattle.word_dag.specs.Meaning.{at, bit_value, holds, joined, places, quantified, binary_value, shift_value, comparison_value, fits_value, node_width, node_value}
 use Rattle.word_dag.specs.Fitting.{is_width, is_there, are_alike, fits}
+use Rattle.word_dag.proofs.Places.{places_below, at_agree, bits}
 
 -- ---- tests
 
@@ -105,6 +106,7 @@ node_width-agree ws us (Join high low) g h =
     let p = g.same high.index (joint ws high low h).left in
     let q = g.same low.index (joint ws high low h).right in
     λ k. p k + q k
+node_width-agree ws us (Quantify q first count) g h = refl
 
 pub node_value-agree : (v : ℕ → ℕ) (ws vs us xs : List ℕ) (n : Node) → Agree (length ws) ws us → Agree (length ws) vs xs → fits ws n ≡ true → node_value v us xs n ≡ node_value v ws vs n
 node_value-agree v ws vs us xs (Constant bits w) g e h = refl
@@ -155,3 +157,6 @@ node_value-agree v ws vs us xs (Join high low) g e h =
     let q = e.same high.index (joint ws high low h).left in
     let r = e.same low.index (joint ws high low h).right in
     λ k. joined (p k) (q k) (r k)
+node_value-agree v ws vs us xs (Quantify q first count) g e h =
+    let p = at_agree (length ws) vs xs (places first.index count) e.same (places_below first.index count (length ws) (bits ws first.index count h).within) in
+    λ k. bit_value (quantified q (p k))

@@ -1,8 +1,8 @@
--- What is folded when a node is made: an operation on constants, and a choice by a constant.
+-- What is folded when a node is made: an operation on constants, and a choice by a constant. A node over a list is not.
 use Rattle.std.specs.Prelude.{Bool, true, false, ◌&&◌, List, slice_index_or}
 use Rattle.word_dag.specs.declared.nodes.Id.{Id}
 use Rattle.word_dag.specs.declared.nodes.Node.{Node}
-use Rattle.word_dag.specs.declared.nodes.Node.TheVariants.{Constant, Variable, Not, Negate, Binary, Shift, Compare, Fits, Choice, ZeroExtend, SignExtend, Cut, Join}
+use Rattle.word_dag.specs.declared.nodes.Node.TheVariants.{Constant, Variable, Not, Negate, Binary, Shift, Compare, Fits, Choice, ZeroExtend, SignExtend, Cut, Join, Quantify}
 
 abbrev pub is_literal : Node → Bool
 is_literal (Constant bits w) = true
@@ -12,7 +12,7 @@ is_literal _ = false
 abbrev pub is_constant : List Node → Id → Bool
 is_constant d i = is_literal (slice_index_or d i.index (Variable 0 0))
 
--- an operation, other than a choice, of which each operand is a constant
+-- an operation, other than a choice or one over a list, of which each operand is a constant
 abbrev pub folds : List Node → Node → Bool
 folds d (Constant bits w) = false
 folds d (Variable x w) = false
@@ -27,6 +27,7 @@ folds d (ZeroExtend a w) = is_constant d a
 folds d (SignExtend a w) = is_constant d a
 folds d (Cut a low w) = is_constant d a
 folds d (Join high low) = is_constant d high && is_constant d low
+folds d (Quantify q first count) = false
 
 -- a choice by a constant
 abbrev pub chooses : List Node → Node → Bool

@@ -1,10 +1,12 @@
 -- A graph, the nodes that can be made in it, the graph that it grows into, and the node that was made.
-use Rattle.std.specs.Prelude.{◌≡◌, ℕ, ◌+◌, ◌^◌, ◌<◌, ◌≤◌, ◌⊎◌, List, [], ◌∷◌, ◌++◌, length, slice_index_or}
+use Rattle.std.specs.Prelude.{◌≡◌, ℕ, ◌+◌, ◌^◌, ◌<◌, ◌≤◌, ◌⊎◌, List, [], ◌∷◌, ◌++◌, length, map, slice_index_or}
+use Rattle.std.specs.List.{AllByRecursion}
 use Rattle.words.specs.BitVector.{BitVector}
 use Rattle.word_dag.specs.declared.nodes.Id.{Id}
 use Rattle.word_dag.specs.declared.nodes.Node.{Node}
-use Rattle.word_dag.specs.declared.nodes.Node.TheVariants.{Constant, Variable, Not, Negate, Binary, Shift, Compare, Fits, Choice, ZeroExtend, SignExtend, Cut, Join}
-use Rattle.word_dag.specs.Meaning.{width, value, widths, values, node_width, node_value}
+use Rattle.word_dag.specs.declared.nodes.Node.TheVariants.{Constant, Variable, Not, Negate, Binary, Shift, Compare, Fits, Choice, ZeroExtend, SignExtend, Cut, Join, Quantify}
+use Rattle.word_dag.specs.declared.nodes.Quantifier.{Quantifier}
+use Rattle.word_dag.specs.Meaning.{width, value, widths, values, bit_value, places, quantified, node_width, node_value}
 
 -- the node is one of these
 abbrev pub Within : List Node → Id → Type 0
@@ -25,6 +27,7 @@ IsFitting d (ZeroExtend a w) = Within d a × (width d a ≤ w) × (w ≤ 64)
 IsFitting d (SignExtend a w) = Within d a × (width d a ≤ w) × (w ≤ 64)
 IsFitting d (Cut a low w) = Within d a × (1 ≤ w) × (low + w ≤ width d a)
 IsFitting d (Join high low) = Within d high × Within d low × (width d high + width d low ≤ 64)
+IsFitting d (Quantify q first count) = (first.index + count ≤ length d) × AllByRecursion (λ j. width d (record { index = j }) ≡ 1) (places first.index count)
 
 -- e has the nodes of d at the same places, with the same widths and values
 pub record Extends (d e : List Node) : Type 0 where
@@ -38,6 +41,23 @@ pub record Makes (d e : List Node) (n : Node) (i : Id) : Type 0 where
   pub there : Within e i
   pub width_is : width e i ≡ node_width (widths d) n
   pub value_is : (v : ℕ → ℕ) → value v e i ≡ node_value v (widths d) (values v d) n
+
+-- a truth value of the graph
+pub record IsTruthValue (d : List Node) (i : Id) : Type 0 where
+  pub there : Within d i
+  pub width_is : width d i ≡ 1
+
+-- e is d with one node behind it, which has the value of i, a truth value
+pub record IsCopied (d e : List Node) (i : Id) : Type 0 where
+  pub count : length e ≡ length d + 1
+  pub width_is : width e (record { index = length d }) ≡ 1
+  pub value_is : (v : ℕ → ℕ) → value v e (record { index = length d }) ≡ value v d i
+
+-- in e the node i tells whether all, or any, of these nodes of d are true
+pub record Quantifies (d e : List Node) (q : Quantifier) (ids : List Id) (i : Id) : Type 0 where
+  pub there : Within e i
+  pub width_is : width e i ≡ 1
+  pub value_is : (v : ℕ → ℕ) → value v e i ≡ bit_value (quantified q (map (value v d) ids))
 
 -- e is d, or d with one more node: n or a constant
 abbrev pub Grows : List Node → List Node → Node → Type 0

@@ -1,9 +1,10 @@
 -- The width and the value of each node of a word graph. One fold over the nodes gives the widths, one the values: each node's from those of the nodes before it.
-use Rattle.std.specs.Prelude.{ℕ, ◌+◌, ◌*◌, ◌^◌, ◌==◌, Bool, List, [], ◌∷◌, ◌++◌, nat_lt, bit_and, bit_or, bit_xor, if◌then◌else◌, slice_index}
+use Rattle.std.specs.Prelude.{ℕ, zero, suc, ◌+◌, ◌*◌, ◌^◌, ◌==◌, Bool, List, [], ◌∷◌, ◌++◌, map, nat_lt, bit_and, bit_or, bit_xor, if◌then◌else◌, slice_index}
+use Rattle.std.specs.List.{list_all, list_any}
 use Rattle.words.specs.Operators.{word_sum, word_difference, word_product, word_negation, word_complement, left_shift, low_bits, unsigned_quotient, unsigned_remainder, logical_shift, signed_quotient, signed_remainder, arithmetic_shift, sign_extension, signed_lt, sum_fits, difference_fits, product_fits, left_shift_fits}
 use Rattle.word_dag.specs.declared.nodes.Id.{Id}
 use Rattle.word_dag.specs.declared.nodes.Node.{Node}
-use Rattle.word_dag.specs.declared.nodes.Node.TheVariants.{Constant, Variable, Not, Negate, Binary, Shift, Compare, Fits, Choice, ZeroExtend, SignExtend, Cut, Join}
+use Rattle.word_dag.specs.declared.nodes.Node.TheVariants.{Constant, Variable, Not, Negate, Binary, Shift, Compare, Fits, Choice, ZeroExtend, SignExtend, Cut, Join, Quantify}
 use Rattle.word_dag.specs.declared.nodes.BinaryOperator.{BinaryOperator}
 use Rattle.word_dag.specs.declared.nodes.BinaryOperator.TheVariants.{Add, Subtract, Multiply, UnsignedDivide, SignedDivide, UnsignedRemainder, SignedRemainder, And, Or, Xor}
 use Rattle.word_dag.specs.declared.nodes.ShiftKind.{ShiftKind}
@@ -12,6 +13,8 @@ use Rattle.word_dag.specs.declared.nodes.Comparison.{Comparison}
 use Rattle.word_dag.specs.declared.nodes.Comparison.TheVariants.{Equal, UnsignedLess, SignedLess}
 use Rattle.word_dag.specs.declared.nodes.FitsTest.{FitsTest}
 use Rattle.word_dag.specs.declared.nodes.FitsTest.TheVariants.{Sum, Difference, Product, LeftShift}
+use Rattle.word_dag.specs.declared.nodes.Quantifier.{Quantifier}
+use Rattle.word_dag.specs.declared.nodes.Quantifier.TheVariants.{All, Any}
 
 -- ---- words and truth values
 
@@ -57,6 +60,22 @@ fits_value Difference w a b = difference_fits w a b
 fits_value Product w a b = product_fits w a b
 fits_value LeftShift w a count = left_shift_fits w a count
 
+-- ---- lists of truth values
+
+-- so many places, one behind the other
+abbrev pub places : ℕ → ℕ → List ℕ
+places first zero = []
+places first (suc count) = first ∷ places (suc first) count
+
+-- what stands at places; 0 where there is none
+abbrev pub at_places : List ℕ → List ℕ → List ℕ
+at_places xs js = map (λ j. slice_index xs j) js
+
+-- whether all, or any, of these words are true
+abbrev pub quantified : Quantifier → List ℕ → Bool
+quantified All words = list_all holds words
+quantified Any words = list_any holds words
+
 -- ---- a node, over the nodes before it: their widths ws, their values vs
 
 -- what stands at a node; 0 where there is no node
@@ -77,6 +96,7 @@ node_width ws (ZeroExtend a w) = w
 node_width ws (SignExtend a w) = w
 node_width ws (Cut a low w) = w
 node_width ws (Join high low) = at ws high + at ws low
+node_width ws (Quantify q first count) = 1
 
 -- v gives the variables their values
 abbrev pub node_value : (ℕ → ℕ) → List ℕ → List ℕ → Node → ℕ
@@ -93,6 +113,7 @@ node_value v ws vs (ZeroExtend a w) = at vs a
 node_value v ws vs (SignExtend a w) = sign_extension (at ws a) w (at vs a)
 node_value v ws vs (Cut a low w) = low_bits w (logical_shift (at vs a) low)
 node_value v ws vs (Join high low) = joined (at ws low) (at vs high) (at vs low)
+node_value v ws vs (Quantify q first count) = bit_value (quantified q (at_places vs (places first.index count)))
 
 -- ---- all nodes
 

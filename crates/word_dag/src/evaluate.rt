@@ -1,6 +1,7 @@
 //! The values of all nodes under a valuation.
 
 ghost use Rattle.std.specs.Prelude.{◌≡◌, ◌+◌, ◌≤◌, ◌<◌, IsTrue, length, map, if◌then◌else◌};
+ghost use Rattle.std.specs.List.{list_all, list_any};
 ghost use Rattle.words.specs.BitVector.{BitVector, word};
 ghost use Rattle.words.specs.Operators.{low_bits, logical_shift};
 ghost use Rattle.word_dag.specs.Meaning.{
@@ -11,6 +12,7 @@ ghost use Rattle.word_dag.specs.Meaning.{
   shift_value,
   comparison_value,
   fits_value,
+  quantified,
   at,
   node_width,
   node_value,
@@ -18,7 +20,7 @@ ghost use Rattle.word_dag.specs.Meaning.{
 };
 ghost use Rattle.word_dag.specs.Fitting.{fits};
 
-use crate::nodes::{BinaryOperator, Comparison, FitsTest, Id, Node, ShiftKind};
+use crate::nodes::{BinaryOperator, Comparison, FitsTest, Id, Node, Quantifier, ShiftKind};
 use crate::valuations::Valuation;
 use words::Word;
 
@@ -46,6 +48,9 @@ pub fn word_of(node: Node, words: &[Word], valuation: &Valuation) -> Word
         Node::SignExtend(a, width) => read(words, a).sext(width),
         Node::Cut(a, low, width) => cut(read(words, a), low, width),
         Node::Join(high, low) => join(read(words, high), read(words, low)),
+        Node::Quantify(quantifier, first, count) => {
+            bit(quantified(quantifier, &words[first.index..first.index + count]))
+        }
     }
 }
 
@@ -138,6 +143,38 @@ pub fn bit(truth: bool) -> Word
     ensures { result ≡ word 1 (bit_value truth) }
 {
     Word::new(u64::from(truth), 1)
+}
+
+/// Whether all, or any, of the words are true.
+#[tactic(auto, using(crate::proofs::Places::all_words, crate::proofs::Places::any_words))]
+pub fn quantified(quantifier: Quantifier, words: &[Word]) -> bool
+    ensures { result ≡ quantified quantifier (map (λ (w : BitVector). w.bits) words.now) }
+{
+    match quantifier {
+        Quantifier::All => are_true(words),
+        Quantifier::Any => is_one_true(words),
+    }
+}
+
+// Whether a word is true.
+fn is_true(word: Word) -> bool
+    ensures { result ≡ holds word.bits }
+{
+    word.bits() > 0
+}
+
+// Whether each word is true.
+fn are_true(words: &[Word]) -> bool
+    ensures { result ≡ list_all (λ (w : BitVector). holds w.bits) words.now }
+{
+    words.iter().all(|word| is_true(*word))
+}
+
+// Whether a word among these is true.
+fn is_one_true(words: &[Word]) -> bool
+    ensures { result ≡ list_any (λ (w : BitVector). holds w.bits) words.now }
+{
+    words.iter().any(|word| is_true(*word))
 }
 
 /// The second word where the condition holds, else the third.

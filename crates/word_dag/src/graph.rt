@@ -25,15 +25,18 @@ ghost use Rattle.std.specs.Prelude.{
   IfSome,
   OnOk,
   OnErr,
+  All,
+  ◌==◌,
 };
+ghost use Rattle.std.specs.List.{list_all};
 ghost use Rattle.words.specs.BitVector.{BitVector, word};
 ghost use Rattle.word_dag.specs.Meaning.{node_width, node_value, widths, values, width, value, valuation_of};
-ghost use Rattle.word_dag.specs.Fitting.{is_width, is_there, are_alike, fits, is_ordered};
+ghost use Rattle.word_dag.specs.Fitting.{is_width, is_there, are_alike, are_bits, fits, is_ordered};
 ghost use Rattle.word_dag.specs.Folding.{is_constant, folds, chooses};
-ghost use Rattle.word_dag.specs.Growth.{Within, Extends, Makes, Grows, GrowsByConstant, IsDecided, IsFitting};
+ghost use Rattle.word_dag.specs.Growth.{Within, Extends, Makes, Quantifies, IsTruthValue, IsCopied, Grows, GrowsByConstant, IsDecided, IsFitting};
 
 use crate::evaluate;
-use crate::nodes::{Id, Node};
+use crate::nodes::{Id, Node, Quantifier};
 use crate::valuations::Valuation;
 use std::alloc::{AllocError, Global};
 use std::marker::Model;
@@ -112,10 +115,10 @@ impl Dag {
         self.passes(node)
     }
 
-    /// Makes a node, and gives its Id. A node of constants is made as the constant that it comes to,
-    /// the one node that is added, and for a choice by a constant the Id of the chosen operand is given
-    /// and nothing is added. Any other node is added as it is, and no other. The only error is that
-    /// there is no memory; the graph is then unchanged.
+    /// Makes a node, and gives its Id. A node of constants, other than one over a list, is made as the
+    /// constant that it comes to, the one node that is added, and for a choice by a constant the Id of the
+    /// chosen operand is given and nothing is added. Any other node is added as it is, and no other. The
+    /// only error is that there is no memory; the graph is then unchanged.
     pub fn make(&mut self, node: Node) -> Result<Id, AllocError>
         requires { IsFitting self.old node }
         ensures extends { Extends self.old self.new }
@@ -125,6 +128,8 @@ impl Dag {
         ensures constant { IsTrue (folds self.old node) → OnOk result (GrowsByConstant self.old self.new) }
         ensures chosen { IsTrue (chooses self.old node) → self.new ≡ self.old }
         ensures plain { IsFalse (folds self.old node) → IsFalse (chooses self.old node) → OnOk result (self.new ≡ self.old ++ node ∷ []) }
+        ensures last { IsFalse (chooses self.old node) → IfOk result (λ i. i ≡ record { index = length self.old }) }
+        ensures one_more { IsFalse (chooses self.old node) → OnOk result (length self.new ≡ length self.old + 1) }
         ensures err { OnErr result (self.new ≡ self.old) }
     {
         if let Some(id) = self.chosen(node) {
@@ -134,6 +139,32 @@ impl Dag {
             Some(word) => self.put(Node::Constant(word.bits(), word.width())),
             None => self.put(node),
         }
+    }
+
+    /// Makes a node that tells whether all, or any, of these truth values are true: copies of them, one
+    /// behind the other, and the node over the copies. The only error is that there is no memory.
+    pub fn quantify(&mut self, quantifier: Quantifier, ids: &[Id]) -> Result<Id, AllocError>
+        requires { All (IsTruthValue self.old) ids.now }
+        ensures extends { Extends self.old self.new }
+        ensures made { IfOk result (Quantifies self.old self.new quantifier ids.now) }
+    {
+        let first = Id { index: self.len() };
+        for id in ids {
+            self.copy(*id)?;
+        }
+        let made = self.make(Node::Quantify(quantifier, first, ids.len()))?;
+        Ok(made)
+    }
+
+    // Adds a node that has the value of this truth value.
+    fn copy(&mut self, id: Id) -> Result<(), AllocError>
+        requires { IsTruthValue self.old id }
+        ensures extends { Extends self.old self.new }
+        ensures copied { OnOk result (IsCopied self.old self.new id) }
+    {
+        let _ = self.nodes();
+        self.make(Node::Cut(id, 0, 1))?;
+        Ok(())
     }
 
     /// The word of each node where the variables have these values.
@@ -183,6 +214,7 @@ impl Dag {
             Node::Join(high, low) => {
                 self.has(high) && self.has(low) && self.width(high) + self.width(low) <= 64
             }
+            Node::Quantify(_, first, count) => self.are_bits(first.index, count),
         }
     }
 
@@ -222,7 +254,7 @@ impl Dag {
             | Node::Binary(_, a, _)
             | Node::Shift(_, a, _)
             | Node::Choice(_, a, _) => self.width(a),
-            Node::Compare(_, _, _) | Node::Fits(_, _, _) => 1,
+            Node::Compare(_, _, _) | Node::Fits(_, _, _) | Node::Quantify(_, _, _) => 1,
             Node::Join(high, low) => self.width(high) + self.width(low),
         }
     }
@@ -240,6 +272,17 @@ impl Dag {
         ensures { result ≡ are_alike (widths self.now) a b }
     {
         self.has(a) && self.has(b) && self.width(a) == self.width(b)
+    }
+
+    // Whether so many nodes from a place on are nodes of the graph and have width 1.
+    fn are_bits(&self, first: usize, count: usize) -> bool
+        ensures { result ≡ are_bits (widths self.now) first count }
+    {
+        let length = self.node_widths.len();
+        if length < count || length - count < first {
+            return false;
+        }
+        are_ones(&self.node_widths[first..first + count])
     }
 
     // The word of a node that is a constant.
@@ -279,7 +322,10 @@ impl Dag {
         ensures some { is_some result ≡ folds self.now node }
     {
         match node {
-            Node::Constant(_, _) | Node::Variable(_, _) | Node::Choice(_, _, _) => None,
+            Node::Constant(_, _)
+            | Node::Variable(_, _)
+            | Node::Choice(_, _, _)
+            | Node::Quantify(_, _, _) => None,
             Node::Not(a) => Some(self.constant(a)?.not()),
             Node::Negate(a) => Some(self.constant(a)?.neg()),
             Node::Binary(operator, a, b) => Some(evaluate::binary(
@@ -309,6 +355,13 @@ impl Dag {
             )),
         }
     }
+}
+
+// Whether each number is 1.
+fn are_ones(numbers: &[u32]) -> bool
+    ensures { result ≡ list_all (λ n. n == 1) numbers.now }
+{
+    numbers.iter().all(|number| *number == 1)
 }
 
 // Whether this is a width from 1 to 64.

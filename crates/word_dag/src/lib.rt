@@ -8,5 +8,5 @@ mod nodes;
 mod valuations;
 
 pub use graph::Dag;
-pub use nodes::{BinaryOperator, Comparison, FitsTest, Id, Node, ShiftKind};
+pub use nodes::{BinaryOperator, Comparison, FitsTest, Id, Node, Quantifier, ShiftKind};
 pub use valuations::Valuation;

@@ -70,6 +70,15 @@ pub enum FitsTest {
     LeftShift,
 }
 
+/// What a node over a list of truth values asks.
+#[derive(Clone, Copy, PartialEq, Eq)]
+pub enum Quantifier {
+    /// Whether each is true.
+    All,
+    /// Whether at least one is true.
+    Any,
+}
+
 /// A word by its operation on earlier nodes. Widths are from 1 to 64; a truth value is a word of
 /// width 1, which is 1 for true.
 #[derive(Clone, Copy, PartialEq, Eq)]
@@ -102,4 +111,7 @@ pub enum Node {
     Cut(Id, u32, u32),
     /// The bits of the first word above those of the second. Both widths together are at most 64.
     Join(Id, Id),
+    /// Whether all, or any, of so many nodes are true: truth values that stand one behind the other from
+    /// this one on. Of none all are true, and not any is.
+    Quantify(Quantifier, Id, usize),
 }

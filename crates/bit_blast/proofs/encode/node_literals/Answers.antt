@@ -4,6 +4,7 @@ use Rattle.words.specs.Operators.{word_complement, low_bits, logical_shift, sign
 use Rattle.word_dag.specs.Meaning.{joined}
 use Rattle.gate_arith.specs.Growth.{added_to}
 use Rattle.bit_blast.proofs.Encoding.{literals_within, as_node, variable_bits}
+use Rattle.bit_blast.proofs.Gathering.{operands_ones, operands_within}
 use Rattle.bit_blast.proofs.encode.node_literals.Goals as goal
 
 pub returns-in_ok-cut-in-Variable-clause-is : goal.returns-in_ok-cut-in-Variable-clause-is
@@ -36,3 +37,9 @@ returns-in_ok-join-in-Join-clause-is c =
     (c.in_ok-join-in-Join.ensures (added_to c.args.cnf.now c.args.cnf.now) c.read-in-Join.ensures.within c.read-in-Join-2.ensures.within)
     (λ k. c.read-in-Join.ensures.count k + c.read-in-Join-2.ensures.count k)
     (λ x k. joined (c.read-in-Join-2.ensures.count k) (c.read-in-Join.ensures.number x k) (c.read-in-Join-2.ensures.number x k))
+
+pub bits_from-requires : goal.bits_from-requires
+bits_from-requires c = operands_ones c.args.before.now c.args.node c.in-Quantify.quantifier c.in-Quantify.first c.in-Quantify.count c.in-Quantify.is c.requires.fits
+
+pub quantify-requires : goal.quantify-requires
+quantify-requires c = operands_within c.args.cnf.now.variables _ c.deref.result.now c.deref.ensures.value (c.in_ok-literals-in-Quantify.ensures.within c.args.cnf.now.variables c.requires.before)
