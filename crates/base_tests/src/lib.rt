@@ -11,6 +11,4 @@ mod store_tests;
 #[cfg(test)]
 mod turn_tests;
 #[cfg(test)]
-mod type_tests;
-#[cfg(test)]
 mod word_tests;

@@ -1,8 +1,0 @@
-use Rattle.std.proofs.Common.{arith}
-use Rattle.c_parse_decl.proofs.Shorter.{full_shorter}
-use Rattle.c_parse_decl.proofs.declarations.initialized.Goals as goal
-
-pub returns-clause-shorter : goal.returns-clause-shorter
-returns-clause-shorter c =
-    let short = full_shorter c.args.bytes.now c.args.names.now c.args.levels c.args.tokens.now _ c.in_ok-declarator.ensures.exact in
-    omega (arith, short, c.in_ok-initializer.ensures.shorter)
