@@ -1,4 +1,4 @@
-//! Tests of the command, of the texts of answers, of the generated programs and of the list of loops and assertions.
+//! Tests of the command, of the generated programs and of the list of loops and assertions.
 #![tactic(auto)]
 
 #[cfg(test)]
@@ -7,7 +7,3 @@ mod generator_tests;
 mod option_tests;
 #[cfg(test)]
 mod property_tests;
-#[cfg(test)]
-mod text_tests;
-#[cfg(test)]
-mod trace_tests;
