@@ -4,6 +4,7 @@ ghost use Rattle.std.specs.Prelude.{◌≡◌};
 ghost use Rattle.std.specs.Str.{bytes_eq};
 ghost use Rattle.c_lexer.specs.Bytes.{class_of, is_word_byte};
 
+/// What kind of token a byte can begin, and what separates tokens (C11 6.4).
 #[derive(Clone, Copy, PartialEq, Eq)]
 pub enum Class {
     /// A letter or `_`.

@@ -21,6 +21,7 @@ pub struct Part {
     pub behind_else: bool,
 }
 
+/// Whether the lines of a part are carried out and given.
 pub fn is_read(taking: Taking) -> bool
     ensures { result ≡ is_read taking }
 {
@@ -31,6 +32,7 @@ pub fn is_read(taking: Taking) -> bool
     }
 }
 
+/// Whether a part stands within one that is skipped, so that its `#else` changes nothing (C11 6.10p4).
 pub fn is_hidden(taking: Taking) -> bool
     ensures { result ≡ is_hidden taking }
 {

@@ -49,6 +49,7 @@ LLONG_MAX 9223372036854775807LL
 ULLONG_MAX 18446744073709551615ULL
 ";
 
+/// The lines of the macros that the headers define: a name and what replaces it on each (C11 7.2 to 7.22).
 pub fn text() -> &'static [u8]
     ensures { result.now ≡ text }
 {
