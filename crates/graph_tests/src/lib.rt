@@ -1,6 +1,8 @@
-//! Tests of graphs of words: what their nodes mean, the nodes of values, and the clauses of goals.
+//! Tests of graphs of words: what their nodes mean, the nodes of values and of bytes, and the clauses of goals.
 #![tactic(auto)]
 
+#[cfg(test)]
+mod byte_tests;
 #[cfg(test)]
 mod clause_tests;
 #[cfg(test)]

@@ -1,0 +1,4 @@
+pub mod Lows
+pub mod Tested
+pub mod Numbers
+pub mod Writing
