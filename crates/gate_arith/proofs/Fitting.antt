@@ -19,16 +19,16 @@ use Rattle.words.proofs.Overflow.{sum_fits_mixed, sum_fits-comm, difference_fits
 use Rattle.words.proofs.Carry.{word_product_double}
 use Rattle.gate_bits.specs.Growth.{GrowsFreely}
 use Rattle.gate_bits.specs.Truth.{IsTruth, IsNumber, differs, most}
-use Rattle.gate_arith.specs.Quotients.{negated_if}
-use Rattle.gate_arith.specs.Shifts.{IsConstant}
+use Rattle.gate_words.specs.Quotients.{negated_if}
+use Rattle.gate_words.specs.Shifts.{IsConstant}
 use Rattle.gate_arith.specs.Ranges.{magnitude, IsShiftInRange}
 use Rattle.gate_bits.proofs.Growing.{front}
 use Rattle.gate_bits.proofs.Parts.{IsWithin-replicate}
 use Rattle.gate_bits.proofs.Adding.{value_of-push, length-push, power_more}
-use Rattle.gate_arith.proofs.Multiplying.{value_of-fill, value_of-take}
-use Rattle.gate_arith.proofs.Shifting.{small_power}
+use Rattle.gate_words.proofs.Multiplying.{value_of-fill, value_of-take}
+use Rattle.gate_words.proofs.Shifting.{small_power}
 use Rattle.gate_bits.proofs.Inverting.{value_of-inverses}
-use Rattle.gate_arith.proofs.Dividing.{IsSign, sign_is}
+use Rattle.gate_words.proofs.Dividing.{IsSign, sign_is}
 
 -- ---- sums and differences
 

@@ -1,6 +1,3 @@
-pub mod Multiplying
-pub mod Shifting
-pub mod Dividing
 pub mod Knowing
 pub mod Steps
 pub mod Calls

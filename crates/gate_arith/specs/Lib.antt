@@ -1,4 +1,2 @@
 pub mod Growth
-pub mod Shifts
-pub mod Quotients
 pub mod Ranges

@@ -7,13 +7,10 @@
 #![tactic(auto)]
 
 mod operations;
-mod products;
-mod quotients;
 mod ranges;
-mod shifts;
 
+pub use gate_words::shifts::Shift;
 pub use operations::{
     adder, all, any, choice, conjunction, difference, difference_fits, disjunction, divider, equal,
     exclusive, left_shift_fits, less, multiplier, negation, product_fits, shifter, sum_fits,
 };
-pub use shifts::Shift;

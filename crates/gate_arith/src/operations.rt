@@ -9,13 +9,14 @@ ghost use Rattle.sat_form.specs.Numbers.{bit_value, value_of};
 ghost use Rattle.words.specs.Operators.{word_sum, word_difference, word_product, word_negation, signed_lt, sum_fits, difference_fits, product_fits, left_shift_fits};
 ghost use Rattle.gate_arith.specs.Growth.{Grows, IsPart, added_to};
 ghost use Rattle.gate_bits.specs.Truth.{IsTruth, IsNumber};
-ghost use Rattle.gate_arith.specs.Quotients.{quotient_by, remainder_by};
-ghost use Rattle.gate_arith.specs.Shifts.{shifted};
+ghost use Rattle.gate_words.specs.Quotients.{quotient_by, remainder_by};
+ghost use Rattle.gate_words.specs.Shifts.{shifted};
 
-use crate::shifts::Shift;
-use crate::{products, quotients, ranges, shifts};
+use crate::ranges;
 use gate_bits::bits::Bitwise;
 use gate_bits::{Lits, bits, known, orders, sums};
+use gate_words::shifts::Shift;
+use gate_words::{products, quotients, shifts};
 use sat_form::{Cnf, Lit};
 use std::alloc::{AllocError, Global};
 

@@ -10,11 +10,11 @@ ghost use Rattle.gate_bits.specs.Growth.{GrowsFreely};
 ghost use Rattle.gate_bits.specs.Truth.{IsTruth, IsNumber, differs, most};
 ghost use Rattle.gate_arith.specs.Ranges.{magnitude, IsShiftInRange};
 
-use crate::products::multiplier;
-use crate::quotients::negated;
-use crate::shifts::{number, shifted_up, stages};
 use gate_bits::orders::{borrow, equal};
 use gate_bits::{and, constant, inverses, majority, or, xor};
+use gate_words::products::multiplier;
+use gate_words::quotients::negated;
+use gate_words::shifts::{number, shifted_up, stages};
 use sat_form::{Cnf, Lit};
 use std::alloc::{AllocError, Global};
 

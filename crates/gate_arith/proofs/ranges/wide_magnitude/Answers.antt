@@ -3,7 +3,7 @@ use Rattle.std.proofs.lemmas.Result.{IfOk-weaker}
 use Rattle.sat_form.specs.Satisfaction.{Literal, literal_value}
 use Rattle.sat_form.specs.Numbers.{value_of}
 use Rattle.gate_bits.specs.Truth.{IsNumber}
-use Rattle.gate_arith.specs.Quotients.{negated_if}
+use Rattle.gate_words.specs.Quotients.{negated_if}
 use Rattle.gate_bits.proofs.Growing.{IsTruth-kept}
 use Rattle.gate_bits.proofs.Parts.{last_of}
 use Rattle.gate_arith.proofs.Fitting.{Magnitude_is}

@@ -1,0 +1,3 @@
+pub mod Multiplying
+pub mod Shifting
+pub mod Dividing
