@@ -20,9 +20,9 @@ use Rattle.goto_prog.specs.declared.code.Instruction.{Instruction}
 use Rattle.goto_prog.specs.declared.code.Operation.TheVariants as operations
 use Rattle.goto_lower.specs.declared.operand.Operand.{Operand}
 use Rattle.goto_lower.specs.declared.operand.Updated.{Updated}
-use Rattle.goto_lower.specs.Lowering.{Frame, top, line_of, at_line, read_code, write_code, update_code, logical_code, truth_code, code}
-use Rattle.goto_lower.specs.Registers.{types, update_types}
-use Rattle.goto_lower.proofs.RegisterCounts.{types_length}
+use Rattle.lowered_code.specs.Lowering.{Frame, top, line_of, at_line, read_code, write_code, update_code, logical_code, truth_code, code}
+use Rattle.lowered_code.specs.Registers.{types, update_types}
+use Rattle.lowered_code.proofs.RegisterCounts.{types_length}
 use Rattle.goto_lower.specs.Drafts.{Listed, next, added, filled, jump, landed, operand, after, value_in, Lowers}
 
 -- ---- results

@@ -15,10 +15,10 @@ use Rattle.goto_prog.specs.declared.code.Operation.TheVariants as operations
 use Rattle.goto_lower.specs.declared.operand.Operand.{Operand}
 use Rattle.goto_lower.specs.declared.operand.Passed.{Passed}
 use Rattle.c_temporaries.specs.Temporaries.{value_size}
-use Rattle.goto_lower.specs.Lowering.{Frame, deeper_by, argument_count, arguments_registers, structure_registers, at_line, use_code, call_code, taken_code, structure_code, arguments_code}
-use Rattle.goto_lower.specs.Registers.{structure_types, arguments_types}
+use Rattle.lowered_code.specs.Lowering.{Frame, deeper_by, argument_count, arguments_registers, structure_registers, at_line, use_code, call_code, taken_code, structure_code, arguments_code}
+use Rattle.lowered_code.specs.Registers.{structure_types, arguments_types}
 use Rattle.goto_lower.specs.Drafts.{Listed, next, added, operand, after, value_in, after_structure, after_arguments, after_passed, Lowers}
-use Rattle.goto_lower.proofs.RegisterCounts.{structure_length, arguments_length}
+use Rattle.lowered_code.proofs.RegisterCounts.{structure_length, arguments_length}
 use Rattle.goto_lower.proofs.Drafting.{next_added, adds_more, next_same, behind_one}
 
 -- ---- arguments

@@ -8,10 +8,10 @@ use Rattle.goto_prog.specs.Nodes.{Nodes, plain, node_count}
 use Rattle.goto_lower.specs.declared.exits.Exits.{Exits}
 use Rattle.goto_lower.specs.declared.exits.Target.{Target}
 use Rattle.goto_lower.specs.declared.exits.Cases.{Cases}
-use Rattle.goto_lower.specs.Lowering.{Frame, Ways, with_label, top, plains, code, initial_store, initial_code, items_registers, items_code, labels_of, statement_code}
-use Rattle.goto_lower.specs.Registers.{types, structure_types, statement_types, items_types}
+use Rattle.lowered_code.specs.Lowering.{Frame, Ways, with_label, top, plains, code, initial_store, initial_code, items_registers, items_code, labels_of, statement_code}
+use Rattle.lowered_code.specs.Registers.{types, structure_types, statement_types, items_types}
 use Rattle.goto_lower.specs.Drafts.{Listed, next, typed, ways_of, target, case_place, targets_of, cases_of, Within, Drafted}
-use Rattle.goto_lower.proofs.RegisterCounts.{items_length}
+use Rattle.lowered_code.proofs.RegisterCounts.{items_length}
 
 -- ---- the labels that are known among items
 

@@ -3,10 +3,10 @@ use Rattle.std.proofs.Common.{◌≡◌, ℕ, suc, ◌+◌, ◌-◌, ◌*◌, �
 use Rattle.std.specs.Prelude.{replicate}
 use Rattle.c_types.specs.declared.integers.IntegerType.TheVariants.{UnsignedLong}
 use Rattle.core_tree.specs.Trees.{Items}
-use Rattle.goto_lower.specs.Lowering.{first_registers, word_code, words_code, first_code, entry_code}
-use Rattle.goto_lower.specs.Registers.{first_types, entry_types}
+use Rattle.lowered_code.specs.Lowering.{first_registers, word_code, words_code, first_code, entry_code}
+use Rattle.lowered_code.specs.Registers.{first_types, entry_types}
 use Rattle.goto_lower.specs.Drafts.{Listed, next, added, after_words, after_entry}
-use Rattle.goto_lower.proofs.RegisterCounts.{first_length}
+use Rattle.lowered_code.proofs.RegisterCounts.{first_length}
 use Rattle.goto_lower.proofs.Drafting.{next_added, adds_more}
 
 pub nothing_added : (d : Listed) → added d [] [] ≡ d

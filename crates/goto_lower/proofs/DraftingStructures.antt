@@ -10,10 +10,10 @@ use Rattle.core_tree.specs.Typed.{size_of}
 use Rattle.goto_prog.specs.declared.code.Instruction.{Instruction}
 use Rattle.goto_prog.specs.declared.code.Operation.TheVariants as operations
 use Rattle.goto_lower.specs.declared.operand.Operand.{Operand}
-use Rattle.goto_lower.specs.Lowering.{Frame, deeper, structure_registers, structure_line, at_line, structure_code, parts_code, text_code}
-use Rattle.goto_lower.specs.Registers.{structure_types, parts_types}
+use Rattle.lowered_code.specs.Lowering.{Frame, deeper, structure_registers, structure_line, at_line, structure_code, parts_code, text_code}
+use Rattle.lowered_code.specs.Registers.{structure_types, parts_types}
 use Rattle.goto_lower.specs.Drafts.{Listed, next, added, landed, operand, after_structure, after_temporary, after_parts, after_text, Lowers}
-use Rattle.goto_lower.proofs.RegisterCounts.{structure_length}
+use Rattle.lowered_code.proofs.RegisterCounts.{structure_length}
 use Rattle.goto_lower.proofs.Drafting.{next_added, adds_more, next_same, behind_one, lands, length_added}
 
 nothing_more : (d : Listed) → added d [] [] ≡ d

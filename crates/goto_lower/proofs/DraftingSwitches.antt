@@ -10,13 +10,13 @@ use Rattle.goto_prog.specs.declared.code.Instruction.{Instruction}
 use Rattle.goto_prog.specs.declared.code.Operation.TheVariants as operations
 use Rattle.goto_prog.specs.Nodes.{Nodes, plain, node_count}
 use Rattle.goto_lower.specs.declared.exits.CasePlace.{CasePlace}
-use Rattle.goto_lower.specs.Lowering.{Frame, at_line, plains, declares_none, entry_code, case_registers, case_tests, last_case, guarded}
-use Rattle.goto_lower.specs.Registers.{case_types, entry_types}
+use Rattle.lowered_code.specs.Lowering.{Frame, at_line, plains, declares_none, entry_code, case_registers, case_tests, last_case, guarded}
+use Rattle.lowered_code.specs.Registers.{case_types, entry_types}
 use Rattle.goto_lower.specs.Drafts.{Listed, next, added, typed, flushed, after_entry, jumps_to, jump_code, case_code, after_tests, way_code, entered_code}
 use Rattle.goto_lower.proofs.Drafting.{adds_more}
 use Rattle.goto_lower.proofs.Flushing.{typed_added, typed_more, typed_nothing, next_typed, flushed_draft, flushed_code}
 use Rattle.goto_lower.proofs.Making.{reversed_more}
-use Rattle.goto_lower.proofs.RegisterCounts.{case_length}
+use Rattle.lowered_code.proofs.RegisterCounts.{case_length}
 
 -- the registers of a case
 pub case_registered : (d d1 d2 d3 d4 new : Listed) (t : IntegerType) → d1 ≡ added d [] (t ∷ []) → d2 ≡ added d1 [] (Int ∷ []) → d3 ≡ added d2 [] (Int ∷ []) → d4 ≡ added d3 [] (t ∷ []) → new ≡ added d4 [] (Int ∷ []) → new ≡ typed d (t ∷ Int ∷ Int ∷ t ∷ Int ∷ [])

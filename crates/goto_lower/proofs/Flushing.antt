@@ -3,7 +3,7 @@ use Rattle.std.proofs.Common.{◌≡◌, ◌+◌, List, [], ◌∷◌, ◌++◌,
 use Rattle.c_types.specs.declared.integers.IntegerType.{IntegerType}
 use Rattle.goto_prog.specs.declared.code.Instruction.{Instruction}
 use Rattle.goto_prog.specs.Nodes.{Nodes, plain}
-use Rattle.goto_lower.specs.Lowering.{plains}
+use Rattle.lowered_code.specs.Lowering.{plains}
 use Rattle.goto_lower.specs.Drafts.{Listed, next, added, typed, flushed}
 
 -- ---- registers alone

@@ -6,7 +6,7 @@ use Rattle.core_tree.specs.declared.functions.Function.{Function}
 use Rattle.core_tree.specs.Trees.{view_function, view_functions}
 use Rattle.goto_prog.specs.declared.nodes.Procedure.{Procedure}
 use Rattle.goto_prog.specs.Nodes.{Routine, view_procedure, view_procedures}
-use Rattle.goto_lower.specs.Lowered.{function_code, function_codes}
+use Rattle.lowered_code.specs.Lowered.{function_code, function_codes}
 
 views_append : (ps qs : List Procedure) → view_procedures (ps ++ qs) ≡ view_procedures ps ++ view_procedures qs
 views_append [] qs = refl

@@ -16,8 +16,8 @@ use Rattle.goto_lower.specs.declared.exits.Exits.{Exits}
 use Rattle.goto_lower.specs.declared.exits.Target.{Target}
 use Rattle.goto_lower.specs.declared.exits.CasePlace.{CasePlace}
 use Rattle.goto_lower.specs.declared.exits.Cases.{Cases}
-use Rattle.goto_lower.specs.Lowering.{Frame, Ways, deeper, deeper_by, top, argument_count, line_of, at_line, to_place, code, structure_code, parts_code, text_code, arguments_code, words_code, entry_code, plains, declares_none, case_registers, case_tests, guarded, items_code, statement_code}
-use Rattle.goto_lower.specs.Registers.{types, structure_types, parts_types, arguments_types, entry_types, items_types, statement_types}
+use Rattle.lowered_code.specs.Lowering.{Frame, Ways, deeper, deeper_by, top, argument_count, line_of, at_line, to_place, code, structure_code, parts_code, text_code, arguments_code, words_code, entry_code, plains, declares_none, case_registers, case_tests, guarded, items_code, statement_code}
+use Rattle.lowered_code.specs.Registers.{types, structure_types, parts_types, arguments_types, entry_types, items_types, statement_types}
 
 -- where the code stands, and the sizes of the function's variables; the code of an expression so far, the types of the registers so far, and where the labels that are known lead, the latest first
 pub record Listed : Type 0 where

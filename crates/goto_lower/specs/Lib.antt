@@ -1,4 +1,1 @@
-pub mod Lowering
-pub mod Registers
 pub mod Drafts
-pub mod Lowered

@@ -2,8 +2,8 @@
 
 ghost use Rattle.std.specs.Prelude.{◌≡◌, ◌+◌, [], ◌∷◌, ◌-◌, length, drop, reverse, IfOk, OnOk};
 ghost use Rattle.goto_prog.specs.Nodes.{plain, repeats, nodes_of};
-ghost use Rattle.goto_lower.specs.Lowering.{Frame, at_line, size_of, plains, to_place};
-ghost use Rattle.goto_lower.specs.Lowered.{first_frame};
+ghost use Rattle.lowered_code.specs.Lowering.{Frame, at_line, size_of, plains, to_place};
+ghost use Rattle.lowered_code.specs.Lowered.{first_frame};
 ghost use Rattle.goto_lower.specs.Drafts.{next, added, filled, flushed, landed, jump, operand, target, place_of};
 
 use crate::exits::{Target, more};

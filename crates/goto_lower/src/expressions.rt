@@ -8,8 +8,8 @@ ghost use Rattle.core_tree.specs.Operations as operations;
 ghost use Rattle.c_meaning.specs.Meaning.{integer_of};
 ghost use Rattle.goto_prog.specs.declared.code.Operation.TheVariants as instructions;
 ghost use Rattle.c_temporaries.specs.Temporaries.{value_size};
-ghost use Rattle.goto_lower.specs.Lowering.{at_line, argument_count, write_code, update_code, truth_code, use_code, taken_code};
-ghost use Rattle.goto_lower.specs.Registers.{update_types};
+ghost use Rattle.lowered_code.specs.Lowering.{at_line, argument_count, write_code, update_code, truth_code, use_code, taken_code};
+ghost use Rattle.lowered_code.specs.Registers.{update_types};
 ghost use Rattle.goto_lower.specs.Drafts.{Listed, next, added, operand, Lowers, after_arguments, after_passed};
 
 use crate::draft::Draft;

@@ -9,9 +9,9 @@ ghost use Rattle.goto_prog.specs.Nodes.{plain, nodes_of, view_procedure, view_pr
 ghost use Rattle.goto_prog.specs.GotoThreads.{strict_thread};
 ghost use Rattle.goto_prog.specs.Same.{DoSame};
 ghost use Rattle.goto_prog.specs.declared.code.Operation.TheVariants as operations;
-ghost use Rattle.goto_lower.specs.Lowering.{at_line, ends};
+ghost use Rattle.lowered_code.specs.Lowering.{at_line, ends};
 ghost use Rattle.c_temporaries.specs.Temporaries.{statement_temporaries};
-ghost use Rattle.goto_lower.specs.Lowered.{given_size, blocks_of, first_frame, undefined_code, defined_code, function_code, function_codes, view_goto, lowered};
+ghost use Rattle.lowered_code.specs.Lowered.{given_size, blocks_of, first_frame, undefined_code, defined_code, function_code, function_codes, view_goto, lowered};
 
 use crate::draft::Draft;
 use crate::exits::Exits;

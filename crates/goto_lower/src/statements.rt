@@ -6,8 +6,8 @@ ghost use Rattle.c_meaning.specs.Meaning.{number_type};
 ghost use Rattle.c_values.specs.Variables as variables;
 ghost use Rattle.goto_prog.specs.Nodes.{Nodes, plain, nodes_of};
 ghost use Rattle.goto_prog.specs.declared.code.Operation.TheVariants as operations;
-ghost use Rattle.goto_lower.specs.Lowering.{size_of, at_line, top, plains, initial_store, initial_code, first_code, code, part_code, test_code, items_code};
-ghost use Rattle.goto_lower.specs.Registers.{types, part_types, structure_types, first_types, items_types};
+ghost use Rattle.lowered_code.specs.Lowering.{size_of, at_line, top, plains, initial_store, initial_code, first_code, code, part_code, test_code, items_code};
+ghost use Rattle.lowered_code.specs.Registers.{types, part_types, structure_types, first_types, items_types};
 ghost use Rattle.goto_lower.specs.Drafts.{Listed, next, added, typed, ways_of, after_words, after_entry, cases_of, default_of, Within, Drafted};
 
 use crate::draft::Draft;

@@ -2,7 +2,7 @@
 
 ghost use Rattle.std.specs.Prelude.{◌≡◌, [], ◌∷◌, ◌++◌, ◌+◌, IfOk, OnOk};
 ghost use Rattle.core_tree.specs.Trees.{Parts, view, view_structure, parts_of, with_part};
-ghost use Rattle.goto_lower.specs.Lowering.{at_line, structure_line, text_code};
+ghost use Rattle.lowered_code.specs.Lowering.{at_line, structure_line, text_code};
 ghost use Rattle.goto_lower.specs.Drafts.{next, added, after_structure, after_temporary, after_parts, after_text};
 ghost use Rattle.goto_prog.specs.declared.code.Operation.TheVariants as operations;
 ghost use Rattle.c_types.specs.declared.integers.IntegerType.TheVariants.{UnsignedChar};

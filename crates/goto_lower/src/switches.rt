@@ -5,8 +5,8 @@ ghost use Rattle.core_tree.specs.Trees.{Items, view, items_of, with_item};
 ghost use Rattle.c_meaning.specs.Meaning.{number_type};
 ghost use Rattle.goto_prog.specs.Nodes.{plain, nodes_of};
 ghost use Rattle.goto_prog.specs.declared.code.Operation.TheVariants as operations;
-ghost use Rattle.goto_lower.specs.Lowering.{at_line, top, plains, code, last_case, guarded, declares_none};
-ghost use Rattle.goto_lower.specs.Registers.{types, case_types, entry_types};
+ghost use Rattle.lowered_code.specs.Lowering.{at_line, top, plains, code, last_case, guarded, declares_none};
+ghost use Rattle.lowered_code.specs.Registers.{types, case_types, entry_types};
 ghost use Rattle.goto_lower.specs.Drafts.{next, added, typed, jump_code, jumps_to, after_tests, case_code, way_code, entered_code};
 
 use crate::draft::Draft;

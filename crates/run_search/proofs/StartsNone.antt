@@ -4,7 +4,7 @@ use Rattle.std.specs.Prelude.{◌&&◌, not}
 use Rattle.core_tree.specs.Trees.{Statement, Procedure, TypedFile}
 use Rattle.goto_prog.specs.Nodes.{Routine, view_procedures}
 use Rattle.goto_prog.specs.GotoThreads.{GotoFile}
-use Rattle.goto_lower.specs.Lowered.{LoweredFile, code_by, function_codes, view_goto, lowered}
+use Rattle.lowered_code.specs.Lowered.{LoweredFile, code_by, function_codes, view_goto, lowered}
 use Rattle.goto_checks.specs.Inserted.{with_inserted}
 use Rattle.goto_unwind.specs.Program.{starts_none}
 

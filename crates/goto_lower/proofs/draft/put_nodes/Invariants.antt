@@ -1,7 +1,7 @@
 use Rattle.std.proofs.Common.{◌≡◌, drop}
 use Rattle.std.specs.Prelude.{reverse}
 use Rattle.goto_prog.specs.Nodes.{nodes_of}
-use Rattle.goto_lower.specs.Lowering.{plains}
+use Rattle.lowered_code.specs.Lowering.{plains}
 use Rattle.goto_lower.proofs.draft.put_nodes.Given as goal
 
 abbrev pub invariant-loop-place : goal.invariant-loop-place

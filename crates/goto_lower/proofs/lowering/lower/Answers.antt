@@ -9,9 +9,9 @@ use Rattle.goto_prog.specs.Nodes.{Routine, view_procedure, view_procedures, rout
 use Rattle.goto_prog.specs.Structured.{function_thread}
 use Rattle.goto_prog.specs.GotoThreads.{strict_thread}
 use Rattle.goto_prog.specs.Same.{DoSame}
-use Rattle.goto_lower.specs.Lowered.{function_codes}
-use Rattle.goto_lower.proofs.SameThread.{main_below, codes_length, same_thread}
-use Rattle.goto_lower.proofs.CodeFits.{codes_fit}
+use Rattle.lowered_code.specs.Lowered.{function_codes}
+use Rattle.lowered_code.proofs.SameThread.{main_below, codes_length, same_thread}
+use Rattle.lowered_code.proofs.CodeFits.{codes_fit}
 use Rattle.goto_lower.proofs.lowering.lower.Goals as goal
 
 pub overflow_cast-main : goal.overflow_cast-main

@@ -1,7 +1,7 @@
 use Rattle.std.proofs.Common.{◌≡◌, ◌++◌, drop}
 use Rattle.core_tree.specs.Trees.{view_functions}
 use Rattle.goto_prog.specs.Nodes.{view_procedures}
-use Rattle.goto_lower.specs.Lowered.{function_codes}
+use Rattle.lowered_code.specs.Lowered.{function_codes}
 use Rattle.goto_lower.proofs.lowering.lower_functions.Given as goal
 
 abbrev pub invariant-loop-number : goal.invariant-loop-number

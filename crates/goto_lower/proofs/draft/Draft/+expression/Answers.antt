@@ -3,7 +3,7 @@ use Rattle.std.proofs.lemmas.Result.{IfOk-weaker}
 use Rattle.core_tree.specs.Trees.{call, view, Structure, view_structure, parts_of, arguments_of}
 use Rattle.core_tree.proofs.Views.{view_list, view_call, view_give}
 use Rattle.goto_lower.specs.Drafts.{Lowers, after_structure, after_parts, after_text, after_arguments, after_passed}
-use Rattle.goto_lower.specs.Lowering.{argument_count}
+use Rattle.lowered_code.specs.Lowering.{argument_count}
 use Rattle.goto_lower.proofs.Drafting.{ok_both, ok_maps, lowers_and, lowers_or, lowers_choice}
 use Rattle.goto_lower.proofs.DraftingStructures.{lowers_discarded, lowers_member, number_adds, structure_adds, follow_adds, list_adds, string_adds, choose_adds}
 use Rattle.goto_lower.proofs.DraftingCalls.{argument_length, number_argument_adds, structure_argument_adds, passed_adds, passed_of, lowers_call, lowers_same, give_adds}

@@ -6,8 +6,8 @@ use Rattle.c_profile.proofs.Switches.{view_switch}
 use Rattle.c_meaning.specs.Meaning.{number_type}
 use Rattle.goto_prog.specs.Nodes.{plain, nodes_of, node_count}
 use Rattle.goto_prog.specs.declared.code.Operation.TheVariants as operations
-use Rattle.goto_lower.specs.Lowering.{at_line, top, code, plains, to_place, test_code, initial_code, initial_store}
-use Rattle.goto_lower.specs.Registers.{types, structure_types}
+use Rattle.lowered_code.specs.Lowering.{at_line, top, code, plains, to_place, test_code, initial_code, initial_store}
+use Rattle.lowered_code.specs.Registers.{types, structure_types}
 use Rattle.goto_lower.specs.Drafts.{Drafted, added, next, typed}
 use Rattle.goto_lower.proofs.Drafting.{ok_maps}
 use Rattle.goto_lower.proofs.Making.{reversed_count}

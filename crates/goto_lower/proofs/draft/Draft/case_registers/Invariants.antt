@@ -1,7 +1,7 @@
 use Rattle.std.proofs.Common.{◌≡◌, drop}
 use Rattle.core_tree.specs.Trees.{items_of}
-use Rattle.goto_lower.specs.Lowering.{last_case}
-use Rattle.goto_lower.specs.Registers.{case_types}
+use Rattle.lowered_code.specs.Lowering.{last_case}
+use Rattle.lowered_code.specs.Registers.{case_types}
 use Rattle.goto_lower.specs.Drafts.{next, typed}
 use Rattle.goto_lower.proofs.draft.Draft.case_registers.Given as goal
 

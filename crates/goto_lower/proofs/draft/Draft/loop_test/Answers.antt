@@ -3,7 +3,7 @@ use Rattle.std.specs.Prelude.{reverse, option_map}
 use Rattle.core_tree.specs.Trees.{view, boxed}
 use Rattle.goto_prog.specs.Nodes.{plain, nodes_of}
 use Rattle.goto_prog.specs.declared.code.Operation.TheVariants as operations
-use Rattle.goto_lower.specs.Lowering.{at_line, top, code, plains, test_code}
+use Rattle.lowered_code.specs.Lowering.{at_line, top, code, plains, test_code}
 use Rattle.goto_lower.specs.Drafts.{next}
 use Rattle.goto_lower.proofs.Drafting.{ok_maps}
 use Rattle.goto_lower.proofs.Flushing.{plains_append}

@@ -9,8 +9,8 @@ use Rattle.c_meaning.specs.Source.{main_number, first_objects, are_storable}
 use Rattle.goto_prog.specs.declared.code.Operation.TheVariants as operations
 use Rattle.goto_prog.specs.Nodes.{Routine, plain, view_procedures}
 use Rattle.goto_prog.specs.GotoThreads.{GotoFile}
-use Rattle.goto_lower.specs.Lowering.{Frame, at_line, ends, body_code}
-use Rattle.goto_lower.specs.Registers.{statement_types}
+use Rattle.lowered_code.specs.Lowering.{Frame, at_line, ends, body_code}
+use Rattle.lowered_code.specs.Registers.{statement_types}
 use Rattle.c_temporaries.specs.Temporaries.{Temporaries, statement_temporaries}
 
 -- how many bytes a function hands over

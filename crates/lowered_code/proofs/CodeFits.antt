@@ -30,13 +30,13 @@ use Rattle.goto_prog.specs.declared.code.Operation.TheVariants as operations
 use Rattle.goto_prog.specs.Fitting.{operation_fits}
 use Rattle.goto_prog.specs.Nodes.{Nodes, plain, node_count, nodes_fit, routine_fits, routines_fit}
 use Rattle.c_temporaries.specs.Temporaries.{value_size, Temporaries, no_temporaries, both, under, under_all, place_temporaries, argument_sizes, temporaries, structure_temporaries, parts_temporaries, arguments_temporaries, part_temporaries, statement_temporaries, items_temporaries}
-use Rattle.goto_lower.specs.Lowering.{Frame, Ways, no_ways, within_loop, within_switch, top, structure_registers, arguments_registers, argument_count, structure_line, line_of, structure_code, parts_code, arguments_code, text_code, use_code, call_code, taken_code, initial_code, at_line, read_code, write_code, update_code, logical_code, code, size_of as size_of_variable, first_registers, words_code, first_code, entry_registers, part_registers, declares_none, case_registers, statement_registers, items_registers, entry_code, part_code, test_code, to_place, plains, ends, case_tests, last_case, guarded, statement_code, items_code, labels_of, case_jumps, default_place}
-use Rattle.goto_lower.specs.Registers.{types, structure_types, parts_types, arguments_types, part_types, case_types, update_types, first_types, entry_types, statement_types, items_types}
-use Rattle.goto_lower.specs.Lowered.{given_size, first_frame, code_by, function_codes}
-use Rattle.goto_lower.proofs.Housing.{Room, HasTemporaries, Housed, housed_left, housed_right, housed_under, housed_room, housed_front, housed_back, housed_behind, housed_zeros, housed_body}
-use Rattle.goto_lower.proofs.ExpressionCode.{test_less, test_most, test_equal}
-use Rattle.goto_lower.proofs.RegisterCounts.{types_length, structure_length, arguments_length, part_length, case_length, first_length, entry_length, statement_length, items_length}
-use Rattle.goto_lower.proofs.RegisterTypes.{both as both_true, left_of, right_of, same_types, own_operands, Register, Has, register_at, register_of, register_is, has_at, has_left, has_right, has_itself, Fit, fit-append, there_is, constant_fits, copy_fits, load_fits, store_fits, word_fits, within_is, clear_fits, filled_there, filled_within, at_most_true, less_true, copy_bytes_fits, convert_fits, sign_fits, arithmetic_fits, compare_fits, is_zero_fits, skip_fits, skip_if_fits, draw_fits, one_fits, zero_fits, some_drawn, few_drawn}
+use Rattle.lowered_code.specs.Lowering.{Frame, Ways, no_ways, within_loop, within_switch, top, structure_registers, arguments_registers, argument_count, structure_line, line_of, structure_code, parts_code, arguments_code, text_code, use_code, call_code, taken_code, initial_code, at_line, read_code, write_code, update_code, logical_code, code, size_of as size_of_variable, first_registers, words_code, first_code, entry_registers, part_registers, declares_none, case_registers, statement_registers, items_registers, entry_code, part_code, test_code, to_place, plains, ends, case_tests, last_case, guarded, statement_code, items_code, labels_of, case_jumps, default_place}
+use Rattle.lowered_code.specs.Registers.{types, structure_types, parts_types, arguments_types, part_types, case_types, update_types, first_types, entry_types, statement_types, items_types}
+use Rattle.lowered_code.specs.Lowered.{given_size, first_frame, code_by, function_codes}
+use Rattle.lowered_code.proofs.Housing.{Room, HasTemporaries, Housed, housed_left, housed_right, housed_under, housed_room, housed_front, housed_back, housed_behind, housed_zeros, housed_body}
+use Rattle.lowered_code.proofs.ExpressionCode.{test_less, test_most, test_equal}
+use Rattle.lowered_code.proofs.RegisterCounts.{types_length, structure_length, arguments_length, part_length, case_length, first_length, entry_length, statement_length, items_length}
+use Rattle.lowered_code.proofs.RegisterTypes.{both as both_true, left_of, right_of, same_types, own_operands, Register, Has, register_at, register_of, register_is, has_at, has_left, has_right, has_itself, Fit, fit-append, there_is, constant_fits, copy_fits, load_fits, store_fits, word_fits, within_is, clear_fits, filled_there, filled_within, at_most_true, less_true, copy_bytes_fits, convert_fits, sign_fits, arithmetic_fits, compare_fits, is_zero_fits, skip_fits, skip_if_fits, draw_fits, one_fits, zero_fits, some_drawn, few_drawn}
 
 -- over the sizes of the variables, of the blocks behind them, and of the static objects, the functions that are called, and what the function gives
 module _ (registers : List IntegerType) (variables others objects : List ℕ) (functions : List Signature) (gives : Option PassedType) (function : ℕ) (some : 2 ≤ length others) where

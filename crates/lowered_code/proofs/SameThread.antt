@@ -23,11 +23,11 @@ use Rattle.goto_prog.specs.Meaning.{Given}
 use Rattle.goto_prog.specs.Same.{DoSame}
 use Rattle.goto_prog.specs.Structured as flat
 use Rattle.goto_prog.specs.Structured.{Bounded, can_start}
-use Rattle.goto_lower.specs.Lowered.{code_by, function_code, function_codes}
-use Rattle.goto_lower.proofs.RegisterTypes.{left_of, right_of}
-use Rattle.goto_lower.proofs.Placing.{same_final}
-use Rattle.goto_lower.proofs.ExpressionCode.{handed, AreArguments}
-use Rattle.goto_lower.proofs.FunctionCode.{codes_at, calls_agree}
+use Rattle.lowered_code.specs.Lowered.{code_by, function_code, function_codes}
+use Rattle.lowered_code.proofs.RegisterTypes.{left_of, right_of}
+use Rattle.lowered_code.proofs.Placing.{same_final}
+use Rattle.lowered_code.proofs.ExpressionCode.{handed, AreArguments}
+use Rattle.lowered_code.proofs.FunctionCode.{codes_at, calls_agree}
 
 -- ---- the codes of functions
 

@@ -7,7 +7,7 @@ use Rattle.core_tree.specs.declared.expression.Place.{Place}
 use Rattle.core_tree.specs.Trees.{Expression, constant, read, convert, sign, is_zero, arithmetic, compare, logical, choice, assign, update, step, comma, assertion, assumption, draw, part, discard, discard_structure, call, function_name, Structure, copy, load, choose, put, store, follow, section, list, string, give, Parts, no_part, number_part, structure_part, Arguments, no_argument, number_argument, structure_argument, Statement, block, if_then, if_else, evaluate, returns, returns_structure, returns_nothing, for_loop, do_loop, switch, breaks, continues, jumps, stray, Items, done, declares, initializes, initializes_structure, does, label, case_at, default_at}
 use Rattle.core_tree.specs.Typed.{place_type}
 use Rattle.c_meaning.specs.Meaning.{integer_of, number_type}
-use Rattle.goto_lower.specs.Lowering.{first_registers}
+use Rattle.lowered_code.specs.Lowering.{first_registers}
 
 -- of an operation of type t on a place
 abbrev pub update_types : Place → IntegerType → List IntegerType

@@ -38,11 +38,11 @@ use Rattle.goto_prog.specs.Meaning.{Given, Reading, word_of, bytes_in, bytes_of,
 use Rattle.goto_prog.specs.Meaning as flat
 use Rattle.goto_prog.specs.Threads.{Calls, acting, ask}
 use Rattle.c_temporaries.specs.Temporaries.{value_size, Temporaries, no_temporaries, both, under, under_all, place_temporaries, temporaries, structure_temporaries, parts_temporaries, arguments_temporaries, argument_sizes}
-use Rattle.goto_lower.specs.Lowering.{Frame, top, structure_registers, parts_registers, arguments_registers, argument_count, at_line, read_code, write_code, code, structure_code, parts_code, arguments_code, text_code, update_code, logical_code, use_code, call_code, taken_code}
-use Rattle.goto_lower.proofs.RegisterTypes.{left_of, right_of, same_integers}
-use Rattle.goto_lower.proofs.BlockBytes.{put_size, low_count, few_bytes, put_more, put_none, taken_back, part_of_front, number_of_front, some_zeros, zeros_length, one_byte}
-use Rattle.goto_lower.proofs.Housing.{Housed, HasTemporaries, Room, housed_left, housed_right, housed_under, housed_room, housed_behind, housed_zeros, housed_front, housed_back}
-use Rattle.goto_lower.proofs.Placing.{Places, begin_in, on_in, on-append, at-behind, written, written_other, Kept, Filled, kept-refl, kept-then, kept-set, kept-write, filled-write, filled-put, kept-filled, filled-kept, filled-within, set_same, set_other, set_room, same_final, same_ask, same_ask_when, same_check}
+use Rattle.lowered_code.specs.Lowering.{Frame, top, structure_registers, parts_registers, arguments_registers, argument_count, at_line, read_code, write_code, code, structure_code, parts_code, arguments_code, text_code, update_code, logical_code, use_code, call_code, taken_code}
+use Rattle.lowered_code.proofs.RegisterTypes.{left_of, right_of, same_integers}
+use Rattle.lowered_code.proofs.BlockBytes.{put_size, low_count, few_bytes, put_more, put_none, taken_back, part_of_front, number_of_front, some_zeros, zeros_length, one_byte}
+use Rattle.lowered_code.proofs.Housing.{Housed, HasTemporaries, Room, housed_left, housed_right, housed_under, housed_room, housed_behind, housed_zeros, housed_front, housed_back}
+use Rattle.lowered_code.proofs.Placing.{Places, begin_in, on_in, on-append, at-behind, written, written_other, Kept, Filled, kept-refl, kept-then, kept-set, kept-write, filled-write, filled-put, kept-filled, filled-kept, filled-within, set_same, set_other, set_room, same_final, same_ask, same_ask_when, same_check}
 
 -- what follows a value and the variables
 abbrev pub Follows : Type 0

@@ -27,15 +27,15 @@ use Rattle.goto_prog.specs.Nodes.{Nodes, plain, repeats, node_count, Routine}
 use Rattle.goto_prog.specs.Nodes as nodes
 use Rattle.goto_prog.specs.Structured as flat
 use Rattle.goto_prog.specs.Structured.{Bounded, nodes_before, round_count, tests}
-use Rattle.goto_lower.specs.Lowering.{Frame, top, structure_registers, code, structure_code, size_of, first_registers, words_code, first_code, initial_code, entry_registers, part_registers, case_registers, statement_registers, items_registers, entry_code, part_code, test_code, Ways, within_loop, within_switch, ends, plains, to_place, declares_none, case_tests, last_case, guarded, statement_code, items_code, labels_of, case_jumps, default_place}
-use Rattle.goto_lower.specs.Lowered.{given_size}
+use Rattle.lowered_code.specs.Lowering.{Frame, top, structure_registers, code, structure_code, size_of, first_registers, words_code, first_code, initial_code, entry_registers, part_registers, case_registers, statement_registers, items_registers, entry_code, part_code, test_code, Ways, within_loop, within_switch, ends, plains, to_place, declares_none, case_tests, last_case, guarded, statement_code, items_code, labels_of, case_jumps, default_place}
+use Rattle.lowered_code.specs.Lowered.{given_size}
 use Rattle.c_temporaries.specs.Temporaries.{Temporaries, no_temporaries, both, under, temporaries, structure_temporaries, part_temporaries, statement_temporaries, items_temporaries}
-use Rattle.goto_lower.proofs.RegisterTypes.{left_of, right_of, filled_there, filled_within}
-use Rattle.goto_lower.proofs.RegisterTypes as registers_of
-use Rattle.goto_lower.proofs.BlockBytes.{low_count, few_bytes, taken_back}
-use Rattle.goto_lower.proofs.Housing.{Housed, housed_left, housed_right, housed_under, housed_room}
-use Rattle.goto_lower.proofs.Placing.{Places, begin_in, on_in, written, Kept, kept-refl, kept-then, kept-set, kept-write, kept-clear, filled-kept, set_same, set_other, set_room, same_final, same_ask}
-use Rattle.goto_lower.proofs.ExpressionCode.{SourceCalls, Agree, IsGiven, handed, frame, shown, known, Placed, placed_kept, placed_deeper, block_size, variable_below, variable_size, low_room, block_there, shown_write, shown_clear, split, turned, same_word, means, structure_means, same_gives, test_less, test_equal}
+use Rattle.lowered_code.proofs.RegisterTypes.{left_of, right_of, filled_there, filled_within}
+use Rattle.lowered_code.proofs.RegisterTypes as registers_of
+use Rattle.lowered_code.proofs.BlockBytes.{low_count, few_bytes, taken_back}
+use Rattle.lowered_code.proofs.Housing.{Housed, housed_left, housed_right, housed_under, housed_room}
+use Rattle.lowered_code.proofs.Placing.{Places, begin_in, on_in, written, Kept, kept-refl, kept-then, kept-set, kept-write, kept-clear, filled-kept, set_same, set_other, set_room, same_final, same_ask}
+use Rattle.lowered_code.proofs.ExpressionCode.{SourceCalls, Agree, IsGiven, handed, frame, shown, known, Placed, placed_kept, placed_deeper, block_size, variable_below, variable_size, low_room, block_there, shown_write, shown_clear, split, turned, same_word, means, structure_means, same_gives, test_less, test_equal}
 
 -- ---- lists of places
 

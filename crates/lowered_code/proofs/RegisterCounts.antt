@@ -5,8 +5,8 @@ use Rattle.c_types.specs.declared.integers.IntegerType.TheVariants.{Int, Unsigne
 use Rattle.core_tree.specs.Trees.{Expression, constant, read, convert, sign, is_zero, arithmetic, compare, logical, choice, assign, update, step, comma, assertion, assumption, draw, part, discard, discard_structure, call, function_name, Structure, copy, load, choose, put, store, follow, section, list, string, give, Parts, no_part, number_part, structure_part, Arguments, no_argument, number_argument, structure_argument, Statement, block, if_then, if_else, evaluate, returns, returns_structure, returns_nothing, for_loop, do_loop, switch, breaks, continues, jumps, stray, Items, done, declares, initializes, initializes_structure, does, label, case_at, default_at}
 use Rattle.c_meaning.specs.Meaning.{integer_of, number_type}
 use Rattle.c_meaning.specs.Meaning.{number_type}
-use Rattle.goto_lower.specs.Lowering.{top, structure_registers, parts_registers, arguments_registers, first_registers, entry_registers, part_registers, case_registers, statement_registers, items_registers}
-use Rattle.goto_lower.specs.Registers.{update_types, types, structure_types, parts_types, arguments_types, part_types, case_types, first_types, entry_types, statement_types, items_types}
+use Rattle.lowered_code.specs.Lowering.{top, structure_registers, parts_registers, arguments_registers, first_registers, entry_registers, part_registers, case_registers, statement_registers, items_registers}
+use Rattle.lowered_code.specs.Registers.{update_types, types, structure_types, parts_types, arguments_types, part_types, case_types, first_types, entry_types, statement_types, items_types}
 
 mutual
   pub types_length : (e : Expression) → length (types e) ≡ top e + 1

@@ -23,15 +23,15 @@ use Rattle.goto_prog.specs.Nodes.{Nodes, plain, Routine}
 use Rattle.goto_prog.specs.Structured as flat
 use Rattle.goto_prog.specs.Structured.{Bounded, with_arguments, entry_memory}
 use Rattle.goto_prog.specs.declared.code.Operation.TheVariants as operations
-use Rattle.goto_lower.specs.Lowering.{at_line, ends, no_ways, statement_code}
+use Rattle.lowered_code.specs.Lowering.{at_line, ends, no_ways, statement_code}
 use Rattle.c_temporaries.specs.Temporaries.{Temporaries, statement_temporaries}
-use Rattle.goto_lower.specs.Lowered.{given_size, first_frame, undefined_code, defined_code, code_by, function_code, function_codes}
-use Rattle.goto_lower.proofs.RegisterTypes.{left_of, right_of}
-use Rattle.goto_lower.proofs.RegisterCounts.{statement_length}
-use Rattle.goto_lower.proofs.Housing.{housed_body}
-use Rattle.goto_lower.proofs.Placing.{Places, same_final}
-use Rattle.goto_lower.proofs.ExpressionCode.{SourceCalls, IsGiven, handed, AreArguments, Placed, test_equal}
-use Rattle.goto_lower.proofs.StatementCode.{Ready, LeadOut, places_count, statement_means}
+use Rattle.lowered_code.specs.Lowered.{given_size, first_frame, undefined_code, defined_code, code_by, function_code, function_codes}
+use Rattle.lowered_code.proofs.RegisterTypes.{left_of, right_of}
+use Rattle.lowered_code.proofs.RegisterCounts.{statement_length}
+use Rattle.lowered_code.proofs.Housing.{housed_body}
+use Rattle.lowered_code.proofs.Placing.{Places, same_final}
+use Rattle.lowered_code.proofs.ExpressionCode.{SourceCalls, IsGiven, handed, AreArguments, Placed, test_equal}
+use Rattle.lowered_code.proofs.StatementCode.{Ready, LeadOut, places_count, statement_means}
 
 -- ---- the blocks of a function at its start
 

@@ -15,7 +15,7 @@ use Rattle.goto_prog.specs.declared.code.Instruction.{Instruction}
 use Rattle.c_values.specs.Variables.{block_of, put_at, put_bytes, zeros, cleared}
 use Rattle.goto_prog.specs.Meaning.{Memory, Given, Reading, register, with_register, with_blocks, at, or_else, operates}
 use Rattle.goto_prog.specs.Threads.{Calls, acting, final, ask}
-use Rattle.goto_lower.proofs.BlockBytes.{put_size, put_within}
+use Rattle.lowered_code.proofs.BlockBytes.{put_size, put_within}
 
 abbrev pub Places : Type 0
 Places = List (Memory → Behaviour)

@@ -1,0 +1,10 @@
+pub mod RegisterCounts
+pub mod BlockBytes
+pub mod Housing
+pub mod Placing
+pub mod RegisterTypes
+pub mod ExpressionCode
+pub mod StatementCode
+pub mod FunctionCode
+pub mod SameThread
+pub mod CodeFits

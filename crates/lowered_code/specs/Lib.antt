@@ -1,0 +1,4 @@
+pub mod Lowering
+pub mod Registers
+pub mod Lowered
+pub mod Laws
