@@ -1,5 +1,5 @@
 -- The goal of a formula, from the last event to the first.
-use Rattle.std.proofs.Common.{◌≡◌, ◌<◌, ◌≤◌, ◌+◌, ◌-◌, ℕ, zero, suc, Bool, true, false, not, ◌&&◌, ◌||◌, List, [], ◌∷◌, ◌++◌, length, get_or, map, take, drop, Option, Some, None, refl, sym, ◌∙◌, ap, subst, arith, append_assoc, append-nil}
+use Rattle.std.proofs.Common.{◌≡◌, ◌<◌, ◌≤◌, ◌+◌, ◌-◌, ℕ, zero, suc, Bool, true, false, ◌&&◌, ◌||◌, List, [], ◌∷◌, ◌++◌, length, get_or, map, take, drop, Option, Some, None, refl, sym, ◌∙◌, ap, subst, arith, append_assoc, append-nil}
 use Rattle.std.specs.Prelude.{All, min, if◌then◌else◌}
 use Rattle.std.proofs.Math.Seq.{drop-cons}
 use Rattle.std.proofs.lemmas.List.{take_more}
@@ -16,9 +16,8 @@ use Rattle.word_dag.specs.Meaning.{width, value, holds, bit_value}
 use Rattle.word_dag.specs.Fitting.{is_ordered}
 use Rattle.word_dag.specs.Growth.{Within, Extends}
 use Rattle.word_dag.proofs.Grown.{extends_more}
-use Rattle.word_dag.proofs.Truth.{bit_holds, holds_bit}
+use Rattle.word_dag.proofs.Truth.{holds_bit}
 use Rattle.value_nodes.specs.Values.{IsWord, IsTest}
-use Rattle.value_nodes.proofs.Made.{word_below}
 use Rattle.interleave.specs.World.{first_world, no_counts}
 use Rattle.guarded_ssa.specs.declared.forms.Event.{Event}
 use Rattle.guarded_ssa.specs.declared.forms.EventKind.{EventKind}
@@ -32,6 +31,11 @@ use Rattle.mem_seq.specs.declared.memory.Note.TheVariants as notes
 use Rattle.mem_seq.specs.Accesses.{AreObjects, access_class, is_given, stored_by, unless, checked, agrees, behind}
 use Rattle.mem_seq.specs.Runs.{breaks, broken_check}
 use Rattle.mem_seq.specs.Goals.{breaks_or, breaks_from}
+use Rattle.mem_seq.specs.declared.chain.Chain.{Chain}
+use Rattle.mem_seq.specs.declared.chain.Part.{Part}
+use Rattle.mem_seq.specs.declared.chain.Part.TheVariants.{Breaks}
+use Rattle.mem_seq.specs.Chains.{with_part, chain_value, ChainIn}
+use Rattle.mem_seq.proofs.Chaining.{chain_stays}
 use Rattle.mem_seq.specs.Notes.{NoteIn, IsNote, AreNotes}
 use Rattle.mem_seq.specs.Formulas.{run_of, IsFormula, FormulaIn}
 use Rattle.mem_seq.proofs.Stores.{left_true, right_true}
@@ -47,10 +51,6 @@ guarded : (b : Bool) (objects : Objects) (told : List Seen) (x later : Bool) →
 guarded true objects told x later is = sym is
 guarded false objects told x later is = refl
 
-guarded_given : (b : Bool) (objects : Objects) (told : List Seen) (x later : Bool) → (b ≡ true → breaks_from objects told later ≡ x) → (if b then x else later) ≡ breaks_from objects (if b then told else []) later
-guarded_given true objects told x later is = sym (is refl)
-guarded_given false objects told x later is = refl
-
 if_same : (b x : Bool) → x ≡ (if b then x else x)
 if_same true x = refl
 if_same false x = refl
@@ -59,53 +59,21 @@ if_true : (b later : Bool) → (b || later) ≡ (if b then true else later)
 if_true true later = refl
 if_true false later = refl
 
-if_given : (b t later : Bool) → ((not b || t) && later) ≡ (if b then t && later else later)
-if_given true t later = refl
-if_given false t later = refl
-
-module _ (d e : List Node) (ev : Event) (later : Id) (stores : (ℕ → ℕ) → Objects) where
-  abbrev guard : (ℕ → ℕ) → Bool
-  guard v = holds (value v d ev.guard)
-
-  abbrev next : (ℕ → ℕ) → Bool
-  next v = holds (value v d later)
-
-  pub passes_test : is_ordered d ≡ true → IsWord d later 1 → IsNote stores d ev notes.Passes → IsTest d later (λ v. breaks_from (stores v) (event_seen v d ev) (holds (value v d later)))
-  passes_test ordered word note =
-      record {
-        there = word.there;
-        width_is = word.width_is;
-        value_is = λ v. sym (bit_holds (value v d later) (word_below v d later 1 ordered word))
-            ∙ ap bit_value (if_same (guard v) (next v) ∙ guarded (guard v) (stores v) (kind_seen v d ev.line ev.function ev.kind) (next v) (next v) (note v (next v)));
-      }
-
-  pub breaks_test : (i : Id) → IsNote stores d ev notes.Breaks → IsTest e i (λ v. holds (value v d ev.guard) || holds (value v d later)) → IsTest e i (λ v. breaks_from (stores v) (event_seen v d ev) (holds (value v d later)))
-  breaks_test i note test =
-      same_test e i _ _ (λ v. if_true (guard v) (next v) ∙ guarded (guard v) (stores v) (kind_seen v d ev.line ev.function ev.kind) true (next v) (note v (next v))) test
-
-  pub gives_test : (i t : Id) → IsNote stores d ev (notes.Gives t) → IsTest e i (λ v. (not (holds (value v d ev.guard)) || holds (value v d t)) && holds (value v d later))
-      → IsTest e i (λ v. breaks_from (stores v) (event_seen v d ev) (holds (value v d later)))
-  gives_test i t note test =
-      same_test e i _ _ (λ v. if_given (guard v) (holds (value v d t)) (next v) ∙ guarded_given (guard v) (stores v) (kind_seen v d ev.line ev.function ev.kind) (holds (value v d t) && next v) (next v) (note v (next v))) test
-
-  alone_by : (b : Bool) (v : ℕ → ℕ) (told : List Seen) (x : Bool) → breaks_from (stores v) told x ≡ breaks_from [] told x → breaks_from [] (if b then told else []) x ≡ breaks_from (stores v) (if b then told else []) x
-  alone_by true v told x is = sym is
-  alone_by false v told x is = refl
-
-  pub alone_test : (i : Id) → IsNote stores d ev notes.Alone → IsTest e i (λ v. breaks_from [] (event_seen v d ev) (holds (value v d later))) → IsTest e i (λ v. breaks_from (stores v) (event_seen v d ev) (holds (value v d later)))
-  alone_test i note test = same_test e i _ _ (λ v. alone_by (guard v) v (kind_seen v d ev.line ev.function ev.kind) (next v) (note v (next v))) test
-
 pub test_is : (d : List Node) (i : Id) (f : (ℕ → ℕ) → Bool) → IsTest d i f → (v : ℕ → ℕ) → holds (value v d i) ≡ f v
 test_is d i f made v = ap holds (made.value_is v) ∙ holds_bit (f v)
 
-pub gives_made : (d d1 d2 e : List Node) (g t later other given i : Id) → Extends d d1 → Extends d1 d2 → IsBit d t → IsWord d later 1 → IsTest d1 other (λ v. not (holds (value v d g))) → IsTest d2 given (λ v. holds (value v d1 other) || holds (value v d1 t))
-    → IsTest e i (λ v. holds (value v d2 given) && holds (value v d2 later)) → IsTest e i (λ v. (not (holds (value v d g)) || holds (value v d t)) && holds (value v d later))
-gives_made d d1 d2 e g t later other given i x y bit word other_is given_is test =
-    same_test e i _ _ (λ v.
-    let a = test_is d1 other _ other_is v in
-    let b = x.value_stays v t bit.there in
-    let c = (extends_more d d1 d2 x y).value_stays v later word.there in
-    (λ k. test_is d2 given _ given_is v k && holds (c k)) ∙ (λ k. (a k || holds (b k)) && holds (value v d later))) test
+-- what the event adds where its guard is true, and else nothing
+module _ (d e : List Node) (ev : Event) (stores : (ℕ → ℕ) → Objects) where
+  abbrev guard : (ℕ → ℕ) → Bool
+  guard v = holds (value v d ev.guard)
+
+  pub passes_part : IsNote stores d ev notes.Passes → (v : ℕ → ℕ) (later : Bool) → breaks_from (stores v) (event_seen v d ev) later ≡ later
+  passes_part note v later = sym (if_same (guard v) later ∙ guarded (guard v) (stores v) (kind_seen v d ev.line ev.function ev.kind) later later (note v later))
+
+  pub breaks_part : Extends d e → EventIn d ev → IsNote stores d ev notes.Breaks → (v : ℕ → ℕ) (later : Bool) → breaks_from (stores v) (event_seen v d ev) later ≡ with_part v e (Breaks ev.guard) later
+  breaks_part x there note v later =
+      sym (if_true (guard v) later ∙ guarded (guard v) (stores v) (kind_seen v d ev.line ev.function ev.kind) true later (note v later))
+      ∙ ap (λ n. holds n || later) (sym (x.value_stays v ev.guard there.guard.there))
 
 -- ---- events that stay
 
@@ -212,10 +180,11 @@ note_at stores d (e ∷ es) (m ∷ ns) (suc at) ev n lt h =
     subst (λ (s : (ℕ → ℕ) → Objects). IsNote s d (get_or es at ev) (get_or ns at n)) same (note_at (λ v. behind (stores v) (event_seen v d e)) d es ns at ev n less h.1)
 
 -- the events from this place on are looked at
-pub record Looking (d e : List Node) (objects : Objects) (es : List Event) (later : Id) (at : ℕ) : Type 0 where
+pub record Looking (d e : List Node) (objects : Objects) (es : List Event) (chain : Chain) (at : ℕ) : Type 0 where
   pub extends : Extends d e
   pub within : at ≤ length es
-  pub test : IsTest e later (λ v. breaks_from (store_at objects d es at v) (seen v d (drop at es)) false)
+  pub chain_in : ChainIn e chain
+  pub truth : (v : ℕ → ℕ) → chain_value v e chain ≡ breaks_from (store_at objects d es at v) (seen v d (drop at es)) false
 
 drop_end : (es : List Event) (at : ℕ) → at ≡ length es → drop at es ≡ []
 drop_end [] zero same = refl
@@ -223,20 +192,22 @@ drop_end [] (suc at) same = refl
 drop_end (e ∷ es) zero same = absurd (omega (arith, same))
 drop_end (e ∷ es) (suc at) same = drop_end es at (omega (arith, same))
 
-pub looking_none : (d e : List Node) (objects : Objects) (es : List Event) (ns : List Note) (later : Id) (at : ℕ) → at ≡ min (length es) (length ns) → AreNotes (λ v. objects) d es ns → Extends d e → Within e later → width e later ≡ 1
-    → ((v : ℕ → ℕ) → value v e later ≡ 0) → Looking d e objects es later at
-looking_none d e objects es ns later at is given x there wide no_break =
+pub looking_none : (d e : List Node) (objects : Objects) (es : List Event) (ns : List Note) (chain : Chain) (at : ℕ) → at ≡ min (length es) (length ns) → AreNotes (λ v. objects) d es ns → Extends d e → ChainIn e chain
+    → ((v : ℕ → ℕ) → chain_value v e chain ≡ false) → Looking d e objects es chain at
+looking_none d e objects es ns chain at is given x there no_break =
     let same : at ≡ length es = omega (arith, is, notes_long (λ v. objects) d es ns given) in
     record {
       extends = x;
       within = omega (arith, same);
-      test = record { there = there; width_is = wide; value_is = λ v. no_break v ∙ sym (ap (λ (more : List Event). bit_value (breaks_from (store_at objects d es at v) (seen v d more) false)) (drop_end es at same)) };
+      chain_in = there;
+      truth = λ v. no_break v ∙ sym (ap (λ (more : List Event). breaks_from (store_at objects d es at v) (seen v d more) false) (drop_end es at same));
     }
 
-pub looking_more : (d e f : List Node) (objects : Objects) (es : List Event) (ns : List Note) (ev : Event) (n : Note) (later next : Id) (at : ℕ) → FormIn d es → All (NoteIn d) ns → AreNotes (λ v. objects) d es ns
-    → Looking d e objects es later (at + 1) → ev ≡ get_or es at ev → n ≡ get_or ns at n → Extends e f
-    → ((stores : (ℕ → ℕ) → Objects) → IsNote stores e ev n → IsTest f next (λ v. breaks_from (stores v) (event_seen v e ev) (holds (value v e later)))) → Looking d f objects es next at
-looking_more d e f objects es ns ev n later next at there notes_there given l is is_note x makes =
+pub looking_more : (d e f g : List Node) (objects : Objects) (es : List Event) (ns : List Note) (ev : Event) (n : Note) (old new : Chain) (p : Part) (at : ℕ) → FormIn d es → All (NoteIn d) ns → AreNotes (λ v. objects) d es ns
+    → Looking d e objects es old (at + 1) → ev ≡ get_or es at ev → n ≡ get_or ns at n → Extends e f → Extends f g
+    → ((stores : (ℕ → ℕ) → Objects) → IsNote stores e ev n → (v : ℕ → ℕ) (later : Bool) → breaks_from (stores v) (event_seen v e ev) later ≡ with_part v f p later)
+    → ChainIn g new → ((v : ℕ → ℕ) → chain_value v g new ≡ with_part v f p (chain_value v f old)) → Looking d g objects es new at
+looking_more d e f g objects es ns ev n old new p at there notes_there given l is is_note x y makes new_in takes =
     let lt : at < length es = omega (arith, l.within) in
     let here : EventIn d ev = subst (EventIn d) (sym is) (there at ev lt) in
     let note_here : NoteIn d n = subst (NoteIn d) (sym is_note) (notes_there at n (omega (arith, lt, notes_long (λ v. objects) d es ns given))) in
@@ -244,38 +215,37 @@ looking_more d e f objects es ns ev n later next at there notes_there given l is
     let note_is : IsNote stores d ev n = subst (λ (m : Note). IsNote stores d ev m) (sym is_note) (subst (λ (k : Event). IsNote stores d k (get_or ns at n)) (sym is) (note_at (λ v. objects) d es ns at ev n lt given)) in
     let made = makes stores (note_stays d e ev n stores l.extends here note_here note_is) in
     record {
-      extends = extends_more d e f l.extends x;
+      extends = extends_more d f g (extends_more d e f l.extends x) y;
       within = omega (arith, lt);
-      test = record {
-        there = made.there;
-        width_is = made.width_is;
-        value_is = λ v.
-            let rest = drop (at + 1) es in
-            let next_place : suc at ≡ at + 1 = omega arith in
-            let first : drop at es ≡ ev ∷ rest = drop-cons es at ev lt ∙ (λ k. sym is k ∷ drop (next_place k) es) in
-            made.value_is v
-            ∙ (λ k. bit_value (breaks_from (stores v) (event_stays v d e ev l.extends here k) (holds (l.test.value_is v k))))
-            ∙ ap (λ b. bit_value (breaks_from (stores v) (event_seen v d ev) b)) (holds_bit (breaks_from (store_at objects d es (at + 1) v) (seen v d rest) false))
-            ∙ ap (λ (os : Objects). bit_value (breaks_from (stores v) (event_seen v d ev) (breaks_from os (seen v d rest) false))) (store_next objects v d es at ev lt is)
-            ∙ ap bit_value (sym (breaks_append (stores v) (event_seen v d ev) (seen v d rest) false))
-            ∙ ap (λ (more : List Event). bit_value (breaks_from (stores v) (seen v d more) false)) (sym first);
-      };
+      chain_in = new_in;
+      truth = λ v.
+          let rest = drop (at + 1) es in
+          let next_place : suc at ≡ at + 1 = omega arith in
+          let first : drop at es ≡ ev ∷ rest = drop-cons es at ev lt ∙ (λ k. sym is k ∷ drop (next_place k) es) in
+          let later : chain_value v f old ≡ breaks_from (store_at objects d es (at + 1) v) (seen v d rest) false = chain_stays v e f old x l.chain_in ∙ l.truth v in
+          takes v
+          ∙ sym (made v (chain_value v f old))
+          ∙ (λ k. breaks_from (stores v) (event_stays v d e ev l.extends here k) (later k))
+          ∙ ap (λ (os : Objects). breaks_from (stores v) (event_seen v d ev) (breaks_from os (seen v d rest) false)) (store_next objects v d es at ev lt is)
+          ∙ sym (breaks_append (stores v) (event_seen v d ev) (seen v d rest) false)
+          ∙ ap (λ (more : List Event). breaks_from (stores v) (seen v d more) false) (sym first);
     }
 
-pub looking_step : (d e f : List Node) (objects : Objects) (es : List Event) (ns : List Note) (ev : Event) (n : Note) (later next : Id) (at : ℕ) → FormIn d es → All (NoteIn d) ns → AreNotes (λ v. objects) d es ns
-    → Looking d e objects es later at → 0 < at → ev ≡ get_or es (at - 1) ev → n ≡ get_or ns (at - 1) n → Extends e f
-    → ((stores : (ℕ → ℕ) → Objects) → IsNote stores e ev n → IsTest f next (λ v. breaks_from (stores v) (event_seen v e ev) (holds (value v e later)))) → Looking d f objects es next (at - 1)
-looking_step d e f objects es ns ev n later next at there notes_there given l some is is_note x makes =
+pub looking_step : (d e f g : List Node) (objects : Objects) (es : List Event) (ns : List Note) (ev : Event) (n : Note) (old new : Chain) (p : Part) (at : ℕ) → FormIn d es → All (NoteIn d) ns → AreNotes (λ v. objects) d es ns
+    → Looking d e objects es old at → 0 < at → ev ≡ get_or es (at - 1) ev → n ≡ get_or ns (at - 1) n → Extends e f → Extends f g
+    → ((stores : (ℕ → ℕ) → Objects) → IsNote stores e ev n → (v : ℕ → ℕ) (later : Bool) → breaks_from (stores v) (event_seen v e ev) later ≡ with_part v f p later)
+    → ChainIn g new → ((v : ℕ → ℕ) → chain_value v g new ≡ with_part v f p (chain_value v f old)) → Looking d g objects es new (at - 1)
+looking_step d e f g objects es ns ev n old new p at there notes_there given l some is is_note x y makes new_in takes =
     let same : at ≡ at - 1 + 1 = omega (arith, some) in
-    looking_more d e f objects es ns ev n later next (at - 1) there notes_there given (subst (λ (k : ℕ). Looking d e objects es later k) same l) is is_note x makes
+    looking_more d e f g objects es ns ev n old new p (at - 1) there notes_there given (subst (λ (k : ℕ). Looking d e objects es old k) same l) is is_note x y makes new_in takes
 
 -- each read of the run gets what the store holds, and the run breaks a check
 abbrev pub breaks_in : (ℕ → ℕ) → List Node → Form → Bool
 breaks_in v d f = agrees f.store (run_of v d f) && breaks (run_of v d f)
 
-pub looking_whole : (d e : List Node) (objects : Objects) (es : List Event) (goal : Id) (at : ℕ) → at ≤ 0 → Looking d e objects es goal at → IsTest e goal (λ v. breaks_in v d (record { events = es; store = objects }))
-looking_whole d e objects es goal zero none l = same_test e goal _ _ (λ v. sym (breaks_read objects (seen v d es))) l.test
-looking_whole d e objects es goal (suc at) none l = absurd (omega (arith, none))
+pub looking_whole : (d e g : List Node) (objects : Objects) (es : List Event) (chain : Chain) (goal : Id) (at : ℕ) → at ≤ 0 → Looking d e objects es chain at → IsTest g goal (λ v. chain_value v e chain) → IsTest g goal (λ v. breaks_in v d (record { events = es; store = objects }))
+looking_whole d e g objects es chain goal zero none l test = same_test g goal _ _ (λ v. l.truth v ∙ sym (breaks_read objects (seen v d es))) test
+looking_whole d e g objects es chain goal (suc at) none l test = absurd (omega (arith, none))
 
 -- ---- the formula
 

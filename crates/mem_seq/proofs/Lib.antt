@@ -1,6 +1,7 @@
 pub mod Stores
 pub mod Alone
 pub mod Breaking
+pub mod Chaining
 pub mod Building
 pub mod Written
 pub mod WordTests

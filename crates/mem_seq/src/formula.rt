@@ -1,6 +1,6 @@
 //! The formula of one thread: its form, its goal, and what each answer has to be.
 
-ghost use Rattle.std.specs.Prelude.{◌≡◌, ℕ, ◌&&◌, [], not, All, IfOk};
+ghost use Rattle.std.specs.Prelude.{◌≡◌, ℕ, Bool, ◌&&◌, [], All, IfOk};
 ghost use Rattle.actions.specs.Behaviour.{Thread};
 ghost use Rattle.actions.specs.Objects.{Objects};
 ghost use Rattle.guarded_ssa.specs.Forms.{EventIn, event_seen, FormIn, IsForm};
@@ -11,16 +11,18 @@ ghost use Rattle.mem_seq.specs.Accesses.{AreObjects, checked, agrees};
 ghost use Rattle.mem_seq.specs.Notes.{NoteIn, IsNote, AreNotes};
 ghost use Rattle.mem_seq.specs.Runs.{breaks};
 ghost use Rattle.mem_seq.specs.Goals.{breaks_from};
+ghost use Rattle.mem_seq.specs.Chains.{PartIn, with_part};
 ghost use Rattle.value_nodes.specs.Values.{IsWord, IsTest};
 ghost use Rattle.word_dag.specs.Growth.{Extends};
 ghost use Rattle.word_dag.specs.Meaning.{value, holds};
 
+use crate::chain::{Chain, Part};
 use crate::memory::{Note, notes};
 use actions::Store;
 use guarded_ssa::{Event, EventKind, ThreadForm};
 use std::alloc::{AllocError, Global};
 use value_nodes::{both, either, inverse};
-use word_dag::{Dag, Id, Node};
+use word_dag::{Dag, Id};
 
 /// What is asked of the values of a graph's variables: that the goal, a node of 1 bit, is true. The form
 /// tells the run that they give, and the store from which it runs.
@@ -45,85 +47,61 @@ fn under(dag: &mut Dag, guard: Id, test: Id) -> Result<Id, AllocError>
     Ok(id)
 }
 
-// Whether `later` holds and a test doesn't hold where the guard is true.
-fn unless(dag: &mut Dag, guard: Id, test: Id, later: Id) -> Result<Id, AllocError>
-    requires guard { IsWord dag.old guard 1 }
-    requires test { IsWord dag.old test 1 }
-    requires later { IsWord dag.old later 1 }
+// What an event adds in a run from a store without objects, in which each access breaks a check.
+fn part_alone(dag: &mut Dag, event: &Event) -> Result<Part, AllocError>
+    requires { EventIn dag.old event.now }
     ensures extends { Extends dag.old dag.new }
-    ensures made { IfOk result (λ i. IsTest dag.new i (λ v. not (holds (value v dag.old guard) && holds (value v dag.old test)) && holds (value v dag.old later))) }
+    ensures within { IfOk result (PartIn dag.new) }
+    ensures made { IfOk result (λ p. (v : ℕ → ℕ) (later : Bool) → breaks_from [] (event_seen v dag.old event.now) later ≡ with_part v dag.new p later) }
 {
-    let ends = under(dag, guard, test)?;
-    let goes_on = inverse(dag, ends)?;
-    let id = both(dag, goes_on, later)?;
-    Ok(id)
-}
-
-// Whether, from a store without objects, in which each access breaks a check, the run breaks one at an event or,
-// where it goes on, later.
-fn breaks_alone(dag: &mut Dag, event: &Event, later: Id) -> Result<Id, AllocError>
-    requires event { EventIn dag.old event.now }
-    requires later { IsWord dag.old later 1 }
-    ensures extends { Extends dag.old dag.new }
-    ensures made { IfOk result (λ i. IsTest dag.new i (λ v. breaks_from [] (event_seen v dag.old event.now) (holds (value v dag.old later)))) }
-{
-    let _ = dag.nodes();
     match &event.kind {
-        EventKind::Draw { .. } => Ok(later),
-        EventKind::Read { .. } => {
-            let id = either(dag, event.guard, later)?;
-            Ok(id)
-        }
-        EventKind::Write { .. } => {
-            let id = either(dag, event.guard, later)?;
-            Ok(id)
-        }
+        EventKind::Draw { .. } => Ok(Part::Nothing),
+        EventKind::Read { .. } => Ok(Part::Breaks(event.guard)),
+        EventKind::Write { .. } => Ok(Part::Breaks(event.guard)),
         EventKind::Exit => {
             let goes_on = inverse(dag, event.guard)?;
-            let id = both(dag, goes_on, later)?;
-            Ok(id)
+            Ok(Part::Needs(goes_on))
         }
         EventKind::Check { failing, .. } => {
             let broken = under(dag, event.guard, *failing)?;
-            let id = either(dag, broken, later)?;
-            Ok(id)
+            Ok(Part::Breaks(broken))
         }
         EventKind::Assume { failing } => {
-            let id = unless(dag, event.guard, *failing, later)?;
-            Ok(id)
+            let ends = under(dag, event.guard, *failing)?;
+            let goes_on = inverse(dag, ends)?;
+            Ok(Part::Needs(goes_on))
         }
     }
 }
 
-// Whether, from the stores of which the note tells, the run breaks a check at an event or, where it goes on,
-// later.
-#[tactic(auto, using(crate::proofs::Building::passes_test, crate::proofs::Building::breaks_test, crate::proofs::Building::gives_test, crate::proofs::Building::alone_test))]
-fn breaks_at(dag: &mut Dag, event: &Event, note: Note, later: Id) -> Result<Id, AllocError>
+// What an event adds in a run from the stores of which the note tells.
+fn part_at(dag: &mut Dag, event: &Event, note: Note) -> Result<Part, AllocError>
     requires event { EventIn dag.old event.now }
     requires note { NoteIn dag.old note }
-    requires later { IsWord dag.old later 1 }
     ensures extends { Extends dag.old dag.new }
-    ensures made { IfOk result (λ i. (stores : (ℕ → ℕ) → Objects) → IsNote stores dag.old event.now note → IsTest dag.new i (λ v. breaks_from (stores v) (event_seen v dag.old event.now) (holds (value v dag.old later)))) }
+    ensures within { IfOk result (PartIn dag.new) }
+    ensures made { IfOk result (λ p. (stores : (ℕ → ℕ) → Objects) → IsNote stores dag.old event.now note → (v : ℕ → ℕ) (later : Bool) → breaks_from (stores v) (event_seen v dag.old event.now) later ≡ with_part v dag.new p later) }
 {
-    let _ = dag.nodes();
     match note {
-        Note::Passes => Ok(later),
-        Note::Breaks => {
-            let id = either(dag, event.guard, later)?;
-            Ok(id)
-        }
+        Note::Passes => Ok(Part::Nothing),
+        Note::Breaks => Ok(Part::Breaks(event.guard)),
         Note::Gives(test) => {
             let other = inverse(dag, event.guard)?;
             let given = either(dag, other, test)?;
-            let id = both(dag, given, later)?;
-            Ok(id)
+            Ok(Part::Needs(given))
         }
-        Note::Alone => breaks_alone(dag, event, later),
+        Note::Alone => part_alone(dag, event),
     }
 }
 
 // Whether each read of the run that the events tell gives what the store holds, and the run breaks a check.
-fn goal(dag: &mut Dag, store: &Store, events: &[Event], notes: &[Note]) -> Result<Id, AllocError>
+fn goal(
+    alloc: Global,
+    dag: &mut Dag,
+    store: &Store,
+    events: &[Event],
+    notes: &[Note],
+) -> Result<Id, AllocError>
     requires within { FormIn dag.old events.now }
     requires notes_within { All (NoteIn dag.old) notes.now }
     requires notes { AreNotes (λ v. store.now) dag.old events.now notes.now }
@@ -131,13 +109,15 @@ fn goal(dag: &mut Dag, store: &Store, events: &[Event], notes: &[Note]) -> Resul
     ensures made { IfOk result (λ i. IsTest dag.new i (λ v. agrees store.now (checked store.now (run_read v dag.old events.now)) && breaks (checked store.now (run_read v dag.old events.now)))) }
 {
     let _ = store;
-    let mut later = dag.make(Node::Constant(0, 1))?;
+    let mut chain = Chain::new(alloc, dag)?;
     let mut at = events.len().min(notes.len());
     'looking: while at > 0 {
         at -= 1;
-        later = breaks_at(dag, &events[at], notes[at], later)?;
+        let part = part_at(dag, &events[at], notes[at])?;
+        chain.take(dag, part)?;
     }
-    Ok(later)
+    let goal = chain.finish(dag)?;
+    Ok(goal)
 }
 
 /// The formula of the runs of one thread that break a check, over the form of the thread and from its store
@@ -156,7 +136,7 @@ pub fn sequential(
 {
     let _ = dag.nodes();
     let noted = notes(alloc, dag, form.store(), form.events())?;
-    let goal = goal(dag, form.store(), &noted.events, &noted.notes)?;
+    let goal = goal(alloc, dag, form.store(), &noted.events, &noted.notes)?;
     Ok(Formula {
         goal,
         form: form.copied(alloc)?,
