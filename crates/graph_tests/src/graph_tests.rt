@@ -10,7 +10,9 @@ ghost use Rattle.word_dag.specs.Growth.{Within, Extends};
 use crate::node_values::{A, B, MOST, NO, NODE_VALUES, YES, ZERO};
 use std::alloc::{AllocError, Global};
 use std::test::Fail;
-use word_dag::{BinaryOperator, Comparison, Dag, FitsTest, Id, Node, ShiftKind, Valuation};
+use word_dag::{
+    BinaryOperator, Comparison, Dag, FitsTest, Id, Node, Quantifier, ShiftKind, Valuation,
+};
 use words::Word;
 
 const PAST: Id = Id { index: 6 };
@@ -36,7 +38,7 @@ static ROWS: [(Node, u32, u64); 2] = [
 ];
 
 // Nodes that don't fit behind the first ones.
-static MISFITS: [Node; 13] = [
+static MISFITS: [Node; 16] = [
     Node::Constant(0x100, 8),
     Node::Constant(0, 0),
     Node::Variable(0, 65),
@@ -50,6 +52,9 @@ static MISFITS: [Node; 13] = [
     Node::SignExtend(A, 65),
     Node::Cut(A, 4, 5),
     Node::Join(A, PAST),
+    Node::Quantify(Quantifier::All, ZERO, 2),
+    Node::Quantify(Quantifier::Any, YES, 3),
+    Node::Quantify(Quantifier::All, MOST, usize::MAX),
 ];
 
 fn made(dag: &mut Dag, node: Node) -> Option<Id> {
@@ -168,7 +173,7 @@ static FOLDED_FIRST: [Node; 5] = [
     Node::Variable(0, 8),
 ];
 
-static FOLDED: [(Node, Node); 17] = [
+static FOLDED: [(Node, Node); 18] = [
     (Node::Not(SIX), Node::Constant(0xf9, 8)),
     (Node::Negate(SIX), Node::Constant(0xfa, 8)),
     (
@@ -204,6 +209,10 @@ static FOLDED: [(Node, Node); 17] = [
         Node::Compare(Comparison::Equal, FREE, FREE),
     ),
     (Node::Join(FREE, SIX), Node::Join(FREE, SIX)),
+    (
+        Node::Quantify(Quantifier::All, TRUE, 1),
+        Node::Quantify(Quantifier::All, TRUE, 1),
+    ),
 ];
 
 // The first row whose node is kept as another one.

@@ -1,6 +1,6 @@
 //! Nodes over six others, with their values: a table for the tests of the graph and of its clauses.
 
-use word_dag::{BinaryOperator, Comparison, FitsTest, Id, Node, ShiftKind};
+use word_dag::{BinaryOperator, Comparison, FitsTest, Id, Node, Quantifier, ShiftKind};
 
 /// The variable 0, of 8 bits: 0x96, which is -106 with a sign.
 pub const A: Id = Id { index: 0 };
@@ -21,7 +21,7 @@ pub const NO: Id = Id { index: 4 };
 pub const MOST: Id = Id { index: 5 };
 
 /// A node over these nodes; its width, and its value where these nodes have their values.
-pub static NODE_VALUES: [(Node, u32, u64); 44] = [
+pub static NODE_VALUES: [(Node, u32, u64); 50] = [
     (Node::Constant(0xbeef, 16), 16, 0xbeef),
     (Node::Variable(0, 4), 4, 6),
     (Node::Not(A), 8, 0x69),
@@ -70,4 +70,10 @@ pub static NODE_VALUES: [(Node, u32, u64); 44] = [
     (Node::SignExtend(A, 16), 16, 0xff96),
     (Node::Cut(A, 4, 3), 3, 1),
     (Node::Join(A, B), 16, 0x9605),
+    (Node::Quantify(Quantifier::All, YES, 1), 1, 1),
+    (Node::Quantify(Quantifier::All, YES, 2), 1, 0),
+    (Node::Quantify(Quantifier::All, YES, 0), 1, 1),
+    (Node::Quantify(Quantifier::Any, NO, 1), 1, 0),
+    (Node::Quantify(Quantifier::Any, YES, 2), 1, 1),
+    (Node::Quantify(Quantifier::Any, YES, 0), 1, 0),
 ];
