@@ -15,7 +15,8 @@ use Rattle.word_dag.specs.Growth.{Within, Extends, Makes}
 use Rattle.word_dag.proofs.Grown.{extends_itself, extends_more, all_within_stays, map_stays, map_widths_stay}
 use Rattle.value_nodes.specs.Values.{IsWord, AreBytes}
 use Rattle.value_nodes.specs.Bytes.{AreBytesOf}
-use Rattle.guarded_ssa.specs.Runs.{bytes_of_words, word_widths, words_by}
+use Rattle.guarded_ssa.specs.Runs.{bytes_of_words, word_widths}
+use Rattle.guarded_ssa.specs.inner.Answers.{words_by}
 use Rattle.guarded_ssa.specs.Forms.{AreWords}
 use Rattle.guarded_ssa.proofs.WordBytes.{min_rest, words_enough, low_count}
 use Rattle.guarded_ssa.proofs.Stays.{word_stays}

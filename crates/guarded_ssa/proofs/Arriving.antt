@@ -13,10 +13,10 @@ use Rattle.cell_trees.proofs.Kept.{keeps_itself}
 use Rattle.goto_prog.specs.CodeThread.{Listing}
 use Rattle.guarded_ssa.specs.declared.slots.Slot.{Slot}
 use Rattle.guarded_ssa.specs.declared.pass.Pass.{Pass}
-use Rattle.guarded_ssa.specs.Arrivals.{Arrivals, either, arrived}
+use Rattle.guarded_ssa.specs.inner.Places.{Arrivals, either, arrived}
 use Rattle.guarded_ssa.specs.Forms.{FormIn, EventIn}
-use Rattle.guarded_ssa.specs.Reads.{Alike, AllAlike}
-use Rattle.guarded_ssa.specs.Held.{SlotIn, PendingIn, PassIn, Arrives, guarded, arrival, arrivals}
+use Rattle.guarded_ssa.specs.inner.Reads.{Alike, AllAlike}
+use Rattle.guarded_ssa.specs.inner.Held.{SlotIn, PendingIn, PassIn, Arrives, guarded, arrival, arrivals}
 use Rattle.guarded_ssa.proofs.Needs.{all_alike_itself}
 use Rattle.guarded_ssa.proofs.Stays.{form_stays, all_pending_stay, arrivals_stay}
 

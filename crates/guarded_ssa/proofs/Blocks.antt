@@ -12,8 +12,8 @@ use Rattle.word_dag.specs.declared.nodes.Id.{Id}
 use Rattle.goto_prog.specs.Fitting.{is_block}
 use Rattle.goto_prog.specs.Meaning.{bytes_of}
 use Rattle.goto_prog.proofs.Registers.{both, test_below}
-use Rattle.guarded_ssa.specs.Registers.{word_or_0, words_from, bytes_from, id_or, ids_from}
-use Rattle.guarded_ssa.specs.Held.{total, stored, starts_from}
+use Rattle.guarded_ssa.specs.inner.Registers.{word_or_0, words_from, bytes_from, id_or, ids_from}
+use Rattle.guarded_ssa.specs.inner.Held.{total, stored, starts_from}
 use Rattle.guarded_ssa.proofs.CellWords.{words_same}
 
 -- ---- bytes put in the place of others

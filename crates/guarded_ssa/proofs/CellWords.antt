@@ -5,7 +5,7 @@ use Rattle.std.proofs.lemmas.Bool.Decides.{nat_tests}
 use Rattle.std.proofs.lemmas.List.{append-nil}
 use Rattle.c_types.specs.declared.integers.IntegerType.{IntegerType}
 use Rattle.word_dag.specs.declared.nodes.Id.{Id}
-use Rattle.guarded_ssa.specs.Registers.{word_or_0, words_from, id_or, ids_from}
+use Rattle.guarded_ssa.specs.inner.Registers.{word_or_0, words_from, id_or, ids_from}
 
 -- ---- tests
 

@@ -18,7 +18,7 @@ use Rattle.cell_trees.specs.declared.arena.Root.{Root}
 use Rattle.cell_trees.specs.Trees.{Arena, span, IsRoot, looked, Keeps, among}
 use Rattle.cell_trees.proofs.Kept.{keeps_itself, keeps_more}
 use Rattle.guarded_ssa.specs.declared.registers.Zeros.{Zeros}
-use Rattle.guarded_ssa.specs.Registers.{ZerosIn, TreeIn, Merged, is_needed, word_or_0, zero_of}
+use Rattle.guarded_ssa.specs.inner.Registers.{ZerosIn, TreeIn, Merged, is_needed, word_or_0, zero_of}
 use Rattle.guarded_ssa.proofs.CellWords.{if_true, if_false, is_same, are_same}
 use Rattle.guarded_ssa.proofs.Stays.{word_stays, cell_stays}
 

@@ -22,18 +22,18 @@ use Rattle.goto_prog.specs.Meaning.{Memory, register}
 use Rattle.goto_prog.specs.declared.code.Operation.{Operation}
 use Rattle.goto_prog.specs.declared.code.Operation.TheVariants as operations
 use Rattle.goto_prog.specs.Fitting.{is_there, is_register, operation_fits}
-use Rattle.guarded_ssa.specs.Results.{into_of, result_of}
+use Rattle.guarded_ssa.specs.inner.Results.{into_of, result_of}
 use Rattle.goto_prog.specs.CodeThread.{Listing, first_memory}
 use Rattle.guarded_ssa.specs.declared.slots.Slot.{Slot}
-use Rattle.guarded_ssa.specs.Arrivals.{either, kept}
-use Rattle.guarded_ssa.specs.Reads.{IsRead, Agree, Alike}
-use Rattle.guarded_ssa.specs.Registers.{ZerosIn, TreeIn, Merged, is_needed, word_or_0, words_from, bytes_from, zero_of}
+use Rattle.guarded_ssa.specs.inner.Places.{either, kept}
+use Rattle.guarded_ssa.specs.inner.Reads.{IsRead, Agree, Alike}
+use Rattle.guarded_ssa.specs.inner.Registers.{ZerosIn, TreeIn, Merged, is_needed, word_or_0, words_from, bytes_from, zero_of}
 use Rattle.guarded_ssa.proofs.CellWords.{all_words, words_first, words_behind, words_same}
 use Rattle.guarded_ssa.proofs.Meeting.{zero_is, none_some}
 use Rattle.guarded_ssa.proofs.Blocks.{stored_zeros, stored_length, no_block, no_bytes, block_words, block_ends}
 use Rattle.guarded_ssa.proofs.Numbering.{cells_length, register_type, all_owners, register_owner, byte_owner}
 use Rattle.guarded_ssa.proofs.Stays.{slot_stays, held_stays, guarded_stays, cell_stays}
-use Rattle.guarded_ssa.specs.Held.{total, cells, owners, SlotIn, stored, held, guarded}
+use Rattle.guarded_ssa.specs.inner.Held.{total, cells, owners, SlotIn, stored, held, guarded}
 
 pub holds_bit : (b : Bool) → holds (bit_value b) ≡ b
 holds_bit true = refl

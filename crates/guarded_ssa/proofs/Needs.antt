@@ -14,9 +14,10 @@ use Rattle.goto_prog.specs.declared.code.Operation.{Operation}
 use Rattle.goto_prog.specs.declared.code.Operation.TheVariants as operations
 use Rattle.goto_prog.specs.declared.code.Instruction.{Instruction}
 use Rattle.goto_prog.specs.Meaning.{Memory, register, with_register, with_blocks, bytes_of, word_of, bytes_in, check_class, calculated, return_check}
-use Rattle.guarded_ssa.specs.Runs.{answer_at}
-use Rattle.guarded_ssa.specs.Arrivals.{asked, stopped, Arrivals, either, arrived, updated, kept, on, breaks, tells, leaves, first_arrival, later_arrivals, told}
-use Rattle.guarded_ssa.specs.Reads.{IsRead, AreRead, Covers, Agree, Alike, AllAlike}
+use Rattle.guarded_ssa.specs.inner.Answers.{answer_at}
+use Rattle.guarded_ssa.specs.Arrivals.{asked, stopped}
+use Rattle.guarded_ssa.specs.inner.Places.{Arrivals, either, arrived, updated, kept, on, breaks, tells, leaves, first_arrival, later_arrivals, told}
+use Rattle.guarded_ssa.specs.inner.Reads.{IsRead, AreRead, Covers, Agree, Alike, AllAlike}
 
 module _ (registers : ℕ) (until : List ℕ) where
   -- ---- agreement

@@ -2,7 +2,7 @@
 use Rattle.std.proofs.Common.{◌≡◌, ℕ, suc, ◌+◌, ◌<◌, List, [], ◌∷◌, ◌++◌, length, take, get_or, Option, Some, None, sym, subst, ◌∙◌, arith}
 use Rattle.std.proofs.lemmas.List.{take_more, length-take-le}
 use Rattle.goto_prog.specs.declared.code.Instruction.{Instruction}
-use Rattle.guarded_ssa.specs.Reads.{IsRead, IsBlockRead, AreRead, Covers, Later, first_read, second_read, block_read}
+use Rattle.guarded_ssa.specs.inner.Reads.{IsRead, IsBlockRead, AreRead, Covers, Later, first_read, second_read, block_read}
 
 read_later : (us ws : List ℕ) (p : ℕ) (r : Option ℕ) → Later us ws → IsRead us p r → IsRead ws p r
 read_later us ws p None l h = tt

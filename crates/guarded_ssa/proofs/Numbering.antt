@@ -6,7 +6,7 @@ use Rattle.std.proofs.lemmas.List.{length-append, length-replicate, get_or-repli
 use Rattle.std.proofs.Math.ListN.{get_or-append}
 use Rattle.c_types.specs.declared.integers.IntegerType.TheVariants as types
 use Rattle.goto_prog.specs.CodeThread.{Listing}
-use Rattle.guarded_ssa.specs.Held.{total, cells, counted, owners_from, owners}
+use Rattle.guarded_ssa.specs.inner.Held.{total, cells, counted, owners_from, owners}
 
 -- ---- numbers one behind the other
 

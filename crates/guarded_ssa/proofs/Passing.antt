@@ -23,7 +23,8 @@ use Rattle.word_dag.specs.Meaning.{value, holds}
 use Rattle.word_dag.specs.Growth.{Extends, Makes}
 use Rattle.word_dag.proofs.Grown.{extends_itself, extends_more, within_stays, all_within_stays, map_stays, map_widths_stay}
 use Rattle.value_nodes.specs.Bytes.{AreBytesOf}
-use Rattle.guarded_ssa.specs.Runs.{bytes_of_words, words_by}
+use Rattle.guarded_ssa.specs.Runs.{bytes_of_words}
+use Rattle.guarded_ssa.specs.inner.Answers.{words_by}
 use Rattle.value_nodes.specs.Values.{IsWord, IsTest, AreBytes}
 use Rattle.goto_prog.specs.declared.code.Condition.{Condition}
 use Rattle.goto_prog.specs.declared.code.Condition.TheVariants as checks
@@ -43,14 +44,15 @@ use Rattle.guarded_ssa.specs.declared.forms.Event.{Event}
 use Rattle.guarded_ssa.specs.declared.forms.EventKind.TheVariants.{Draw, Read, Write, Exit, Check, Assume}
 use Rattle.guarded_ssa.specs.declared.slots.Slot.{Slot}
 use Rattle.guarded_ssa.specs.declared.pass.Pass.{Pass}
-use Rattle.guarded_ssa.specs.Arrivals.{Seen, asked, stopped, Arrivals, arrived, updated, kept, on, breaks, tells, leaves}
+use Rattle.guarded_ssa.specs.Arrivals.{Seen, asked, stopped}
+use Rattle.guarded_ssa.specs.inner.Places.{Arrivals, arrived, updated, kept, on, breaks, tells, leaves}
 use Rattle.guarded_ssa.specs.Forms.{IsBit, AreWords, EventIn, FormIn, kind_seen, event_seen, seen}
-use Rattle.guarded_ssa.specs.Reads.{AllAlike}
-use Rattle.guarded_ssa.specs.Held.{SlotIn, PendingIn, PassIn, Arrives, Tells, Passes, total, cells, held, stored, guarded, arrivals}
-use Rattle.guarded_ssa.specs.Registers.{ZerosIn, word_or_0}
+use Rattle.guarded_ssa.specs.inner.Reads.{AllAlike}
+use Rattle.guarded_ssa.specs.inner.Held.{SlotIn, PendingIn, PassIn, Arrives, Tells, Passes, total, cells, held, stored, guarded, arrivals}
+use Rattle.guarded_ssa.specs.inner.Registers.{ZerosIn, word_or_0}
 use Rattle.guarded_ssa.proofs.CellWords.{registers_set, if_true, if_false, is_below}
 use Rattle.guarded_ssa.proofs.Blocks.{bytes_alike}
-use Rattle.guarded_ssa.specs.Results.{sets_register, into_of, result_of, class_of}
+use Rattle.guarded_ssa.specs.inner.Results.{sets_register, into_of, result_of, class_of}
 use Rattle.guarded_ssa.proofs.Needs.{all_alike_itself, all_alike_more, arrived_alike, alike_itself}
 use Rattle.guarded_ssa.proofs.Stays.{slot_stays, guarded_stays, seen_stays, arrivals_stay}
 use Rattle.std.proofs.lemmas.Bool.{false≢true}

@@ -5,8 +5,8 @@ use Rattle.std.proofs.lemmas.Bool.Decides.{nat_tests}
 use Rattle.std.proofs.lemmas.List.{get_or_default}
 use Rattle.goto_prog.proofs.Registers.{both, test_below}
 use Rattle.guarded_ssa.specs.declared.liveness.Plan.{Plan}
-use Rattle.guarded_ssa.specs.Held.{IsPlan, owners}
-use Rattle.guarded_ssa.specs.Registers.{is_needed}
+use Rattle.guarded_ssa.specs.inner.Held.{IsPlan, owners}
+use Rattle.guarded_ssa.specs.inner.Registers.{is_needed}
 use Rattle.guarded_ssa.proofs.Numbering.{all_owners, owner_there}
 
 module _ (p : Plan) (plan : IsPlan p) where

@@ -30,9 +30,9 @@ use Rattle.guarded_ssa.specs.declared.slots.Slot.{Slot}
 use Rattle.guarded_ssa.specs.declared.pass.Pass.{Pass}
 use Rattle.guarded_ssa.specs.Arrivals.{asked, stopped}
 use Rattle.guarded_ssa.specs.Forms.{IsBit, KindIn, EventIn, FormIn, kind_seen, event_seen, seen}
-use Rattle.guarded_ssa.specs.Registers.{ZerosIn, TreeIn, word_or_0, words_from}
+use Rattle.guarded_ssa.specs.inner.Registers.{ZerosIn, TreeIn, word_or_0, words_from}
 use Rattle.guarded_ssa.proofs.CellWords.{words_same}
-use Rattle.guarded_ssa.specs.Held.{SlotIn, PendingIn, PassIn, cells, total, stored, held, guarded, arrival, arrivals}
+use Rattle.guarded_ssa.specs.inner.Held.{SlotIn, PendingIn, PassIn, cells, total, stored, held, guarded, arrival, arrivals}
 
 module _ (d e : List Node) (x : Extends d e) where
   pub word_stays : (i : Id) (w : ℕ) → IsWord d i w → IsWord e i w

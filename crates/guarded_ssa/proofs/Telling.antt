@@ -13,8 +13,10 @@ use Rattle.goto_prog.specs.declared.code.Operation.{Operation}
 use Rattle.goto_prog.specs.declared.code.Operation.TheVariants as operations
 use Rattle.goto_prog.specs.declared.code.Instruction.{Instruction}
 use Rattle.goto_prog.specs.Meaning.{Memory, register, with_register, with_blocks, bytes_of, word_of, bytes_in, check_class, calculated, or_else, at, operates, places}
-use Rattle.guarded_ssa.specs.Runs.{Run, stops, asks, answer_at, running}
-use Rattle.guarded_ssa.specs.Arrivals.{stopped, read, Arrivals, arrived, breaks, tells, leaves, told}
+use Rattle.guarded_ssa.specs.Runs.{Run, stops, asks}
+use Rattle.guarded_ssa.specs.inner.Answers.{answer_at, running}
+use Rattle.guarded_ssa.specs.Arrivals.{stopped, read}
+use Rattle.guarded_ssa.specs.inner.Places.{Arrivals, arrived, breaks, tells, leaves, told}
 
 abbrev pub end : Run
 end = stops (Ended (word_64 0))

@@ -23,7 +23,8 @@ use Rattle.goto_prog.specs.declared.code.Instruction.{Instruction}
 use Rattle.goto_prog.specs.Meaning.{Memory, Reading, does}
 use Rattle.goto_prog.specs.Threads.{behaving, ask, final}
 use Rattle.guarded_ssa.specs.declared.forms.Event.{Event}
-use Rattle.guarded_ssa.specs.Runs.{Run, stops, asks, bytes_of_words, words_by, answer_at, running}
+use Rattle.guarded_ssa.specs.Runs.{Run, stops, asks, bytes_of_words}
+use Rattle.guarded_ssa.specs.inner.Answers.{words_by, answer_at, running}
 use Rattle.guarded_ssa.specs.Forms.{Begins, IsForm, run_read}
 use Rattle.guarded_ssa.proofs.WordBytes.{number_is, words_are_bytes, words_size, words_enough, words_by_same, words_give}
 use Rattle.guarded_ssa.proofs.Readings.{IsEnd, IsAsked, does_related}

@@ -20,12 +20,14 @@ use Rattle.goto_prog.specs.CodeThread.{Listing, first_memory}
 use Rattle.guarded_ssa.specs.declared.forms.Event.{Event}
 use Rattle.guarded_ssa.specs.declared.slots.Slot.{Slot}
 use Rattle.guarded_ssa.specs.declared.pass.Pass.{Pass}
-use Rattle.guarded_ssa.specs.Runs.{stops, running}
-use Rattle.guarded_ssa.specs.Arrivals.{Arrivals, read, on, tells, told}
+use Rattle.guarded_ssa.specs.Runs.{stops}
+use Rattle.guarded_ssa.specs.inner.Answers.{running}
+use Rattle.guarded_ssa.specs.Arrivals.{read}
+use Rattle.guarded_ssa.specs.inner.Places.{Arrivals, on, tells, told}
 use Rattle.actions.specs.Objects.{Objects}
 use Rattle.guarded_ssa.specs.Forms.{Form, FormIn, IsForm, AreForms, seen}
-use Rattle.guarded_ssa.specs.Reads.{Covers}
-use Rattle.guarded_ssa.specs.Held.{SlotIn, PendingIn, PassIn, Passes, Visits, guarded, arrival, arrivals}
+use Rattle.guarded_ssa.specs.inner.Reads.{Covers}
+use Rattle.guarded_ssa.specs.inner.Held.{SlotIn, PendingIn, PassIn, Passes, Visits, guarded, arrival, arrivals}
 use Rattle.guarded_ssa.proofs.Telling.{Nowhere, remaining, leaves_none, tells_all}
 use Rattle.guarded_ssa.proofs.Needs.{told_step}
 use Rattle.guarded_ssa.proofs.Valuations.{is_form}

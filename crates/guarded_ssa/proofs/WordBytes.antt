@@ -14,7 +14,8 @@ use Rattle.words.specs.Operators.{low_bits}
 use Rattle.actions.specs.ByteList.{are_bytes}
 use Rattle.c_values.specs.Variables.{low_bytes, zeros, word_count}
 use Rattle.goto_prog.proofs.Registers.{both, test_below}
-use Rattle.guarded_ssa.specs.Runs.{bytes_of_words, words_by}
+use Rattle.guarded_ssa.specs.Runs.{bytes_of_words}
+use Rattle.guarded_ssa.specs.inner.Answers.{words_by}
 
 -- ---- the bytes of low bits
 

@@ -24,9 +24,9 @@ use Rattle.cell_trees.specs.Trees.{Arena, span, IsRoot, looked, Keeps, Replaced}
 use Rattle.goto_prog.specs.CodeThread.{Listing}
 use Rattle.goto_prog.proofs.Blocks.{bytes_few}
 use Rattle.guarded_ssa.specs.declared.slots.Slot.{Slot}
-use Rattle.guarded_ssa.specs.Arrivals.{updated}
-use Rattle.guarded_ssa.specs.Held.{total, cells, SlotIn, held, stored, guarded}
-use Rattle.guarded_ssa.specs.Registers.{ZerosIn, bytes_from, id_or, ids_from}
+use Rattle.guarded_ssa.specs.inner.Places.{updated}
+use Rattle.guarded_ssa.specs.inner.Held.{total, cells, SlotIn, held, stored, guarded}
+use Rattle.guarded_ssa.specs.inner.Registers.{ZerosIn, bytes_from, id_or, ids_from}
 use Rattle.cell_trees.proofs.Kept.{keeps_itself}
 use Rattle.guarded_ssa.proofs.Stays.{guarded_stays}
 use Rattle.guarded_ssa.proofs.Meeting.{same_some}

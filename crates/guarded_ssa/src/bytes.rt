@@ -11,8 +11,9 @@ ghost use Rattle.value_nodes.specs.Bytes.{AreBytesOf};
 ghost use Rattle.cell_trees.specs.Trees.{Keeps};
 ghost use Rattle.goto_prog.specs.Fitting.{is_block, has_bytes};
 ghost use Rattle.goto_prog.specs.Meaning.{with_blocks, bytes_of, calculated};
-ghost use Rattle.guarded_ssa.specs.Arrivals.{updated};
-ghost use Rattle.guarded_ssa.specs.Held.{SlotIn, IsPlan, held, guarded, total, counted, owners_from, starts_from};
+ghost use Rattle.guarded_ssa.specs.inner.Places.{updated};
+ghost use Rattle.guarded_ssa.specs.inner.Held.{SlotIn, IsPlan, held, guarded, total, counted, owners_from, starts_from};
+ghost use Rattle.guarded_ssa.specs.inner.Conditions.{SlotOf};
 
 use crate::liveness::Plan;
 use crate::registers::ids_from;
@@ -128,8 +129,7 @@ impl Slot {
         offset: u32,
         count: u32,
     ) -> Result<Vec<Id>, AllocError>
-        requires plan { IsPlan plan.now }
-        requires within { SlotIn dag.now trees.now plan.now.code.now self.now }
+        requires slot { SlotOf plan.now dag.now trees.now self.now }
         requires there { is_within plan.now.code.now.blocks b offset count ≡ true }
         ensures made { IfOk result (λ ids. AreBytesOf dag.now ids.items (λ v. bytes_of (held v dag.now trees.now plan.now.code.now self.now).blocks b offset count)) }
         ensures size { IfOk result (λ ids. length ids.items ≡ count) }
@@ -151,8 +151,7 @@ impl Slot {
         offset: u32,
         type_: IntegerType,
     ) -> Result<Id, AllocError>
-        requires plan { IsPlan plan.now }
-        requires within { SlotIn dag.old trees.now plan.now.code.now self.now }
+        requires slot { SlotOf plan.now dag.old trees.now self.now }
         requires there { is_within plan.now.code.now.blocks b offset (bytes type_) ≡ true }
         ensures extends { Extends dag.old dag.new }
         ensures made { IfOk result (λ i. IsValue dag.new i (type_width type_) (λ v. read_variable (held v dag.old trees.now plan.now.code.now self.now).blocks b offset type_)) }
@@ -173,8 +172,7 @@ impl Slot {
         count: usize,
         new: &[Id],
     ) -> Result<Slot, AllocError>
-        requires plan { IsPlan plan.now }
-        requires within { SlotIn dag.now trees.old plan.now.code.now self }
+        requires slot { SlotOf plan.now dag.now trees.old self }
         requires block { is_within plan.now.code.now.blocks block offset count ≡ true }
         requires few { length new.now ≤ count }
         requires new { AreBytes dag.now new.now }
@@ -202,8 +200,7 @@ impl Slot {
         offset: u32,
         new: &[Id],
     ) -> Result<Slot, AllocError>
-        requires plan { IsPlan plan.now }
-        requires within { SlotIn dag.now trees.old plan.now.code.now self }
+        requires slot { SlotOf plan.now dag.now trees.old self }
         requires block { is_within plan.now.code.now.blocks block offset (length new.now) ≡ true }
         requires new { AreBytes dag.now new.now }
         ensures keeps { Keeps trees.old trees.new }
@@ -225,8 +222,7 @@ impl Slot {
         count: u32,
         operand: usize,
     ) -> Result<Slot, AllocError>
-        requires plan { IsPlan plan.now }
-        requires within { SlotIn dag.old trees.old plan.now.code.now self }
+        requires slot { SlotOf plan.now dag.old trees.old self }
         requires operand { has_bytes plan.now.code.now.registers operand count ≡ true }
         requires block { is_within plan.now.code.now.blocks block offset count ≡ true }
         ensures extends { Extends dag.old dag.new }
@@ -250,8 +246,7 @@ impl Slot {
         block: usize,
         size: u32,
     ) -> Result<Slot, AllocError>
-        requires plan { IsPlan plan.now }
-        requires within { SlotIn dag.now trees.old plan.now.code.now self }
+        requires slot { SlotOf plan.now dag.now trees.old self }
         requires block { is_block plan.now.code.now.blocks block size ≡ true }
         ensures keeps { Keeps trees.old trees.new }
         ensures within { IfOk result (SlotIn dag.now trees.new plan.now.code.now) }
@@ -273,8 +268,7 @@ impl Slot {
         from: (usize, u32),
         count: u32,
     ) -> Result<Slot, AllocError>
-        requires plan { IsPlan plan.now }
-        requires within { SlotIn dag.now trees.old plan.now.code.now self }
+        requires slot { SlotOf plan.now dag.now trees.old self }
         requires into { is_within plan.now.code.now.blocks into.0 into.1 count ≡ true }
         requires from { is_within plan.now.code.now.blocks from.0 from.1 count ≡ true }
         ensures keeps { Keeps trees.old trees.new }

@@ -4,7 +4,7 @@ ghost use Rattle.std.specs.Prelude.{◌≡◌, ℕ, ◌∷◌, Some, None, lengt
 ghost use Rattle.word_dag.specs.Growth.{Extends};
 ghost use Rattle.goto_prog.specs.CodeThread.{first_memory};
 ghost use Rattle.goto_prog.specs.Flat.{plain_thread};
-ghost use Rattle.guarded_ssa.specs.Arrivals.{told};
+ghost use Rattle.guarded_ssa.specs.inner.Places.{told};
 ghost use Rattle.guarded_ssa.specs.Forms.{FormIn, AreForms, seen};
 
 use crate::forms::{Event, ThreadForm};

@@ -1,8 +1,8 @@
 //! Up to which place each register and each byte is read.
 
 ghost use Rattle.std.specs.Prelude.{◌≡◌, ℕ, ◌<◌, ◌^◌, ◌+◌, length, IfOk};
-ghost use Rattle.guarded_ssa.specs.Held.{IsPlan};
-ghost use Rattle.guarded_ssa.specs.Reads.{first_checked, second_checked, first_read, second_read, block_read, IsRead, IsBlockRead, Later, Covers};
+ghost use Rattle.guarded_ssa.specs.inner.Held.{IsPlan};
+ghost use Rattle.guarded_ssa.specs.inner.Reads.{first_checked, second_checked, first_read, second_read, block_read, IsRead, IsBlockRead, Later, Covers};
 
 use crate::bytes::{cell_types, owners, starts};
 use c_types::IntegerType;

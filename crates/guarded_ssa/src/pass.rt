@@ -35,7 +35,8 @@ ghost use Rattle.goto_prog.specs.Running.{is_calculation};
 ghost use Rattle.goto_prog.specs.UnrolledCode.{is_flat};
 ghost use Rattle.guarded_ssa.specs.Forms.{EventIn};
 ghost use Rattle.goto_prog.specs.CodeThread.{first_memory};
-ghost use Rattle.guarded_ssa.specs.Held.{SlotIn, PassIn, Arrives, Tells, Passes, Visits, IsPlan, arrivals};
+ghost use Rattle.guarded_ssa.specs.inner.Held.{SlotIn, PassIn, Arrives, Tells, Visits, IsPlan, arrivals};
+ghost use Rattle.guarded_ssa.specs.inner.Conditions.{Reached, PassesHere};
 
 use crate::answers::{answer_words, bytes_of_words};
 use crate::forms::{Event, EventKind, Nodes};
@@ -51,6 +52,16 @@ use std::collections::VecDeque;
 use value_nodes::zero_test;
 use word_dag::{Dag, Node};
 use words::Class;
+
+/// A place that a pass is at: its number, the line and the function of its instruction, and the slot with which
+/// it is reached.
+#[derive(Clone, Copy)]
+pub struct Here {
+    pub place: usize,
+    pub line: u32,
+    pub function: u32,
+    pub slot: Slot,
+}
 
 /// A pass over code: the events that were told so far, for each place from the next on the memory with which it is
 /// reached, and the trees of all these memories.
@@ -99,30 +110,29 @@ impl Pass {
         })
     }
 
-    /// A slot arrives n places behind the next, if it is reached ever.
+    /// The slot that a place has arrives n places behind the next, if it is reached ever.
     pub fn arrive(
         &mut self,
         dag: &mut Dag,
         plan: &Plan,
-        place: usize,
+        here: Here,
         n: usize,
-        slot: Slot,
     ) -> Result<(), AllocError>
-        requires plan { IsPlan plan.now }
-        requires room { place + length self.old.pending.items < 2 ^ 64 }
-        requires within { PassIn dag.old plan.now.code.now self.old }
-        requires slot { SlotIn dag.old self.old.trees plan.now.code.now slot }
+        requires { Reached plan.now dag.old self.old here }
         ensures extends { Extends dag.old dag.new }
-        ensures arrives { OnOk result (Arrives plan.now.until.items plan.now.code.now place n slot dag.old dag.new self.old self.new) }
+        ensures arrives { OnOk result (Arrives plan.now.until.items plan.now.code.now here.place n here.slot dag.old dag.new self.old self.new) }
     {
         if n >= self.pending.len() {
             return Ok(());
         }
-        if slot.is_never(dag, &self.trees, plan) {
+        if here.slot.is_never(dag, &self.trees, plan) {
             return Ok(());
         }
+        let ahead = here.place + 1 + n;
         let there = self.pending[n];
-        let met = slot.met(dag, &mut self.trees, plan, place + 1 + n, n == 0, there)?;
+        let met = here
+            .slot
+            .met(dag, &mut self.trees, plan, ahead, n == 0, there)?;
         self.pending[n] = Some(met);
         Ok(())
     }
@@ -142,20 +152,16 @@ impl Pass {
         &mut self,
         dag: &mut Dag,
         plan: &Plan,
-        place: usize,
-        slot: Slot,
+        here: Here,
         event: Event,
     ) -> Result<(), AllocError>
-        requires plan { IsPlan plan.now }
-        requires room { place + length self.old.pending.items < 2 ^ 64 }
-        requires within { PassIn dag.old plan.now.code.now self.old }
-        requires slot { SlotIn dag.old self.old.trees plan.now.code.now slot }
+        requires reached { Reached plan.now dag.old self.old here }
         requires event { EventIn dag.old event }
         ensures extends { Extends dag.old dag.new }
-        ensures tells { OnOk result (Tells plan.now.until.items plan.now.code.now place event slot dag.old dag.new self.old self.new) }
+        ensures tells { OnOk result (Tells plan.now.until.items plan.now.code.now here.place event here.slot dag.old dag.new self.old self.new) }
     {
         self.tell(event)?;
-        self.arrive(dag, plan, place, 0, slot)?;
+        self.arrive(dag, plan, here, 0)?;
         Ok(())
     }
 
@@ -164,21 +170,17 @@ impl Pass {
         &mut self,
         dag: &mut Dag,
         plan: &Plan,
-        place: usize,
-        i: Instruction,
-        slot: Slot,
+        here: Here,
+        operation: Operation,
     ) -> Result<(), AllocError>
-        requires plan { IsPlan plan.now }
-        requires room { place + length self.old.pending.items < 2 ^ 64 }
-        requires within { PassIn dag.old plan.now.code.now self.old }
-        requires slot { SlotIn dag.old self.old.trees plan.now.code.now slot }
-        requires fits { operation_fits plan.now.code.now.registers plan.now.code.now.blocks 0 i.operation ≡ true }
-        requires calculation { is_calculation i.operation ≡ true }
+        requires reached { Reached plan.now dag.old self.old here }
+        requires fits { operation_fits plan.now.code.now.registers plan.now.code.now.blocks 0 operation ≡ true }
+        requires calculation { is_calculation operation ≡ true }
         ensures extends { Extends dag.old dag.new }
-        ensures passes { OnOk result (Passes plan.now.until.items plan.now.code.now place i.line i.function (i.operation) slot dag.old dag.new self.old self.new) }
+        ensures passes { OnOk result (PassesHere plan.now here operation dag.old dag.new self.old self.new) }
     {
-        let next = slot.calculated(dag, &mut self.trees, plan, i.operation)?;
-        self.arrive(dag, plan, place, 0, next)?;
+        let next = here.slot.calculated(dag, &mut self.trees, plan, operation)?;
+        self.arrive(dag, plan, Here { slot: next, ..here }, 0)?;
         Ok(())
     }
 
@@ -187,20 +189,14 @@ impl Pass {
         &mut self,
         dag: &mut Dag,
         plan: &Plan,
-        place: usize,
-        i: Instruction,
-        slot: Slot,
+        here: Here,
         count: usize,
     ) -> Result<(), AllocError>
-        requires plan { IsPlan plan.now }
-        requires room { place + length self.old.pending.items < 2 ^ 64 }
-        requires within { PassIn dag.old plan.now.code.now self.old }
-        requires slot { SlotIn dag.old self.old.trees plan.now.code.now slot }
+        requires { Reached plan.now dag.old self.old here }
         ensures extends { Extends dag.old dag.new }
-        ensures passes { OnOk result (Passes plan.now.until.items plan.now.code.now place i.line i.function (Operation.Skip count) slot dag.old dag.new self.old self.new) }
+        ensures passes { OnOk result (PassesHere plan.now here (Operation.Skip count) dag.old dag.new self.old self.new) }
     {
-        let _ = i;
-        self.arrive(dag, plan, place, count, slot)?;
+        self.arrive(dag, plan, here, count)?;
         Ok(())
     }
 
@@ -209,24 +205,26 @@ impl Pass {
         &mut self,
         dag: &mut Dag,
         plan: &Plan,
-        place: usize,
-        i: Instruction,
-        slot: Slot,
+        here: Here,
         operand: usize,
         count: usize,
     ) -> Result<(), AllocError>
-        requires plan { IsPlan plan.now }
-        requires room { place + length self.old.pending.items < 2 ^ 64 }
-        requires within { PassIn dag.old plan.now.code.now self.old }
-        requires slot { SlotIn dag.old self.old.trees plan.now.code.now slot }
+        requires reached { Reached plan.now dag.old self.old here }
         requires operand { is_there plan.now.code.now.registers operand ≡ true }
         ensures extends { Extends dag.old dag.new }
-        ensures passes { OnOk result (Passes plan.now.until.items plan.now.code.now place i.line i.function (Operation.SkipIfZero operand count) slot dag.old dag.new self.old self.new) }
+        ensures passes { OnOk result (PassesHere plan.now here (Operation.SkipIfZero operand count) dag.old dag.new self.old self.new) }
     {
-        let _ = i;
-        let (zero, other) = slot.split(dag, &self.trees, plan, operand)?;
-        self.arrive(dag, plan, place, 0, other)?;
-        self.arrive(dag, plan, place, count, zero)?;
+        let (zero, other) = here.slot.split(dag, &self.trees, plan, operand)?;
+        self.arrive(
+            dag,
+            plan,
+            Here {
+                slot: other,
+                ..here
+            },
+            0,
+        )?;
+        self.arrive(dag, plan, Here { slot: zero, ..here }, count)?;
         Ok(())
     }
 
@@ -235,28 +233,23 @@ impl Pass {
         &mut self,
         dag: &mut Dag,
         plan: &Plan,
-        place: usize,
-        i: Instruction,
-        slot: Slot,
+        here: Here,
         operand: usize,
         count: usize,
     ) -> Result<(), AllocError>
-        requires plan { IsPlan plan.now }
-        requires room { place + length self.old.pending.items < 2 ^ 64 }
-        requires within { PassIn dag.old plan.now.code.now self.old }
-        requires slot { SlotIn dag.old self.old.trees plan.now.code.now slot }
+        requires reached { Reached plan.now dag.old self.old here }
         requires operand { is_there plan.now.code.now.registers operand ≡ true }
         ensures extends { Extends dag.old dag.new }
-        ensures passes { OnOk result (Passes plan.now.until.items plan.now.code.now place i.line i.function (Operation.SkipIfZero operand count) slot dag.old dag.new self.old self.new) }
+        ensures passes { OnOk result (PassesHere plan.now here (Operation.SkipIfZero operand count) dag.old dag.new self.old self.new) }
     {
-        match slot.decided(dag, &self.trees, plan, operand) {
+        match here.slot.decided(dag, &self.trees, plan, operand) {
             Some(zero) => {
                 let n = way(zero, count);
-                self.arrive(dag, plan, place, n, slot)?;
+                self.arrive(dag, plan, here, n)?;
                 Ok(())
             }
             None => {
-                self.branch(dag, plan, place, i, slot, operand, count)?;
+                self.branch(dag, plan, here, operand, count)?;
                 Ok(())
             }
         }
@@ -267,28 +260,23 @@ impl Pass {
         &mut self,
         dag: &mut Dag,
         plan: &Plan,
-        place: usize,
-        i: Instruction,
-        slot: Slot,
+        here: Here,
         condition: Condition,
     ) -> Result<(), AllocError>
-        requires plan { IsPlan plan.now }
-        requires room { place + length self.old.pending.items < 2 ^ 64 }
-        requires within { PassIn dag.old plan.now.code.now self.old }
-        requires slot { SlotIn dag.old self.old.trees plan.now.code.now slot }
+        requires reached { Reached plan.now dag.old self.old here }
         requires fits { check_fits plan.now.code.now.registers condition ≡ true }
         ensures extends { Extends dag.old dag.new }
-        ensures passes { OnOk result (Passes plan.now.until.items plan.now.code.now place i.line i.function (Operation.Check condition) slot dag.old dag.new self.old self.new) }
+        ensures passes { OnOk result (PassesHere plan.now here (Operation.Check condition) dag.old dag.new self.old self.new) }
     {
-        let failing = slot.fails(dag, &self.trees, plan, condition)?;
+        let failing = here.slot.fails(dag, &self.trees, plan, condition)?;
         let class = class_of(condition);
         let event = Event {
-            guard: slot.guard,
-            line: i.line,
-            function: i.function,
+            guard: here.slot.guard,
+            line: here.line,
+            function: here.function,
             kind: EventKind::Check { class, failing },
         };
-        self.tell_and_go(dag, plan, place, slot, event)?;
+        self.tell_and_go(dag, plan, here, event)?;
         Ok(())
     }
 
@@ -297,31 +285,26 @@ impl Pass {
         &mut self,
         dag: &mut Dag,
         plan: &Plan,
-        place: usize,
-        i: Instruction,
-        slot: Slot,
+        here: Here,
         operand: usize,
     ) -> Result<(), AllocError>
-        requires plan { IsPlan plan.now }
-        requires room { place + length self.old.pending.items < 2 ^ 64 }
-        requires within { PassIn dag.old plan.now.code.now self.old }
-        requires slot { SlotIn dag.old self.old.trees plan.now.code.now slot }
+        requires reached { Reached plan.now dag.old self.old here }
         requires operand { is_there plan.now.code.now.registers operand ≡ true }
         ensures extends { Extends dag.old dag.new }
-        ensures passes { OnOk result (Passes plan.now.until.items plan.now.code.now place i.line i.function (Operation.Assert operand) slot dag.old dag.new self.old self.new) }
+        ensures passes { OnOk result (PassesHere plan.now here (Operation.Assert operand) dag.old dag.new self.old self.new) }
     {
-        let node = slot.register(dag, &self.trees, plan, operand);
+        let node = here.slot.register(dag, &self.trees, plan, operand);
         let failing = zero_test(dag, node)?;
         let event = Event {
-            guard: slot.guard,
-            line: i.line,
-            function: i.function,
+            guard: here.slot.guard,
+            line: here.line,
+            function: here.function,
             kind: EventKind::Check {
                 class: Class::Assertion,
                 failing,
             },
         };
-        self.tell_and_go(dag, plan, place, slot, event)?;
+        self.tell_and_go(dag, plan, here, event)?;
         Ok(())
     }
 
@@ -330,28 +313,23 @@ impl Pass {
         &mut self,
         dag: &mut Dag,
         plan: &Plan,
-        place: usize,
-        i: Instruction,
-        slot: Slot,
+        here: Here,
         operand: usize,
     ) -> Result<(), AllocError>
-        requires plan { IsPlan plan.now }
-        requires room { place + length self.old.pending.items < 2 ^ 64 }
-        requires within { PassIn dag.old plan.now.code.now self.old }
-        requires slot { SlotIn dag.old self.old.trees plan.now.code.now slot }
+        requires reached { Reached plan.now dag.old self.old here }
         requires operand { is_there plan.now.code.now.registers operand ≡ true }
         ensures extends { Extends dag.old dag.new }
-        ensures passes { OnOk result (Passes plan.now.until.items plan.now.code.now place i.line i.function (Operation.Assume operand) slot dag.old dag.new self.old self.new) }
+        ensures passes { OnOk result (PassesHere plan.now here (Operation.Assume operand) dag.old dag.new self.old self.new) }
     {
-        let node = slot.register(dag, &self.trees, plan, operand);
+        let node = here.slot.register(dag, &self.trees, plan, operand);
         let failing = zero_test(dag, node)?;
         let event = Event {
-            guard: slot.guard,
-            line: i.line,
-            function: i.function,
+            guard: here.slot.guard,
+            line: here.line,
+            function: here.function,
             kind: EventKind::Assume { failing },
         };
-        self.tell_and_go(dag, plan, place, slot, event)?;
+        self.tell_and_go(dag, plan, here, event)?;
         Ok(())
     }
 
@@ -360,34 +338,29 @@ impl Pass {
         &mut self,
         dag: &mut Dag,
         plan: &Plan,
-        place: usize,
-        i: Instruction,
-        slot: Slot,
+        here: Here,
         into: usize,
         bits: u32,
     ) -> Result<(), AllocError>
-        requires plan { IsPlan plan.now }
-        requires room { place + length self.old.pending.items < 2 ^ 64 }
-        requires within { PassIn dag.old plan.now.code.now self.old }
-        requires slot { SlotIn dag.old self.old.trees plan.now.code.now slot }
-        requires place { place < 2 ^ 32 }
+        requires reached { Reached plan.now dag.old self.old here }
+        requires place { here.place < 2 ^ 32 }
         requires into { is_there plan.now.code.now.registers into ≡ true }
         requires positive { 1 ≤ bits }
         requires width { bits ≤ type_width (slice_index_or plan.now.code.now.registers into IntegerType.Int) }
         ensures extends { Extends dag.old dag.new }
-        ensures passes { OnOk result (Passes plan.now.until.items plan.now.code.now place i.line i.function (Operation.Draw into bits) slot dag.old dag.new self.old self.new) }
+        ensures passes { OnOk result (PassesHere plan.now here (Operation.Draw into bits) dag.old dag.new self.old self.new) }
     {
         let width = plan.code.registers()[into].width();
-        let answer = dag.make(Node::Variable(place as u32, bits))?;
+        let answer = dag.make(Node::Variable(here.place as u32, bits))?;
         let word = dag.make(Node::ZeroExtend(answer, width))?;
         let event = Event {
-            guard: slot.guard,
-            line: i.line,
-            function: i.function,
+            guard: here.slot.guard,
+            line: here.line,
+            function: here.function,
             kind: EventKind::Draw { bits, answer },
         };
-        let next = slot.put(dag, &mut self.trees, plan, into, word)?;
-        self.tell_and_go(dag, plan, place, next, event)?;
+        let next = here.slot.put(dag, &mut self.trees, plan, into, word)?;
+        self.tell_and_go(dag, plan, Here { slot: next, ..here }, event)?;
         Ok(())
     }
 
@@ -396,30 +369,25 @@ impl Pass {
         &mut self,
         dag: &mut Dag,
         plan: &Plan,
-        place: usize,
-        i: Instruction,
-        slot: Slot,
+        here: Here,
         into: (usize, u32),
         from: (u32, u32),
         count: u32,
     ) -> Result<(), AllocError>
-        requires plan { IsPlan plan.now }
-        requires room { place + length self.old.pending.items < 2 ^ 64 }
-        requires within { PassIn dag.old plan.now.code.now self.old }
-        requires slot { SlotIn dag.old self.old.trees plan.now.code.now slot }
-        requires place { place < 2 ^ 32 }
+        requires reached { Reached plan.now dag.old self.old here }
+        requires place { here.place < 2 ^ 32 }
         requires few { length plan.now.code.now.instructions < 2 ^ 33 }
         requires into { is_within plan.now.code.now.blocks into.0 into.1 count ≡ true }
         ensures extends { Extends dag.old dag.new }
-        ensures passes { OnOk result (Passes plan.now.until.items plan.now.code.now place i.line i.function (Operation.ReadObject into.0 into.1 from.0 from.1 count) slot dag.old dag.new self.old self.new) }
+        ensures passes { OnOk result (PassesHere plan.now here (Operation.ReadObject into.0 into.1 from.0 from.1 count) dag.old dag.new self.old self.new) }
     {
         let apart = plan.code.instructions().len();
-        let answer = answer_words(plan.alloc, dag, place, apart, count)?;
+        let answer = answer_words(plan.alloc, dag, here.place, apart, count)?;
         let bytes = bytes_of_words(plan.alloc, dag, &answer, count)?;
         let event = Event {
-            guard: slot.guard,
-            line: i.line,
-            function: i.function,
+            guard: here.slot.guard,
+            line: here.line,
+            function: here.function,
             kind: EventKind::Read {
                 object: from.0,
                 offset: from.1,
@@ -427,8 +395,10 @@ impl Pass {
                 answer: Nodes::new(answer),
             },
         };
-        let next = slot.written(dag, &mut self.trees, plan, into.0, into.1, &bytes)?;
-        self.tell_and_go(dag, plan, place, next, event)?;
+        let next = here
+            .slot
+            .written(dag, &mut self.trees, plan, into.0, into.1, &bytes)?;
+        self.tell_and_go(dag, plan, Here { slot: next, ..here }, event)?;
         Ok(())
     }
 
@@ -437,53 +407,43 @@ impl Pass {
         &mut self,
         dag: &mut Dag,
         plan: &Plan,
-        place: usize,
-        i: Instruction,
-        slot: Slot,
+        here: Here,
         into: (u32, u32),
         from: (usize, u32),
         count: u32,
     ) -> Result<(), AllocError>
-        requires plan { IsPlan plan.now }
-        requires room { place + length self.old.pending.items < 2 ^ 64 }
-        requires within { PassIn dag.old plan.now.code.now self.old }
-        requires slot { SlotIn dag.old self.old.trees plan.now.code.now slot }
+        requires reached { Reached plan.now dag.old self.old here }
         requires from { is_within plan.now.code.now.blocks from.0 from.1 count ≡ true }
         ensures extends { Extends dag.old dag.new }
-        ensures passes { OnOk result (Passes plan.now.until.items plan.now.code.now place i.line i.function (Operation.WriteObject into.0 into.1 from.0 from.1 count) slot dag.old dag.new self.old self.new) }
+        ensures passes { OnOk result (PassesHere plan.now here (Operation.WriteObject into.0 into.1 from.0 from.1 count) dag.old dag.new self.old self.new) }
     {
-        let bytes = slot.bytes(dag, &self.trees, plan, from.0, from.1, count)?;
+        let bytes = here
+            .slot
+            .bytes(dag, &self.trees, plan, from.0, from.1, count)?;
         let event = Event {
-            guard: slot.guard,
-            line: i.line,
-            function: i.function,
+            guard: here.slot.guard,
+            line: here.line,
+            function: here.function,
             kind: EventKind::Write {
                 object: into.0,
                 offset: into.1,
                 bytes: Nodes::new(bytes),
             },
         };
-        self.tell_and_go(dag, plan, place, slot, event)?;
+        self.tell_and_go(dag, plan, here, event)?;
         Ok(())
     }
 
     // The end of the process.
-    fn exit(
-        &mut self,
-        dag: &Dag,
-        plan: &Plan,
-        place: usize,
-        i: Instruction,
-        slot: Slot,
-    ) -> Result<(), AllocError>
+    fn exit(&mut self, dag: &Dag, plan: &Plan, here: Here) -> Result<(), AllocError>
         requires within { PassIn dag.now plan.now.code.now self.old }
-        requires slot { SlotIn dag.now self.old.trees plan.now.code.now slot }
-        ensures passes { OnOk result (Passes plan.now.until.items plan.now.code.now place i.line i.function Operation.Exit slot dag.now dag.now self.old self.new) }
+        requires slot { SlotIn dag.now self.old.trees plan.now.code.now here.slot }
+        ensures passes { OnOk result (PassesHere plan.now here Operation.Exit dag.now dag.now self.old self.new) }
     {
         let event = Event {
-            guard: slot.guard,
-            line: i.line,
-            function: i.function,
+            guard: here.slot.guard,
+            line: here.line,
+            function: here.function,
             kind: EventKind::Exit,
         };
         self.tell(event)?;
@@ -495,28 +455,23 @@ impl Pass {
         &mut self,
         dag: &mut Dag,
         plan: &Plan,
-        place: usize,
-        i: Instruction,
-        slot: Slot,
+        here: Here,
         class: Class,
     ) -> Result<(), AllocError>
-        requires plan { IsPlan plan.now }
-        requires room { place + length self.old.pending.items < 2 ^ 64 }
-        requires within { PassIn dag.old plan.now.code.now self.old }
-        requires slot { SlotIn dag.old self.old.trees plan.now.code.now slot }
+        requires { Reached plan.now dag.old self.old here }
         ensures extends { Extends dag.old dag.new }
-        ensures passes { OnOk result (Passes plan.now.until.items plan.now.code.now place i.line i.function (Operation.Fail class) slot dag.old dag.new self.old self.new) }
+        ensures passes { OnOk result (PassesHere plan.now here (Operation.Fail class) dag.old dag.new self.old self.new) }
     {
         let event = Event {
-            guard: slot.guard,
-            line: i.line,
-            function: i.function,
+            guard: here.slot.guard,
+            line: here.line,
+            function: here.function,
             kind: EventKind::Check {
                 class,
-                failing: slot.guard,
+                failing: here.slot.guard,
             },
         };
-        self.tell_and_go(dag, plan, place, slot, event)?;
+        self.tell_and_go(dag, plan, here, event)?;
         Ok(())
     }
 
@@ -525,99 +480,68 @@ impl Pass {
         &mut self,
         dag: &mut Dag,
         plan: &Plan,
-        place: usize,
-        i: Instruction,
-        slot: Slot,
+        here: Here,
+        operation: Operation,
     ) -> Result<(), AllocError>
-        requires plan { IsPlan plan.now }
-        requires room { place + length self.old.pending.items < 2 ^ 64 }
-        requires within { PassIn dag.old plan.now.code.now self.old }
-        requires slot { SlotIn dag.old self.old.trees plan.now.code.now slot }
-        requires stops { is_flat i.operation ≡ false }
+        requires reached { Reached plan.now dag.old self.old here }
+        requires stops { is_flat operation ≡ false }
         ensures extends { Extends dag.old dag.new }
-        ensures passes { OnOk result (Passes plan.now.until.items plan.now.code.now place i.line i.function (i.operation) slot dag.old dag.new self.old self.new) }
+        ensures passes { OnOk result (PassesHere plan.now here operation dag.old dag.new self.old self.new) }
     {
+        let _ = operation;
         let event = Event {
-            guard: slot.guard,
-            line: i.line,
-            function: i.function,
+            guard: here.slot.guard,
+            line: here.line,
+            function: here.function,
             kind: EventKind::Assume {
-                failing: slot.guard,
+                failing: here.slot.guard,
             },
         };
-        self.tell_and_go(dag, plan, place, slot, event)?;
+        self.tell_and_go(dag, plan, here, event)?;
         Ok(())
     }
 
-    // One instruction, which is reached with a slot.
+    // One instruction, which is reached.
     fn step(
         &mut self,
         dag: &mut Dag,
         plan: &Plan,
-        place: usize,
-        i: Instruction,
-        slot: Slot,
+        here: Here,
+        operation: Operation,
     ) -> Result<(), AllocError>
-        requires plan { IsPlan plan.now }
-        requires room { place + length self.old.pending.items < 2 ^ 64 }
-        requires within { PassIn dag.old plan.now.code.now self.old }
-        requires slot { SlotIn dag.old self.old.trees plan.now.code.now slot }
-        requires place { place < 2 ^ 32 }
+        requires reached { Reached plan.now dag.old self.old here }
+        requires place { here.place < 2 ^ 32 }
         requires few { length plan.now.code.now.instructions < 2 ^ 33 }
-        requires fits { operation_fits plan.now.code.now.registers plan.now.code.now.blocks (length (drop (place + 1) plan.now.code.now.instructions)) i.operation ≡ true }
+        requires fits { operation_fits plan.now.code.now.registers plan.now.code.now.blocks (length (drop (here.place + 1) plan.now.code.now.instructions)) operation ≡ true }
         ensures extends { Extends dag.old dag.new }
-        ensures passes { OnOk result (Passes plan.now.until.items plan.now.code.now place i.line i.function (i.operation) slot dag.old dag.new self.old self.new) }
+        ensures passes { OnOk result (PassesHere plan.now here operation dag.old dag.new self.old self.new) }
     {
-        match i.operation {
-            Operation::Skip { count } => self.skip(dag, plan, place, i, slot, count),
-            Operation::SkipIfZero { operand, count } => {
-                self.jump(dag, plan, place, i, slot, operand, count)
-            }
-            Operation::Check { condition } => { self.check(dag, plan, place, i, slot, condition) }
-            Operation::Assert { operand } => self.assert(dag, plan, place, i, slot, operand),
-            Operation::Assume { operand } => self.assume(dag, plan, place, i, slot, operand),
-            Operation::Draw { into, bits } => { self.draw(dag, plan, place, i, slot, into, bits) }
+        match operation {
+            Operation::Skip { count } => self.skip(dag, plan, here, count),
+            Operation::SkipIfZero { operand, count } => self.jump(dag, plan, here, operand, count),
+            Operation::Check { condition } => self.check(dag, plan, here, condition),
+            Operation::Assert { operand } => self.assert(dag, plan, here, operand),
+            Operation::Assume { operand } => self.assume(dag, plan, here, operand),
+            Operation::Draw { into, bits } => self.draw(dag, plan, here, into, bits),
             Operation::ReadObject {
                 block,
                 at,
                 object,
                 offset,
                 count,
-            } => {
-                self.read(
-                    dag,
-                    plan,
-                    place,
-                    i,
-                    slot,
-                    (block, at),
-                    (object, offset),
-                    count,
-                )
-            }
+            } => self.read(dag, plan, here, (block, at), (object, offset), count),
             Operation::WriteObject {
                 object,
                 offset,
                 block,
                 at,
                 count,
-            } => {
-                self.write(
-                    dag,
-                    plan,
-                    place,
-                    i,
-                    slot,
-                    (object, offset),
-                    (block, at),
-                    count,
-                )
+            } => self.write(dag, plan, here, (object, offset), (block, at), count),
+            Operation::Exit => self.exit(dag, plan, here),
+            Operation::Fail { class } => self.fail(dag, plan, here, class),
+            Operation::Call { .. } | Operation::Return { .. } => {
+                self.stop(dag, plan, here, operation)
             }
-            Operation::Exit => self.exit(dag, plan, place, i, slot),
-            Operation::Fail { class } => self.fail(dag, plan, place, i, slot, class),
-            Operation::Call { .. } | Operation::Return { .. } => self.stop(
-                dag, plan, place, i, slot,
-            ),
             Operation::Constant { .. }
             | Operation::Copy { .. }
             | Operation::Load { .. }
@@ -629,7 +553,7 @@ impl Pass {
             | Operation::Arithmetic { .. }
             | Operation::Compare { .. }
             | Operation::IsZero { .. }
-            | Operation::Use { .. } => { self.calculate(dag, plan, place, i, slot) }
+            | Operation::Use { .. } => self.calculate(dag, plan, here, operation),
         }
     }
 
@@ -653,7 +577,13 @@ impl Pass {
     {
         match self.pending.pop_front() {
             Some(Some(slot)) => {
-                self.step(dag, plan, place, i, slot)?;
+                let here = Here {
+                    place,
+                    line: i.line,
+                    function: i.function,
+                    slot,
+                };
+                self.step(dag, plan, here, i.operation)?;
                 Ok(())
             }
             Some(None) => Ok(()),

@@ -5,10 +5,11 @@ ghost use Rattle.std.specs.Prelude.{◌≡◌, ℕ, ◌+◌, ◌^◌, ◌<◌, t
 ghost use Rattle.c_types.specs.Integers.{width as type_width};
 ghost use Rattle.word_dag.specs.Growth.{Extends};
 ghost use Rattle.word_dag.specs.Meaning.{value, holds};
-ghost use Rattle.value_nodes.specs.Values.{IsWord, IsValue};
+ghost use Rattle.value_nodes.specs.Values.{IsValue};
 ghost use Rattle.cell_trees.specs.Trees.{looked, Keeps};
-ghost use Rattle.guarded_ssa.specs.Held.{IsPlan};
-ghost use Rattle.guarded_ssa.specs.Registers.{ZerosIn, TreeIn, Merged, zero_of, word_or_0, id_or, ids_from, is_needed};
+ghost use Rattle.guarded_ssa.specs.inner.Held.{IsPlan};
+ghost use Rattle.guarded_ssa.specs.inner.Conditions.{MeetingOf};
+ghost use Rattle.guarded_ssa.specs.inner.Registers.{ZerosIn, TreeIn, Merged, zero_of, word_or_0, id_or, ids_from, is_needed};
 
 use crate::liveness::Plan;
 use c_types::IntegerType;
@@ -125,39 +126,43 @@ fn is_needed(plan: &Plan, place: usize, cell: usize) -> bool
     place < plan.until[plan.owner[cell]]
 }
 
+/// Two trees that meet at a place, where the code goes straight on into it or comes by a jump: the first, which holds
+/// where the test is true, and the second, which holds elsewhere, with the nodes that are 0.
+#[derive(Clone, Copy)]
+pub struct Meeting {
+    pub place: usize,
+    pub straight: bool,
+    pub zeros: Zeros,
+    pub test: Id,
+    pub first: Root,
+    pub second: Root,
+}
+
 // A tree with a cell set to what it is on the first of two sides where the test is true, else on the second, if an
 // instruction from the place on reads it. A cell that nobody reads any more costs no node: it is dropped, or stays.
 fn with_choice(
     dag: &mut Dag,
     trees: &mut Trees,
     plan: &Plan,
-    place: usize,
-    drops: bool,
-    zeros: Zeros,
-    test: Id,
-    sides: (Root, Root),
+    meeting: Meeting,
     root: Root,
     cell: usize,
 ) -> Result<Root, AllocError>
-    requires plan { IsPlan plan.now }
-    requires zeros { ZerosIn dag.old zeros }
-    requires test { IsWord dag.old test 1 }
-    requires first { TreeIn dag.old trees.old plan.now.types.items sides.0 }
-    requires second { TreeIn dag.old trees.old plan.now.types.items sides.1 }
+    requires meeting { MeetingOf plan.now dag.old trees.old meeting }
     requires root { TreeIn dag.old trees.old plan.now.types.items root }
     ensures extends { Extends dag.old dag.new }
     ensures keeps { Keeps trees.old trees.new }
     ensures tree { IfOk result (TreeIn dag.new trees.new plan.now.types.items) }
-    ensures chosen { IfOk result (λ r. is_needed plan.now.until.items plan.now.owner.items place cell ≡ true → (v : ℕ → ℕ) → word_or_0 (value v dag.new) (looked trees.new r cell) ≡ (if holds (value v dag.old test) then word_or_0 (value v dag.old) (looked trees.old sides.0 cell) else word_or_0 (value v dag.old) (looked trees.old sides.1 cell))) }
+    ensures chosen { IfOk result (λ r. is_needed plan.now.until.items plan.now.owner.items meeting.place cell ≡ true → (v : ℕ → ℕ) → word_or_0 (value v dag.new) (looked trees.new r cell) ≡ (if holds (value v dag.old meeting.test) then word_or_0 (value v dag.old) (looked trees.old meeting.first cell) else word_or_0 (value v dag.old) (looked trees.old meeting.second cell))) }
     ensures others { IfOk result (λ r. (c : ℕ) → (cell ≡ c → ⊥) → looked trees.new r c ≡ looked trees.old root c) }
 {
-    if !is_needed(plan, place, cell) {
-        let rest = without(dag, trees, plan, drops, root, cell)?;
+    if !is_needed(plan, meeting.place, cell) {
+        let rest = without(dag, trees, plan, meeting.straight, root, cell)?;
         return Ok(rest);
     }
-    let one = node_of(dag, trees, &plan.types, zeros, sides.0, cell);
-    let other = node_of(dag, trees, &plan.types, zeros, sides.1, cell);
-    let id = chosen(dag, test, one, other)?;
+    let one = node_of(dag, trees, &plan.types, meeting.zeros, meeting.first, cell);
+    let other = node_of(dag, trees, &plan.types, meeting.zeros, meeting.second, cell);
+    let id = chosen(dag, meeting.test, one, other)?;
     let next = trees.put(root, cell, id)?;
     Ok(next)
 }
@@ -183,42 +188,36 @@ fn without(
     Ok(root)
 }
 
-// The second of two sides where the code goes straight on, else the first.
-fn begun(straight: bool, sides: (Root, Root)) -> Root
-    ensures { result ≡ (if straight then sides.1 else sides.0) }
+// The second tree where the code goes straight on, else the first.
+fn begun(meeting: Meeting) -> Root
+    ensures { result ≡ (if meeting.straight then meeting.second else meeting.first) }
 {
-    if straight { sides.1 } else { sides.0 }
+    if meeting.straight {
+        meeting.second
+    } else {
+        meeting.first
+    }
 }
 
-/// The tree of two sides that meet at a place: each cell that an instruction from there on reads is that of the first
-/// side where the test is true, else that of the second. What the sides share isn't looked at. A cell that differs and
-/// that nobody reads any more is as the first side has it; where the code goes straight on into the place, it is dropped.
+/// The tree of two that meet at a place: each cell that an instruction from there on reads is that of the first
+/// where the test is true, else that of the second. What the two share isn't looked at. A cell that differs and
+/// that nobody reads any more is as the first has it; where the code goes straight on into the place, it is dropped.
 pub fn merged(
     dag: &mut Dag,
     trees: &mut Trees,
     plan: &Plan,
-    place: usize,
-    straight: bool,
-    zeros: Zeros,
-    test: Id,
-    sides: (Root, Root),
+    meeting: Meeting,
 ) -> Result<Root, AllocError>
-    requires plan { IsPlan plan.now }
-    requires zeros { ZerosIn dag.old zeros }
-    requires test { IsWord dag.old test 1 }
-    requires first { TreeIn dag.old trees.old plan.now.types.items sides.0 }
-    requires second { TreeIn dag.old trees.old plan.now.types.items sides.1 }
+    requires { MeetingOf plan.now dag.old trees.old meeting }
     ensures extends { Extends dag.old dag.new }
     ensures keeps { Keeps trees.old trees.new }
-    ensures merged { IfOk result (Merged dag.old dag.new trees.old trees.new plan.now.types.items plan.now.until.items plan.now.owner.items place test sides.0 sides.1) }
+    ensures merged { IfOk result (Merged dag.old dag.new trees.old trees.new plan.now.types.items plan.now.until.items plan.now.owner.items meeting.place meeting.test meeting.first meeting.second) }
 {
     let _ = dag.nodes();
-    let cells = trees.differing(plan.alloc, sides.0, sides.1)?;
-    let mut root = begun(straight, sides);
+    let cells = trees.differing(plan.alloc, meeting.first, meeting.second)?;
+    let mut root = begun(meeting);
     for k in 0..cells.len() {
-        root = with_choice(
-            dag, trees, plan, place, straight, zeros, test, sides, root, cells[k],
-        )?;
+        root = with_choice(dag, trees, plan, meeting, root, cells[k])?;
     }
     Ok(root)
 }

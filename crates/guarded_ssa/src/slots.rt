@@ -8,16 +8,17 @@ ghost use Rattle.cell_trees.specs.Trees.{span, Keeps};
 ghost use Rattle.goto_prog.specs.Fitting.{is_there, operation_fits};
 ghost use Rattle.goto_prog.specs.Running.{is_calculation};
 ghost use Rattle.c_types.specs.Integers.{width as type_width};
-ghost use Rattle.guarded_ssa.specs.Results.{sets_register, into_of};
+ghost use Rattle.guarded_ssa.specs.inner.Results.{sets_register, into_of};
 ghost use Rattle.goto_prog.specs.Meaning.{register, with_register, calculated};
 ghost use Rattle.goto_prog.specs.CodeThread.{first_memory};
-ghost use Rattle.guarded_ssa.specs.Arrivals.{either as either_arrival, kept, updated};
-ghost use Rattle.guarded_ssa.specs.Reads.{Alike};
-ghost use Rattle.guarded_ssa.specs.Held.{SlotIn, PendingIn, IsPlan, cells, held, guarded, arrival};
+ghost use Rattle.guarded_ssa.specs.inner.Places.{either as either_arrival, kept, updated};
+ghost use Rattle.guarded_ssa.specs.inner.Reads.{Alike};
+ghost use Rattle.guarded_ssa.specs.inner.Held.{SlotIn, PendingIn, cells, held, guarded, arrival};
+ghost use Rattle.guarded_ssa.specs.inner.Conditions.{SlotOf};
 
 use crate::liveness::Plan;
 use crate::registers;
-use crate::registers::Zeros;
+use crate::registers::{Meeting, Zeros};
 use c_types::IntegerType;
 use cell_trees::{Root, Trees};
 use goto_prog::Operation;
@@ -58,8 +59,7 @@ impl Slot {
         first: Slot,
         second: Slot,
     ) -> Result<Slot, AllocError>
-        requires plan { IsPlan plan.now }
-        requires first { SlotIn dag.old trees.old plan.now.code.now first }
+        requires first { SlotOf plan.now dag.old trees.old first }
         requires second { SlotIn dag.old trees.old plan.now.code.now second }
         ensures extends { Extends dag.old dag.new }
         ensures keeps { Keeps trees.old trees.new }
@@ -67,16 +67,15 @@ impl Slot {
         ensures alike { IfOk result (λ s. (v : ℕ → ℕ) → Alike (length plan.now.code.now.registers) plan.now.until.items place (guarded v dag.new trees.new plan.now.code.now s) (either_arrival (guarded v dag.old trees.old plan.now.code.now first) (guarded v dag.old trees.old plan.now.code.now second))) }
     {
         let guard = either(dag, first.guard, second.guard)?;
-        let root = registers::merged(
-            dag,
-            trees,
-            plan,
+        let meeting = Meeting {
             place,
             straight,
-            first.zeros,
-            first.guard,
-            (first.root, second.root),
-        )?;
+            zeros: first.zeros,
+            test: first.guard,
+            first: first.root,
+            second: second.root,
+        };
+        let root = registers::merged(dag, trees, plan, meeting)?;
         Ok(Slot {
             guard,
             zeros: first.zeros,
@@ -95,8 +94,7 @@ impl Slot {
         straight: bool,
         there: Option<Slot>,
     ) -> Result<Slot, AllocError>
-        requires plan { IsPlan plan.now }
-        requires within { SlotIn dag.old trees.old plan.now.code.now self }
+        requires slot { SlotOf plan.now dag.old trees.old self }
         requires there { PendingIn dag.old trees.old plan.now.code.now there }
         ensures extends { Extends dag.old dag.new }
         ensures keeps { Keeps trees.old trees.new }
@@ -217,8 +215,7 @@ impl Slot {
         plan: &Plan,
         operation: Operation,
     ) -> Result<Slot, AllocError>
-        requires plan { IsPlan plan.now }
-        requires within { SlotIn dag.old trees.old plan.now.code.now self }
+        requires slot { SlotOf plan.now dag.old trees.old self }
         requires fits { operation_fits plan.now.code.now.registers plan.now.code.now.blocks 0 operation ≡ true }
         requires sets { sets_register operation ≡ true }
         ensures extends { Extends dag.old dag.new }
@@ -240,8 +237,7 @@ impl Slot {
         plan: &Plan,
         operation: Operation,
     ) -> Result<Slot, AllocError>
-        requires plan { IsPlan plan.now }
-        requires within { SlotIn dag.old trees.old plan.now.code.now self }
+        requires slot { SlotOf plan.now dag.old trees.old self }
         requires fits { operation_fits plan.now.code.now.registers plan.now.code.now.blocks 0 operation ≡ true }
         requires calculation { is_calculation operation ≡ true }
         ensures extends { Extends dag.old dag.new }
@@ -264,16 +260,9 @@ impl Slot {
                 offset,
                 count,
             } => self.with_bytes_copied(dag, trees, plan, (into, at), (from, offset), count),
-            Operation::Constant { .. }
-            | Operation::Copy { .. }
-            | Operation::Load { .. }
-            | Operation::Convert { .. }
-            | Operation::Sign { .. }
-            | Operation::Arithmetic { .. }
-            | Operation::Compare { .. }
-            | Operation::IsZero { .. } => self.assigned(dag, trees, plan, operation),
             Operation::Use { .. } => Ok(self),
-            _ => unreachable!(),
+            // Every other calculation sets a register.
+            _ => self.assigned(dag, trees, plan, operation),
         }
     }
 }

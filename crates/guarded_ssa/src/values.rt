@@ -9,8 +9,9 @@ ghost use Rattle.word_dag.specs.Meaning.{value};
 ghost use Rattle.value_nodes.specs.Values.{IsWord, IsValue, IsTest};
 ghost use Rattle.goto_prog.specs.Fitting.{is_there, is_register, is_wide, check_fits, operation_fits};
 ghost use Rattle.goto_prog.specs.Meaning.{register, check_class};
-ghost use Rattle.guarded_ssa.specs.Held.{SlotIn, IsPlan, held};
-ghost use Rattle.guarded_ssa.specs.Results.{sets_register, into_of, result_of, class_of};
+ghost use Rattle.guarded_ssa.specs.inner.Held.{SlotIn, held};
+ghost use Rattle.guarded_ssa.specs.inner.Conditions.{SlotOf};
+ghost use Rattle.guarded_ssa.specs.inner.Results.{sets_register, into_of, result_of, class_of};
 
 use crate::liveness::Plan;
 use crate::slots::Slot;
@@ -141,8 +142,7 @@ impl Slot {
         plan: &Plan,
         operation: Operation,
     ) -> Result<Id, AllocError>
-        requires plan { IsPlan plan.now }
-        requires within { SlotIn dag.old trees.now plan.now.code.now self.now }
+        requires slot { SlotOf plan.now dag.old trees.now self.now }
         requires fits { operation_fits plan.now.code.now.registers plan.now.code.now.blocks 0 operation ≡ true }
         requires sets { sets_register operation ≡ true }
         ensures extends { Extends dag.old dag.new }

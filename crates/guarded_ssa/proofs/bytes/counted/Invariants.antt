@@ -1,5 +1,5 @@
 use Rattle.std.proofs.Common.{◌≡◌, ◌-◌, ◌++◌}
-use Rattle.guarded_ssa.specs.Held.{counted}
+use Rattle.guarded_ssa.specs.inner.Held.{counted}
 use Rattle.guarded_ssa.proofs.bytes.counted.Given as goal
 
 abbrev pub invariant-loop-k : goal.invariant-loop-k

@@ -1,5 +1,5 @@
 use Rattle.std.proofs.Common.{◌≡◌, ◌+◌, drop}
-use Rattle.guarded_ssa.specs.Held.{total}
+use Rattle.guarded_ssa.specs.inner.Held.{total}
 use Rattle.guarded_ssa.proofs.bytes.size_of_all.Given as goal
 
 abbrev pub invariant-loop-size : goal.invariant-loop-size

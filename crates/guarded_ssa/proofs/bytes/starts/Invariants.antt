@@ -1,5 +1,5 @@
 use Rattle.std.proofs.Common.{◌≡◌, ◌++◌, drop}
-use Rattle.guarded_ssa.specs.Held.{starts_from}
+use Rattle.guarded_ssa.specs.inner.Held.{starts_from}
 use Rattle.guarded_ssa.proofs.bytes.starts.Given as goal
 
 abbrev pub invariant-loop-size : goal.invariant-loop-size

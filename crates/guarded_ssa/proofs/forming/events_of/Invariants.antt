@@ -2,9 +2,9 @@ use Rattle.std.proofs.Common.{◌≡◌, ℕ, ◌+◌, ◌∷◌, ◌++◌, leng
 use Rattle.std.specs.Prelude.{replicate}
 use Rattle.word_dag.specs.Growth.{Extends}
 use Rattle.goto_prog.specs.CodeThread.{first_memory}
-use Rattle.guarded_ssa.specs.Arrivals.{told}
+use Rattle.guarded_ssa.specs.inner.Places.{told}
 use Rattle.guarded_ssa.specs.Forms.{seen}
-use Rattle.guarded_ssa.specs.Held.{PassIn, arrivals}
+use Rattle.guarded_ssa.specs.inner.Held.{PassIn, arrivals}
 use Rattle.guarded_ssa.proofs.forming.events_of.Given as goal
 
 abbrev pub invariant-loop-place : goal.invariant-loop-place

@@ -1,6 +1,6 @@
 use Rattle.std.proofs.Common.{List, length, subst, ◌∙◌}
 use Rattle.c_types.specs.declared.integers.IntegerType.{IntegerType}
-use Rattle.guarded_ssa.specs.Reads.{IsBlockRead}
+use Rattle.guarded_ssa.specs.inner.Reads.{IsBlockRead}
 use Rattle.guarded_ssa.proofs.Noting.{covers_more}
 use Rattle.guarded_ssa.proofs.liveness.reading.Goals as goal
 

@@ -1,5 +1,5 @@
 use Rattle.std.proofs.Common.{◌≡◌, ◌+◌, length, take}
-use Rattle.guarded_ssa.specs.Reads.{Covers}
+use Rattle.guarded_ssa.specs.inner.Reads.{Covers}
 use Rattle.guarded_ssa.proofs.liveness.reading.Given as goal
 
 abbrev pub invariant-loop-place : goal.invariant-loop-place

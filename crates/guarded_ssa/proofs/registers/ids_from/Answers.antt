@@ -1,6 +1,6 @@
 use Rattle.std.proofs.Common.{ap, ◌∙◌}
 use Rattle.cell_trees.specs.Trees.{looked}
-use Rattle.guarded_ssa.specs.Registers.{id_or, ids_from}
+use Rattle.guarded_ssa.specs.inner.Registers.{id_or, ids_from}
 use Rattle.guarded_ssa.proofs.CellWords.{ids_more}
 use Rattle.guarded_ssa.proofs.registers.ids_from.Goals as goal
 

@@ -1,6 +1,6 @@
 use Rattle.std.proofs.Common.{◌≡◌, ◌+◌, ◌-◌, ◌++◌}
 use Rattle.cell_trees.specs.Trees.{looked}
-use Rattle.guarded_ssa.specs.Registers.{ids_from}
+use Rattle.guarded_ssa.specs.inner.Registers.{ids_from}
 use Rattle.guarded_ssa.proofs.registers.ids_from.Given as goal
 
 abbrev pub invariant-loop-k : goal.invariant-loop-k

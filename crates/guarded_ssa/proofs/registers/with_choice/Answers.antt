@@ -8,13 +8,13 @@ use Rattle.guarded_ssa.proofs.Meeting.{set_tree}
 use Rattle.guarded_ssa.proofs.registers.with_choice.Goals as goal
 
 pub node_of-one-requires-clause-there : goal.node_of-one-requires-clause-there
-node_of-one-requires-clause-there c = omega (arith, needed_there c.args.plan.now c.requires.plan c.args.place c.args.cell (sym c.if-not-is_needed.ensures), ap length c.deref.ensures.value)
+node_of-one-requires-clause-there c = omega (arith, needed_there c.args.plan.now c.requires.meeting.plan c.args.meeting.place c.args.cell (sym c.if-not-is_needed.ensures), ap length c.deref.ensures.value)
 
 pub node_of-other-requires-clause-there : goal.node_of-other-requires-clause-there
-node_of-other-requires-clause-there c = omega (arith, needed_there c.args.plan.now c.requires.plan c.args.place c.args.cell (sym c.if-not-is_needed.ensures), ap length c.deref-2.ensures.value)
+node_of-other-requires-clause-there c = omega (arith, needed_there c.args.plan.now c.requires.meeting.plan c.args.meeting.place c.args.cell (sym c.if-not-is_needed.ensures), ap length c.deref-2.ensures.value)
 
 pub put-requires-clause-within : goal.put-requires-clause-within
-put-requires-clause-within c = omega (arith, needed_there c.args.plan.now c.requires.plan c.args.place c.args.cell (sym c.if-not-is_needed.ensures), c.requires.root.room)
+put-requires-clause-within c = omega (arith, needed_there c.args.plan.now c.requires.meeting.plan c.args.meeting.place c.args.cell (sym c.if-not-is_needed.ensures), c.requires.root.room)
 
 pub returns-clause-tree : goal.returns-clause-tree
 returns-clause-tree c =

@@ -5,11 +5,11 @@ use Rattle.guarded_ssa.proofs.Passing.{assigned_guarded, into_there}
 use Rattle.guarded_ssa.proofs.slots.Slot.assigned.Goals as goal
 
 pub put-requires-clause-within : goal.put-requires-clause-within
-put-requires-clause-within c = slot_grows _ _ c.result.ensures.extends _ _ _ c.requires.within
+put-requires-clause-within c = slot_grows _ _ c.result.ensures.extends _ _ _ c.requires.slot.within
 
 pub returns-clause-guarded : goal.returns-clause-guarded
 returns-clause-guarded c = λ v.
-    assigned_guarded v c.args.dag.now c.result.new.dag c.args.trees.now c.put.new.trees c.args.plan.now.code.now c.args.self c.in_ok-next.next c.args.operation c.into_of-into.result c.in_ok-id.id c.result.ensures.extends c.requires.within c.requires.sets c.into_of-into.ensures
+    assigned_guarded v c.args.dag.now c.result.new.dag c.args.trees.now c.put.new.trees c.args.plan.now.code.now c.args.self c.in_ok-next.next c.args.operation c.into_of-into.result c.in_ok-id.id c.result.ensures.extends c.requires.slot.within c.requires.sets c.into_of-into.ensures
     (c.in_ok-id.ensures.made.value_is v) (c.in_ok-next.ensures.guarded v)
 
 pub put-requires-clause-into : goal.put-requires-clause-into

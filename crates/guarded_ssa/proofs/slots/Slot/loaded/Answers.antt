@@ -1,6 +1,6 @@
 use Rattle.std.proofs.Common.{map, ap, ◌∙◌}
 use Rattle.word_dag.specs.Meaning.{value}
-use Rattle.guarded_ssa.specs.Held.{held}
+use Rattle.guarded_ssa.specs.inner.Held.{held}
 use Rattle.guarded_ssa.proofs.Writing.{load_same}
 use Rattle.guarded_ssa.proofs.slots.Slot.loaded.Goals as goal
 

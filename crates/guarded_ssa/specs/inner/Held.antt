@@ -15,9 +15,9 @@ use Rattle.guarded_ssa.specs.declared.forms.Event.{Event}
 use Rattle.guarded_ssa.specs.declared.pass.Pass.{Pass}
 use Rattle.goto_prog.specs.declared.code.Operation.{Operation}
 use Rattle.goto_prog.specs.declared.code.Instruction.{Instruction}
-use Rattle.guarded_ssa.specs.Arrivals.{arrived, on, tells, leaves, told}
-use Rattle.guarded_ssa.specs.Reads.{AllAlike, Covers}
-use Rattle.guarded_ssa.specs.Registers.{ZerosIn, TreeIn, words_from, bytes_from}
+use Rattle.guarded_ssa.specs.inner.Places.{arrived, on, tells, leaves, told}
+use Rattle.guarded_ssa.specs.inner.Reads.{AllAlike, Covers}
+use Rattle.guarded_ssa.specs.inner.Registers.{ZerosIn, TreeIn, words_from, bytes_from}
 use Rattle.guarded_ssa.specs.Forms.{FormIn, event_seen, seen}
 
 -- how many bytes blocks of these sizes have
