@@ -13,8 +13,9 @@ use Rattle.c_tree.specs.Spelling.{Then}
 use Rattle.c_tree.specs.Declarations.{Parts, no_part, Full, Initial, Declarators, none_declared, declarator, nearest, is_function, full_has_name, name_of, initializer_depth, parts_depth, full_depth, declarators_depth, specify, have_typedef, with_parts, with_parameters_of, with_function, with_declaration}
 use Rattle.c_tree.specs.Statements.{Statement, block, if_then, if_else, evaluate, return_nothing, return_value, empty, while_loop, do_loop, for_loop, for_declared, switch_on, case_of, default_of, labelled, goto_label, break_off, continue_on, Externals, no_more, declared, defines, statement_depth, view_external, externals_of, file_depth}
 use Rattle.c_tree.specs.Files.{SpellsParts, SpellsFull, SpellsInitializer, SpellsOthers, SpellsDeclarators, SpellsStatement, SpellsDefinition, SpellsFile, AreWellParts, IsWellFull, AreWellDeclarators, IsWellInitializer, IsWellDefinition, IsWellStatement, AreWellExternals, is_block, IsFile}
-use Rattle.c_parse_expr.specs.Many.{◌>>=◌}
-use Rattle.c_parse_expr.specs.Reading.{is_mark, is_identifier}
+use Rattle.c_parse_expr.specs.inner.Many.{◌>>=◌}
+use Rattle.c_parse_expr.specs.Reading.{is_mark}
+use Rattle.c_parse_expr.specs.inner.Reading.{is_identifier}
 use Rattle.c_parse_parts.specs.inner.Reading.{Read, token_at, run_at, start_at, parts_at, are_some, body_at, full_at, items_at, block_at, statement_at, initializer_at, declarators_at, definition_at, others_at, outer_behind, first_at, outer_from, outer_at}
 use Rattle.c_parse_parts.specs.Standing.{Outer, declarations, definitions, outer_of, outermost, with_outer, with_externals, SpellsOuter, IsWellOuter, outer_depth, IsExternal, Stands, NoneStands, StandBefore}
 use Rattle.c_parse_parts.proofs.Lists.{some_is, bind_some, bind_gives}

@@ -16,8 +16,9 @@ use Rattle.c_tree.specs.Spelling.{Spells, SpellsArguments, SpellsRest, IsWell, A
 use Rattle.c_parse_expr.specs.declared.table.Lead.TheVariants as leads
 use Rattle.c_parse_expr.specs.declared.table.Suffix.TheVariants as suffixes
 use Rattle.c_parse_expr.specs.Tables.{suffix_of}
-use Rattle.c_parse_expr.specs.Many.{◌>>=◌}
-use Rattle.c_parse_expr.specs.Reading.{Read, Reader, DeclaredReader, behind, closed, goes_on, rest_at, arguments_at, identifier_at, begins_type, type_behind, type_name_at, grouped, sized, sizeof_at, prefixed, suffixed, reader, declared_at}
+use Rattle.c_parse_expr.specs.inner.Many.{◌>>=◌}
+use Rattle.c_parse_expr.specs.Reading.{goes_on}
+use Rattle.c_parse_expr.specs.inner.Reading.{Read, Reader, DeclaredReader, behind, closed, rest_at, arguments_at, identifier_at, begins_type, type_behind, type_name_at, grouped, sized, sizeof_at, prefixed, suffixed, reader, declared_at}
 use Rattle.c_parse_expr.specs.Standing.{goes_on_inside, suffix_at, Stands, DeclaredStands}
 use Rattle.c_parse_expr.proofs.Marks.{behaves_so, close_is, some_is}
 use Rattle.c_parse_expr.proofs.Steps.{behind_gives, first_false, second_false}

@@ -14,8 +14,9 @@ use Rattle.c_tree.specs.Spelling.{SpellsTypeParts, SpellsDeclared, SpellsSuffixe
 use Rattle.c_parse_expr.specs.declared.declarator_start.DeclaratorStart.{DeclaratorStart}
 use Rattle.c_parse_expr.specs.declared.declarator_start.DeclaratorStart.TheVariants as declarator_starts
 use Rattle.c_parse_expr.specs.Tables.{suffix_of}
-use Rattle.c_parse_expr.specs.Many.{◌>>=◌}
-use Rattle.c_parse_expr.specs.Reading.{Read, Reader, DeclaredReader, is_mark, behind, opened, bound_at, bracket, bracketed, bracket_at, suffixes_from, suffixes_at, declarator_start_of, declarator_start_at, inside_at, declared_from, bare, type_name_at, reader, declared_at}
+use Rattle.c_parse_expr.specs.inner.Many.{◌>>=◌}
+use Rattle.c_parse_expr.specs.Reading.{is_mark}
+use Rattle.c_parse_expr.specs.inner.Reading.{Read, Reader, DeclaredReader, behind, opened, bound_at, bracket, bracketed, bracket_at, suffixes_from, suffixes_at, declarator_start_of, declarator_start_at, inside_at, declared_from, bare, type_name_at, reader, declared_at}
 use Rattle.c_parse_expr.specs.Standing.{opens, goes_on_with}
 use Rattle.c_parse_expr.proofs.Marks.{end_is}
 use Rattle.c_parse_expr.proofs.Steps.{behind_gives}

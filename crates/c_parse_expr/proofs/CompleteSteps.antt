@@ -20,8 +20,9 @@ use Rattle.c_parse_expr.specs.declared.table.Lead.{Lead}
 use Rattle.c_parse_expr.specs.declared.table.Lead.TheVariants as leads
 use Rattle.c_parse_expr.specs.declared.table.Suffix.{Suffix}
 use Rattle.c_parse_expr.specs.Tables.{lead_of, suffix_of, strength_behind, least_left}
-use Rattle.c_parse_expr.specs.Many.{◌>>=◌}
-use Rattle.c_parse_expr.specs.Reading.{Read, Reader, is_mark, behind, goes_on, start_by, start_of, is_some, begins_type, type_behind, prefixed, prefix_at, suffixed, turn, climb, from_operand, reader, declared_at}
+use Rattle.c_parse_expr.specs.inner.Many.{◌>>=◌}
+use Rattle.c_parse_expr.specs.Reading.{is_mark, goes_on}
+use Rattle.c_parse_expr.specs.inner.Reading.{Read, Reader, behind, start_by, start_of, is_some, begins_type, type_behind, prefixed, prefix_at, suffixed, turn, climb, from_operand, reader, declared_at}
 use Rattle.c_parse_expr.specs.Standing.{goes_on_inside, Inside, Ends}
 use Rattle.c_parse_expr.proofs.Marks.{Leads, leads_so}
 use Rattle.c_parse_expr.proofs.Steps.{behind_gives, next_ends, next_goes, goes_so}

@@ -15,8 +15,8 @@ use Rattle.c_parse_expr.specs.declared.table.Suffix.TheVariants as suffixes
 use Rattle.c_parse_expr.specs.declared.table.TypeStart.{TypeStart}
 use Rattle.c_parse_expr.specs.declared.table.TypeStart.TheVariants as starts
 use Rattle.c_parse_expr.specs.Tables.{suffix_of}
-use Rattle.c_parse_expr.specs.Many.{◌>>=◌}
-use Rattle.c_parse_expr.specs.Reading.{is_identifier, is_string, identifier_at, string, quoted, string_at, strings_behind, start_by, start_of, is_some, begins_type, started, type_part_at, type_parts_at}
+use Rattle.c_parse_expr.specs.inner.Many.{◌>>=◌}
+use Rattle.c_parse_expr.specs.inner.Reading.{is_identifier, is_string, identifier_at, string, quoted, string_at, strings_behind, start_by, start_of, is_some, begins_type, started, type_part_at, type_parts_at}
 use Rattle.c_parse_expr.specs.Standing.{is_another, suffix_at}
 use Rattle.c_parse_expr.proofs.Marks.{string_is, behaves_so, starts_qualifier, starts_word, starts_tag, starts_type}
 use Rattle.c_parse_expr.proofs.Rows.{Run, run_many}

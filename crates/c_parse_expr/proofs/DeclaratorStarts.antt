@@ -5,7 +5,8 @@ use Rattle.c_token.specs.declared.token.Kind.TheVariants as kinds
 use Rattle.c_token.specs.declared.token.Mark.TheVariants as marks
 use Rattle.c_parse_expr.specs.declared.declarator_start.DeclaratorStart.{DeclaratorStart}
 use Rattle.c_parse_expr.specs.declared.declarator_start.DeclaratorStart.TheVariants as declarator_starts
-use Rattle.c_parse_expr.specs.Reading.{is_mark, is_identifier, declarator_start_at}
+use Rattle.c_parse_expr.specs.Reading.{is_mark}
+use Rattle.c_parse_expr.specs.inner.Reading.{is_identifier, declarator_start_at}
 use Rattle.c_parse_expr.specs.Standing.{opens}
 use Rattle.c_parse_expr.proofs.Marks.{identifier_is}
 

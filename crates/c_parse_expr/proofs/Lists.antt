@@ -3,7 +3,7 @@ use Rattle.std.proofs.Common.{◌≡◌, List, [], ◌∷◌, ◌++◌, Option, 
 use Rattle.c_token.specs.declared.token.Token.{Token}
 use Rattle.c_tree.specs.declared.expr.Expr.{Expr}
 use Rattle.c_tree.specs.Tree.{Tree, Trees, none, more, view, views_of}
-use Rattle.c_parse_expr.specs.Many.{◌>>=◌}
+use Rattle.c_parse_expr.specs.inner.Many.{◌>>=◌}
 
 abbrev pub joined : Trees → Trees → Trees
 joined none bs = bs

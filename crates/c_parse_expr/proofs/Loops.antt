@@ -5,8 +5,8 @@ use Rattle.c_token.specs.declared.token.Mark.TheVariants as marks
 use Rattle.c_tree.specs.Tree.{Tree, Trees, none, more, depth, depth_of}
 use Rattle.c_tree.specs.Tables.{level_of}
 use Rattle.c_parse_expr.specs.declared.table.Suffix.{Suffix}
-use Rattle.c_parse_expr.specs.Many.{◌>>=◌}
-use Rattle.c_parse_expr.specs.Reading.{Read, Reader, behind, closed, next_at, rest_at, arguments_at, prefix_at, suffixed, turn, climb, from_operand, reader, declared_at}
+use Rattle.c_parse_expr.specs.inner.Many.{◌>>=◌}
+use Rattle.c_parse_expr.specs.inner.Reading.{Read, Reader, behind, closed, next_at, rest_at, arguments_at, prefix_at, suffixed, turn, climb, from_operand, reader, declared_at}
 use Rattle.std.proofs.lemmas.Bool.{lt-ltb, le-ltb, le-leb, lt-leb}
 use Rattle.c_tree.specs.Names.{Scope}
 use Rattle.c_tree.specs.declared.expr.Expr.{Expr}

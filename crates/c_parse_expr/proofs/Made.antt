@@ -10,8 +10,8 @@ use Rattle.c_tree.specs.declared.expr.DeclaratorCore.{Inside}
 use Rattle.c_tree.specs.declared.expr.ArraySuffix.{ArraySuffix, Bounded', Open}
 use Rattle.c_tree.specs.Tree.{Tree, Suffixes, unnamed, bounded, unbounded, view, view_core, view_declarator, suffixes_of, depth, declared_depth, suffixes_depth}
 use Rattle.c_tree.proofs.Views.{view_cast, view_sizeof_type, view_inside}
-use Rattle.c_parse_expr.specs.Many.{◌>>=◌, many_at}
-use Rattle.c_parse_expr.specs.Reading.{Reader, bracket_at, pair_of, suffixes_from, suffixes_at}
+use Rattle.c_parse_expr.specs.inner.Many.{◌>>=◌, many_at}
+use Rattle.c_parse_expr.specs.inner.Reading.{Reader, bracket_at, pair_of, suffixes_from, suffixes_at}
 
 -- a cast
 pub cast_depth : (line h a r : ℕ) (t : Box TypeName Global) (e : Box Expr Global) (n : TypeName) (v : Expr) → r ≡ max h a → h ≡ declared_depth (view_declarator n.declarator) → a ≡ depth (view v) → t.value ≡ n → e.value ≡ v → r + 1 ≡ depth (view (Cast line t e))

@@ -31,7 +31,8 @@ use Rattle.c_parse_expr.specs.declared.table.Suffix.TheVariants as suffixes
 use Rattle.c_parse_expr.specs.declared.table.TypeStart.{TypeStart}
 use Rattle.c_parse_expr.specs.declared.table.TypeStart.TheVariants as starts
 use Rattle.c_parse_expr.specs.Tables.{keyword_start, lead_of_keyword, lead_of, lead_of_mark, suffix_of, suffix_of_mark}
-use Rattle.c_parse_expr.specs.Reading.{is_mark, is_identifier, is_string, start_by}
+use Rattle.c_parse_expr.specs.Reading.{is_mark}
+use Rattle.c_parse_expr.specs.inner.Reading.{is_identifier, is_string, start_by}
 use Rattle.c_parse_expr.specs.Standing.{is_another}
 
 -- the kinds of token that do this behind an operand

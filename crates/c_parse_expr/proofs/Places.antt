@@ -4,7 +4,7 @@ use Rattle.std.proofs.lemmas.List.{append_assoc}
 use Rattle.c_token.specs.declared.token.Token.{Token}
 use Rattle.c_tree.specs.Tree.{Tree}
 use Rattle.c_tree.specs.Names.{Scope}
-use Rattle.c_parse_expr.specs.Reading.{Read, reader}
+use Rattle.c_parse_expr.specs.inner.Reading.{Read, reader}
 use Rattle.c_parse_expr.specs.Standing.{Stands}
 use Rattle.std.proofs.Common.{◌-◌, take, drop, length-append}
 use Rattle.std.proofs.lemmas.List.{drop_at}

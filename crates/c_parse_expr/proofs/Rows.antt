@@ -2,7 +2,7 @@
 use Rattle.std.proofs.Common.{map, ◌≡◌, ◌<◌, ℕ, zero, suc, List, [], ◌∷◌, ◌++◌, length, Option, Some, None, refl, ap, sym, subst, ◌∙◌, arith}
 use Rattle.std.proofs.lemmas.List.{append-nil, append_assoc, map-append}
 use Rattle.c_token.specs.declared.token.Token.{Token}
-use Rattle.c_parse_expr.specs.Many.{◌>>=◌, Item, gone_on, many_at}
+use Rattle.c_parse_expr.specs.inner.Many.{◌>>=◌, Item, gone_on, many_at}
 use Rattle.c_parse_expr.proofs.Marks.{some_is}
 use Rattle.c_parse_expr.proofs.Steps.{bind_some}
 

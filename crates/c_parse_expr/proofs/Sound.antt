@@ -21,8 +21,9 @@ use Rattle.c_parse_expr.specs.declared.table.Lead.TheVariants as leads
 use Rattle.c_parse_expr.specs.declared.table.Suffix.{Suffix}
 use Rattle.c_parse_expr.specs.declared.table.Suffix.TheVariants as suffixes
 use Rattle.c_parse_expr.specs.Tables.{lead_of, strength_behind, least_left}
-use Rattle.c_parse_expr.specs.Many.{◌>>=◌}
-use Rattle.c_parse_expr.specs.Reading.{Read, Reader, DeclaredReader, behind, closed, goes_on, next_at, rest_at, arguments_at, identifier_at, string_at, strings_at, strings_behind, begins_type, type_behind, type_name_at, grouped, sized, sizeof_at, prefixed, prefix_at, suffixed, turn, climb, from_operand, reader, declarator_start_at, declared_from, declared_at}
+use Rattle.c_parse_expr.specs.inner.Many.{◌>>=◌}
+use Rattle.c_parse_expr.specs.Reading.{goes_on}
+use Rattle.c_parse_expr.specs.inner.Reading.{Read, Reader, DeclaredReader, behind, closed, next_at, rest_at, arguments_at, identifier_at, string_at, strings_at, strings_behind, begins_type, type_behind, type_name_at, grouped, sized, sizeof_at, prefixed, prefix_at, suffixed, turn, climb, from_operand, reader, declarator_start_at, declared_from, declared_at}
 use Rattle.c_parse_expr.specs.Standing.{goes_on_inside, suffix_at, Inside, Stands}
 use Rattle.c_parse_expr.proofs.Marks.{Behaves, Leads, behaves, leads_by, open_is, colon_is, comma_is, some_is}
 use Rattle.c_parse_expr.proofs.Steps.{bind_some, Heads, behind_takes, Goes, next_some, next_none, goes_facts, all_some, both_false}

@@ -13,8 +13,9 @@ use Rattle.c_tree.specs.Names.{Scope}
 use Rattle.c_tree.specs.Spelling.{SpellsTypeParts, SpellsDeclared, SpellsSuffixes, AreSpecifiers, IsWellDeclared, AreWellSuffixes, is_empty, has_name}
 use Rattle.c_parse_expr.specs.declared.declarator_start.DeclaratorStart.{DeclaratorStart}
 use Rattle.c_parse_expr.specs.declared.declarator_start.DeclaratorStart.TheVariants as declarator_starts
-use Rattle.c_parse_expr.specs.Many.{◌>>=◌, many_at}
-use Rattle.c_parse_expr.specs.Reading.{Reader, DeclaredReader, is_mark, behind, opened, bound_at, bracket, bracketed, bracket_at, suffixes_from, suffixes_at, declarator_start_at, inside_at, declared_from, bare, begins_type, type_part_at, type_parts_at, type_name_at}
+use Rattle.c_parse_expr.specs.inner.Many.{◌>>=◌, many_at}
+use Rattle.c_parse_expr.specs.Reading.{is_mark}
+use Rattle.c_parse_expr.specs.inner.Reading.{Reader, DeclaredReader, behind, opened, bound_at, bracket, bracketed, bracket_at, suffixes_from, suffixes_at, declarator_start_at, inside_at, declared_from, bare, begins_type, type_part_at, type_parts_at, type_name_at}
 use Rattle.c_parse_expr.specs.Standing.{Stands, DeclaredStands, opens}
 use Rattle.c_parse_expr.proofs.Marks.{some_is, close_is, bracket_is, end_is, open_is}
 use Rattle.c_parse_expr.proofs.Steps.{bind_some, none_by, Heads, behind_takes}

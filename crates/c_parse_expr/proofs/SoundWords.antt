@@ -14,7 +14,7 @@ use Rattle.c_parse_expr.specs.declared.table.Suffix.{Suffix}
 use Rattle.c_parse_expr.specs.declared.table.TypeStart.{TypeStart}
 use Rattle.c_parse_expr.specs.declared.table.TypeStart.TheVariants as starts
 use Rattle.c_parse_expr.specs.Tables.{suffix_of}
-use Rattle.c_parse_expr.specs.Reading.{is_identifier, is_string, identifier_at, string, quoted, string_at, start_by, start_of, is_some, begins_type, started, type_part_at}
+use Rattle.c_parse_expr.specs.inner.Reading.{is_identifier, is_string, identifier_at, string, quoted, string_at, start_by, start_of, is_some, begins_type, started, type_part_at}
 use Rattle.c_parse_expr.specs.Standing.{is_another, suffix_at}
 use Rattle.c_parse_expr.proofs.Marks.{some_is, identifier_is, string_is, not_another, starts_by}
 use Rattle.c_parse_expr.proofs.Steps.{bind_some, none_by, and_true}

@@ -9,8 +9,9 @@ use Rattle.c_token.specs.declared.token.Kind.TheVariants as kinds
 use Rattle.c_token.specs.declared.token.Mark.{Mark}
 use Rattle.c_parse_expr.specs.declared.table.Suffix.{Suffix}
 use Rattle.c_parse_expr.specs.Tables.{suffix_of, strength_behind, least_left}
-use Rattle.c_parse_expr.specs.Many.{◌>>=◌}
-use Rattle.c_parse_expr.specs.Reading.{is_mark, behind, goes_on, kept, next_at}
+use Rattle.c_parse_expr.specs.inner.Many.{◌>>=◌}
+use Rattle.c_parse_expr.specs.Reading.{is_mark, goes_on}
+use Rattle.c_parse_expr.specs.inner.Reading.{behind, kept, next_at}
 use Rattle.c_parse_expr.specs.Standing.{suffix_at}
 
 pub bind_some : {A B : Type 0} (o : Option A) (f : A → Option B) (y : B) → (o >>= f) ≡ Some y → (x : A) × (o ≡ Some x) × (f x ≡ Some y)

@@ -1,6 +1,5 @@
 pub mod Flags
 pub mod Tables
-pub mod Many
-pub mod Nodes
 pub mod Reading
 pub mod Standing
+pub mod inner

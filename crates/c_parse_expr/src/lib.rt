@@ -5,6 +5,7 @@
 mod declarator_start;
 mod fault;
 mod flags;
+mod frames;
 mod names;
 mod nodes;
 mod place;
@@ -14,6 +15,7 @@ mod table;
 mod words;
 
 pub use fault::{ExpressionError, Refused};
+pub use frames::Frame;
 pub use names::TypeNames;
 pub use nodes::{Found, FoundDeclarator};
 pub use place::{Level, expression, line_of, one_declarator, one_expression};

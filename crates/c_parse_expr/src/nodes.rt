@@ -1,11 +1,12 @@
 //! Making the nodes of a tree, once all is read that they hold.
 
-ghost use Rattle.std.specs.Prelude.{◌≡◌, ◌<◌, ◌≤◌, ◌+◌, [], ◌∷◌, ◌++◌, Some, length, map, max, OnOk, IfOk};
+ghost use Rattle.std.specs.Prelude.{◌≡◌, ◌<◌, ◌≤◌, ◌+◌, [], ◌∷◌, ◌++◌, length, map, max, OnOk, IfOk};
 ghost use Rattle.c_token.specs.Spelling.{text_of};
 ghost use Rattle.c_tree.specs.Tree.{view, views_of, view_type_part, view_declarator, suffixes_of, name, constant, character, unary, cast, sizeof_expr, sizeof_type, step, binary, choice, assign, comma, call, inside, depth, depth_of, declared_depth, suffixes_depth};
 ghost use Rattle.c_tree.specs.Tables.{level_of};
-ghost use Rattle.c_parse_expr.specs.Nodes.{read_as, declared_as, read_strings, read_parens, read_member, read_bound, read_type};
-ghost use Rattle.c_parse_expr.specs.Reading.{Gives, pair_of};
+ghost use Rattle.c_parse_expr.specs.inner.Nodes.{read_as, declared_as, read_strings, read_parens, read_member, read_bound, read_type};
+ghost use Rattle.c_parse_expr.specs.Reading.{Gives};
+ghost use Rattle.c_parse_expr.specs.inner.Findings.{tree_found, declarator_found, type_found, suffix_found};
 
 use crate::fault::Refused;
 use crate::slices::{behind_mark, identifier, level_of, name_of, text_name};
@@ -82,7 +83,7 @@ pub fn level_found(found: &Found<'_>) -> u8
 /// A node in memory of its own.
 fn made<'a>(alloc: Global, node: Expr, height: u32, rest: &'a [Token]) -> Result<Found<'a>, Refused>
     requires { height ≡ depth (view node) }
-    ensures exact { Gives (λ x. (view x.tree.value, x.rest.now)) result (read_as (view node) rest.now) }
+    ensures exact { Gives tree_found result (read_as (view node) rest.now) }
     ensures height { IfOk result (λ x. x.height ≡ depth (view x.tree.value)) }
     ensures tall { IfOk result (λ x. x.height ≡ height) }
     ensures rest { IfOk result (λ x. x.rest.now ≡ rest.now) }
@@ -98,7 +99,7 @@ pub fn constant_node<'a>(
     value: Constant,
     rest: &'a [Token],
 ) -> Result<Found<'a>, Refused>
-    ensures exact { Gives (λ x. (view x.tree.value, x.rest.now)) result (read_as (constant line value) rest.now) }
+    ensures exact { Gives tree_found result (read_as (constant line value) rest.now) }
     ensures height { IfOk result (λ x. x.height ≡ depth (view x.tree.value)) }
     ensures tall { IfOk result (λ x. x.height ≡ 1) }
     ensures rest { IfOk result (λ x. x.rest.now ≡ rest.now) }
@@ -121,7 +122,7 @@ pub fn character_node<'a>(
     value: u32,
     rest: &'a [Token],
 ) -> Result<Found<'a>, Refused>
-    ensures exact { Gives (λ x. (view x.tree.value, x.rest.now)) result (read_as (character line value) rest.now) }
+    ensures exact { Gives tree_found result (read_as (character line value) rest.now) }
     ensures height { IfOk result (λ x. x.height ≡ depth (view x.tree.value)) }
     ensures tall { IfOk result (λ x. x.height ≡ 1) }
     ensures rest { IfOk result (λ x. x.rest.now ≡ rest.now) }
@@ -136,7 +137,7 @@ pub fn name_node<'a>(
     token: Token,
     rest: &'a [Token],
 ) -> Result<Found<'a>, Refused>
-    ensures exact { Gives (λ x. (view x.tree.value, x.rest.now)) result (read_as (name token.line (text_of bytes.now token)) rest.now) }
+    ensures exact { Gives tree_found result (read_as (name token.line (text_of bytes.now token)) rest.now) }
     ensures height { IfOk result (λ x. x.height ≡ depth (view x.tree.value)) }
     ensures tall { IfOk result (λ x. x.height ≡ 1) }
     ensures rest { IfOk result (λ x. x.rest.now ≡ rest.now) }
@@ -160,7 +161,7 @@ pub fn strings_node<'a>(
     token: Token,
     tokens: &'a [Token],
 ) -> Result<Found<'a>, Refused>
-    ensures exact { Gives (λ x. (view x.tree.value, x.rest.now)) result (read_strings bytes.now token tokens.now) }
+    ensures exact { Gives tree_found result (read_strings bytes.now token tokens.now) }
     ensures height { IfOk result (λ x. x.height ≡ depth (view x.tree.value)) }
     ensures tall { IfOk result (λ x. x.height ≡ 1) }
     ensures shorter { IfOk result (λ x. length x.rest.now ≤ length tokens.now) }
@@ -186,7 +187,7 @@ pub fn unary_node<'a>(
 ) -> Result<Found<'a>, Refused>
     requires height { operand.height ≡ depth (view operand.tree.value) }
     requires low { operand.height ≤ 400 }
-    ensures exact { Gives (λ x. (view x.tree.value, x.rest.now)) result (read_as (unary line operator (view operand.entry.tree.value)) operand.entry.rest.now) }
+    ensures exact { Gives tree_found result (read_as (unary line operator (view operand.entry.tree.value)) operand.entry.rest.now) }
     ensures height { IfOk result (λ x. x.height ≡ depth (view x.tree.value)) }
     ensures tall { IfOk result (λ x. x.height ≡ operand.entry.height + 1) }
     ensures rest { IfOk result (λ x. x.rest.now ≡ operand.entry.rest.now) }
@@ -214,7 +215,7 @@ pub fn cast_node<'a>(
     requires type_low { target.height ≤ 400 }
     requires height { operand.height ≡ depth (view operand.tree.value) }
     requires low { operand.height ≤ 400 }
-    ensures exact { Gives (λ x. (view x.tree.value, x.rest.now)) result (read_as (cast line (map view_type_part target.entry.type_name.value.specifiers.items) (view_declarator target.entry.type_name.value.declarator) (view operand.entry.tree.value)) operand.entry.rest.now) }
+    ensures exact { Gives tree_found result (read_as (cast line (map view_type_part target.entry.type_name.value.specifiers.items) (view_declarator target.entry.type_name.value.declarator) (view operand.entry.tree.value)) operand.entry.rest.now) }
     ensures height { IfOk result (λ x. x.height ≡ depth (view x.tree.value)) }
     ensures tall { IfOk result (λ x. x.height ≡ max target.entry.height operand.entry.height + 1) }
     ensures rest { IfOk result (λ x. x.rest.now ≡ operand.entry.rest.now) }
@@ -236,7 +237,7 @@ pub fn cast_node<'a>(
 pub fn parens_node<'a>(alloc: Global, line: u32, inner: Found<'a>) -> Result<Found<'a>, Refused>
     requires height { inner.height ≡ depth (view inner.tree.value) }
     requires low { inner.height ≤ 400 }
-    ensures exact { Gives (λ x. (view x.tree.value, x.rest.now)) result (read_parens line (view inner.entry.tree.value) inner.entry.rest.now) }
+    ensures exact { Gives tree_found result (read_parens line (view inner.entry.tree.value) inner.entry.rest.now) }
     ensures height { IfOk result (λ x. x.height ≡ depth (view x.tree.value)) }
     ensures tall { IfOk result (λ x. x.height ≡ inner.entry.height + 1) }
     ensures shorter { IfOk result (λ x. length x.rest.now ≤ length inner.entry.rest.now) }
@@ -263,7 +264,7 @@ pub fn sizeof_type_node<'a>(
 ) -> Result<Found<'a>, Refused>
     requires height { target.height ≡ declared_depth (view_declarator target.type_name.value.declarator) }
     requires low { target.height ≤ 400 }
-    ensures exact { Gives (λ x. (view x.tree.value, x.rest.now)) result (read_as (sizeof_type line (map view_type_part target.entry.type_name.value.specifiers.items) (view_declarator target.entry.type_name.value.declarator)) target.entry.rest.now) }
+    ensures exact { Gives tree_found result (read_as (sizeof_type line (map view_type_part target.entry.type_name.value.specifiers.items) (view_declarator target.entry.type_name.value.declarator)) target.entry.rest.now) }
     ensures height { IfOk result (λ x. x.height ≡ depth (view x.tree.value)) }
     ensures tall { IfOk result (λ x. x.height ≡ target.entry.height + 1) }
     ensures rest { IfOk result (λ x. x.rest.now ≡ target.entry.rest.now) }
@@ -287,7 +288,7 @@ pub fn sizeof_expr_node<'a>(
 ) -> Result<Found<'a>, Refused>
     requires height { operand.height ≡ depth (view operand.tree.value) }
     requires low { operand.height ≤ 400 }
-    ensures exact { Gives (λ x. (view x.tree.value, x.rest.now)) result (read_as (sizeof_expr line (view operand.entry.tree.value)) operand.entry.rest.now) }
+    ensures exact { Gives tree_found result (read_as (sizeof_expr line (view operand.entry.tree.value)) operand.entry.rest.now) }
     ensures height { IfOk result (λ x. x.height ≡ depth (view x.tree.value)) }
     ensures tall { IfOk result (λ x. x.height ≡ operand.entry.height + 1) }
     ensures rest { IfOk result (λ x. x.rest.now ≡ operand.entry.rest.now) }
@@ -316,7 +317,7 @@ pub fn binary_node<'a>(
     requires left_low { height ≤ 400 }
     requires right { right.height ≡ depth (view right.tree.value) }
     requires right_low { right.height ≤ 400 }
-    ensures exact { Gives (λ x. (view x.tree.value, x.rest.now)) result (read_as (binary line operator (view left.value) (view right.entry.tree.value)) right.entry.rest.now) }
+    ensures exact { Gives tree_found result (read_as (binary line operator (view left.value) (view right.entry.tree.value)) right.entry.rest.now) }
     ensures height { IfOk result (λ x. x.height ≡ depth (view x.tree.value)) }
     ensures tall { IfOk result (λ x. x.height ≡ max height right.entry.height + 1) }
     ensures rest { IfOk result (λ x. x.rest.now ≡ right.entry.rest.now) }
@@ -348,7 +349,7 @@ pub fn assign_node<'a>(
     requires left_low { height ≤ 400 }
     requires right { right.height ≡ depth (view right.tree.value) }
     requires right_low { right.height ≤ 400 }
-    ensures exact { Gives (λ x. (view x.tree.value, x.rest.now)) result (read_as (assign line operator (view left.value) (view right.entry.tree.value)) right.entry.rest.now) }
+    ensures exact { Gives tree_found result (read_as (assign line operator (view left.value) (view right.entry.tree.value)) right.entry.rest.now) }
     ensures height { IfOk result (λ x. x.height ≡ depth (view x.tree.value)) }
     ensures tall { IfOk result (λ x. x.height ≡ max height right.entry.height + 1) }
     ensures rest { IfOk result (λ x. x.rest.now ≡ right.entry.rest.now) }
@@ -379,7 +380,7 @@ pub fn comma_node<'a>(
     requires left_low { height ≤ 400 }
     requires right { right.height ≡ depth (view right.tree.value) }
     requires right_low { right.height ≤ 400 }
-    ensures exact { Gives (λ x. (view x.tree.value, x.rest.now)) result (read_as (comma line (view left.value) (view right.entry.tree.value)) right.entry.rest.now) }
+    ensures exact { Gives tree_found result (read_as (comma line (view left.value) (view right.entry.tree.value)) right.entry.rest.now) }
     ensures height { IfOk result (λ x. x.height ≡ depth (view x.tree.value)) }
     ensures tall { IfOk result (λ x. x.height ≡ max height right.entry.height + 1) }
     ensures rest { IfOk result (λ x. x.rest.now ≡ right.entry.rest.now) }
@@ -412,7 +413,7 @@ pub fn choice_node<'a>(
     requires yes_low { yes.height ≤ 400 }
     requires no { no.height ≡ depth (view no.tree.value) }
     requires no_low { no.height ≤ 400 }
-    ensures exact { Gives (λ x. (view x.tree.value, x.rest.now)) result (read_as (choice line (view test.value) (view yes.entry.tree.value) (view no.entry.tree.value)) no.entry.rest.now) }
+    ensures exact { Gives tree_found result (read_as (choice line (view test.value) (view yes.entry.tree.value) (view no.entry.tree.value)) no.entry.rest.now) }
     ensures height { IfOk result (λ x. x.height ≡ depth (view x.tree.value)) }
     ensures tall { IfOk result (λ x. x.height ≡ max height (max yes.entry.height no.entry.height) + 1) }
     ensures rest { IfOk result (λ x. x.rest.now ≡ no.entry.rest.now) }
@@ -442,7 +443,7 @@ pub fn step_node<'a>(
 ) -> Result<Found<'a>, Refused>
     requires left { height ≡ depth (view left.value) }
     requires left_low { height ≤ 400 }
-    ensures exact { Gives (λ x. (view x.tree.value, x.rest.now)) result (read_as (step line operator (view left.value)) rest.now) }
+    ensures exact { Gives tree_found result (read_as (step line operator (view left.value)) rest.now) }
     ensures height { IfOk result (λ x. x.height ≡ depth (view x.tree.value)) }
     ensures tall { IfOk result (λ x. x.height ≡ height + 1) }
     ensures rest { IfOk result (λ x. x.rest.now ≡ rest.now) }
@@ -470,7 +471,7 @@ pub fn member_node<'a>(
 ) -> Result<Found<'a>, Refused>
     requires left { height ≡ depth (view left.value) }
     requires left_low { height ≤ 400 }
-    ensures exact { Gives (λ x. (view x.tree.value, x.rest.now)) result (read_member bytes.now line (view left.value) tokens.now) }
+    ensures exact { Gives tree_found result (read_member bytes.now line (view left.value) tokens.now) }
     ensures height { IfOk result (λ x. x.height ≡ depth (view x.tree.value)) }
     ensures tall { IfOk result (λ x. x.height ≡ height + 1) }
     ensures shorter { IfOk result (λ x. length x.rest.now ≤ length tokens.now) }
@@ -503,7 +504,7 @@ pub fn call_node<'a>(
     requires left_low { height ≤ 400 }
     requires right { arguments.height ≡ depth_of (views_of arguments.items.items) }
     requires right_low { arguments.height ≤ 400 }
-    ensures exact { Gives (λ x. (view x.tree.value, x.rest.now)) result (read_as (call (view left.value) (views_of arguments.entry.items.items)) arguments.entry.rest.now) }
+    ensures exact { Gives tree_found result (read_as (call (view left.value) (views_of arguments.entry.items.items)) arguments.entry.rest.now) }
     ensures height { IfOk result (λ x. x.height ≡ depth (view x.tree.value)) }
     ensures tall { IfOk result (λ x. x.height ≡ max height arguments.entry.height + 1) }
     ensures rest { IfOk result (λ x. x.rest.now ≡ arguments.entry.rest.now) }
@@ -531,7 +532,7 @@ pub fn put_argument(items: &mut Vec<Expr>, tree: Box<Expr>) -> Result<(), AllocE
 /// A bound in brackets, where the one that closes them stands behind it.
 pub fn bounded_suffix<'a>(line: u32, bound: Found<'a>) -> Result<FoundSuffix<'a>, Refused>
     requires { bound.height ≡ depth (view bound.tree.value) }
-    ensures exact { Gives (λ x. Some (pair_of x.suffix, tt, x.rest.now)) result (read_bound line (view bound.entry.tree.value) bound.entry.rest.now) }
+    ensures exact { Gives suffix_found result (read_bound line (view bound.entry.tree.value) bound.entry.rest.now) }
     ensures height { IfOk result (λ x. x.height ≡ suffixes_depth (suffixes_of (x.suffix ∷ []))) }
     ensures tall { IfOk result (λ x. x.height ≡ bound.entry.height) }
     ensures shorter { IfOk result (λ x. length x.rest.now < length bound.entry.rest.now) }
@@ -556,7 +557,7 @@ pub fn type_named<'a>(
     declared: FoundDeclarator<'a>,
 ) -> Result<FoundType<'a>, Refused>
     requires { declared.height ≡ declared_depth (view_declarator declared.declarator) }
-    ensures exact { Gives (λ x. ((map view_type_part x.type_name.value.specifiers.items, view_declarator x.type_name.value.declarator), x.rest.now)) result (read_type (map view_type_part specifiers.items) (view_declarator declared.entry.declarator) declared.entry.rest.now) }
+    ensures exact { Gives type_found result (read_type (map view_type_part specifiers.items) (view_declarator declared.entry.declarator) declared.entry.rest.now) }
     ensures height { IfOk result (λ x. x.height ≡ declared_depth (view_declarator x.type_name.value.declarator)) }
     ensures tall { IfOk result (λ x. x.height ≡ declared.entry.height) }
     ensures shorter { IfOk result (λ x. length x.rest.now ≤ length declared.entry.rest.now) }
@@ -590,7 +591,7 @@ pub fn nested<'a>(
     requires low { height ≤ 400 }
     requires suffixes { suffixes.height ≡ suffixes_depth (suffixes_of suffixes.suffixes.items) }
     requires suffixes_low { suffixes.height ≤ 400 }
-    ensures exact { Gives (λ x. (view_declarator x.declarator, x.rest.now)) result (declared_as (inside line (view_declarator declared) (suffixes_of suffixes.entry.suffixes.items)) suffixes.entry.rest.now) }
+    ensures exact { Gives declarator_found result (declared_as (inside line (view_declarator declared) (suffixes_of suffixes.entry.suffixes.items)) suffixes.entry.rest.now) }
     ensures height { IfOk result (λ x. x.height ≡ declared_depth (view_declarator x.declarator)) }
     ensures tall { IfOk result (λ x. x.height ≡ max height suffixes.entry.height + 1) }
     ensures rest { IfOk result (λ x. x.rest.now ≡ suffixes.entry.rest.now) }

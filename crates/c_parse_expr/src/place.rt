@@ -7,6 +7,7 @@ ghost use Rattle.c_tree.specs.Names.{Scope};
 ghost use Rattle.c_parse_expr.specs.Standing.{Stands, DeclaredStands, number_of, line_at};
 
 use crate::fault::{ExpressionError, Refused};
+use crate::frames::Frame;
 use crate::names::TypeNames;
 use crate::reading::read;
 use c_lexer::Tokens;
@@ -64,7 +65,12 @@ pub fn expression(
     ensures line { IfErr result (λ e. e ≢ ExpressionError.Memory → e ≡ ExpressionError.Syntax (line_at tokens.now.last_line (drop at tokens.now.tokens.items))) }
 {
     let (_, behind) = tokens.tokens.split_at(at);
-    match read(alloc, &tokens.bytes, names, behind, level.number(), LEVELS) {
+    let frame = Frame {
+        alloc,
+        bytes: &tokens.bytes,
+        levels: LEVELS,
+    };
+    match read(frame, names, behind, level.number()) {
         Ok(found) => Ok((found.tree, tokens.tokens.len() - found.rest.len())),
         Err(Refused::Syntax) => Err(ExpressionError::Syntax {
             line: line_of(behind, tokens.last_line),

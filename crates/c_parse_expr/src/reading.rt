@@ -1,12 +1,15 @@
 //! Reading a tree from left to right.
 
-ghost use Rattle.std.specs.Prelude.{◌≡◌, ◌<◌, ◌≤◌, ◌+◌, [], ◌∷◌, Some, length, map, IfOk};
-ghost use Rattle.c_tree.specs.Tree.{view, views_of, view_type_part, view_declarator, suffixes_of, unnamed, no_suffix, depth, depth_of, declared_depth, suffixes_depth};
+ghost use Rattle.std.specs.Prelude.{◌≡◌, ◌<◌, ◌≤◌, ◌+◌, [], ◌∷◌, Some, length, IfOk};
+ghost use Rattle.c_tree.specs.Tree.{view, views_of, view_declarator, suffixes_of, unnamed, no_suffix, depth, depth_of, declared_depth, suffixes_depth};
 ghost use Rattle.c_parse_expr.specs.declared.table.Suffix.TheVariants.{Choice};
-ghost use Rattle.c_parse_expr.specs.Reading.{Gives, reader, declared_at, declared_from, bare, inside_at, suffixes_at, unnamed_at, bound_at, pair_of, type_name_at, grouped, sizeof_at, prefix_at, prefixed, suffixed, arguments_at};
+ghost use Rattle.c_parse_expr.specs.Reading.{Gives};
+ghost use Rattle.c_parse_expr.specs.inner.Findings.{IsFound, tree_found, arguments_found, declarator_found, type_found, suffix_found, suffixes_found, trees_in, declarators_in};
+ghost use Rattle.c_parse_expr.specs.inner.Reading.{declared_from, bare, inside_at, suffixes_at, unnamed_at, bound_at, type_name_at, grouped, sizeof_at, prefix_at, prefixed, suffixed, arguments_at};
 
 use crate::declarator_start::DeclaratorStart;
 use crate::fault::Refused;
+use crate::frames::Frame;
 use crate::names::TypeNames;
 use crate::nodes::{
     Found, FoundDeclarator, FoundSuffix, FoundSuffixes, FoundType, Items, assign_node, binary_node,
@@ -23,133 +26,114 @@ use std::alloc::Global;
 
 /// What a token begins, with those behind it.
 #[cycle(reading)]
-#[tactic(auto, unfolding(crate::specs::Reading::prefixed))]
+#[tactic(auto, unfolding(crate::specs::inner::Reading::prefixed))]
 fn prefix_behind<'a>(
-    alloc: Global,
-    bytes: &[u8],
+    frame: Frame<'_>,
     names: &TypeNames,
     lead: Lead,
     token: Token,
     tokens: &'a [Token],
-    levels: u32,
 ) -> Result<Found<'a>, Refused>
-    requires { levels < 400 }
-    ensures exact { Gives (λ x. (view x.tree.value, x.rest.now)) result (prefixed bytes.now names.now (reader bytes.now names.now levels) (declared_at bytes.now names.now levels) lead token tokens.now) }
-    ensures height { IfOk result (λ x. x.height ≡ depth (view x.tree.value)) }
-    ensures low { IfOk result (λ x. x.height ≤ levels + 1) }
-    ensures shorter { IfOk result (λ x. length x.rest.now ≤ length tokens.now) }
+    requires { frame.levels < 400 }
+    ensures exact { Gives tree_found result (prefixed frame.entry.bytes.now names.now (trees_in frame.entry names.now) (declarators_in frame.entry names.now) lead token tokens.now) }
+    ensures found { IfOk result (λ x. IsFound x.height (depth (view x.tree.value)) (frame.entry.levels + 1) tokens.now x.rest.now) }
 {
     let line = token.line;
     match lead {
         Lead::Name => {
-            if names.is_type(token_text(bytes, token)) {
+            if names.is_type(token_text(frame.bytes, token)) {
                 return Err(Refused::Syntax);
             }
-            name_node(alloc, bytes, token, tokens)
+            name_node(frame.alloc, frame.bytes, token, tokens)
         }
-        Lead::Constant(constant) => constant_node(alloc, line, constant, tokens),
-        Lead::Character(value) => character_node(alloc, line, value, tokens),
-        Lead::Strings => strings_node(alloc, bytes, token, tokens),
-        Lead::Group => group_behind(alloc, bytes, names, line, tokens, levels),
+        Lead::Constant(constant) => constant_node(frame.alloc, line, constant, tokens),
+        Lead::Character(value) => character_node(frame.alloc, line, value, tokens),
+        Lead::Strings => strings_node(frame.alloc, frame.bytes, token, tokens),
+        Lead::Group => group_behind(frame, names, line, tokens),
         Lead::Unary(operator) => {
-            let found = read(alloc, bytes, names, tokens, operand_level(operator), levels)?;
-            unary_node(alloc, line, operator, found)
+            let found = read(frame, names, tokens, operand_level(operator))?;
+            unary_node(frame.alloc, line, operator, found)
         }
-        Lead::Sizeof => sizeof_behind(alloc, bytes, names, line, tokens, levels),
+        Lead::Sizeof => sizeof_behind(frame, names, line, tokens),
     }
 }
 
 /// Behind a parenthesis: a cast where a type name begins, else an expression in parentheses.
 #[cycle(reading)]
-#[tactic(auto, unfolding(crate::specs::Reading::grouped))]
+#[tactic(auto, unfolding(crate::specs::inner::Reading::grouped))]
 fn group_behind<'a>(
-    alloc: Global,
-    bytes: &[u8],
+    frame: Frame<'_>,
     names: &TypeNames,
     line: u32,
     tokens: &'a [Token],
-    levels: u32,
 ) -> Result<Found<'a>, Refused>
-    requires { levels < 400 }
-    ensures exact { Gives (λ x. (view x.tree.value, x.rest.now)) result (grouped bytes.now names.now (reader bytes.now names.now levels) (declared_at bytes.now names.now levels) line tokens.now) }
-    ensures height { IfOk result (λ x. x.height ≡ depth (view x.tree.value)) }
-    ensures low { IfOk result (λ x. x.height ≤ levels + 1) }
-    ensures shorter { IfOk result (λ x. length x.rest.now ≤ length tokens.now) }
+    requires { frame.levels < 400 }
+    ensures exact { Gives tree_found result (grouped frame.entry.bytes.now names.now (trees_in frame.entry names.now) (declarators_in frame.entry names.now) line tokens.now) }
+    ensures found { IfOk result (λ x. IsFound x.height (depth (view x.tree.value)) (frame.entry.levels + 1) tokens.now x.rest.now) }
 {
-    if begins_type(bytes, names, tokens) {
-        let found = type_name(alloc, bytes, names, tokens, levels)?;
-        let value = read(alloc, bytes, names, found.rest, 14, levels)?;
-        return cast_node(alloc, line, found, value);
+    if begins_type(frame.bytes, names, tokens) {
+        let found = type_name(frame, names, tokens)?;
+        let value = read(frame, names, found.rest, 14)?;
+        return cast_node(frame.alloc, line, found, value);
     }
-    let found = read(alloc, bytes, names, tokens, 1, levels)?;
-    parens_node(alloc, line, found)
+    let found = read(frame, names, tokens, 1)?;
+    parens_node(frame.alloc, line, found)
 }
 
 /// Behind `sizeof`: a type name in parentheses, or an operand.
 #[cycle(reading)]
-#[tactic(auto, unfolding(crate::specs::Reading::sizeof_at))]
+#[tactic(auto, unfolding(crate::specs::inner::Reading::sizeof_at))]
 fn sizeof_behind<'a>(
-    alloc: Global,
-    bytes: &[u8],
+    frame: Frame<'_>,
     names: &TypeNames,
     line: u32,
     tokens: &'a [Token],
-    levels: u32,
 ) -> Result<Found<'a>, Refused>
-    requires { levels < 400 }
-    ensures exact { Gives (λ x. (view x.tree.value, x.rest.now)) result (sizeof_at bytes.now names.now (reader bytes.now names.now levels) (declared_at bytes.now names.now levels) line tokens.now) }
-    ensures height { IfOk result (λ x. x.height ≡ depth (view x.tree.value)) }
-    ensures low { IfOk result (λ x. x.height ≤ levels + 1) }
-    ensures shorter { IfOk result (λ x. length x.rest.now ≤ length tokens.now) }
+    requires { frame.levels < 400 }
+    ensures exact { Gives tree_found result (sizeof_at frame.entry.bytes.now names.now (trees_in frame.entry names.now) (declarators_in frame.entry names.now) line tokens.now) }
+    ensures found { IfOk result (λ x. IsFound x.height (depth (view x.tree.value)) (frame.entry.levels + 1) tokens.now x.rest.now) }
 {
-    match type_behind(bytes, names, tokens) {
+    match type_behind(frame.bytes, names, tokens) {
         Some(rest) => {
-            let found = type_name(alloc, bytes, names, rest, levels)?;
-            sizeof_type_node(alloc, line, found)
+            let found = type_name(frame, names, rest)?;
+            sizeof_type_node(frame.alloc, line, found)
         }
         None => {
-            let found = read(alloc, bytes, names, tokens, 15, levels)?;
-            sizeof_expr_node(alloc, line, found)
+            let found = read(frame, names, tokens, 15)?;
+            sizeof_expr_node(frame.alloc, line, found)
         }
     }
 }
 
 /// A type name, with the parenthesis behind it.
 #[cycle(reading)]
-#[tactic(auto, unfolding(crate::specs::Reading::type_name_at))]
+#[tactic(auto, unfolding(crate::specs::inner::Reading::type_name_at))]
 fn type_name<'a>(
-    alloc: Global,
-    bytes: &[u8],
+    frame: Frame<'_>,
     names: &TypeNames,
     tokens: &'a [Token],
-    levels: u32,
 ) -> Result<FoundType<'a>, Refused>
-    requires { levels < 400 }
-    ensures exact { Gives (λ x. ((map view_type_part x.type_name.value.specifiers.items, view_declarator x.type_name.value.declarator), x.rest.now)) result (type_name_at bytes.now names.now (declared_at bytes.now names.now levels) tokens.now) }
-    ensures height { IfOk result (λ x. x.height ≡ declared_depth (view_declarator x.type_name.value.declarator)) }
-    ensures low { IfOk result (λ x. x.height ≤ levels) }
-    ensures shorter { IfOk result (λ x. length x.rest.now ≤ length tokens.now) }
+    requires { frame.levels < 400 }
+    ensures exact { Gives type_found result (type_name_at frame.entry.bytes.now names.now (declarators_in frame.entry names.now) tokens.now) }
+    ensures found { IfOk result (λ x. IsFound x.height (declared_depth (view_declarator x.type_name.value.declarator)) frame.entry.levels tokens.now x.rest.now) }
 {
-    let (specifiers, rest) = type_specifiers(alloc, bytes, names, tokens)?;
-    let found = declarator(alloc, bytes, names, rest, false, levels)?;
-    type_named(alloc, specifiers, found)
+    let (specifiers, rest) = type_specifiers(frame.alloc, frame.bytes, names, tokens)?;
+    let found = declarator(frame, names, rest, false)?;
+    type_named(frame.alloc, specifiers, found)
 }
 
 /// A suffix behind its bracket, which stands on a line.
 #[cycle(reading)]
-#[tactic(auto, unfolding(crate::specs::Reading::bound_at))]
+#[tactic(auto, unfolding(crate::specs::inner::Reading::bound_at))]
 fn array_suffix<'a>(
-    alloc: Global,
-    bytes: &[u8],
+    frame: Frame<'_>,
     names: &TypeNames,
     line: u32,
     tokens: &'a [Token],
-    levels: u32,
 ) -> Result<FoundSuffix<'a>, Refused>
-    requires { levels < 400 }
-    ensures exact { Gives (λ x. Some (pair_of x.suffix, tt, x.rest.now)) result (bound_at (reader bytes.now names.now levels) line tokens.now) }
-    ensures height { IfOk result (λ x. x.height ≡ suffixes_depth (suffixes_of (x.suffix ∷ []))) }
-    ensures low { IfOk result (λ x. x.height ≤ levels) }
+    requires { frame.levels < 400 }
+    ensures exact { Gives suffix_found result (bound_at (trees_in frame.entry names.now) line tokens.now) }
+    ensures found { IfOk result (λ x. IsFound x.height (suffixes_depth (suffixes_of (x.suffix ∷ []))) frame.entry.levels tokens.now x.rest.now) }
     ensures shorter { IfOk result (λ x. length x.rest.now < length tokens.now) }
 {
     if let Some(rest) = behind_mark(tokens, Mark::RightBracket) {
@@ -159,30 +143,26 @@ fn array_suffix<'a>(
             rest,
         });
     }
-    let found = read(alloc, bytes, names, tokens, 3, levels)?;
+    let found = read(frame, names, tokens, 3)?;
     bounded_suffix(line, found)
 }
 
 /// The suffixes at the front.
 #[cycle(reading)]
 fn array_suffixes<'a>(
-    alloc: Global,
-    bytes: &[u8],
+    frame: Frame<'_>,
     names: &TypeNames,
     tokens: &'a [Token],
-    levels: u32,
 ) -> Result<FoundSuffixes<'a>, Refused>
-    requires { levels < 400 }
-    ensures exact { Gives (λ x. (suffixes_of x.suffixes.items, x.rest.now)) result (suffixes_at (reader bytes.now names.now levels) tokens.now) }
-    ensures height { IfOk result (λ x. x.height ≡ suffixes_depth (suffixes_of x.suffixes.items)) }
-    ensures low { IfOk result (λ x. x.height ≤ levels) }
-    ensures shorter { IfOk result (λ x. length x.rest.now ≤ length tokens.now) }
+    requires { frame.levels < 400 }
+    ensures exact { Gives suffixes_found result (suffixes_at (trees_in frame.entry names.now) tokens.now) }
+    ensures found { IfOk result (λ x. IsFound x.height (suffixes_depth (suffixes_of x.suffixes.items)) frame.entry.levels tokens.now x.rest.now) }
 {
-    let mut suffixes = Vec::new(alloc);
+    let mut suffixes = Vec::new(frame.alloc);
     let mut height = 0;
     let mut rest = tokens;
     'suffixes: while let Some((line, behind)) = bracket(rest) {
-        let found = array_suffix(alloc, bytes, names, line, behind, levels)?;
+        let found = array_suffix(frame, names, line, behind)?;
         suffixes.push(found.suffix)?;
         height = larger(height, found.height);
         rest = found.rest;
@@ -216,10 +196,8 @@ fn bare<'a>(
     declarator_start: DeclaratorStart,
     tokens: &'a [Token],
 ) -> Result<FoundDeclarator<'a>, Refused>
-    ensures exact { Gives (λ x. (view_declarator x.declarator, x.rest.now)) result (bare (Some declarator_start) tokens.now) }
-    ensures height { IfOk result (λ x. x.height ≡ declared_depth (view_declarator x.declarator)) }
-    ensures low { IfOk result (λ x. x.height ≤ 0) }
-    ensures shorter { IfOk result (λ x. length x.rest.now ≤ length tokens.now) }
+    ensures exact { Gives declarator_found result (bare (Some declarator_start) tokens.now) }
+    ensures found { IfOk result (λ x. IsFound x.height (declared_depth (view_declarator x.declarator)) 0 tokens.now x.rest.now) }
 {
     match declarator_start {
         DeclaratorStart::Nothing => Ok(nothing(alloc, tokens)),
@@ -231,31 +209,27 @@ fn bare<'a>(
 
 /// A declarator in parentheses behind its parenthesis, which stands on a line, and its suffixes.
 #[cycle(reading)]
-#[tactic(auto, unfolding(crate::specs::Reading::inside_at))]
+#[tactic(auto, unfolding(crate::specs::inner::Reading::inside_at))]
 fn inside<'a>(
-    alloc: Global,
-    bytes: &[u8],
+    frame: Frame<'_>,
     names: &TypeNames,
     named: bool,
     line: u32,
     tokens: &'a [Token],
-    levels: u32,
 ) -> Result<FoundDeclarator<'a>, Refused>
-    requires { levels < 400 }
-    ensures exact { Gives (λ x. (view_declarator x.declarator, x.rest.now)) result (inside_at (reader bytes.now names.now levels) (declared_at bytes.now names.now levels) named line tokens.now) }
-    ensures height { IfOk result (λ x. x.height ≡ declared_depth (view_declarator x.declarator)) }
-    ensures low { IfOk result (λ x. x.height ≤ levels + 1) }
-    ensures shorter { IfOk result (λ x. length x.rest.now ≤ length tokens.now) }
+    requires { frame.levels < 400 }
+    ensures exact { Gives declarator_found result (inside_at (trees_in frame.entry names.now) (declarators_in frame.entry names.now) named line tokens.now) }
+    ensures found { IfOk result (λ x. IsFound x.height (declared_depth (view_declarator x.declarator)) (frame.entry.levels + 1) tokens.now x.rest.now) }
 {
-    let found = declarator(alloc, bytes, names, tokens, named, levels)?;
+    let found = declarator(frame, names, tokens, named)?;
     let Some(rest) = behind_mark(found.rest, Mark::RightParenthesis) else {
         return Err(Refused::Syntax);
     };
     if found.height == 0 {
         return Err(Refused::Syntax);
     }
-    let behind = array_suffixes(alloc, bytes, names, rest, levels)?;
-    nested(alloc, line, found.declarator, found.height, behind)
+    let behind = array_suffixes(frame, names, rest)?;
+    nested(frame.alloc, line, found.declarator, found.height, behind)
 }
 
 /// The levels of an abstract declarator with these suffixes.
@@ -272,19 +246,15 @@ fn unnamed_height(suffixes: &[ArraySuffix], height: u32) -> u32
 /// The suffixes of an abstract declarator, one at least.
 #[cycle(reading)]
 fn unnamed<'a>(
-    alloc: Global,
-    bytes: &[u8],
+    frame: Frame<'_>,
     names: &TypeNames,
     tokens: &'a [Token],
-    levels: u32,
 ) -> Result<FoundDeclarator<'a>, Refused>
-    requires { levels < 400 }
-    ensures exact { Gives (λ x. (view_declarator x.declarator, x.rest.now)) result (unnamed_at (reader bytes.now names.now levels) tokens.now) }
-    ensures height { IfOk result (λ x. x.height ≡ declared_depth (view_declarator x.declarator)) }
-    ensures low { IfOk result (λ x. x.height ≤ levels + 1) }
-    ensures shorter { IfOk result (λ x. length x.rest.now ≤ length tokens.now) }
+    requires { frame.levels < 400 }
+    ensures exact { Gives declarator_found result (unnamed_at (trees_in frame.entry names.now) tokens.now) }
+    ensures found { IfOk result (λ x. IsFound x.height (declared_depth (view_declarator x.declarator)) (frame.entry.levels + 1) tokens.now x.rest.now) }
 {
-    let found = array_suffixes(alloc, bytes, names, tokens, levels)?;
+    let found = array_suffixes(frame, names, tokens)?;
     let height = unnamed_height(&found.suffixes, found.height);
     Ok(FoundDeclarator {
         declarator: Declarator {
@@ -298,31 +268,27 @@ fn unnamed<'a>(
 
 /// A declarator that begins so.
 #[cycle(reading)]
-#[tactic(auto, unfolding(crate::specs::Reading::declared_from))]
+#[tactic(auto, unfolding(crate::specs::inner::Reading::declared_from))]
 fn declarator_behind<'a>(
-    alloc: Global,
-    bytes: &[u8],
+    frame: Frame<'_>,
     names: &TypeNames,
     named: bool,
     declarator_start: DeclaratorStart,
     tokens: &'a [Token],
-    levels: u32,
 ) -> Result<FoundDeclarator<'a>, Refused>
-    requires { levels < 400 }
-    ensures exact { Gives (λ x. (view_declarator x.declarator, x.rest.now)) result (declared_from bytes.now (reader bytes.now names.now levels) (declared_at bytes.now names.now levels) named declarator_start tokens.now) }
-    ensures height { IfOk result (λ x. x.height ≡ declared_depth (view_declarator x.declarator)) }
-    ensures low { IfOk result (λ x. x.height ≤ levels + 1) }
-    ensures shorter { IfOk result (λ x. length x.rest.now ≤ length tokens.now) }
+    requires { frame.levels < 400 }
+    ensures exact { Gives declarator_found result (declared_from frame.entry.bytes.now (trees_in frame.entry names.now) (declarators_in frame.entry names.now) named declarator_start tokens.now) }
+    ensures found { IfOk result (λ x. IsFound x.height (declared_depth (view_declarator x.declarator)) (frame.entry.levels + 1) tokens.now x.rest.now) }
 {
     match declarator_start {
-        DeclaratorStart::Nothing => Ok(nothing(alloc, tokens)),
-        DeclaratorStart::Suffixes => unnamed(alloc, bytes, names, tokens, levels),
+        DeclaratorStart::Nothing => Ok(nothing(frame.alloc, tokens)),
+        DeclaratorStart::Suffixes => unnamed(frame, names, tokens),
         DeclaratorStart::Name => {
             let Some((token, rest)) = split(tokens) else {
                 return Err(Refused::Syntax);
             };
-            let name = name_of(alloc, bytes, token)?;
-            let found = array_suffixes(alloc, bytes, names, rest, levels)?;
+            let name = name_of(frame.alloc, frame.bytes, token)?;
+            let found = array_suffixes(frame, names, rest)?;
             Ok(FoundDeclarator {
                 declarator: Declarator {
                     core: DeclaratorCore::Named {
@@ -339,60 +305,48 @@ fn declarator_behind<'a>(
             let Some((token, rest)) = split(tokens) else {
                 return Err(Refused::Syntax);
             };
-            inside(alloc, bytes, names, named, token.line, rest, levels)
+            inside(frame, names, named, token.line, rest)
         }
     }
 }
 
 /// The declarator with at most so many levels that stands at the front of the tokens: with a name, or an abstract one.
 #[cycle(reading)]
-#[tactic(auto, unfolding(crate::specs::Reading::declared_at))]
+#[tactic(auto, unfolding(crate::specs::inner::Reading::declared_at))]
 pub fn declarator<'a>(
-    alloc: Global,
-    bytes: &[u8],
+    frame: Frame<'_>,
     names: &TypeNames,
     tokens: &'a [Token],
     named: bool,
-    levels: u32,
 ) -> Result<FoundDeclarator<'a>, Refused>
-    requires { levels ≤ 400 }
-    ensures exact { Gives (λ x. (view_declarator x.declarator, x.rest.now)) result (declared_at bytes.now names.now levels named tokens.now) }
-    ensures height { IfOk result (λ x. x.height ≡ declared_depth (view_declarator x.declarator)) }
-    ensures low { IfOk result (λ x. x.height ≤ levels) }
-    ensures shorter { IfOk result (λ x. length x.rest.now ≤ length tokens.now) }
+    requires { frame.levels ≤ 400 }
+    ensures exact { Gives declarator_found result (declarators_in frame.entry names.now named tokens.now) }
+    ensures found { IfOk result (λ x. IsFound x.height (declared_depth (view_declarator x.declarator)) frame.entry.levels tokens.now x.rest.now) }
 {
     let Some(declarator_start) = declarator_start_at(named, tokens) else {
         return Err(Refused::Syntax);
     };
-    if levels == 0 {
-        return bare(alloc, declarator_start, tokens);
+    if frame.levels == 0 {
+        return bare(frame.alloc, declarator_start, tokens);
     }
-    declarator_behind(
-        alloc,
-        bytes,
-        names,
-        named,
-        declarator_start,
-        tokens,
-        levels - 1,
-    )
+    let below = Frame {
+        levels: frame.levels - 1,
+        ..frame
+    };
+    declarator_behind(below, names, named, declarator_start, tokens)
 }
 
 /// What the tokens begin.
 #[cycle(reading)]
-#[tactic(auto, unfolding(crate::specs::Reading::prefix_at))]
+#[tactic(auto, unfolding(crate::specs::inner::Reading::prefix_at))]
 fn operand<'a>(
-    alloc: Global,
-    bytes: &[u8],
+    frame: Frame<'_>,
     names: &TypeNames,
     tokens: &'a [Token],
-    levels: u32,
 ) -> Result<Found<'a>, Refused>
-    requires { levels < 400 }
-    ensures exact { Gives (λ x. (view x.tree.value, x.rest.now)) result (prefix_at bytes.now names.now (reader bytes.now names.now levels) (declared_at bytes.now names.now levels) tokens.now) }
-    ensures height { IfOk result (λ x. x.height ≡ depth (view x.tree.value)) }
-    ensures low { IfOk result (λ x. x.height ≤ levels + 1) }
-    ensures shorter { IfOk result (λ x. length x.rest.now ≤ length tokens.now) }
+    requires { frame.levels < 400 }
+    ensures exact { Gives tree_found result (prefix_at frame.entry.bytes.now names.now (trees_in frame.entry names.now) (declarators_in frame.entry names.now) tokens.now) }
+    ensures found { IfOk result (λ x. IsFound x.height (depth (view x.tree.value)) (frame.entry.levels + 1) tokens.now x.rest.now) }
 {
     let Some((token, rest)) = split(tokens) else {
         return Err(Refused::Syntax);
@@ -400,25 +354,21 @@ fn operand<'a>(
     let Some(lead) = lead_of(token.kind) else {
         return Err(Refused::Syntax);
     };
-    prefix_behind(alloc, bytes, names, lead, token, rest, levels)
+    prefix_behind(frame, names, lead, token, rest)
 }
 
 /// The arguments of a call, behind its parenthesis, with the one that closes them.
 #[cycle(reading)]
 fn arguments<'a>(
-    alloc: Global,
-    bytes: &[u8],
+    frame: Frame<'_>,
     names: &TypeNames,
     tokens: &'a [Token],
-    levels: u32,
 ) -> Result<Items<'a>, Refused>
-    requires { levels < 400 }
-    ensures exact { Gives (λ x. (views_of x.items.items, x.rest.now)) result (arguments_at (reader bytes.now names.now levels) tokens.now) }
-    ensures height { IfOk result (λ x. x.height ≡ depth_of (views_of x.items.items)) }
-    ensures low { IfOk result (λ x. x.height ≤ levels) }
-    ensures shorter { IfOk result (λ x. length x.rest.now ≤ length tokens.now) }
+    requires { frame.levels < 400 }
+    ensures exact { Gives arguments_found result (arguments_at (trees_in frame.entry names.now) tokens.now) }
+    ensures found { IfOk result (λ x. IsFound x.height (depth_of (views_of x.items.items)) frame.entry.levels tokens.now x.rest.now) }
 {
-    let mut items = Vec::new(alloc);
+    let mut items = Vec::new(frame.alloc);
     if let Some(rest) = behind_mark(tokens, Mark::RightParenthesis) {
         return Ok(Items {
             items,
@@ -426,7 +376,7 @@ fn arguments<'a>(
             rest,
         });
     }
-    let first = read(alloc, bytes, names, tokens, 2, levels)?;
+    let first = read(frame, names, tokens, 2)?;
     put_argument(&mut items, first.tree)?;
     let mut height = first.height;
     let mut rest = first.rest;
@@ -441,7 +391,7 @@ fn arguments<'a>(
         let Some(behind) = behind_mark(rest, Mark::Comma) else {
             return Err(Refused::Syntax);
         };
-        let next = read(alloc, bytes, names, behind, 2, levels)?;
+        let next = read(frame, names, behind, 2)?;
         put_argument(&mut items, next.tree)?;
         height = larger(height, next.height);
         rest = next.rest;
@@ -450,84 +400,69 @@ fn arguments<'a>(
 
 /// A choice by a left operand, behind its `?`.
 #[cycle(reading)]
-#[tactic(auto, unfolding(crate::specs::Reading::suffixed))]
+#[tactic(auto, unfolding(crate::specs::inner::Reading::suffixed))]
 fn choice_behind<'a>(
-    alloc: Global,
-    bytes: &[u8],
+    frame: Frame<'_>,
     names: &TypeNames,
     line: u32,
     left: Box<Expr>,
     height: u32,
     tokens: &'a [Token],
-    levels: u32,
 ) -> Result<Found<'a>, Refused>
-    requires levels { levels < 400 }
+    requires levels { frame.levels < 400 }
     requires height { height ≡ depth (view left.value) }
-    requires low { height ≤ levels }
-    ensures exact { Gives (λ x. (view x.tree.value, x.rest.now)) result (suffixed bytes.now (reader bytes.now names.now levels) Choice line (view left.value) tokens.now) }
-    ensures height { IfOk result (λ x. x.height ≡ depth (view x.tree.value)) }
+    requires low { height ≤ frame.levels }
+    ensures exact { Gives tree_found result (suffixed frame.entry.bytes.now (trees_in frame.entry names.now) Choice line (view left.value) tokens.now) }
+    ensures found { IfOk result (λ x. IsFound x.height (depth (view x.tree.value)) (frame.entry.levels + 1) tokens.now x.rest.now) }
     ensures higher { IfOk result (λ x. height < x.height) }
-    ensures low { IfOk result (λ x. x.height ≤ levels + 1) }
-    ensures shorter { IfOk result (λ x. length x.rest.now ≤ length tokens.now) }
 {
-    let middle = read(alloc, bytes, names, tokens, 1, levels)?;
+    let middle = read(frame, names, tokens, 1)?;
     let Some(rest) = behind_mark(middle.rest, Mark::Colon) else {
         return Err(Refused::Syntax);
     };
-    let last = read(alloc, bytes, names, rest, 3, levels)?;
-    choice_node(alloc, line, left, height, middle, last)
+    let last = read(frame, names, rest, 3)?;
+    choice_node(frame.alloc, line, left, height, middle, last)
 }
 
 /// A left operand with what a suffix makes of it.
 #[cycle(reading)]
-#[tactic(auto, unfolding(crate::specs::Reading::suffixed))]
+#[tactic(auto, unfolding(crate::specs::inner::Reading::suffixed))]
 fn suffix_behind<'a>(
-    alloc: Global,
-    bytes: &[u8],
+    frame: Frame<'_>,
     names: &TypeNames,
     suffix: Suffix,
     line: u32,
     left: Box<Expr>,
     height: u32,
     tokens: &'a [Token],
-    levels: u32,
 ) -> Result<Found<'a>, Refused>
-    requires levels { levels < 400 }
+    requires levels { frame.levels < 400 }
     requires height { height ≡ depth (view left.value) }
-    requires low { height ≤ levels }
-    ensures exact { Gives (λ x. (view x.tree.value, x.rest.now)) result (suffixed bytes.now (reader bytes.now names.now levels) suffix line (view left.value) tokens.now) }
-    ensures height { IfOk result (λ x. x.height ≡ depth (view x.tree.value)) }
+    requires low { height ≤ frame.levels }
+    ensures exact { Gives tree_found result (suffixed frame.entry.bytes.now (trees_in frame.entry names.now) suffix line (view left.value) tokens.now) }
+    ensures found { IfOk result (λ x. IsFound x.height (depth (view x.tree.value)) (frame.entry.levels + 1) tokens.now x.rest.now) }
     ensures higher { IfOk result (λ x. height < x.height) }
-    ensures low { IfOk result (λ x. x.height ≤ levels + 1) }
-    ensures shorter { IfOk result (λ x. length x.rest.now ≤ length tokens.now) }
 {
     match suffix {
         Suffix::Operator(operator) => {
-            let found = read(
-                alloc,
-                bytes,
-                names,
-                tokens,
-                strength_of(operator) + 1,
-                levels,
-            )?;
-            binary_node(alloc, line, operator, left, height, found)
+            let found = read(frame, names, tokens, strength_of(operator) + 1)?;
+            binary_node(frame.alloc, line, operator, left, height, found)
         }
         Suffix::Becomes(operator) => {
-            let found = read(alloc, bytes, names, tokens, 2, levels)?;
-            assign_node(alloc, line, operator, left, height, found)
+            let found = read(frame, names, tokens, 2)?;
+            assign_node(frame.alloc, line, operator, left, height, found)
         }
-        Suffix::Choice => choice_behind(alloc, bytes, names, line, left, height, tokens, levels),
+        Suffix::Choice => choice_behind(frame, names, line, left, height, tokens),
         Suffix::Then => {
-            let found = read(alloc, bytes, names, tokens, 2, levels)?;
-            comma_node(alloc, line, left, height, found)
+            let found = read(frame, names, tokens, 2)?;
+            comma_node(frame.alloc, line, left, height, found)
         }
-        Suffix::Step(operator) => step_node(alloc, line, operator, left, height, tokens),
-        Suffix::Member => member_node(alloc, bytes, line, left, height, tokens),
+        Suffix::Step(operator) => step_node(frame.alloc, line, operator, left, height, tokens),
+        Suffix::Member => member_node(frame.alloc, frame.bytes, line, left, height, tokens),
         Suffix::Another => Err(Refused::Syntax),
         Suffix::Arguments => {
-            let arguments = arguments(alloc, bytes, names, tokens, levels)?;
-            call_node(alloc, left, height, arguments)
+            let arguments = arguments(frame, names, tokens)?;
+            call_node(frame.alloc, left, height, arguments)
         }
     }
 }
@@ -535,25 +470,25 @@ fn suffix_behind<'a>(
 /// The tree of a level or a higher one, with at most so many levels, that stands at the front of the tokens. The level is
 /// a number: comma 1, assignment 2, `?:` 3, the binary operators 4 to 13, cast 14, unary 15.
 #[cycle(reading)]
-#[tactic(auto, unfolding(crate::specs::Reading::reader))]
+#[tactic(auto, unfolding(crate::specs::inner::Reading::reader))]
 pub fn read<'a>(
-    alloc: Global,
-    bytes: &[u8],
+    frame: Frame<'_>,
     names: &TypeNames,
     tokens: &'a [Token],
     level: u8,
-    levels: u32,
 ) -> Result<Found<'a>, Refused>
-    requires { levels ≤ 400 }
-    ensures exact { Gives (λ x. (view x.tree.value, x.rest.now)) result (reader bytes.now names.now levels level tokens.now) }
-    ensures height { IfOk result (λ x. x.height ≡ depth (view x.tree.value)) }
-    ensures low { IfOk result (λ x. x.height ≤ levels) }
-    ensures shorter { IfOk result (λ x. length x.rest.now ≤ length tokens.now) }
+    requires { frame.levels ≤ 400 }
+    ensures exact { Gives tree_found result (trees_in frame.entry names.now level tokens.now) }
+    ensures found { IfOk result (λ x. IsFound x.height (depth (view x.tree.value)) frame.entry.levels tokens.now x.rest.now) }
 {
-    if levels == 0 {
+    if frame.levels == 0 {
         return Err(Refused::Syntax);
     }
-    let mut found = operand(alloc, bytes, names, tokens, levels - 1)?;
+    let below = Frame {
+        levels: frame.levels - 1,
+        ..frame
+    };
+    let mut found = operand(below, names, tokens)?;
     if level_found(&found) < level {
         return Err(Refused::Syntax);
     }
@@ -562,20 +497,10 @@ pub fn read<'a>(
         level,
         level_found(&found),
     ) {
-        if found.height >= levels {
+        if found.height >= frame.levels {
             return Err(Refused::Syntax);
         }
-        found = suffix_behind(
-            alloc,
-            bytes,
-            names,
-            suffix,
-            line,
-            found.tree,
-            found.height,
-            rest,
-            levels - 1,
-        )?;
+        found = suffix_behind(below, names, suffix, line, found.tree, found.height, rest)?;
     }
     Ok(found)
 }

@@ -4,7 +4,8 @@ ghost use Rattle.std.specs.Prelude.{◌≡◌, ◌<◌, ◌≤◌, [], ◌∷◌
 ghost use Rattle.c_token.specs.Spelling.{text_of};
 ghost use Rattle.c_tree.specs.Tree.{view};
 ghost use Rattle.c_tree.specs.Tables.{level_of};
-ghost use Rattle.c_parse_expr.specs.Reading.{behind, is_mark, is_identifier, is_string, identifier_at, string, bracket, next_at, goes_on};
+ghost use Rattle.c_parse_expr.specs.Reading.{is_mark, goes_on};
+ghost use Rattle.c_parse_expr.specs.inner.Reading.{behind, is_identifier, is_string, identifier_at, string, bracket, next_at};
 
 use crate::table::{Suffix, least_left, strength_behind, strength_of, suffix_of};
 use c_token::{Kind, Mark, Token};
@@ -36,7 +37,7 @@ pub fn is_mark(mark: Mark, kind: Kind) -> bool
 }
 
 /// The tokens behind a mark at the front.
-#[tactic(auto, unfolding(crate::specs::Reading::behind))]
+#[tactic(auto, unfolding(crate::specs::inner::Reading::behind))]
 pub fn behind_mark(tokens: &[Token], mark: Mark) -> Option<&[Token]>
     ensures value { option_map (λ x. x.now) result ≡ behind mark tokens.now }
     ensures shorter { IfSome result (λ x. length x.now < length tokens.now) }
@@ -81,7 +82,7 @@ fn is_string(kind: Kind) -> bool
 }
 
 /// The text of an identifier at the front, and the tokens behind it.
-#[tactic(auto, unfolding(crate::specs::Reading::identifier_at))]
+#[tactic(auto, unfolding(crate::specs::inner::Reading::identifier_at))]
 pub fn identifier<'a, 'b>(bytes: &'b [u8], tokens: &'a [Token]) -> Option<(&'b [u8], &'a [Token])>
     ensures value { option_map (λ x. (x.0.now, x.1.now)) result ≡ identifier_at bytes.now tokens.now }
     ensures shorter { IfSome result (λ x. length x.1.now < length tokens.now) }
@@ -99,7 +100,7 @@ pub fn identifier<'a, 'b>(bytes: &'b [u8], tokens: &'a [Token]) -> Option<(&'b [
 }
 
 /// The text of a string literal at the front, and the tokens behind it.
-#[tactic(auto, unfolding(crate::specs::Reading::string))]
+#[tactic(auto, unfolding(crate::specs::inner::Reading::string))]
 pub fn string<'a, 'b>(bytes: &'b [u8], tokens: &'a [Token]) -> Option<(&'b [u8], &'a [Token])>
     ensures value { option_map (λ x. (x.0.now, x.1.now)) result ≡ string bytes.now tokens.now }
     ensures shorter { IfSome result (λ x. length x.1.now < length tokens.now) }
@@ -117,7 +118,7 @@ pub fn string<'a, 'b>(bytes: &'b [u8], tokens: &'a [Token]) -> Option<(&'b [u8],
 }
 
 /// The line of a bracket at the front, and the tokens behind it.
-#[tactic(auto, unfolding(crate::specs::Reading::bracket))]
+#[tactic(auto, unfolding(crate::specs::inner::Reading::bracket))]
 pub fn bracket(tokens: &[Token]) -> Option<(u32, &[Token])>
     ensures value { option_map (λ x. (x.0, x.1.now)) result ≡ bracket tokens.now }
     ensures shorter { IfSome result (λ x. length x.1.now < length tokens.now) }
@@ -141,7 +142,7 @@ fn goes_on(level: u8, left: u8, suffix: Suffix) -> bool
 }
 
 /// The suffix at the front that goes on with a left operand of a level, its line, and the tokens behind it.
-#[tactic(auto, unfolding(crate::specs::Reading::next_at))]
+#[tactic(auto, unfolding(crate::specs::inner::Reading::next_at))]
 pub fn next_suffix(tokens: &[Token], level: u8, left: u8) -> Option<(Suffix, u32, &[Token])>
     ensures value { option_map (λ x. (x.0, x.1, x.2.now)) result ≡ next_at level left tokens.now }
     ensures shorter { IfSome result (λ x. length x.2.now < length tokens.now) }

@@ -2,7 +2,8 @@
 
 ghost use Rattle.std.specs.Prelude.{◌≡◌, ◌<◌, ◌≤◌, Some, length, map, option_map, IfOk, IfSome};
 ghost use Rattle.c_tree.specs.Tree.{view_name, view_type_part};
-ghost use Rattle.c_parse_expr.specs.Reading.{Gives, behind, start_by, start_of, begins_type, type_behind, started, type_part_at, type_parts_at, strings_behind, declarator_start_of, declarator_start_at};
+ghost use Rattle.c_parse_expr.specs.Reading.{Gives};
+ghost use Rattle.c_parse_expr.specs.inner.Reading.{behind, start_by, start_of, begins_type, type_behind, started, type_part_at, type_parts_at, strings_behind, declarator_start_of, declarator_start_at};
 ghost use Rattle.c_token.specs.declared.token.Mark.TheVariants.{LeftParenthesis};
 ghost use Rattle.c_token.specs.Spelling.{text_of};
 
@@ -118,7 +119,7 @@ fn specifier_behind<'a>(
 }
 
 /// The specifier of a type at the front, if one begins there, whether a type is specified then, and the tokens behind it.
-#[tactic(auto, unfolding(crate::specs::Reading::type_part_at))]
+#[tactic(auto, unfolding(crate::specs::inner::Reading::type_part_at))]
 pub fn type_specifier<'a>(
     alloc: Global,
     bytes: &[u8],

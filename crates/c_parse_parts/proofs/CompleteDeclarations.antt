@@ -13,8 +13,9 @@ use Rattle.c_tree.specs.Names.{Scope}
 use Rattle.c_tree.specs.Spelling.{Single, Then, IsMark}
 use Rattle.c_tree.specs.Declarations.{Full, full_depth, full_has_name, Part, type_part, storage, function, structure, enumeration, Parts, no_part, part, Initial, initial, braces, Initials, no_initial, initials, Declarators, none_declared, declarator, initial_depth, initials_depth, initializer_depth, declarators_depth, parts_depth, name_of, with_parts, have_typedef, specify}
 use Rattle.c_tree.specs.Files.{SpellsFull, IsWellFull, SpellsPart, SpellsInitial, SpellsOtherInitials, SpellsInitializer, SpellsOthers, SpellsDeclarators, SpellsParts, SpellsDeclaration, IsWellInitial, AreWellInitials, IsWellInitializer, AreWellDeclarators, FrontIsNoTypeOfDeclarators, IsWellDeclaration}
-use Rattle.c_parse_expr.specs.Many.{◌>>=◌}
-use Rattle.c_parse_expr.specs.Reading.{is_mark, is_identifier, reader}
+use Rattle.c_parse_expr.specs.inner.Many.{◌>>=◌}
+use Rattle.c_parse_expr.specs.Reading.{is_mark}
+use Rattle.c_parse_expr.specs.inner.Reading.{is_identifier, reader}
 use Rattle.c_parse_parts.specs.declared.table.Start.{Start}
 use Rattle.c_parse_parts.specs.inner.Reading.{Read, token_at, run_at, comma_at, shut_at, start_at, parts_at, are_some, body_at, full_at, is_there, stands, is_label, declares_at, initials_list, initials_at, initial_by, initial_at, initializer_by, initializer_at, declarator_at, declarators_list, declarators_at, declaration_at}
 use Rattle.c_parse_parts.proofs.Lists.{bind_gives, bind_none, run_stops, run_goes}

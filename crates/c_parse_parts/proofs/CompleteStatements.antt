@@ -16,8 +16,9 @@ use Rattle.c_tree.specs.Declarations.{Parts, Declarators, value_depth, parts_dep
 use Rattle.c_tree.specs.Statements.{Statement, block, if_then, if_else, evaluate, return_nothing, return_value, empty, while_loop, do_loop, for_loop, for_declared, switch_on, case_of, default_of, labelled, goto_label, break_off, continue_on, Items, done, declares, does, statement_depth, items_depth}
 use Rattle.c_tree.specs.Files.{SpellsDeclaration, SpellsStatement, SpellsItems, SpellsMaybe, SpellsHeader, SpellsTest, IsWellMaybe, IsWellDeclaration, IsWellStatement, AreWellItems, is_open}
 use Rattle.c_parse_expr.specs.Tables.{suffix_of, lead_of_mark}
-use Rattle.c_parse_expr.specs.Many.{◌>>=◌}
-use Rattle.c_parse_expr.specs.Reading.{is_mark, is_identifier, reader}
+use Rattle.c_parse_expr.specs.inner.Many.{◌>>=◌}
+use Rattle.c_parse_expr.specs.Reading.{is_mark}
+use Rattle.c_parse_expr.specs.inner.Reading.{is_identifier, reader}
 use Rattle.c_parse_parts.specs.declared.table.Begin.{Begin}
 use Rattle.c_parse_parts.specs.declared.table.Begin.TheVariants as begins
 use Rattle.c_parse_parts.specs.declared.table.Start.{Start}

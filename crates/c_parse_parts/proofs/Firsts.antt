@@ -12,7 +12,7 @@ use Rattle.c_tree.specs.Names.{Scope, is_type}
 use Rattle.c_parse_expr.specs.declared.table.Lead.{Lead}
 use Rattle.c_parse_expr.specs.Tables.{lead_of, lead_of_mark, lead_of_keyword}
 use Rattle.c_parse_expr.specs.Reading.{is_mark}
-use Rattle.c_parse_expr.specs.Reading as expressions
+use Rattle.c_parse_expr.specs.inner.Reading as expressions
 use Rattle.c_parse_parts.specs.declared.table.Begin.TheVariants as begins
 use Rattle.c_parse_parts.specs.Tables.{start_of_keyword, begin_of_keyword}
 use Rattle.c_parse_parts.specs.inner.Reading.{is_keyword, begin_of, start_by, start_at}

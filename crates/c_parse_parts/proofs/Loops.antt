@@ -29,8 +29,9 @@ use Rattle.c_tree.specs.Declarations.{Full, full, full_unnamed, full_named, full
 use Rattle.c_tree.specs.Statements.{Statement, Items, done, block, view_statement, view_item, items_of}
 use Rattle.c_tree.proofs.DeclarationViews.{view_record, view_braces, view_unnamed, view_named, view_inside, view_takes}
 use Rattle.c_tree.proofs.StatementViews.{view_block}
-use Rattle.c_parse_expr.specs.Many.{◌>>=◌}
-use Rattle.c_parse_expr.specs.Reading.{is_mark, reader}
+use Rattle.c_parse_expr.specs.inner.Many.{◌>>=◌}
+use Rattle.c_parse_expr.specs.Reading.{is_mark}
+use Rattle.c_parse_expr.specs.inner.Reading.{reader}
 use Rattle.c_parse_parts.specs.declared.table.Start.{Start}
 use Rattle.c_token.specs.Spelling.{text_of}
 use Rattle.c_parse_parts.specs.declared.slices.DeclaratorStart.TheVariants as declarator_starts

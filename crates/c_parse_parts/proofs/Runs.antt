@@ -7,7 +7,7 @@ use Rattle.c_token.specs.declared.token.Mark.{Mark}
 use Rattle.c_token.specs.declared.token.Mark.TheVariants as marks
 use Rattle.c_tree.specs.Spelling.{Behind, Then, IsMark}
 use Rattle.c_tree.specs.Files.{Closes}
-use Rattle.c_parse_expr.specs.Many.{◌>>=◌}
+use Rattle.c_parse_expr.specs.inner.Many.{◌>>=◌}
 use Rattle.c_parse_expr.specs.Reading.{is_mark}
 use Rattle.c_parse_parts.specs.inner.Reading.{token_at, comma_at, shut_at, ended_at}
 use Rattle.c_parse_parts.proofs.Lists.{some_is, bind_some, either_of}

@@ -4,7 +4,7 @@ use Rattle.c_token.specs.declared.token.Token.{Token}
 use Rattle.c_tree.specs.Tree.{Tree}
 use Rattle.c_tree.specs.Declarations.{Full, Parts}
 use Rattle.c_tree.specs.Names.{Scope}
-use Rattle.c_parse_expr.specs.Reading.{reader}
+use Rattle.c_parse_expr.specs.inner.Reading.{reader}
 use Rattle.c_parse_expr.proofs.Sound.{reads}
 use Rattle.c_parse_expr.proofs.CompleteSteps.{first_token}
 use Rattle.c_parse_parts.specs.inner.Reading.{parts_at, are_some, body_at, full_at}

@@ -7,8 +7,9 @@ use Rattle.c_tree.specs.Names.{Scope}
 use Rattle.c_tree.specs.Spelling.{Single, Then, IsMark}
 use Rattle.c_tree.specs.Declarations.{Full, full_depth, full_has_name, Parts, Initial, initial, braces, Initials, no_initial, initials, Declarators, none_declared, declarator, initial_depth, initials_depth, initializer_depth, declarators_depth, parts_depth, name_of, with_parts, have_typedef, specify}
 use Rattle.c_tree.specs.Files.{SpellsFull, IsWellFull, SpellsInitial, SpellsInitials, SpellsOtherInitials, SpellsInitializer, SpellsOthers, SpellsDeclarators, SpellsDeclaration, IsWellInitial, AreWellInitials, IsWellInitializer, AreWellDeclarators, FrontIsNoTypeOfDeclarators, IsWellDeclaration}
-use Rattle.c_parse_expr.specs.Many.{◌>>=◌}
-use Rattle.c_parse_expr.specs.Reading.{is_mark, reader}
+use Rattle.c_parse_expr.specs.inner.Many.{◌>>=◌}
+use Rattle.c_parse_expr.specs.Reading.{is_mark}
+use Rattle.c_parse_expr.specs.inner.Reading.{reader}
 use Rattle.c_parse_parts.specs.inner.Reading.{Read, State, token_at, comma_at, shut_at, ended_at, start_at, parts_at, are_some, body_at, full_at, initials_list, initials_at, initial_by, initial_at, initializer_by, initializer_at, declarator_at, declarators_list, declarators_at, declaration_at}
 use Rattle.c_parse_parts.proofs.Lists.{some_is, bind_some, run_takes}
 use Rattle.c_parse_parts.proofs.Words.{mark_takes}

@@ -20,7 +20,7 @@ use Rattle.c_tree.specs.declared.declaration.RecordKind.{RecordKind}
 use Rattle.c_tree.specs.declared.declaration.RecordKind.TheVariants as record_kinds
 use Rattle.c_tree.specs.Tables.{qualifier_keyword, word_keyword, storage_keyword, function_keyword, record_keyword}
 use Rattle.c_tree.specs.Names.{is_type}
-use Rattle.c_parse_expr.specs.Many.{◌>>=◌}
+use Rattle.c_parse_expr.specs.inner.Many.{◌>>=◌}
 use Rattle.c_parse_expr.specs.Reading.{is_mark}
 use Rattle.c_parse_parts.specs.declared.table.Start.{Start}
 use Rattle.c_parse_parts.specs.declared.table.Start.TheVariants as starts

@@ -17,8 +17,9 @@ use Rattle.c_tree.specs.Files.{Closes, FrontIsNoType, SpellsFull, full_is_empty}
 use Rattle.c_parse_expr.specs.declared.table.Suffix.{Suffix}
 use Rattle.c_parse_expr.specs.declared.table.Suffix.TheVariants as suffixes
 use Rattle.c_parse_expr.specs.Tables.{suffix_of}
-use Rattle.c_parse_expr.specs.Many.{◌>>=◌}
-use Rattle.c_parse_expr.specs.Reading.{is_mark, is_identifier, goes_on, reader}
+use Rattle.c_parse_expr.specs.inner.Many.{◌>>=◌}
+use Rattle.c_parse_expr.specs.Reading.{is_mark, goes_on}
+use Rattle.c_parse_expr.specs.inner.Reading.{is_identifier, reader}
 use Rattle.c_parse_expr.specs.Standing.{goes_on_inside, Inside, Ends}
 use Rattle.c_parse_parts.specs.inner.Reading.{Read, token_at, or_else, comma_at, shut_at, ended_at, start_at}
 use Rattle.c_parse_parts.proofs.Words.{passes_at, token_fails, mark_gives}

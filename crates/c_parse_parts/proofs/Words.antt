@@ -10,7 +10,8 @@ use Rattle.c_token.specs.declared.token.Keyword.{Keyword}
 use Rattle.c_token.specs.declared.token.Mark.{Mark}
 use Rattle.c_token.specs.Spelling.{keyword_text, mark_text, keyword_of}
 use Rattle.c_token.proofs.Spellings.{keyword_back}
-use Rattle.c_parse_expr.specs.Reading.{is_mark, is_identifier}
+use Rattle.c_parse_expr.specs.Reading.{is_mark}
+use Rattle.c_parse_expr.specs.inner.Reading.{is_identifier}
 pub use Rattle.c_parse_expr.proofs.Marks.{mark_by}
 use Rattle.c_parse_parts.specs.inner.Reading.{Read, is_keyword, token_at}
 use Rattle.c_parse_parts.proofs.Lists.{some_is}

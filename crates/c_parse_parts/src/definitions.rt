@@ -13,7 +13,7 @@ use crate::declared::{declare_body, declared_name, is_function};
 use crate::slices::mark_at;
 use crate::specifiers::{are_some, full, specifiers};
 use crate::statements::block;
-use c_parse_expr::{Refused, TypeNames};
+use c_parse_expr::{Frame, Refused, TypeNames};
 use c_token::{Mark, Token};
 use c_tree::{Declaration, Definition, External, FullDeclarator, InitDeclarator, Specifier};
 use std::alloc::Global;
@@ -44,7 +44,12 @@ fn definition<'a>(
     }
     let mark = names.mark();
     declare_body(alloc, names, &declarator)?;
-    let (body, rest) = block(alloc, bytes, names, line, tokens, LEVELS - 1)?;
+    let frame = Frame {
+        alloc,
+        bytes,
+        levels: LEVELS - 1,
+    };
+    let (body, rest) = block(frame, names, line, tokens)?;
     names.leave(mark);
     let definition = Box::new(
         alloc,
@@ -71,8 +76,13 @@ fn others<'a>(
     ensures names { IfOk result (λ x. (before : Scope) → names.old ≡ (name_of (view_full declarator), types) ∷ before → names.new ≡ with_declarators before types (declarators_of x.0.items)) }
     ensures shorter { IfOk result (λ x. length x.1.now < length tokens.now) }
 {
-    let (initializer, rest) = initializer(alloc, bytes, names, tokens, LEVELS)?;
-    let (mut others, rest) = declarators(alloc, bytes, names, types, false, rest, LEVELS)?;
+    let frame = Frame {
+        alloc,
+        bytes,
+        levels: LEVELS,
+    };
+    let (initializer, rest) = initializer(frame, names, tokens)?;
+    let (mut others, rest) = declarators(frame, names, types, false, rest)?;
     others.insert(
         0,
         InitDeclarator {
@@ -119,7 +129,12 @@ fn declared<'a>(
     ensures names { IfOk result (λ x. (before : Scope) → names.old ≡ with_parts before (parts_of specifiers.items) → names.new ≡ with_outer before (outer_of x.0)) }
     ensures shorter { IfOk result (λ x. length x.1.now < length tokens.now) }
 {
-    let (declarator, rest) = full(alloc, bytes, names, false, tokens, LEVELS)?;
+    let frame = Frame {
+        alloc,
+        bytes,
+        levels: LEVELS,
+    };
+    let (declarator, rest) = full(frame, names, false, tokens)?;
     names.declare(alloc, declared_name(&declarator), types)?;
     if let Some((token, rest)) = mark_at(rest, Mark::LeftBrace) {
         let (definition, rest) = definition(
@@ -144,7 +159,12 @@ pub fn external<'a>(
     ensures names { IfOk result (λ x. names.new ≡ with_outer names.old (outer_of x.0)) }
     ensures shorter { IfOk result (λ x. length x.1.now < length tokens.now) }
 {
-    let found = specifiers(alloc, bytes, names, false, tokens, LEVELS)?;
+    let frame = Frame {
+        alloc,
+        bytes,
+        levels: LEVELS,
+    };
+    let found = specifiers(frame, names, false, tokens)?;
     if !are_some(&found.items) {
         return Err(Refused::Syntax);
     }

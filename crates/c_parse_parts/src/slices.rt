@@ -2,7 +2,8 @@
 
 ghost use Rattle.std.specs.Prelude.{◌≡◌, ◌<◌, ◌≤◌, IfSome, length, option_map};
 ghost use Rattle.c_token.specs.declared.token.Mark.TheVariants as marks;
-ghost use Rattle.c_parse_expr.specs.Reading.{is_mark, is_identifier};
+ghost use Rattle.c_parse_expr.specs.Reading.{is_mark};
+ghost use Rattle.c_parse_expr.specs.inner.Reading.{is_identifier};
 ghost use Rattle.c_parse_parts.specs.inner.Reading.{is_keyword, token_at, stands, begin_of, comma_at, shut_at, void_at, dots_at, last_at, tag_at, start_by, kept, start_of, start_at, opening_of, opening_at, takes, declarator_start_of, declarator_start_at, is_label, declares_at};
 
 use crate::table::{Begin, Start, begin_of_keyword, start_of_keyword};

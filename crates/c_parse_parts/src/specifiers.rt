@@ -5,7 +5,7 @@ ghost use Rattle.c_tree.specs.Tree.{view_name};
 ghost use Rattle.c_tree.specs.Names.{Scope};
 ghost use Rattle.c_tree.specs.Declarations.{view_part, parts_of, members_of, full_unnamed, full_end, view_full, fulls_of, full_suffixes_of, parameters_of, with_part, with_parts, with_members, with_named, specifies, is_typedef, have_typedef};
 ghost use Rattle.c_parse_expr.specs.Reading.{Gives};
-ghost use Rattle.c_parse_parts.specs.inner.Reading.{tagged_by, record_at, enumeration_at, part_from, parts_at, are_some, have_some, next_at, fulls_at, member_at, members_at, bound_at, parameter_at, parameters_at, given_at, taken_at, one_from, suffixes_at, inside_at, full_from, bare_full, body_at, full_at};
+ghost use Rattle.c_parse_parts.specs.inner.Reading.{tagged_by, record_at, enumeration_at, part_from, parts_at, are_some, have_some, next_at, fulls_at, member_at, members_at, bound_at, parameter_at, parameters_at, given_at, taken_at, one_from, suffixes_at, inside_at, full_from, bare_full, bodies_in, fulls_in};
 ghost use Rattle.c_parse_parts.specs.inner.Pieces.{suffix_of, parameter_of};
 
 use crate::declared::{declare_named, either, is_typedef};
@@ -15,7 +15,7 @@ use crate::slices::{
     start_at, tag_at, void_at,
 };
 use crate::table::{Start, record_tag};
-use c_parse_expr::{Refused, TypeNames, name_of, read, split};
+use c_parse_expr::{Frame, Refused, TypeNames, name_of, read, split};
 use c_token::{Mark, Token};
 use c_tree::{
     DeclaratorSuffix, FullDeclarator, MemberDeclaration, Name, Parameter, RecordKind, Specifier,
@@ -96,24 +96,22 @@ fn tagged<'a>(
 /// An enumeration behind its keyword (C11 6.7.2.2).
 #[tactic(auto, unfolding(crate::specs::inner::Reading::enumeration_at))]
 fn enumeration<'a>(
-    alloc: Global,
-    bytes: &[u8],
+    frame: Frame<'_>,
     names: &mut TypeNames,
     line: u32,
     tokens: &'a [Token],
-    levels: u32,
 ) -> Result<(Specifier, &'a [Token]), Refused>
-    requires { levels ≤ 400 }
-    ensures exact { Gives (λ x. (view_part x.0, x.1.now)) result (enumeration_at bytes.now names.old levels line tokens.now) }
+    requires { frame.levels ≤ 400 }
+    ensures exact { Gives (λ x. (view_part x.0, x.1.now)) result (enumeration_at frame.entry.bytes.now names.old frame.entry.levels line tokens.now) }
     ensures names { IfOk result (λ x. names.new ≡ with_part names.old (view_part x.0)) }
     ensures shorter { IfOk result (λ x. length x.1.now ≤ length tokens.now) }
 {
-    let (tag, rest) = tag_at(bytes, tokens);
+    let (tag, rest) = tag_at(frame.bytes, tokens);
     let Some((_, behind)) = mark_at(rest, Mark::LeftBrace) else {
-        return tagged(alloc, TagKind::Enum, line, tag, rest);
+        return tagged(frame.alloc, TagKind::Enum, line, tag, rest);
     };
-    let (enumerators, rest) = enumerators(alloc, bytes, names, behind, levels)?;
-    let tag = tag_from(alloc, tag)?;
+    let (enumerators, rest) = enumerators(frame, names, behind)?;
+    let tag = tag_from(frame.alloc, tag)?;
     Ok((
         Specifier::Enumeration {
             line,
@@ -128,25 +126,23 @@ fn enumeration<'a>(
 #[cycle(specifiers)]
 #[tactic(auto, unfolding(crate::specs::inner::Reading::record_at))]
 fn record<'a>(
-    alloc: Global,
-    bytes: &[u8],
+    frame: Frame<'_>,
     names: &mut TypeNames,
     line: u32,
     kind: RecordKind,
     tokens: &'a [Token],
-    levels: u32,
 ) -> Result<(Specifier, &'a [Token]), Refused>
-    requires { levels ≤ 400 }
-    ensures exact { Gives (λ x. (view_part x.0, x.1.now)) result (record_at bytes.now (body_at bytes.now levels) names.old line kind tokens.now) }
+    requires { frame.levels ≤ 400 }
+    ensures exact { Gives (λ x. (view_part x.0, x.1.now)) result (record_at frame.entry.bytes.now (bodies_in frame.entry) names.old line kind tokens.now) }
     ensures names { IfOk result (λ x. names.new ≡ with_part names.old (view_part x.0)) }
     ensures shorter { IfOk result (λ x. length x.1.now ≤ length tokens.now) }
 {
-    let (tag, rest) = tag_at(bytes, tokens);
+    let (tag, rest) = tag_at(frame.bytes, tokens);
     let Some((_, behind)) = mark_at(rest, Mark::LeftBrace) else {
-        return tagged(alloc, record_tag(kind), line, tag, rest);
+        return tagged(frame.alloc, record_tag(kind), line, tag, rest);
     };
-    let (members, rest) = body(alloc, bytes, names, behind, levels)?;
-    let tag = tag_from(alloc, tag)?;
+    let (members, rest) = body(frame, names, behind)?;
+    let tag = tag_from(frame.alloc, tag)?;
     Ok((
         Specifier::Record {
             line,
@@ -162,16 +158,14 @@ fn record<'a>(
 #[cycle(specifiers)]
 #[tactic(auto, unfolding(crate::specs::inner::Reading::part_from))]
 fn specifier<'a>(
-    alloc: Global,
-    bytes: &[u8],
+    frame: Frame<'_>,
     names: &mut TypeNames,
     start: Start,
     token: Token,
     tokens: &'a [Token],
-    levels: u32,
 ) -> Result<(Specifier, &'a [Token]), Refused>
-    requires { levels ≤ 400 }
-    ensures exact { Gives (λ x. (view_part x.0, x.1.now)) result (part_from bytes.now levels (body_at bytes.now levels) names.old start token tokens.now) }
+    requires { frame.levels ≤ 400 }
+    ensures exact { Gives (λ x. (view_part x.0, x.1.now)) result (part_from frame.entry.bytes.now frame.entry.levels (bodies_in frame.entry) names.old start token tokens.now) }
     ensures names { IfOk result (λ x. names.new ≡ with_part names.old (view_part x.0)) }
     ensures shorter { IfOk result (λ x. length x.1.now ≤ length tokens.now) }
 {
@@ -184,10 +178,10 @@ fn specifier<'a>(
         Start::Word(word) => Ok((Specifier::Type(TypeSpecifier::Word { line, word }), tokens)),
         Start::Storage(class) => Ok((Specifier::Storage { line, class }, tokens)),
         Start::Function(specifier) => Ok((Specifier::Function { line, specifier }, tokens)),
-        Start::Record(kind) => record(alloc, bytes, names, line, kind, tokens, levels),
-        Start::Enumeration => enumeration(alloc, bytes, names, line, tokens, levels),
+        Start::Record(kind) => record(frame, names, line, kind, tokens),
+        Start::Enumeration => enumeration(frame, names, line, tokens),
         Start::Name => {
-            let name = name_of(alloc, bytes, token)?;
+            let name = name_of(frame.alloc, frame.bytes, token)?;
             Ok((Specifier::Type(TypeSpecifier::Named { line, name }), tokens))
         }
     }
@@ -197,28 +191,26 @@ fn specifier<'a>(
 /// declared.
 #[cycle(specifiers)]
 pub fn specifiers<'a>(
-    alloc: Global,
-    bytes: &[u8],
+    frame: Frame<'_>,
     names: &mut TypeNames,
     inner: bool,
     tokens: &'a [Token],
-    levels: u32,
 ) -> Result<Specified<'a>, Refused>
-    requires { levels ≤ 400 }
-    ensures exact { Gives (λ x. (parts_of x.items.items, x.rest.now)) result (parts_at inner bytes.now levels (body_at bytes.now levels) names.old tokens.now) }
+    requires { frame.levels ≤ 400 }
+    ensures exact { Gives (λ x. (parts_of x.items.items, x.rest.now)) result (parts_at inner frame.entry.bytes.now frame.entry.levels (bodies_in frame.entry) names.old tokens.now) }
     ensures names { IfOk result (λ x. names.new ≡ with_parts names.old (parts_of x.items.items)) }
     ensures types { IfOk result (λ x. x.types ≡ have_typedef (parts_of x.items.items)) }
     ensures shorter { IfOk result (λ x. length x.rest.now ≤ length tokens.now) }
 {
-    let mut items = Vec::new(alloc);
+    let mut items = Vec::new(frame.alloc);
     let mut before = false;
     let mut types = false;
     let mut rest = tokens;
     'specifiers: loop {
-        let Some((start, token, behind)) = start_at(inner, bytes, names, before, rest) else {
+        let Some((start, token, behind)) = start_at(inner, frame.bytes, names, before, rest) else {
             return Ok(Specified { items, types, rest });
         };
-        let (next, behind) = specifier(alloc, bytes, names, start, token, behind, levels)?;
+        let (next, behind) = specifier(frame, names, start, token, behind)?;
         before = either(before, specifies(&next));
         types = either(types, is_typedef(&next));
         items.push(next)?;
@@ -229,21 +221,19 @@ pub fn specifiers<'a>(
 /// A bound behind its bracket, which stands on a line.
 #[tactic(auto, unfolding(crate::specs::inner::Reading::bound_at))]
 fn bound<'a>(
-    alloc: Global,
-    bytes: &[u8],
+    frame: Frame<'_>,
     names: &TypeNames,
     line: u32,
     tokens: &'a [Token],
-    levels: u32,
 ) -> Result<(DeclaratorSuffix, &'a [Token]), Refused>
-    requires { levels ≤ 400 }
-    ensures exact { Gives (λ x. (suffix_of x.0, x.1.now)) result (bound_at bytes.now names.now levels line tokens.now) }
+    requires { frame.levels ≤ 400 }
+    ensures exact { Gives (λ x. (suffix_of x.0, x.1.now)) result (bound_at frame.entry.bytes.now names.now frame.entry.levels line tokens.now) }
     ensures shorter { IfOk result (λ x. length x.1.now ≤ length tokens.now) }
 {
     if let Some((_, rest)) = mark_at(tokens, Mark::RightBracket) {
         return Ok((DeclaratorSuffix::Open { line }, rest));
     }
-    let found = read(alloc, bytes, names, tokens, 3, levels)?;
+    let found = read(frame, names, tokens, 3)?;
     let Some((_, rest)) = mark_at(found.rest, Mark::RightBracket) else {
         return Err(Refused::Syntax);
     };
@@ -261,23 +251,21 @@ fn bound<'a>(
 #[cycle(specifiers)]
 #[tactic(auto, unfolding(crate::specs::inner::Reading::parameter_at))]
 fn parameter<'a>(
-    alloc: Global,
-    bytes: &[u8],
+    frame: Frame<'_>,
     names: &mut TypeNames,
     tokens: &'a [Token],
-    levels: u32,
 ) -> Result<(Parameter, &'a [Token]), Refused>
-    requires { levels < 400 }
-    ensures exact { Gives (λ x. (parameter_of x.0, x.1.now)) result (parameter_at bytes.now levels (body_at bytes.now levels) (full_at bytes.now levels) names.old tokens.now) }
+    requires { frame.levels < 400 }
+    ensures exact { Gives (λ x. (parameter_of x.0, x.1.now)) result (parameter_at frame.entry.bytes.now frame.entry.levels (bodies_in frame.entry) (fulls_in frame.entry) names.old tokens.now) }
     ensures names { IfOk result (λ x. names.new ≡ with_named (with_parts names.old (parts_of x.0.specifiers.items)) (have_typedef (parts_of x.0.specifiers.items)) (view_full x.0.declarator)) }
     ensures shorter { IfOk result (λ x. length x.1.now < length tokens.now) }
 {
-    let found = specifiers(alloc, bytes, names, false, tokens, levels)?;
+    let found = specifiers(frame, names, false, tokens)?;
     if !are_some(&found.items) {
         return Err(Refused::Syntax);
     }
-    let (declarator, rest) = full(alloc, bytes, names, true, found.rest, levels)?;
-    declare_named(alloc, names, found.types, &declarator)?;
+    let (declarator, rest) = full(frame, names, true, found.rest)?;
+    declare_named(frame.alloc, names, found.types, &declarator)?;
     Ok((
         Parameter {
             specifiers: found.items,
@@ -290,22 +278,20 @@ fn parameter<'a>(
 /// A parameter at the front, or behind a comma where it isn't the first.
 #[cycle(specifiers)]
 fn next_parameter<'a>(
-    alloc: Global,
-    bytes: &[u8],
+    frame: Frame<'_>,
     names: &mut TypeNames,
     first: bool,
     tokens: &'a [Token],
-    levels: u32,
 ) -> Result<(Parameter, &'a [Token]), Refused>
-    requires { levels < 400 }
-    ensures exact { Gives (λ x. (parameter_of x.0, x.1.now)) result (next_at first (parameter_at bytes.now levels (body_at bytes.now levels) (full_at bytes.now levels) names.old) tokens.now) }
+    requires { frame.levels < 400 }
+    ensures exact { Gives (λ x. (parameter_of x.0, x.1.now)) result (next_at first (parameter_at frame.entry.bytes.now frame.entry.levels (bodies_in frame.entry) (fulls_in frame.entry) names.old) tokens.now) }
     ensures names { IfOk result (λ x. names.new ≡ with_named (with_parts names.old (parts_of x.0.specifiers.items)) (have_typedef (parts_of x.0.specifiers.items)) (view_full x.0.declarator)) }
     ensures shorter { IfOk result (λ x. length x.1.now < length tokens.now) }
 {
     let Some(rest) = comma_at(tokens, first) else {
         return Err(Refused::Syntax);
     };
-    parameter(alloc, bytes, names, rest, levels)
+    parameter(frame, names, rest)
 }
 
 /// Parameters, one at least, whether `...` stands behind them, and the tokens behind the parenthesis that closes them.
@@ -319,18 +305,16 @@ struct FoundParameters<'a> {
 /// Parameters behind their parenthesis. Their names are declared.
 #[cycle(specifiers)]
 fn parameters<'a>(
-    alloc: Global,
-    bytes: &[u8],
+    frame: Frame<'_>,
     names: &mut TypeNames,
     tokens: &'a [Token],
-    levels: u32,
 ) -> Result<FoundParameters<'a>, Refused>
-    requires { levels < 400 }
-    ensures exact { Gives (λ x. ((parameters_of x.items.items, x.variadic), x.rest.now)) result (parameters_at bytes.now levels (body_at bytes.now levels) (full_at bytes.now levels) names.old tokens.now) }
+    requires { frame.levels < 400 }
+    ensures exact { Gives (λ x. ((parameters_of x.items.items, x.variadic), x.rest.now)) result (parameters_at frame.entry.bytes.now frame.entry.levels (bodies_in frame.entry) (fulls_in frame.entry) names.old tokens.now) }
     ensures names { IfOk result (λ x. (front : Scope) × (names.new ≡ front ++ names.old)) }
     ensures shorter { IfOk result (λ x. length x.rest.now ≤ length tokens.now) }
 {
-    let mut items = Vec::new(alloc);
+    let mut items = Vec::new(frame.alloc);
     let mut first = true;
     let mut rest = tokens;
     'parameters: loop {
@@ -341,7 +325,7 @@ fn parameters<'a>(
                 rest: behind,
             });
         }
-        let (next, behind) = next_parameter(alloc, bytes, names, first, rest, levels)?;
+        let (next, behind) = next_parameter(frame, names, first, rest)?;
         items.push(next)?;
         first = false;
         rest = behind;
@@ -352,15 +336,13 @@ fn parameters<'a>(
 #[cycle(specifiers)]
 #[tactic(auto, unfolding(crate::specs::inner::Reading::given_at))]
 fn given<'a>(
-    alloc: Global,
-    bytes: &[u8],
+    frame: Frame<'_>,
     names: &mut TypeNames,
     line: u32,
     tokens: &'a [Token],
-    levels: u32,
 ) -> Result<(DeclaratorSuffix, &'a [Token]), Refused>
-    requires { levels < 400 }
-    ensures exact { Gives (λ x. (suffix_of x.0, x.1.now)) result (given_at bytes.now levels (body_at bytes.now levels) (full_at bytes.now levels) names.old line tokens.now) }
+    requires { frame.levels < 400 }
+    ensures exact { Gives (λ x. (suffix_of x.0, x.1.now)) result (given_at frame.entry.bytes.now frame.entry.levels (bodies_in frame.entry) (fulls_in frame.entry) names.old line tokens.now) }
     ensures names { IfOk result (λ _. names.new ≡ names.old) }
     ensures shorter { IfOk result (λ x. length x.1.now ≤ length tokens.now) }
 {
@@ -368,7 +350,7 @@ fn given<'a>(
         return Ok((DeclaratorSuffix::Void { line }, rest));
     }
     let mark = names.mark();
-    let found = parameters(alloc, bytes, names, tokens, levels)?;
+    let found = parameters(frame, names, tokens)?;
     names.leave(mark);
     Ok((
         DeclaratorSuffix::Parameters {
@@ -384,21 +366,19 @@ fn given<'a>(
 #[cycle(specifiers)]
 #[tactic(auto, unfolding(crate::specs::inner::Reading::taken_at))]
 fn taken<'a>(
-    alloc: Global,
-    bytes: &[u8],
+    frame: Frame<'_>,
     names: &mut TypeNames,
     line: u32,
     tokens: &'a [Token],
-    levels: u32,
 ) -> Result<(DeclaratorSuffix, &'a [Token]), Refused>
-    requires { levels < 400 }
-    ensures exact { Gives (λ x. (suffix_of x.0, x.1.now)) result (taken_at bytes.now levels (body_at bytes.now levels) (full_at bytes.now levels) names.old line tokens.now) }
+    requires { frame.levels < 400 }
+    ensures exact { Gives (λ x. (suffix_of x.0, x.1.now)) result (taken_at frame.entry.bytes.now frame.entry.levels (bodies_in frame.entry) (fulls_in frame.entry) names.old line tokens.now) }
     ensures names { IfOk result (λ _. names.new ≡ names.old) }
     ensures shorter { IfOk result (λ x. length x.1.now ≤ length tokens.now) }
 {
     match mark_at(tokens, Mark::RightParenthesis) {
         Some((_, rest)) => Ok((DeclaratorSuffix::Empty { line }, rest)),
-        None => given(alloc, bytes, names, line, tokens, levels),
+        None => given(frame, names, line, tokens),
     }
 }
 
@@ -406,46 +386,42 @@ fn taken<'a>(
 #[cycle(specifiers)]
 #[tactic(auto, unfolding(crate::specs::inner::Reading::one_from))]
 fn suffix<'a>(
-    alloc: Global,
-    bytes: &[u8],
+    frame: Frame<'_>,
     names: &mut TypeNames,
     opening: Opening,
     token: Token,
     tokens: &'a [Token],
-    levels: u32,
 ) -> Result<(DeclaratorSuffix, &'a [Token]), Refused>
-    requires { levels < 400 }
-    ensures exact { Gives (λ x. (suffix_of x.0, x.1.now)) result (one_from bytes.now levels (body_at bytes.now levels) (full_at bytes.now levels) names.old opening token tokens.now) }
+    requires { frame.levels < 400 }
+    ensures exact { Gives (λ x. (suffix_of x.0, x.1.now)) result (one_from frame.entry.bytes.now frame.entry.levels (bodies_in frame.entry) (fulls_in frame.entry) names.old opening token tokens.now) }
     ensures names { IfOk result (λ _. names.new ≡ names.old) }
     ensures shorter { IfOk result (λ x. length x.1.now ≤ length tokens.now) }
 {
     match opening {
-        Opening::Bracket => bound(alloc, bytes, names, token.line, tokens, levels),
-        Opening::Parenthesis => taken(alloc, bytes, names, token.line, tokens, levels),
+        Opening::Bracket => bound(frame, names, token.line, tokens),
+        Opening::Parenthesis => taken(frame, names, token.line, tokens),
     }
 }
 
 /// The suffixes at the front (C11 6.7.6), and the tokens behind them.
 #[cycle(specifiers)]
 fn suffixes<'a>(
-    alloc: Global,
-    bytes: &[u8],
+    frame: Frame<'_>,
     names: &mut TypeNames,
     tokens: &'a [Token],
-    levels: u32,
 ) -> Result<(Vec<DeclaratorSuffix>, &'a [Token]), Refused>
-    requires { levels < 400 }
-    ensures exact { Gives (λ x. (full_suffixes_of x.0.items, x.1.now)) result (suffixes_at bytes.now levels (body_at bytes.now levels) (full_at bytes.now levels) names.old tokens.now) }
+    requires { frame.levels < 400 }
+    ensures exact { Gives (λ x. (full_suffixes_of x.0.items, x.1.now)) result (suffixes_at frame.entry.bytes.now frame.entry.levels (bodies_in frame.entry) (fulls_in frame.entry) names.old tokens.now) }
     ensures names { IfOk result (λ _. names.new ≡ names.old) }
     ensures shorter { IfOk result (λ x. length x.1.now ≤ length tokens.now) }
 {
-    let mut items = Vec::new(alloc);
+    let mut items = Vec::new(frame.alloc);
     let mut rest = tokens;
     'suffixes: loop {
         let Some((opening, token, behind)) = opening_at(rest) else {
             return Ok((items, rest));
         };
-        let (next, behind) = suffix(alloc, bytes, names, opening, token, behind, levels)?;
+        let (next, behind) = suffix(frame, names, opening, token, behind)?;
         items.push(next)?;
         rest = behind;
     }
@@ -455,25 +431,23 @@ fn suffixes<'a>(
 #[cycle(specifiers)]
 #[tactic(auto, unfolding(crate::specs::inner::Reading::inside_at))]
 fn inside<'a>(
-    alloc: Global,
-    bytes: &[u8],
+    frame: Frame<'_>,
     names: &mut TypeNames,
     inner: bool,
     line: u32,
     tokens: &'a [Token],
-    levels: u32,
 ) -> Result<(FullDeclarator, &'a [Token]), Refused>
-    requires { levels < 400 }
-    ensures exact { Gives (λ x. (view_full x.0, x.1.now)) result (inside_at bytes.now levels (body_at bytes.now levels) (full_at bytes.now levels) inner names.old line tokens.now) }
+    requires { frame.levels < 400 }
+    ensures exact { Gives (λ x. (view_full x.0, x.1.now)) result (inside_at frame.entry.bytes.now frame.entry.levels (bodies_in frame.entry) (fulls_in frame.entry) inner names.old line tokens.now) }
     ensures names { IfOk result (λ _. names.new ≡ names.old) }
     ensures shorter { IfOk result (λ x. length x.1.now < length tokens.now) }
 {
-    let (declarator, rest) = full(alloc, bytes, names, inner, tokens, levels)?;
+    let (declarator, rest) = full(frame, names, inner, tokens)?;
     let Some((_, rest)) = mark_at(rest, Mark::RightParenthesis) else {
         return Err(Refused::Syntax);
     };
-    let (suffixes, rest) = suffixes(alloc, bytes, names, rest, levels)?;
-    let inner = Box::new(alloc, declarator)?;
+    let (suffixes, rest) = suffixes(frame, names, rest)?;
+    let inner = Box::new(frame.alloc, declarator)?;
     Ok((
         FullDeclarator::Inside {
             line,
@@ -514,32 +488,30 @@ fn bare_full(
 #[cycle(specifiers)]
 #[tactic(auto, unfolding(crate::specs::inner::Reading::full_from))]
 fn full_behind<'a>(
-    alloc: Global,
-    bytes: &[u8],
+    frame: Frame<'_>,
     names: &mut TypeNames,
     inner: bool,
     declarator_start: DeclaratorStart,
     tokens: &'a [Token],
-    levels: u32,
 ) -> Result<(FullDeclarator, &'a [Token]), Refused>
-    requires { levels < 400 }
-    ensures exact { Gives (λ x. (view_full x.0, x.1.now)) result (full_from bytes.now levels (body_at bytes.now levels) (full_at bytes.now levels) inner names.old declarator_start tokens.now) }
+    requires { frame.levels < 400 }
+    ensures exact { Gives (λ x. (view_full x.0, x.1.now)) result (full_from frame.entry.bytes.now frame.entry.levels (bodies_in frame.entry) (fulls_in frame.entry) inner names.old declarator_start tokens.now) }
     ensures names { IfOk result (λ _. names.new ≡ names.old) }
     ensures shorter { IfOk result (λ x. length x.1.now ≤ length tokens.now) }
 {
     match declarator_start {
-        DeclaratorStart::Nothing => Ok((nothing(alloc), tokens)),
+        DeclaratorStart::Nothing => Ok((nothing(frame.alloc), tokens)),
         DeclaratorStart::Suffixes => {
-            let (suffixes, rest) = suffixes(alloc, bytes, names, tokens, levels)?;
+            let (suffixes, rest) = suffixes(frame, names, tokens)?;
             Ok((FullDeclarator::Unnamed { suffixes }, rest))
         }
         DeclaratorStart::Name => {
             let Some((token, rest)) = split(tokens) else {
                 return Err(Refused::Syntax);
             };
-            let name = name_of(alloc, bytes, token)?;
+            let name = name_of(frame.alloc, frame.bytes, token)?;
             let line = token.line;
-            let (suffixes, rest) = suffixes(alloc, bytes, names, rest, levels)?;
+            let (suffixes, rest) = suffixes(frame, names, rest)?;
             Ok((
                 FullDeclarator::Named {
                     line,
@@ -553,7 +525,7 @@ fn full_behind<'a>(
             let Some((token, rest)) = split(tokens) else {
                 return Err(Refused::Syntax);
             };
-            inside(alloc, bytes, names, inner, token.line, rest, levels)
+            inside(frame, names, inner, token.line, rest)
         }
     }
 }
@@ -562,79 +534,69 @@ fn full_behind<'a>(
 #[cycle(specifiers)]
 #[tactic(auto, unfolding(crate::specs::inner::Reading::full_at))]
 pub fn full<'a>(
-    alloc: Global,
-    bytes: &[u8],
+    frame: Frame<'_>,
     names: &mut TypeNames,
     inner: bool,
     tokens: &'a [Token],
-    levels: u32,
 ) -> Result<(FullDeclarator, &'a [Token]), Refused>
-    requires { levels ≤ 400 }
-    ensures exact { Gives (λ x. (view_full x.0, x.1.now)) result (full_at bytes.now levels inner names.old tokens.now) }
+    requires { frame.levels ≤ 400 }
+    ensures exact { Gives (λ x. (view_full x.0, x.1.now)) result (fulls_in frame.entry inner names.old tokens.now) }
     ensures names { IfOk result (λ _. names.new ≡ names.old) }
     ensures shorter { IfOk result (λ x. length x.1.now ≤ length tokens.now) }
 {
-    let Some(declarator_start) = declarator_start_at(inner, bytes, names, tokens) else {
+    let Some(declarator_start) = declarator_start_at(inner, frame.bytes, names, tokens) else {
         return Err(Refused::Syntax);
     };
-    if levels == 0 {
-        return bare_full(alloc, declarator_start, tokens);
+    if frame.levels == 0 {
+        return bare_full(frame.alloc, declarator_start, tokens);
     }
-    full_behind(
-        alloc,
-        bytes,
-        names,
-        inner,
-        declarator_start,
-        tokens,
-        levels - 1,
-    )
+    let below = Frame {
+        levels: frame.levels - 1,
+        ..frame
+    };
+    full_behind(below, names, inner, declarator_start, tokens)
 }
 
 /// A declarator of members at the front, or behind a comma where it isn't the first.
 #[cycle(specifiers)]
 fn next_declarator<'a>(
-    alloc: Global,
-    bytes: &[u8],
+    frame: Frame<'_>,
     names: &mut TypeNames,
     first: bool,
     tokens: &'a [Token],
-    levels: u32,
 ) -> Result<(FullDeclarator, &'a [Token]), Refused>
-    requires { levels < 400 }
-    ensures exact { Gives (λ x. (view_full x.0, x.1.now)) result (next_at first (full_at bytes.now levels false names.old) tokens.now) }
+    requires { frame.levels < 400 }
+    ensures exact { Gives (λ x. (view_full x.0, x.1.now)) result (next_at first (fulls_in frame.entry false names.old) tokens.now) }
     ensures names { IfOk result (λ _. names.new ≡ names.old) }
     ensures shorter { IfOk result (λ x. length x.1.now < length tokens.now) }
 {
     let Some(rest) = comma_at(tokens, first) else {
         return Err(Refused::Syntax);
     };
-    let (declarator, rest) = full(alloc, bytes, names, false, rest, levels)?;
+    let (declarator, rest) = full(frame, names, false, rest)?;
     Ok((declarator, rest))
 }
 
 /// The declarators of members, and the tokens behind their `;`.
 #[cycle(specifiers)]
 fn declarators<'a>(
-    alloc: Global,
-    bytes: &[u8],
+    frame: Frame<'_>,
     names: &mut TypeNames,
     tokens: &'a [Token],
-    levels: u32,
 ) -> Result<(Vec<FullDeclarator>, &'a [Token]), Refused>
-    requires { levels < 400 }
-    ensures exact { Gives (λ x. (fulls_of x.0.items, x.1.now)) result (fulls_at (full_at bytes.now levels false) names.old tokens.now) }
+    requires { frame.levels < 400 }
+    ensures exact { Gives (λ x. (fulls_of x.0.items, x.1.now)) result (fulls_at (fulls_in frame.entry false) names.old tokens.now) }
     ensures names { IfOk result (λ _. names.new ≡ names.old) }
     ensures shorter { IfOk result (λ x. length x.1.now < length tokens.now) }
 {
-    let mut declarators = Vec::new(alloc);
+    let mut declarators = Vec::new(frame.alloc);
     let mut first = true;
     let mut rest = tokens;
     'declarators: loop {
         if let Some((_, behind)) = mark_at(rest, Mark::Semicolon) {
             return Ok((declarators, behind));
         }
-        let (next, behind) = next_declarator(alloc, bytes, names, first, rest, levels)?;
+        let (next, behind) = next_declarator(frame, names, first, rest)?;
         declarators.push(next)?;
         first = false;
         rest = behind;
@@ -645,22 +607,20 @@ fn declarators<'a>(
 #[cycle(specifiers)]
 #[tactic(auto, unfolding(crate::specs::inner::Reading::member_at))]
 fn member<'a>(
-    alloc: Global,
-    bytes: &[u8],
+    frame: Frame<'_>,
     names: &mut TypeNames,
     tokens: &'a [Token],
-    levels: u32,
 ) -> Result<(MemberDeclaration, &'a [Token]), Refused>
-    requires { levels < 400 }
-    ensures exact { Gives (λ x. ((parts_of x.0.specifiers.items, fulls_of x.0.declarators.items), x.1.now)) result (member_at bytes.now levels (body_at bytes.now levels) (full_at bytes.now levels) names.old tokens.now) }
+    requires { frame.levels < 400 }
+    ensures exact { Gives (λ x. ((parts_of x.0.specifiers.items, fulls_of x.0.declarators.items), x.1.now)) result (member_at frame.entry.bytes.now frame.entry.levels (bodies_in frame.entry) (fulls_in frame.entry) names.old tokens.now) }
     ensures names { IfOk result (λ x. names.new ≡ with_parts names.old (parts_of x.0.specifiers.items)) }
     ensures shorter { IfOk result (λ x. length x.1.now < length tokens.now) }
 {
-    let found = specifiers(alloc, bytes, names, true, tokens, levels)?;
+    let found = specifiers(frame, names, true, tokens)?;
     if !are_some(&found.items) {
         return Err(Refused::Syntax);
     }
-    let (declarators, rest) = declarators(alloc, bytes, names, found.rest, levels)?;
+    let (declarators, rest) = declarators(frame, names, found.rest)?;
     Ok((
         MemberDeclaration {
             specifiers: found.items,
@@ -673,24 +633,22 @@ fn member<'a>(
 /// Declarations of members, and the tokens behind the brace that closes them.
 #[cycle(specifiers)]
 fn members<'a>(
-    alloc: Global,
-    bytes: &[u8],
+    frame: Frame<'_>,
     names: &mut TypeNames,
     tokens: &'a [Token],
-    levels: u32,
 ) -> Result<(Vec<MemberDeclaration>, &'a [Token]), Refused>
-    requires { levels < 400 }
-    ensures exact { Gives (λ x. (members_of x.0.items, x.1.now)) result (members_at bytes.now levels (body_at bytes.now levels) (full_at bytes.now levels) names.old tokens.now) }
+    requires { frame.levels < 400 }
+    ensures exact { Gives (λ x. (members_of x.0.items, x.1.now)) result (members_at frame.entry.bytes.now frame.entry.levels (bodies_in frame.entry) (fulls_in frame.entry) names.old tokens.now) }
     ensures names { IfOk result (λ x. names.new ≡ with_members names.old (members_of x.0.items)) }
     ensures shorter { IfOk result (λ x. length x.1.now ≤ length tokens.now) }
 {
-    let mut members = Vec::new(alloc);
+    let mut members = Vec::new(frame.alloc);
     let mut rest = tokens;
     'members: loop {
         if let Some((_, behind)) = mark_at(rest, Mark::RightBrace) {
             return Ok((members, behind));
         }
-        let (next, behind) = member(alloc, bytes, names, rest, levels)?;
+        let (next, behind) = member(frame, names, rest)?;
         members.push(next)?;
         rest = behind;
     }
@@ -700,21 +658,23 @@ fn members<'a>(
 #[cycle(specifiers)]
 #[tactic(auto, unfolding(crate::specs::inner::Reading::body_at, crate::specs::inner::Reading::some_members_at))]
 fn body<'a>(
-    alloc: Global,
-    bytes: &[u8],
+    frame: Frame<'_>,
     names: &mut TypeNames,
     tokens: &'a [Token],
-    levels: u32,
 ) -> Result<(Vec<MemberDeclaration>, &'a [Token]), Refused>
-    requires { levels ≤ 400 }
-    ensures exact { Gives (λ x. (members_of x.0.items, x.1.now)) result (body_at bytes.now levels names.old tokens.now) }
+    requires { frame.levels ≤ 400 }
+    ensures exact { Gives (λ x. (members_of x.0.items, x.1.now)) result (bodies_in frame.entry names.old tokens.now) }
     ensures names { IfOk result (λ x. names.new ≡ with_members names.old (members_of x.0.items)) }
     ensures shorter { IfOk result (λ x. length x.1.now ≤ length tokens.now) }
 {
-    if levels == 0 {
+    if frame.levels == 0 {
         return Err(Refused::Syntax);
     }
-    let (members, rest) = members(alloc, bytes, names, tokens, levels - 1)?;
+    let below = Frame {
+        levels: frame.levels - 1,
+        ..frame
+    };
+    let (members, rest) = members(below, names, tokens)?;
     if !have_some(&members) {
         return Err(Refused::Syntax);
     }

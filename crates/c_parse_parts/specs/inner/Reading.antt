@@ -18,8 +18,10 @@ use Rattle.c_tree.specs.Tree.{qualified, word, tagged, typedef_name, Tree}
 use Rattle.c_tree.specs.Names.{Scope, is_type}
 use Rattle.c_tree.specs.Declarations.{Enumerated, Part, type_part, storage, function, structure, enumeration, Parts, no_part, part, Members, no_member, members, Full, full_unnamed, full_named, full_inside, Fulls, no_full, full, FullSuffixes, full_end, full_bounded, full_open, full_empty, full_void, full_parameters, Parameters, no_parameter, parameter, Initial, initial, braces, Initials, no_initial, initials, Declarators, none_declared, declarator, name_of, nearest, is_function, with_part, with_parts, with_named, with_parameters_of, with_declaration, have_typedef, specifies}
 use Rattle.c_tree.specs.Statements.{Statement, block, if_then, if_else, evaluate, return_nothing, return_value, empty, while_loop, do_loop, for_loop, for_declared, switch_on, case_of, default_of, labelled, goto_label, break_off, continue_on, Items, done, declares, does}
-use Rattle.c_parse_expr.specs.Many.{◌>>=◌}
-use Rattle.c_parse_expr.specs.Reading.{is_mark, is_identifier, reader}
+use Rattle.c_parse_expr.specs.declared.frames.Frame.{Frame}
+use Rattle.c_parse_expr.specs.inner.Many.{◌>>=◌}
+use Rattle.c_parse_expr.specs.Reading.{is_mark}
+use Rattle.c_parse_expr.specs.inner.Reading.{is_identifier, reader}
 use Rattle.c_parse_parts.specs.declared.table.Begin.{Begin}
 use Rattle.c_parse_parts.specs.declared.table.Begin.TheVariants as begins
 use Rattle.c_parse_parts.specs.declared.slices.DeclaratorStart.{DeclaratorStart}
@@ -458,6 +460,14 @@ unfoldable mutual
   full_at bytes zero inner names ts = declarator_start_at inner bytes names ts >>= λ h. bare_full h ts
   full_at bytes (suc n) inner names ts = declarator_start_at inner bytes names ts >>= λ h. full_from bytes n (body_at bytes n) (full_at bytes n) inner names h ts
 
+-- reads the members of a structure, with the bytes and the levels of a frame
+abbrev pub bodies_in : Frame → Body
+bodies_in frame = body_at frame.bytes.now frame.levels
+
+-- reads a declarator
+abbrev pub fulls_in : Frame → FullReader
+fulls_in frame = full_at frame.bytes.now frame.levels
+
 abbrev pub initials_list : (List Token → Read Initial) → Listing Bool Initial Initials
 initials_list sub = record {
   after = λ s i. false;
@@ -482,6 +492,10 @@ initial_by bytes names n sub ts (Some x) = do
 unfoldable pub initial_at : List ℕ → Scope → ℕ → List Token → Read Initial
 initial_at bytes names zero ts = None
 initial_at bytes names (suc n) ts = initial_by bytes names (suc n) (initial_at bytes names n) ts (token_at (is_mark marks.LeftBrace) ts)
+
+-- reads an initializer, with the bytes and the levels of a frame
+abbrev pub initials_in : Frame → Scope → List Token → Read Initial
+initials_in frame names = initial_at frame.bytes.now names frame.levels
 
 abbrev pub initializer_by : List ℕ → Scope → ℕ → List Token → Read Token → Read (Option Initial)
 initializer_by bytes names n ts None = Some (None, ts)
@@ -748,6 +762,10 @@ started_at bytes n sub names (t ∷ ts) = begun bytes n sub names (begin_of (sta
 unfoldable pub statement_at : List ℕ → ℕ → Reader
 statement_at bytes zero names ts = None
 statement_at bytes (suc n) names ts = started_at bytes n (statement_at bytes n) names ts
+
+-- reads a statement, with the bytes and the levels of a frame
+abbrev pub statements_in : Frame → Reader
+statements_in frame = statement_at frame.bytes.now frame.levels
 
 -- the body of a definition behind its brace; its name is declared
 unfoldable pub definition_at : List ℕ → Scope → Parts → Full → ℕ → List Token → Read Outer

@@ -1,9 +1,9 @@
 use Rattle.std.proofs.Common.{refl, subst}
-use Rattle.c_tree.specs.Tree.{Tree, view}
+use Rattle.c_tree.specs.Tree.{Tree}
 use Rattle.c_tree.proofs.Views.{view_cast}
-use Rattle.c_parse_expr.specs.declared.nodes.Found.{Found}
 use Rattle.c_parse_expr.specs.Reading.{Gives}
-use Rattle.c_parse_expr.specs.Nodes.{read_as}
+use Rattle.c_parse_expr.specs.inner.Findings.{tree_found}
+use Rattle.c_parse_expr.specs.inner.Nodes.{read_as}
 use Rattle.c_parse_expr.proofs.Made.{cast_depth}
 use Rattle.c_parse_expr.proofs.nodes.cast_node.Goals as goal
 
@@ -14,4 +14,4 @@ made-requires c =
 
 pub returns-clause-exact : goal.returns-clause-exact
 returns-clause-exact c =
-    subst (λ (t : Tree). Gives (λ (x : Found). (view x.tree.value, x.rest.now)) c.made.result (read_as t c.args.operand.rest.now)) (view_cast c.args.line c.args.target.type_name c.args.operand.tree) c.made.ensures.exact
+    subst (λ (t : Tree). Gives tree_found c.made.result (read_as t c.args.operand.rest.now)) (view_cast c.args.line c.args.target.type_name c.args.operand.tree) c.made.ensures.exact

@@ -2,7 +2,7 @@ use Rattle.std.proofs.Common.{ap, sym, ◌∙◌}
 use Rattle.c_tree.specs.declared.expr.Declarator.{Declarator}
 use Rattle.c_tree.specs.Tree.{Declared, inside, view_declarator, suffixes_of}
 use Rattle.c_tree.proofs.Views.{view_inside}
-use Rattle.c_parse_expr.specs.Nodes.{declared_as}
+use Rattle.c_parse_expr.specs.inner.Nodes.{declared_as}
 use Rattle.c_parse_expr.proofs.Made.{inside_depth}
 use Rattle.c_parse_expr.proofs.nodes.nested.Goals as goal
 

@@ -2,7 +2,7 @@ use Rattle.std.proofs.Common.{List, length, drop, Some, None, ap, sym, ◌∙◌
 use Rattle.c_token.specs.declared.token.Token.{Token}
 use Rattle.c_tree.specs.Tree.{view}
 use Rattle.c_parse_expr.specs.Standing.{number_of}
-use Rattle.c_parse_expr.specs.Reading.{reader}
+use Rattle.c_parse_expr.specs.inner.Reading.{reader}
 use Rattle.c_parse_expr.proofs.Loops.{fails_none}
 use Rattle.c_parse_expr.proofs.Complete.{no_tree}
 use Rattle.c_parse_expr.proofs.Places.{same_reading, place_found}

@@ -3,7 +3,7 @@ use Rattle.c_token.specs.Spelling.{text_of}
 use Rattle.c_token.specs.declared.token.Token.{Token}
 use Rattle.c_tree.specs.declared.expr.Name.{Name}
 use Rattle.c_tree.specs.Tree.{view_name}
-use Rattle.c_parse_expr.specs.Reading.{quoted, string_at, strings_at, strings_behind}
+use Rattle.c_parse_expr.specs.inner.Reading.{quoted, string_at, strings_at, strings_behind}
 use Rattle.c_parse_expr.proofs.Rows.{fronted, stops, pushed, front_first}
 use Rattle.c_parse_expr.proofs.words.strings.Goals as goal
 

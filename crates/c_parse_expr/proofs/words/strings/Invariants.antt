@@ -1,6 +1,6 @@
 use Rattle.std.proofs.Common.{◌≤◌, ◌<◌, ℕ, length, map}
 use Rattle.c_tree.specs.Tree.{view_name}
-use Rattle.c_parse_expr.specs.Reading.{string_at, strings_at}
+use Rattle.c_parse_expr.specs.inner.Reading.{string_at, strings_at}
 use Rattle.c_parse_expr.proofs.Rows.{fronted, Remains}
 use Rattle.c_parse_expr.proofs.words.strings.Given as goal
 

@@ -2,7 +2,7 @@ use Rattle.std.proofs.Common.{◌≡◌, ◌<◌, length, map, Some, ap, subst, 
 use Rattle.std.specs.Prelude.{IfSome, option_map}
 use Rattle.std.proofs.lemmas.Result.{err_from_is_err_and}
 use Rattle.c_tree.specs.Tree.{view_type_part}
-use Rattle.c_parse_expr.specs.Reading.{type_part_at, type_parts_at}
+use Rattle.c_parse_expr.specs.inner.Reading.{type_part_at, type_parts_at}
 use Rattle.c_parse_expr.proofs.Loops.{fails_on}
 use Rattle.c_parse_expr.proofs.Rows.{stops, fails, pushed}
 use Rattle.c_parse_expr.proofs.words.type_specifiers.Goals as goal

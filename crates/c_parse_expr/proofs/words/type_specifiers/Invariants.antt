@@ -1,6 +1,6 @@
 use Rattle.std.proofs.Common.{◌≤◌, ◌<◌, ℕ, length, map}
 use Rattle.c_tree.specs.Tree.{view_type_part}
-use Rattle.c_parse_expr.specs.Reading.{type_part_at, type_parts_at}
+use Rattle.c_parse_expr.specs.inner.Reading.{type_part_at, type_parts_at}
 use Rattle.c_parse_expr.proofs.Rows.{Remains}
 use Rattle.c_parse_expr.proofs.words.type_specifiers.Given as goal
 

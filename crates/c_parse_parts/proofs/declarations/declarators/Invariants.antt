@@ -8,7 +8,7 @@ use Rattle.c_parse_parts.proofs.declarations.declarators.Given as goal
 abbrev pub invariant-declarators : goal.invariant-declarators
 invariant-declarators l = record {
   shorter : length l.rest ≤ length l.tokens;
-  exact : (m : ℕ) × (length l.rest < m) × Left (declarators_list l.bytes l.types l.levels) init_of m (l.names, l.first) l.declarators.items l.rest (declarators_at l.bytes l.fn.names l.types l.levels l.begins l.tokens);
+  exact : (m : ℕ) × (length l.rest < m) × Left (declarators_list l.frame.bytes.now l.types l.frame.levels) init_of m (l.names, l.first) l.declarators.items l.rest (declarators_at l.frame.bytes.now l.fn.names l.types l.frame.levels l.begins l.tokens);
   names : l.names ≡ with_declarators l.fn.names l.types (declarators_of l.declarators.items);
 }
 

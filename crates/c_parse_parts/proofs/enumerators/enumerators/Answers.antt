@@ -15,7 +15,7 @@ enumerators-init c = record {
   exact = (
     length c.args.tokens.now + 1,
     omega arith,
-    enumerators_begin c.args.bytes.now c.args.levels c.args.names.now c.new-enumerators.result.items c.args.tokens.now c.new-enumerators.ensures.items,
+    enumerators_begin c.args.frame.bytes.now c.args.frame.levels c.args.names.now c.new-enumerators.result.items c.args.tokens.now c.new-enumerators.ensures.items,
   );
   names = ap (λ (es : List Enumerator). with_enumerators c.args.names.now (map view_enumerator es)) (sym c.new-enumerators.ensures.items);
 }
@@ -23,16 +23,16 @@ enumerators-init c = record {
 pub returns-in-Some-clause-exact : goal.returns-in-Some-clause-exact
 returns-in-Some-clause-exact c =
     let e = c.enumerators.invariant.exact in
-    enumerators_close c.args.bytes.now c.args.levels e.0 c.enumerators.names c.enumerators.first c.enumerators.enumerators.items c.enumerators.rest.now c.in-Some.behind.now (enumerators_at c.args.bytes.now c.args.names.now c.args.levels c.args.tokens.now)
+    enumerators_close c.args.frame.bytes.now c.args.frame.levels e.0 c.enumerators.names c.enumerators.first c.enumerators.enumerators.items c.enumerators.rest.now c.in-Some.behind.now (enumerators_at c.args.frame.bytes.now c.args.names.now c.args.frame.levels c.args.tokens.now)
     e.1 c.in-Some.ensures.value e.2
 
 pub returns-in_err-next-clause-exact : goal.returns-in_err-next-clause-exact
 returns-in_err-next-clause-exact c =
     let p = err_from_is_err_and c.from_residual.result c.from_residual.ensures.1 in
     let e = c.enumerators.invariant.exact in
-    let all = enumerators_at c.args.bytes.now c.args.names.now c.args.levels c.args.tokens.now in
-    rw (p.1, p.2) (fails_on c.in_err-next.field-0.0 (next_at c.enumerators.first (enumerator_at c.args.bytes.now c.enumerators.names c.args.levels) c.enumerators.rest.now) all
-    (fails (enumerators_list c.args.bytes.now c.args.levels) view_enumerator e.0 (c.enumerators.names, c.enumerators.first) c.enumerators.enumerators.items c.enumerators.rest.now all e.1 (not_shut [] c.enumerators.first c.enumerators.rest.now c.in_default.ensures.value) e.2)
+    let all = enumerators_at c.args.frame.bytes.now c.args.names.now c.args.frame.levels c.args.tokens.now in
+    rw (p.1, p.2) (fails_on c.in_err-next.field-0.0 (next_at c.enumerators.first (enumerator_at c.args.frame.bytes.now c.enumerators.names c.args.frame.levels) c.enumerators.rest.now) all
+    (fails (enumerators_list c.args.frame.bytes.now c.args.frame.levels) view_enumerator e.0 (c.enumerators.names, c.enumerators.first) c.enumerators.enumerators.items c.enumerators.rest.now all e.1 (not_shut [] c.enumerators.first c.enumerators.rest.now c.in_default.ensures.value) e.2)
     c.in_err-next.ensures.exact)
 
 pub enumerators-preserved : goal.enumerators-preserved
@@ -43,7 +43,7 @@ enumerators-preserved c =
     c.in_ok-declare.ensures.declared ∙ ap (λ (x : List ℕ). (x, false) ∷ now) c.deref.ensures.value in
     record {
       shorter = omega (arith, c.in_ok-next.ensures.shorter, c.enumerators.invariant.shorter);
-      exact = goes (enumerators_list c.args.bytes.now c.args.levels) view_enumerator e.0 (now, c.enumerators.first) (c.declare.new.self, false) c.enumerators.enumerators.items c.push.new.self.items c.in_ok-next.next c.enumerators.rest.now c.in_ok-next.behind.now (enumerators_at c.args.bytes.now c.args.names.now c.args.levels c.args.tokens.now)
+      exact = goes (enumerators_list c.args.frame.bytes.now c.args.frame.levels) view_enumerator e.0 (now, c.enumerators.first) (c.declare.new.self, false) c.enumerators.enumerators.items c.push.new.self.items c.in_ok-next.next c.enumerators.rest.now c.in_ok-next.behind.now (enumerators_at c.args.frame.bytes.now c.args.names.now c.args.frame.levels c.args.tokens.now)
           e.1 c.in_ok-next.ensures.shorter (not_shut [] c.enumerators.first c.enumerators.rest.now c.in_default.ensures.value) e.2 c.in_ok-next.ensures.exact c.in_ok-push.ensures.items (ap (λ (x : Scope). (x, false)) new);
       names = enumerators_push c.args.names.now now c.declare.new.self c.enumerators.enumerators.items c.push.new.self.items c.in_ok-next.next c.in_ok-push.ensures.items c.enumerators.invariant.names new;
     }

@@ -7,7 +7,7 @@ use Rattle.c_parse_parts.proofs.enumerators.enumerators.Given as goal
 abbrev pub invariant-enumerators : goal.invariant-enumerators
 invariant-enumerators l = record {
   shorter : length l.rest ≤ length l.tokens;
-  exact : (m : ℕ) × (length l.rest < m) × Left (enumerators_list l.bytes l.levels) view_enumerator m (l.names, l.first) l.enumerators.items l.rest (enumerators_at l.bytes l.fn.names l.levels l.tokens);
+  exact : (m : ℕ) × (length l.rest < m) × Left (enumerators_list l.frame.bytes.now l.frame.levels) view_enumerator m (l.names, l.first) l.enumerators.items l.rest (enumerators_at l.frame.bytes.now l.fn.names l.frame.levels l.tokens);
   names : l.names ≡ with_enumerators l.fn.names (map view_enumerator l.enumerators.items);
 }
 

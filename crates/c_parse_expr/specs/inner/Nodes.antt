@@ -4,8 +4,8 @@ use Rattle.c_token.specs.declared.token.Token.{Token}
 use Rattle.c_token.specs.declared.token.Mark.TheVariants as marks
 use Rattle.c_token.specs.Spelling.{text_of}
 use Rattle.c_tree.specs.Tree.{TypePart, Tree, Declared, strings, parens, member}
-use Rattle.c_parse_expr.specs.Many.{◌>>=◌}
-use Rattle.c_parse_expr.specs.Reading.{Read, behind, strings_behind, identifier_at}
+use Rattle.c_parse_expr.specs.inner.Many.{◌>>=◌}
+use Rattle.c_parse_expr.specs.inner.Reading.{Read, behind, strings_behind, identifier_at}
 
 -- a string literal that a token spells, with those behind it
 abbrev pub read_strings : List ℕ → Token → List Token → Read
