@@ -16,18 +16,19 @@ use Rattle.c_tree.specs.Files.{SpellsParts, SpellsFull, SpellsInitializer, Spell
 use Rattle.c_parse_expr.specs.inner.Many.{◌>>=◌}
 use Rattle.c_parse_expr.specs.Reading.{is_mark}
 use Rattle.c_parse_expr.specs.inner.Reading.{is_identifier}
-use Rattle.c_parse_parts.specs.inner.Reading.{Read, token_at, run_at, start_at, parts_at, are_some, body_at, full_at, items_at, block_at, statement_at, initializer_at, declarators_at, definition_at, others_at, outer_behind, first_at, outer_from, outer_at}
-use Rattle.c_parse_parts.specs.Standing.{Outer, declarations, definitions, outer_of, outermost, with_outer, with_externals, SpellsOuter, IsWellOuter, outer_depth, IsExternal, Stands, NoneStands, StandBefore}
+use Rattle.c_parse_parts.specs.inner.Reading.{Read, token_at, run_at, start_at, parts_at, are_some, body_at, full_at, initializer_at, declarators_at}
+use Rattle.c_parse_statements.specs.inner.Reading.{items_at, block_at, statement_at, definition_at, others_at, outer_behind, first_at, outer_from, outer_at}
+use Rattle.c_parse_statements.specs.Standing.{Outer, declarations, definitions, outer_of, outermost, with_outer, with_externals, SpellsOuter, IsWellOuter, outer_depth, IsExternal, Stands, NoneStands, StandBefore}
 use Rattle.c_parse_parts.proofs.Lists.{some_is, bind_some, bind_gives}
 use Rattle.c_parse_parts.proofs.Words.{passes_at, token_fails, mark_takes, mark_gives}
 use Rattle.c_parse_parts.proofs.Runs.{seam}
 use Rattle.c_parse_parts.proofs.SoundParts.{FullRun, PartsRun, parts_take, body_takes, full_takes, front_no_type, if_some, some_parts, named_full}
 use Rattle.c_parse_parts.proofs.SoundDeclarations.{initializer_takes, declarators_take}
-use Rattle.c_parse_parts.proofs.SoundStatements.{block_takes, statement_takes}
+use Rattle.c_parse_statements.proofs.SoundStatements.{block_takes, statement_takes}
 use Rattle.c_parse_parts.proofs.Steps.{apart, from_token, IsEnder, Follows, ender_not, Opens, opens_not, full_opens_not, full_quiet, Quiet}
 use Rattle.c_parse_parts.proofs.CompleteParts.{parts_read, parts_again, full_again, are_there}
 use Rattle.c_parse_parts.proofs.CompleteDeclarations.{declarators_read, declarators_quiet, initializer_read, initializer_opens, others_end}
-use Rattle.c_parse_parts.proofs.CompleteStatements.{block_read, items_again}
+use Rattle.c_parse_statements.proofs.CompleteStatements.{block_read, items_again}
 
 block_is : (bytes : List ℕ) (n line : ℕ) (names : Scope) (ts : List Token) (x : Statement × List Token) → block_at bytes n (statement_at bytes n) names line ts ≡ Some x → is_block x.0 ≡ true
 unfolding block_at

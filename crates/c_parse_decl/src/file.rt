@@ -6,12 +6,12 @@ ghost use Rattle.c_tree.specs.Names.{Scope, built_in_names};
 ghost use Rattle.c_tree.specs.Statements.{Externals, externals_of, view_file};
 ghost use Rattle.c_tree.specs.Files.{IsFile};
 ghost use Rattle.c_parse_expr.specs.Standing.{line_at};
-ghost use Rattle.c_parse_parts.specs.Standing.{Outer, outer_of, with_outer, IsExternal, Stands, NoneStands, EndsAt};
+ghost use Rattle.c_parse_statements.specs.Standing.{Outer, outer_of, with_outer, IsExternal, Stands, NoneStands, EndsAt};
 
 use crate::fault::ParseError;
 use c_lexer::Tokens;
 use c_parse_expr::{Refused, TypeNames, line_of};
-use c_parse_parts::external;
+use c_parse_statements::external;
 use c_token::Token;
 use c_tree::{External, File};
 use std::alloc::{AllocError, Global};

@@ -4,12 +4,10 @@ pub mod Starts
 pub mod Runs
 pub mod SoundParts
 pub mod SoundDeclarations
-pub mod SoundStatements
 pub mod Steps
 pub mod CompleteParts
 pub mod Firsts
 pub mod CompleteDeclarations
-pub mod CompleteStatements
 pub mod Shorter
 pub mod Loops
 pub mod DeclaredNames

@@ -1,11 +1,10 @@
 -- The turns of the loops.
-use Rattle.std.proofs.Common.{◌≡◌, ◌<◌, ◌≤◌, ◌+◌, ◌-◌, ℕ, List, [], ◌∷◌, ◌++◌, length, length-append, drop, map, suc, Bool, true, false, cond, Option, Some, None, refl, ap, sym, ◌∙◌, arith}
+use Rattle.std.proofs.Common.{◌≡◌, ◌<◌, ◌≤◌, ◌+◌, ◌-◌, ℕ, List, [], ◌∷◌, ◌++◌, length, length-append, drop, map, suc, Bool, true, false, Option, Some, None, refl, ap, sym, ◌∙◌, arith}
 use Rattle.std.proofs.lemmas.Bool.{eqb-true}
 use Rattle.std.proofs.lemmas.List.{append_assoc}
 use Rattle.std.proofs.Math.Seq.{drop-append_seam}
 use Rattle.std.specs.Prelude.{not, ◌||◌, ◌==◌, option_map, Box, Vec, if◌then◌else◌}
 use Rattle.std.specs.Global.{Global}
-use Rattle.std.specs.List.{insert}
 use Rattle.c_token.specs.declared.token.Token.{Token}
 use Rattle.c_token.specs.declared.token.Mark.{Mark}
 use Rattle.c_token.specs.declared.token.Mark.TheVariants as marks
@@ -19,16 +18,11 @@ use Rattle.c_tree.specs.declared.expr.Name.{Name}
 use Rattle.c_tree.specs.declared.expr.Expr.{Expr}
 use Rattle.c_tree.specs.declared.declaration.Initializer.{Initializer, Value, List as Braces}
 use Rattle.c_tree.specs.declared.declaration.InitDeclarator.{InitDeclarator}
-use Rattle.c_tree.specs.declared.statement.Item.{Item}
-use Rattle.c_tree.specs.declared.statement.Item as item
-use Rattle.c_tree.specs.declared.statement.Stmt.{Block}
 use Rattle.c_tree.specs.declared.declaration.MemberDeclaration.{MemberDeclaration}
 use Rattle.c_tree.specs.Tree.{Tree, view_name, view}
 use Rattle.c_tree.specs.Names.{Scope}
-use Rattle.c_tree.specs.Declarations.{Full, full, full_unnamed, full_named, full_inside, Fulls, no_full, FullSuffixes, full_end, Parameters, no_parameter, parameter, view_full, fulls_of, view_full_suffix, full_suffixes_of, parameters_of, nearest, is_function, with_function, full_has_name, with_named, with_parameters, with_parameters_of, full_bounded, full_open, full_empty, full_void, full_parameters, Enumerated, Part, Parts, no_part, part, Members, no_member, members, type_part, storage, function, structure, enumeration, Initial, initial, braces, Initials, no_initial, initials, Declarators, none_declared, declarator, name_of, view_initializer, initials_of, view_init_declarator, declarators_of, with_declarators, with_declaration, specifies, view_enumerator, view_part, parts_of, members_of, with_enumerators, with_part, with_parts, with_members, have_typedef, is_typedef}
-use Rattle.c_tree.specs.Statements.{Statement, Items, done, block, view_statement, view_item, items_of}
+use Rattle.c_tree.specs.Declarations.{Full, full, full_unnamed, full_named, full_inside, Fulls, no_full, FullSuffixes, full_end, Parameters, no_parameter, parameter, view_full, fulls_of, view_full_suffix, full_suffixes_of, parameters_of, full_has_name, with_named, with_parameters, with_parameters_of, full_bounded, full_open, full_empty, full_void, full_parameters, Enumerated, Part, Parts, no_part, part, Members, no_member, members, type_part, storage, function, structure, enumeration, Initial, initial, braces, Initials, no_initial, initials, Declarators, none_declared, declarator, name_of, view_initializer, initials_of, view_init_declarator, declarators_of, with_declarators, with_declaration, specifies, view_enumerator, view_part, parts_of, members_of, with_enumerators, with_part, with_parts, with_members, have_typedef, is_typedef}
 use Rattle.c_tree.proofs.DeclarationViews.{view_record, view_braces, view_unnamed, view_named, view_inside, view_takes}
-use Rattle.c_tree.proofs.StatementViews.{view_block}
 use Rattle.c_parse_expr.specs.inner.Many.{◌>>=◌}
 use Rattle.c_parse_expr.specs.Reading.{is_mark}
 use Rattle.c_parse_expr.specs.inner.Reading.{reader}
@@ -36,9 +30,8 @@ use Rattle.c_parse_parts.specs.declared.table.Start.{Start}
 use Rattle.c_token.specs.Spelling.{text_of}
 use Rattle.c_parse_parts.specs.declared.slices.DeclaratorStart.TheVariants as declarator_starts
 use Rattle.c_parse_parts.specs.declared.slices.Opening.{Opening}
-use Rattle.c_parse_parts.specs.inner.Reading.{definition_at, others_at, outer_behind, first_at, initializer_at, statement_at, FullReader, OneSuffix, one_takes, placed_suffix, last_at, parameters_list, parameters_at, void_at, given_by, given_at, inside_at, full_from, opening_at, one_from, suffixes_stop, suffixes_list, suffixes_at, fulls_list, fulls_at, full_at, Read, State, Body, token_at, run_at, shut_at, ended_at, start_at, enumerators_list, enumerators_at, tag_at, record_by, record_from, record_at, part_from, parts_stop, parts_list, parts_at, are_some, members_list, have_some, members_at, initials_list, initials_at, initial_by, initial_at, declarators_list, declarators_at, Piece, declaration, statement, placed, with_piece, Reader, items_list, items_at, block_at}
-use Rattle.c_parse_parts.specs.Standing.{Outer, declarations, definitions}
-use Rattle.c_parse_parts.specs.inner.Pieces.{piece_of, suffix_of, parameter_of}
+use Rattle.c_parse_parts.specs.inner.Reading.{FullReader, OneSuffix, one_takes, placed_suffix, last_at, parameters_list, parameters_at, void_at, given_by, given_at, inside_at, full_from, opening_at, one_from, suffixes_stop, suffixes_list, suffixes_at, fulls_list, fulls_at, Read, State, Body, token_at, run_at, shut_at, ended_at, start_at, enumerators_list, enumerators_at, tag_at, record_by, record_from, record_at, part_from, parts_stop, parts_list, parts_at, are_some, members_list, have_some, members_at, initials_list, initials_at, initial_by, initial_at, declarators_list, declarators_at}
+use Rattle.c_parse_parts.specs.inner.Pieces.{suffix_of, parameter_of}
 use Rattle.c_parse_parts.proofs.Lists.{bind_gives, bind_none, placed_all, front_none, Left, closes}
 use Rattle.c_parse_parts.proofs.SoundParts.{or_nothing, or_three}
 
@@ -311,10 +304,6 @@ pub value_made : (bytes : List ℕ) (names : Scope) (n levels : ℕ) (ts rest : 
 value_made bytes names n levels ts rest e same f g =
     initial_opens bytes names n levels ts None same f ∙ ap (λ (o : Read Tree). o >>= λ e. Some (initial e.0, e.1)) g
 
-pub value_fails : (bytes : List ℕ) (names : Scope) (n levels : ℕ) (ts : List Token) → suc n ≡ levels → None ≡ token_at (is_mark marks.LeftBrace) ts → reader bytes names levels 2 ts ≡ None → initial_at bytes names levels ts ≡ None
-value_fails bytes names n levels ts same f g =
-    initial_opens bytes names n levels ts None same f ∙ ap (λ (o : Read Tree). o >>= λ e. Some (initial e.0, e.1)) g
-
 pub braces_fail : (bytes : List ℕ) (names : Scope) (n levels : ℕ) (ts : List Token) (x : Token × List Token) → suc n ≡ levels → Some x ≡ token_at (is_mark marks.LeftBrace) ts → initials_at (initial_at bytes names n) x.1 ≡ None → initial_at bytes names levels ts ≡ None
 braces_fail bytes names n levels ts x same e f =
     initial_opens bytes names n levels ts (Some x) same e ∙ ap (λ (o : Read Initials). o >>= λ is. Some (braces x.0.line is.0, is.1)) f
@@ -350,32 +339,11 @@ pub declarators_push : (names now new : Scope) (types : Bool) (ds rr : List Init
 declarators_push names now new types ds rr d f same is =
     is ∙ ap (λ (x : Scope). (name_of (view_full d.declarator), types) ∷ x) same ∙ sym (declarators_after names types ds d) ∙ ap (λ (xs : List InitDeclarator). with_declarators names types (declarators_of xs)) (sym f)
 
--- items
-all_items : (is : List Item) → placed_all placed piece_of is done ≡ items_of is
-all_items [] = refl
-all_items (item.Declares d ∷ is) = ap (view_item (item.Declares d)) (all_items is)
-all_items (item.Does' p s ∷ is) = ap (view_item (item.Does' p s)) (all_items is)
-
-pub items_begin : (bytes : List ℕ) (n : ℕ) (sub : Reader) (names : Scope) (is : List Item) (ts : List Token) → is ≡ [] → Left (items_list bytes n sub) piece_of (length ts + 1) names is ts (items_at bytes n sub names ts)
-unfolding items_at
-items_begin bytes n sub names is ts e = front_none placed piece_of is (run_at (items_list bytes n sub) (length ts + 1) names ts) e
-
-pub items_close : (bytes : List ℕ) (n m : ℕ) (sub : Reader) (names : Scope) (is : List Item) (ts : List Token) (x : Token × List Token) (all : Read Items) → length ts < m → Some x ≡ token_at (is_mark marks.RightBrace) ts → Left (items_list bytes n sub) piece_of m names is ts all → all ≡ Some (items_of is, x.1)
-items_close bytes n m sub names is ts x all h e f =
-    closes (items_list bytes n sub) piece_of m names is ts (done, x.1) all h (ended_some marks.RightBrace done ts x e) f
-    ∙ ap (λ (t : Items). Some (t, x.1)) (all_items is)
-
-pub block_made : (bytes : List ℕ) (n : ℕ) (sub : Reader) (names : Scope) (line : ℕ) (ts rest : List Token) (is : Vec Item Global) → items_at bytes n sub names ts ≡ Some (items_of is.items, rest) → block_at bytes n sub names line ts ≡ Some (view_statement (Block line is), rest)
-unfolding block_at
-block_made bytes n sub names line ts rest is e =
-    ap (λ (o : Read Items). o >>= λ is. Some (block line is.0, is.1)) e
-    ∙ ap (λ (s : Statement). Some (s, rest)) (sym (view_block line is))
-
 -- Names that are declared later stand in front.
 abbrev pub Extends : Scope → Scope → Type 0
 Extends names new = (front : Scope) × (new ≡ front ++ names)
 
-extends_more : (names mid new : Scope) → Extends names mid → Extends mid new → Extends names new
+pub extends_more : (names mid new : Scope) → Extends names mid → Extends mid new → Extends names new
 extends_more names mid new (f, e) (g, h) = (g ++ f, h ∙ ap (λ (x : Scope). g ++ x) e ∙ sym (append_assoc g f names))
 
 extends_one : (names : Scope) (e : List ℕ × Bool) → Extends names (e ∷ names)
@@ -406,17 +374,8 @@ declarators_extend none_declared types names = ([], refl)
 declarators_extend (declarator d i ds) types names =
     extends_more names ((name_of d, types) ∷ names) (with_declarators ((name_of d, types) ∷ names) types ds) (extends_one names (name_of d, types)) (declarators_extend ds types ((name_of d, types) ∷ names))
 
-piece_extends : (p : Piece) (names : Scope) → Extends names (with_piece names p)
-piece_extends (declaration ps ds) names = extends_more names (with_parts names ps) (with_declaration names ps ds) (parts_extend ps names) (declarators_extend ds (have_typedef ps) (with_parts names ps))
-piece_extends (statement s) names = ([], refl)
-
 pub extends_here : (names : Scope) → Extends names names
 extends_here names = ([], refl)
-
-pub extends_on : (names now new : Scope) (i : Item) → Extends names now → new ≡ with_piece now (piece_of i) → Extends names new
-extends_on names now new i e f =
-    let g = piece_extends (piece_of i) now in
-    extends_more names now new e (g.0, f ∙ g.1)
 
 -- leaving a block
 pub mark_fits : (names new : Scope) → Extends names new → length names ≤ length new
@@ -441,8 +400,11 @@ parameter_extends names now new types ps d e f =
 pub parameters_extend : (names now new : Scope) (p : Parameter) → Extends names now → new ≡ with_named (with_parts now (parts_of p.specifiers.items)) (have_typedef (parts_of p.specifiers.items)) (view_full p.declarator) → Extends names new
 parameters_extend names now new p e f = parameter_extends names now new (have_typedef (parts_of p.specifiers.items)) (parts_of p.specifiers.items) (view_full p.declarator) e f
 
+declared_extend : (names : Scope) (ps : Parts) (ds : Declarators) → Extends names (with_declaration names ps ds)
+declared_extend names ps ds = extends_more names (with_parts names ps) (with_declaration names ps ds) (parts_extend ps names) (declarators_extend ds (have_typedef ps) (with_parts names ps))
+
 pub declaration_extends : (names new : Scope) (ps : Parts) (ds : Declarators) → new ≡ with_declaration names ps ds → Extends names new
-declaration_extends names new ps ds e = let g = piece_extends (declaration ps ds) names in (g.0, e ∙ g.1)
+declaration_extends names new ps ds e = let g = declared_extend names ps ds in (g.0, e ∙ g.1)
 
 named_extends : (names : Scope) (types : Bool) (d : Full) (b : Bool) → full_has_name d ≡ b → Extends names (with_named names types d)
 named_extends names types d true e = ((name_of d, types) ∷ [], ap (λ (b : Bool). if b then ((name_of d, types) ∷ names) else names) e)
@@ -473,59 +435,3 @@ fits_marked names new mark e f = let g = mark_fits names new f in omega (arith, 
 
 pub left_marked : (names new left : Scope) (mark : ℕ) → mark ≡ length names → Extends names new → left ≡ drop (length new - mark) new → left ≡ names
 left_marked names new left mark e f g = left_behind names new left f (g ∙ ap (λ (m : ℕ). drop (length new - m) new) e)
-
--- definitions
-pub defined : (bytes : List ℕ) (names now : Scope) (ps : Parts) (d : Full) (line : ℕ) (ts rest : List Token) (body : Statement) (b : Bool) → b ≡ true → b ≡ is_function d → now ≡ with_parameters_of names (nearest d) → block_at bytes 399 (statement_at bytes 399) now line ts ≡ Some (body, rest) → definition_at bytes names ps d line ts ≡ Some (definitions ps d body, rest)
-unfolding definition_at
-defined bytes names now ps d line ts rest body b e f g h =
-    ap (λ (x : Bool). cond x (block_at bytes 399 (statement_at bytes 399) (with_parameters_of names (nearest d)) line ts) None >>= λ b. Some (definitions ps d b.0, b.1)) (sym f ∙ e)
-    ∙ ap (λ (o : Read Statement). o >>= λ b. Some (definitions ps d b.0, b.1)) (ap (λ (s : Scope). block_at bytes 399 (statement_at bytes 399) s line ts) (sym g) ∙ h)
-
-pub not_defined : (bytes : List ℕ) (names : Scope) (ps : Parts) (d : Full) (line : ℕ) (ts : List Token) (b : Bool) → b ≡ false → b ≡ is_function d → definition_at bytes names ps d line ts ≡ None
-unfolding definition_at
-not_defined bytes names ps d line ts b e f =
-    ap (λ (x : Bool). cond x (block_at bytes 399 (statement_at bytes 399) (with_parameters_of names (nearest d)) line ts) None >>= λ b. Some (definitions ps d b.0, b.1)) (sym f ∙ e)
-
--- declarations behind their first declarator
-insert_first : {X : Type 0} (xs : List X) (x : X) → insert xs 0 x ≡ x ∷ xs
-insert_first [] x = refl
-insert_first (y ∷ xs) x = refl
-
-pub others_made : (bytes : List ℕ) (names : Scope) (types : Bool) (ts mid rest : List Token) (d : InitDeclarator) (ds all : List InitDeclarator) → initializer_at bytes names 400 ts ≡ Some (option_map view_initializer d.initializer, mid) → declarators_at bytes names types 400 false mid ≡ Some (declarators_of ds, rest) → all ≡ insert ds 0 d → others_at bytes names types (view_full d.declarator) ts ≡ Some (declarators_of all, rest)
-unfolding others_at
-others_made bytes names types ts mid rest d ds all e f g =
-    ap (λ (o : Read (Option Initial)). o >>= λ i. declarators_at bytes names types 400 false i.1 >>= λ ds. Some (declarator (view_full d.declarator) i.0 ds.0, ds.1)) e
-    ∙ ap (λ (o : Read Declarators). o >>= λ ds. Some (declarator (view_full d.declarator) (option_map view_initializer d.initializer) ds.0, ds.1)) f
-    ∙ ap (λ (xs : List InitDeclarator). Some (declarators_of xs, rest)) (sym (g ∙ insert_first ds d))
-
-pub others_names : (before names new : Scope) (types : Bool) (d : InitDeclarator) (ds all : List InitDeclarator) → names ≡ (name_of (view_full d.declarator), types) ∷ before → new ≡ with_declarators names types (declarators_of ds) → all ≡ insert ds 0 d → new ≡ with_declarators before types (declarators_of all)
-others_names before names new types d ds all e f g =
-    f ∙ ap (λ (s : Scope). with_declarators s types (declarators_of ds)) e
-    ∙ ap (λ (xs : List InitDeclarator). with_declarators before types (declarators_of xs)) (sym (g ∙ insert_first ds d))
-
--- behind the first declarator
-pub scope_made : (now names : Scope) (n : List ℕ) (types typedefs : Bool) (d : Full) → now ≡ (n, types) ∷ names → n ≡ name_of d → types ≡ typedefs → now ≡ (name_of d, typedefs) ∷ names
-scope_made now names n types typedefs d e f g =
-    e ∙ ap (λ (x : List ℕ). (x, types) ∷ names) f ∙ ap (λ (b : Bool). (name_of d, b) ∷ names) g
-
-pub first_defined : (bytes : List ℕ) (names now : Scope) (ps : Parts) (d : Full) (ts others rest : List Token) (x : Token × List Token) (y : Read Outer) → full_at bytes 400 false names ts ≡ Some (d, others) → now ≡ (name_of d, have_typedef ps) ∷ names → Some x ≡ token_at (is_mark marks.LeftBrace) others → definition_at bytes now ps d x.0.line x.1 ≡ y → first_at bytes names ps ts ≡ y
-unfolding first_at
-first_defined bytes names now ps d ts others rest x y e f g h =
-    ap (λ (o : Read Full). o >>= λ d. outer_behind bytes ((name_of d.0, have_typedef ps) ∷ names) ps d.0 d.1 (token_at (is_mark marks.LeftBrace) d.1)) e
-    ∙ ap (outer_behind bytes ((name_of d, have_typedef ps) ∷ names) ps d others) (sym g)
-    ∙ ap (λ (s : Scope). definition_at bytes s ps d x.0.line x.1) (sym f) ∙ h
-
-pub first_declared : (bytes : List ℕ) (names now : Scope) (ps : Parts) (types : Bool) (d : Full) (ts others : List Token) (z : Read Declarators) → full_at bytes 400 false names ts ≡ Some (d, others) → now ≡ (name_of d, have_typedef ps) ∷ names → types ≡ have_typedef ps → None ≡ token_at (is_mark marks.LeftBrace) others → others_at bytes now types d others ≡ z → first_at bytes names ps ts ≡ (z >>= λ ds. Some (declarations ps ds.0, ds.1))
-unfolding first_at
-first_declared bytes names now ps types d ts others z e f k g h =
-    ap (λ (o : Read Full). o >>= λ d. outer_behind bytes ((name_of d.0, have_typedef ps) ∷ names) ps d.0 d.1 (token_at (is_mark marks.LeftBrace) d.1)) e
-    ∙ ap (outer_behind bytes ((name_of d, have_typedef ps) ∷ names) ps d others) (sym g)
-    ∙ ap (λ (o : Read Declarators). o >>= λ ds. Some (declarations ps ds.0, ds.1))
-    (ap (λ (s : Scope). others_at bytes s (have_typedef ps) d others) (sym f) ∙ ap (λ (b : Bool). others_at bytes now b d others) (sym k) ∙ h)
-
-pub declared_names : (before names now new : Scope) (ps : Parts) (ds : Declarators) (types : Bool) → names ≡ with_parts before ps → types ≡ have_typedef ps → new ≡ with_declarators names types ds → new ≡ with_declaration before ps ds
-declared_names before names now new ps ds types e f g =
-    g ∙ ap (λ (s : Scope). with_declarators s types ds) e ∙ ap (λ (b : Bool). with_declarators (with_parts before ps) b ds) f
-
-pub defined_names : (before names new : Scope) (ps : Parts) (d : Full) → names ≡ with_parts before ps → new ≡ (name_of d, have_typedef ps) ∷ names → new ≡ with_function before ps d
-defined_names before names new ps d e f = f ∙ ap (λ (s : Scope). (name_of d, have_typedef ps) ∷ s) e

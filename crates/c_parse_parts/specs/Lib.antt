@@ -1,3 +1,2 @@
 pub mod Tables
-pub mod Standing
 pub mod inner

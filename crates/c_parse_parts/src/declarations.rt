@@ -6,8 +6,8 @@ ghost use Rattle.c_parse_expr.specs.Reading.{Gives};
 ghost use Rattle.c_parse_parts.specs.inner.Reading.{next_at, initials_in, initials_at, initializer_at, declarator_at, declarators_at, declaration_at};
 
 use crate::declared::declared_name;
+use crate::parts::{are_some, full, specifiers};
 use crate::slices::{comma_at, mark_at, shut_at};
-use crate::specifiers::{are_some, full, specifiers};
 use c_parse_expr::{Frame, Refused, TypeNames, read};
 use c_token::{Mark, Token};
 use c_tree::{Declaration, InitDeclarator, Initializer};

@@ -4,9 +4,9 @@ ghost use Rattle.std.specs.Prelude.{◌≡◌, ◌<◌, ◌≤◌, IfSome, lengt
 ghost use Rattle.c_token.specs.declared.token.Mark.TheVariants as marks;
 ghost use Rattle.c_parse_expr.specs.Reading.{is_mark};
 ghost use Rattle.c_parse_expr.specs.inner.Reading.{is_identifier};
-ghost use Rattle.c_parse_parts.specs.inner.Reading.{is_keyword, token_at, stands, begin_of, comma_at, shut_at, void_at, dots_at, last_at, tag_at, start_by, kept, start_of, start_at, opening_of, opening_at, takes, declarator_start_of, declarator_start_at, is_label, declares_at};
+ghost use Rattle.c_parse_parts.specs.inner.Reading.{is_keyword, token_at, stands, comma_at, shut_at, void_at, dots_at, last_at, tag_at, start_by, kept, start_of, start_at, opening_of, opening_at, takes, declarator_start_of, declarator_start_at, is_label, declares_at};
 
-use crate::table::{Begin, Start, begin_of_keyword, start_of_keyword};
+use crate::table::{Start, start_of_keyword};
 use c_parse_expr::{TypeNames, is_mark, split, token_text};
 use c_token::{Keyword, Kind, Mark, Token};
 
@@ -117,34 +117,6 @@ pub fn stands(tokens: &[Token], mark: Mark) -> bool
     match mark_at(tokens, mark) {
         Some(_) => true,
         None => false,
-    }
-}
-
-/// What a token of a kind begins where a statement is due. A name begins a label where a colon is behind it.
-pub fn begin_of(colon: bool, kind: Kind) -> Begin
-    ensures { result ≡ begin_of colon kind }
-{
-    match kind {
-        Kind::Identifier => {
-            if colon {
-                Begin::Label
-            } else {
-                Begin::Expression
-            }
-        }
-        Kind::Keyword(keyword) => begin_of_keyword(keyword),
-        Kind::Constant(_) => Begin::Expression,
-        Kind::Character(_) => Begin::Expression,
-        Kind::String => Begin::Expression,
-        Kind::Mark(_) => {
-            if is_mark(Mark::LeftBrace, kind) {
-                Begin::Block
-            } else if is_mark(Mark::Semicolon, kind) {
-                Begin::Empty
-            } else {
-                Begin::Expression
-            }
-        }
     }
 }
 

@@ -1,7 +1,7 @@
-//! What a keyword begins among specifiers, and where a statement is due.
+//! What a keyword begins among specifiers.
 
 ghost use Rattle.std.specs.Prelude.{◌≡◌};
-ghost use Rattle.c_parse_parts.specs.Tables.{start_of_keyword, begin_of_keyword, record_tag};
+ghost use Rattle.c_parse_parts.specs.Tables.{start_of_keyword, record_tag};
 
 use c_token::Keyword;
 use c_tree::{FunctionSpecifier, Qualifier, RecordKind, StorageClass, TagKind, TypeWord};
@@ -17,26 +17,6 @@ pub enum Start {
     Enumeration,
     /// The name of a typedef.
     Name,
-}
-
-/// What the first token of a statement begins (C11 6.8).
-#[derive(Clone, Copy, PartialEq, Eq)]
-pub enum Begin {
-    Block,
-    If,
-    Return,
-    Expression,
-    Empty,
-    While,
-    Do,
-    For,
-    Switch,
-    Case,
-    Default,
-    Label,
-    Goto,
-    Break,
-    Continue,
 }
 
 /// What a keyword begins among specifiers.
@@ -78,48 +58,6 @@ pub fn start_of_keyword(keyword: Keyword) -> Option<Start>
         Keyword::While => None,
         Keyword::Bool => Some(Start::Word(TypeWord::Bool)),
         Keyword::Noreturn => Some(Start::Function(FunctionSpecifier::Noreturn)),
-    }
-}
-
-/// What a keyword begins where a statement is due.
-pub fn begin_of_keyword(keyword: Keyword) -> Begin
-    ensures { result ≡ begin_of_keyword keyword }
-{
-    match keyword {
-        Keyword::Auto => Begin::Expression,
-        Keyword::Break => Begin::Break,
-        Keyword::Case => Begin::Case,
-        Keyword::Char => Begin::Expression,
-        Keyword::Const => Begin::Expression,
-        Keyword::Continue => Begin::Continue,
-        Keyword::Default => Begin::Default,
-        Keyword::Do => Begin::Do,
-        Keyword::Else => Begin::Expression,
-        Keyword::Enum => Begin::Expression,
-        Keyword::Extern => Begin::Expression,
-        Keyword::For => Begin::For,
-        Keyword::Goto => Begin::Goto,
-        Keyword::If => Begin::If,
-        Keyword::Inline => Begin::Expression,
-        Keyword::Int => Begin::Expression,
-        Keyword::Long => Begin::Expression,
-        Keyword::Register => Begin::Expression,
-        Keyword::Restrict => Begin::Expression,
-        Keyword::Return => Begin::Return,
-        Keyword::Short => Begin::Expression,
-        Keyword::Signed => Begin::Expression,
-        Keyword::Sizeof => Begin::Expression,
-        Keyword::Static => Begin::Expression,
-        Keyword::Struct => Begin::Expression,
-        Keyword::Switch => Begin::Switch,
-        Keyword::Typedef => Begin::Expression,
-        Keyword::Union => Begin::Expression,
-        Keyword::Unsigned => Begin::Expression,
-        Keyword::Void => Begin::Expression,
-        Keyword::Volatile => Begin::Expression,
-        Keyword::While => Begin::While,
-        Keyword::Bool => Begin::Expression,
-        Keyword::Noreturn => Begin::Expression,
     }
 }
 

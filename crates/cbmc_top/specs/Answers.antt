@@ -12,7 +12,7 @@ use Rattle.c_pre.specs.Calls.{IsExpansion}
 use Rattle.c_tree.specs.Statements.{Externals}
 use Rattle.c_tree.specs.Files.{IsFile}
 use Rattle.c_parse_expr.specs.Standing.{line_at}
-use Rattle.c_parse_parts.specs.Standing.{EndsAt}
+use Rattle.c_parse_statements.specs.Standing.{EndsAt}
 use Rattle.core_tree.specs.Trees.{TypedFile}
 use Rattle.core_tree.specs.Ranges.{Limits, Cause}
 use Rattle.core_tree.specs.declared.refusal.Limit.{Limit}

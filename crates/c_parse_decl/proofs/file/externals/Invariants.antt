@@ -1,7 +1,7 @@
 use Rattle.std.proofs.Common.{◌≡◌, [], length}
 use Rattle.c_tree.specs.Names.{built_in_names}
 use Rattle.c_tree.specs.Statements.{externals_of}
-use Rattle.c_parse_parts.specs.Standing.{StandBefore, with_externals}
+use Rattle.c_parse_statements.specs.Standing.{StandBefore, with_externals}
 use Rattle.c_parse_decl.proofs.file.externals.Given as goal
 
 abbrev pub invariant-externals : goal.invariant-externals

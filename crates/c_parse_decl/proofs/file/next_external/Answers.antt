@@ -1,6 +1,6 @@
 use Rattle.c_parse_expr.proofs.Loops.{fails_none}
-use Rattle.c_parse_parts.specs.Standing.{outer_of}
-use Rattle.c_parse_parts.specs.inner.Reading.{outer_at}
+use Rattle.c_parse_statements.specs.Standing.{outer_of}
+use Rattle.c_parse_statements.specs.inner.Reading.{outer_at}
 use Rattle.c_parse_decl.proofs.Externals.{outer_takes, none_stands}
 use Rattle.c_parse_decl.proofs.file.next_external.Goals as goal
 

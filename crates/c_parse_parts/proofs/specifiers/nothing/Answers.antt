@@ -1,5 +1,0 @@
-use Rattle.c_parse_parts.proofs.Loops.{empty_made}
-use Rattle.c_parse_parts.proofs.specifiers.nothing.Goals as goal
-
-pub returns : goal.returns
-returns c = empty_made c.new.result c.new.ensures.items

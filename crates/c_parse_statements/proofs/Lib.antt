@@ -1,0 +1,4 @@
+pub mod Firsts
+pub mod SoundStatements
+pub mod CompleteStatements
+pub mod Loops
