@@ -12,7 +12,7 @@ use Rattle.c_scope.specs.Members.{Field, view_fields}
 use Rattle.c_scope.specs.Scopes.{Named, Scoped}
 use Rattle.c_scope.specs.Faults.{◌>>=◌, Fault, on_line}
 use Rattle.c_scope.specs.declared.specifiers.Specified.{Specified}
-use Rattle.c_scope.specs.Types.{Said, view_specified, nothing_specified, with_type, with_part, specified_type, array_of}
+use Rattle.c_scope.specs.Types.{Said, view_specified, nothing_specified, with_type, with_part, specified_type, array_of, element_type}
 use Rattle.c_elab_base.specs.declared.regions.Region.{Region}
 use Rattle.c_elab_base.specs.declared.regions.Role.{Role}
 use Rattle.c_elab_base.specs.declared.regions.Role.TheVariants as roles
@@ -146,7 +146,7 @@ plain_parameter done several t = if is_void t && several then Ok t else sized_ty
 abbrev pub array_parameter : List Completed → CType → List (Option ℕ) → Result CType ℕ
 array_parameter done base [] = Err 7
 array_parameter done base (None ∷ ns) = do
-  t ← array_of done base ns
+  t ← element_type done base ns
   u ← complete_type done t
   Err 7
 array_parameter done base (Some n ∷ ns) = do

@@ -18,7 +18,9 @@ use crate::naming::name_of;
 use crate::regions::{Region, Role, earlier};
 use crate::sizes::{complete_type, declare_parameter, sized_type};
 use crate::tagging::{forward_tag, tag_named};
-use c_scope::{Broken, Field, QualifiedType, Scope, Specified, TypingError, array_of, array_type};
+use c_scope::{
+    Broken, Field, QualifiedType, Scope, Specified, TypingError, array_of, array_type, element_type,
+};
 use c_tree::{
     FullDeclarator, InitDeclarator, Name, Specifier, StorageClass, TagKind, TypeSpecifier,
 };
@@ -154,7 +156,7 @@ fn array_parameter(
         let _type = array_of(alloc, base, lengths, layouts)?;
         return Err(Broken::Rule { rule: 7 });
     }
-    let element = array_of(alloc, base, &lengths[1..], layouts)?;
+    let element = element_type(alloc, base, &lengths[1..], layouts)?;
     match complete_type(element, layouts, 0) {
         Ok(_) => Err(Broken::Rule { rule: 7 }),
         Err(TypingError::Typing { rule, .. }) => Err(Broken::Rule { rule }),

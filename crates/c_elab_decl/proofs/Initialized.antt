@@ -22,7 +22,7 @@ use Rattle.core_tree.specs.Typed as typings
 use Rattle.c_elab_expr.specs.declared.operands.Home.{Home}
 use Rattle.c_elab_expr.specs.declared.operands.Home.TheVariants as homes
 use Rattle.c_scope.specs.Scopes.{Scoped}
-use Rattle.c_scope.specs.Faults.{required, on_line}
+use Rattle.c_scope.specs.Faults.{fault, required, on_line}
 use Rattle.c_elab_expr.specs.Nodes.{integer, as_type}
 use Rattle.c_elab_expr.specs.Operands.{Operand, value, object, structure, held_value, is_home, number, same_record, record_value, is_typed_operand}
 use Rattle.c_elab_expr.specs.Texts.{text_bytes, bytes_of}
@@ -31,7 +31,7 @@ use Rattle.c_scope.proofs.Variables.{both, and}
 use Rattle.c_elab_expr.proofs.Types.{type_as, typed_as}
 use Rattle.c_elab_expr.proofs.WellTyped.{Holds, bind, given, refused, on_same_line, integer_is, well_used}
 use Rattle.c_elab_base.specs.Slots.{slot, slot_type}
-use Rattle.c_elab_type.specs.Initializers.{Made, nothing, single, text, listed, only, Value, number_value, structure_value, is_character, scalar_value, record_node, array_node, value_node, part_with, joined, item_node, parts_from, list_made, braced, literal_of, constant_node, single_as, typed_initial, typed_initials, initializer_of}
+use Rattle.c_elab_type.specs.Initializers.{Made, single, text, listed, only, Value, number_value, structure_value, is_character, scalar_value, record_node, array_node, value_node, part_with, joined, item_node, parts_from, list_made, braced, literal_of, constant_node, single_as, typed_initial, typed_initials, initializer_of}
 use Rattle.c_elab_base.proofs.Signatures.{closed_scope, own_sizes}
 use Rattle.c_elab_base.proofs.Growing.{There}
 use Rattle.c_elab_decl.proofs.Closed.{operand_keeps}
@@ -82,7 +82,6 @@ FineList s (ctypes.aggregate p) a = FineStructure s (size_of s.records.done (cty
 FineList s (ctypes.array element n) a = FineStructure s (size_of s.records.done (ctypes.array element n)) a
 
 abbrev pub FineMade : Scoped → CType → Made → Type 0
-FineMade s t nothing = Unit {0}
 FineMade s t (single x) = FineOperand s x
 FineMade s t (text line bs) = list_all (λ b. nat_lt b 256) bs ≡ true
 FineMade s t (listed a) = FineList s t a
@@ -95,7 +94,6 @@ ItemsFine s t i (x ∷ xs) = FineMade s (slot_type (slot s.records t i)) x × It
 -- ---- values
 
 scalar_fine : (s : Scoped) (t : IntegerType) (x : Made) → FineMade s (ctypes.integer t) x → Holds (FineValue s (ctypes.integer t)) (scalar_value t x)
-scalar_fine s t nothing h = refused (FineValue s (ctypes.integer t)) 12
 scalar_fine s t (single x) h =
     bind (FineNumber s) (FineValue s (ctypes.integer t)) (number 8 x) _ (number_fine s 8 x h) (λ e n.
     given (FineValue s (ctypes.integer t)) (number_value (as_type t e)) (record { scalar = t; is = refl; type = type_as t e; good = typed_as (own_sizes s) t n.type e n.is n.good }))
@@ -133,7 +131,6 @@ record_fine s rule p (structure u a) h = by (same_record (ctypes.aggregate p) u)
   by false e = refused _ rule
 
 record_node_fine : (s : Scoped) (p : ℕ) (x : Made) → FineMade s (ctypes.aggregate p) x → Holds (FineValue s (ctypes.aggregate p)) (record_node s.records.done (ctypes.aggregate p) x)
-record_node_fine s p nothing h = refused (FineValue s (ctypes.aggregate p)) 12
 record_node_fine s p (single x) h =
     bind (FineStructure s (size_of s.records.done (ctypes.aggregate p))) (FineValue s (ctypes.aggregate p)) (required 12 (record_value s.records.done (ctypes.aggregate p) x)) _ (record_fine s 12 p x h) (λ a fit.
     given (FineValue s (ctypes.aggregate p)) (structure_value a) fit)
@@ -176,7 +173,6 @@ text_fine s element n line bs there o h fit =
 
 array_node_fine : (s : Scoped) (element : CType) (n : ℕ) (x : Made) → There s → IsObject s.records.done (ctypes.array element n) → FineMade s (ctypes.array element n) x
     → Holds (FineValue s (ctypes.array element n)) (array_node element n x)
-array_node_fine s element n nothing there o h = refused (FineValue s (ctypes.array element n)) 12
 array_node_fine s element n (single x) there o h = refused (FineValue s (ctypes.array element n)) 12
 array_node_fine s element n (text line bs) there o h = by (is_character element && nat_le (length bs) n) refl where
   by : (b : Bool) → (is_character element && nat_le (length bs) n) ≡ b → Holds {E = ℕ} (FineValue s (ctypes.array element n)) (if b then Ok (structure_value (cores.string line n bs)) else Err 12)
@@ -263,24 +259,23 @@ slot_may s (ctypes.array element n) i there o = by (slot s.records (ctypes.array
 
 -- no braces around items are an item too many's
 of_scalar : (s : Scoped) (t : IntegerType) (x : Made) → FineMade s ctypes.void x → FineMade s (ctypes.integer t) x
-of_scalar s t nothing h = tt
 of_scalar s t (single x) h = h
 of_scalar s t (text line bs) h = h
 of_scalar s t (listed a) h = absurd h
 
-only_fine : (s : Scoped) (xs : List Made) → ItemsFine s ctypes.void 0 xs → FineMade s ctypes.void (only xs)
-only_fine s [] h = tt
-only_fine s (x ∷ []) h = h.0
-only_fine s (x ∷ y ∷ rest) h = tt
+only_fine : (s : Scoped) (line : ℕ) (xs : List Made) → ItemsFine s ctypes.void 0 xs → Holds (FineMade s ctypes.void) (on_line line (required 12 (only xs)))
+only_fine s line [] h = refused (FineMade s ctypes.void) (fault line 12)
+only_fine s line (x ∷ []) h = given (FineMade s ctypes.void) x h.0
+only_fine s line (x ∷ y ∷ rest) h = refused (FineMade s ctypes.void) (fault line 12)
 
-only_scalar : (s : Scoped) (t : IntegerType) (xs : List Made) → ItemsFine s (ctypes.integer t) 0 xs → FineMade s ctypes.void (only xs)
-only_scalar s t [] h = tt
-only_scalar s t (x ∷ []) h = h.0
-only_scalar s t (x ∷ y ∷ rest) h = tt
+only_scalar : (s : Scoped) (t : IntegerType) (line : ℕ) (xs : List Made) → ItemsFine s (ctypes.integer t) 0 xs → Holds (FineMade s (ctypes.integer t)) (on_line line (required 12 (only xs)))
+only_scalar s t line [] h = refused (FineMade s (ctypes.integer t)) (fault line 12)
+only_scalar s t line (x ∷ []) h = given (FineMade s (ctypes.integer t)) x (of_scalar s t x h.0)
+only_scalar s t line (x ∷ y ∷ rest) h = refused (FineMade s (ctypes.integer t)) (fault line 12)
 
 braced_fine : (s : Scoped) (t : CType) (line : ℕ) (xs : List Made) → There s → May s.records.done t → ItemsFine s t 0 xs → Holds (FineMade s t) (braced line s.records t xs)
-braced_fine s ctypes.void line xs there o h = given (FineMade s ctypes.void) (only xs) (only_fine s xs h)
-braced_fine s (ctypes.integer t) line xs there o h = given (FineMade s (ctypes.integer t)) (only xs) (of_scalar s t (only xs) (only_scalar s t xs h))
+braced_fine s ctypes.void line xs there o h = only_fine s line xs h
+braced_fine s (ctypes.integer t) line xs there o h = only_scalar s t line xs h
 braced_fine s (ctypes.aggregate p) line xs there o h = λ m e. let d = list_fine s (ctypes.aggregate p) line xs there o h m e in subst (FineMade s (ctypes.aggregate p)) (sym d.1) d.2
 braced_fine s (ctypes.array element n) line xs there o h = λ m e. let d = list_fine s (ctypes.array element n) line xs there o h m e in subst (FineMade s (ctypes.array element n)) (sym d.1) d.2
 

@@ -1,5 +1,5 @@
 -- The steps that type an object, one behind the other.
-use Rattle.std.proofs.Common.{◌≡◌, ℕ, Bool, true, List, Option, Some, None, Result, Ok, Err, ap, sym, ◌∙◌}
+use Rattle.std.proofs.Common.{◌≡◌, ℕ, Bool, true, List, Option, Some, None, Result, Ok, Err, ap, sym, subst, ◌∙◌}
 use Rattle.std.specs.Prelude.{◌&&◌, ◌||◌, not, is_some, IfSome, OnOk}
 use Rattle.c_tree.specs.Declarations.{Initial, Full, name_of}
 use Rattle.c_types.specs.Types.{CType}
@@ -12,7 +12,7 @@ use Rattle.c_elab_base.specs.declared.regions.Region.{Region}
 use Rattle.c_elab_base.specs.Derivations.{full_line}
 use Rattle.c_elab_type.specs.Initializers.{Value, initializer_of}
 use Rattle.c_elab_base.specs.Declarators.{is_open}
-use Rattle.c_elab_object.specs.ObjectEntries.{object_entry_type, object_entry_node, linked_object, earlier_linked, IsObjectThere, counted_by, element_of, may_define, declared_again, declared_object, changed_object, initialized_object, typed_object}
+use Rattle.c_elab_object.specs.ObjectEntries.{object_entry_type, stated_type, object_entry_node, linked_object, earlier_linked, IsObjectThere, counted_by, element_of, may_define, declared_again, declared_object, changed_object, initialized_object, typed_object}
 use Rattle.c_elab_object.proofs.SettlingDeclared.{IsLinked, node_linked}
 
 module _ (r : Region) (is_extern : Bool) (s : Scoped) (base : Named) (d : Full) (i : Option Initial) (ls : List (Option ℕ)) where
@@ -26,7 +26,7 @@ module _ (r : Region) (is_extern : Bool) (s : Scoped) (base : Named) (d : Full) 
   own_object = linked_object r is_extern s (name_of d)
 
   abbrev own_node : Result (CType × Bool) Fault
-  own_node = on_line own_line (object_entry_node s base.constant (earlier_linked r is_extern s (name_of d)) own_object (object_entry_type s.records.done base.type is_extern i ls) i)
+  own_node = on_line own_line (object_entry_node s base.constant (earlier_linked r is_extern s (name_of d)) own_object (object_entry_type s.records.done base.type is_extern i ls) (stated_type s.records.done base.type ls) i)
 
   -- its number and its scope within the initializer
   abbrev within : CType × Bool → ℕ × Scoped
@@ -62,7 +62,7 @@ declared_as s constant x ls i a b name other linked found y counted defined defi
 pub typed_as : (r : Region) (is_extern : Bool) (s : Scoped) (base : Named) (d : Full) (i : Option Initial) (at : ℕ) (defined counted has_linkage : Bool) (name : List ℕ) (linked : Option ℕ)
     (ls : List (Option ℕ)) (x y : CType × Bool) (k : ℕ) (w z u : Scoped) (v : Option Value)
     → at ≡ full_line d → defined ≡ (not is_extern || is_some i) → counted ≡ (is_some i && is_open ls) → has_linkage ≡ (r.is_file || is_extern) → name ≡ name_of d → linked ≡ linked_object r is_extern s name
-    → on_line (full_line d) (object_entry_node s base.constant (earlier_linked r is_extern s (name_of d)) (linked_object r is_extern s (name_of d)) (object_entry_type s.records.done base.type is_extern i ls) i) ≡ Ok x
+    → on_line (full_line d) (object_entry_node s base.constant (earlier_linked r is_extern s (name_of d)) (linked_object r is_extern s (name_of d)) (object_entry_type s.records.done base.type is_extern i ls) (stated_type s.records.done base.type ls) i) ≡ Ok x
     → may_define at r is_extern i ≡ Ok tt → y ≡ counted_by counted x (element_of x.0) → (k, w) ≡ declared_object s has_linkage base.constant name linked y defined at
     → initializer_of true at w x.0 i ≡ Ok v → z ≡ changed_object w k (λ o. declared_again o x defined) → u ≡ initialized_object z k v → typed_object r is_extern s base d i ls ≡ Ok u
 typed_as r is_extern s base d i at defined counted has_linkage name linked ls x y k w z u v e1 e2 e3 e4 e5 e6 h2 h3 h4 h5 h6 h7 h8 =
@@ -77,8 +77,18 @@ linked_there s None h = tt
 linked_there s (Some k) h = h
 
 -- the object that a name is linked to is there
-pub type_there : {X : Type 0} (view : X → CType × Bool) (made : Result X TypingError) (line : ℕ) (s : Scoped) (constant : Bool) (m : Option Meaning) (linked : Option ℕ) (r : Result (CType × Bool) ℕ) (i : Option Initial)
-    → Gives view made (on_line line (object_entry_node s constant m linked r i)) → OnOk made (IfSome linked (λ k. IsObjectThere s k))
-type_there view (Ok x) line s constant m linked r i h =
-    linked_there s linked (on_same_line (λ x. IsLinked s linked) line (object_entry_node s constant m linked r i) (node_linked s constant m linked r i) (view x) h)
-type_there view (Err e) line s constant m linked r i h = tt
+pub type_there : {X : Type 0} (view : X → CType × Bool) (made : Result X TypingError) (line : ℕ) (s : Scoped) (constant : Bool) (m : Option Meaning) (linked : Option ℕ) (r : Result (CType × Bool) ℕ) (t : Option (CType × Bool)) (i : Option Initial)
+    → Gives view made (on_line line (object_entry_node s constant m linked r t i)) → OnOk made (IfSome linked (λ k. IsObjectThere s k))
+type_there view (Ok x) line s constant m linked r t i h =
+    linked_there s linked (on_same_line (λ x. IsLinked s linked) line (object_entry_node s constant m linked r t i) (node_linked s constant m linked r t i) (view x) h)
+type_there view (Err e) line s constant m linked r t i h = tt
+
+-- what its type is told by, named as its declarator says
+pub type_given : {X : Type 0} (view : X → CType × Bool) (made : Result X TypingError) (s : Scoped) (constant : Bool) (r : Result (CType × Bool) ℕ) (i : Option Initial)
+    (a b : ℕ) (m n : Option Meaning) (j k : Option ℕ) (t u : Option (CType × Bool)) → a ≡ b → m ≡ n → j ≡ k → t ≡ u
+    → Gives view made (on_line a (object_entry_node s constant m j r t i)) → Gives view made (on_line b (object_entry_node s constant n k r u i))
+type_given view made s constant r i a b m n j k t u e1 e2 e3 e4 h =
+    subst (λ (x : ℕ). Gives view made (on_line x (object_entry_node s constant n k r u i))) e1
+    (subst (λ (x : Option Meaning). Gives view made (on_line a (object_entry_node s constant x k r u i))) e2
+    (subst (λ (x : Option ℕ). Gives view made (on_line a (object_entry_node s constant m x r u i))) e3
+    (subst (λ (x : Option (CType × Bool)). Gives view made (on_line a (object_entry_node s constant m j r x i))) e4 h)))

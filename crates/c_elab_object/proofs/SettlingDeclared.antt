@@ -17,7 +17,7 @@ use Rattle.c_elab_type.specs.Initializers.{Value, initial_bytes, initializer_of,
 use Rattle.c_elab_base.specs.Declarators.{with_typedef, is_typedef_of_function, function_typedef_node, with_function_type, with_function_typedef, is_open}
 use Rattle.c_elab_type.specs.Declarators.{typed_typedef, typed_function_typedef}
 use Rattle.c_elab_type.specs.Specifiers.{typed_full, Specification}
-use Rattle.c_elab_object.specs.ObjectEntries.{object_entry_type, is_again, is_linked_to, linked_object, earlier_linked, may_again, object_entry_again, object_entry_node, declared_again, first_declared, with_object, changed_object, added_object, declared_object, initialized_object, may_define, counted_by, element_of, typed_object}
+use Rattle.c_elab_object.specs.ObjectEntries.{object_entry_type, stated_type, is_stated_again, is_again, is_linked_to, linked_object, earlier_linked, may_again, object_entry_again, object_entry_node, declared_again, first_declared, with_object, changed_object, added_object, declared_object, initialized_object, may_define, counted_by, element_of, typed_object}
 use Rattle.c_elab_object.specs.Functions.{is_own_function, is_function_again, function_again, is_own_built_in, is_built_in_type, function_node, declared_callable, with_meaning, declared_or_built_in, typed_function}
 use Rattle.c_elab_object.specs.Functions as functions
 use Rattle.c_elab_object.specs.DeclaratorLists.{typedef_by, typed_typedefs, object_by, typed_objects, typed_others}
@@ -158,9 +158,12 @@ abbrev pub IsLinked : Scoped → Option ℕ → Type 0
 IsLinked s None = Unit {0}
 IsLinked s (Some k) = (o : ObjectEntry) × (object_at s k ≡ Some o)
 
-again_linked : (s : Scoped) (constant : Bool) (k : ℕ) (r : Result (CType × Bool) ℕ) (i : Option Initial) → Holds (λ x. IsLinked s (Some k)) (object_entry_again s constant k r i)
-again_linked s constant k (Err rule) i = refused _ 2
-again_linked s constant k (Ok x) i = by (object_at s k) refl where
+again_linked : (s : Scoped) (constant : Bool) (k : ℕ) (r : Result (CType × Bool) ℕ) (t : Option (CType × Bool)) (i : Option Initial) → Holds (λ x. IsLinked s (Some k)) (object_entry_again s constant k r t i)
+again_linked s constant k (Err rule) t i = either (is_stated_again (object_at s k) constant t i) where
+  either : (b : Bool) → Holds {A = CType × Bool} {E = ℕ} (λ x. IsLinked s (Some k)) (if b then Err rule else Err 2)
+  either true = refused _ rule
+  either false = refused _ 2
+again_linked s constant k (Ok x) t i = by (object_at s k) refl where
   node : (b : Bool) (o : ObjectEntry) → object_at s k ≡ Some o → Holds {E = ℕ} (λ x. IsLinked s (Some k)) (if b then Ok x else Err 2)
   node true o e = given (λ x. IsLinked s (Some k)) x (o, e)
   node false o e = refused _ 2
@@ -169,12 +172,12 @@ again_linked s constant k (Ok x) i = by (object_at s k) refl where
   by None e = refused _ 2
   by (Some o) e = node (is_again o constant x i) o e
 
-pub node_linked : (s : Scoped) (constant : Bool) (m : Option Meaning) (linked : Option ℕ) (r : Result (CType × Bool) ℕ) (i : Option Initial)
-    → Holds (λ x. IsLinked s linked) (object_entry_node s constant m linked r i)
-node_linked s constant m None r i = λ x e. tt
-node_linked s constant m (Some k) r i = by (is_linked_to (Some k) m) where
-  by : (b : Bool) → Holds {E = ℕ} (λ x. IsLinked s (Some k)) (if b then object_entry_again s constant k r i else Err 2)
-  by true = again_linked s constant k r i
+pub node_linked : (s : Scoped) (constant : Bool) (m : Option Meaning) (linked : Option ℕ) (r : Result (CType × Bool) ℕ) (t : Option (CType × Bool)) (i : Option Initial)
+    → Holds (λ x. IsLinked s linked) (object_entry_node s constant m linked r t i)
+node_linked s constant m None r t i = λ x e. tt
+node_linked s constant m (Some k) r t i = by (is_linked_to (Some k) m) where
+  by : (b : Bool) → Holds {E = ℕ} (λ x. IsLinked s (Some k)) (if b then object_entry_again s constant k r t i else Err 2)
+  by true = again_linked s constant k r t i
   by false = refused _ 2
 
 declared_object_settles : (s : Scoped) (has_linkage constant : Bool) (name : List ℕ) (linked : Option ℕ) (x : CType × Bool) (defines : Bool) (line : ℕ) → IsLinked s linked
@@ -194,9 +197,9 @@ typed_object_settles r is_extern s base d i ls =
     let line = full_line d in
     let linked = linked_object r is_extern s name in
     let defines = not is_extern || is_some i in
-    let node = object_entry_node s base.constant (earlier_linked r is_extern s name) linked (object_entry_type s.records.done base.type is_extern i ls) i in
+    let node = object_entry_node s base.constant (earlier_linked r is_extern s name) linked (object_entry_type s.records.done base.type is_extern i ls) (stated_type s.records.done base.type ls) i in
     bind (λ x. IsLinked s linked) (Settles s) (on_line line node) _
-    (on_same_line (λ x. IsLinked s linked) line node (node_linked s base.constant (earlier_linked r is_extern s name) linked (object_entry_type s.records.done base.type is_extern i ls) i)) (λ x there.
+    (on_same_line (λ x. IsLinked s linked) line node (node_linked s base.constant (earlier_linked r is_extern s name) linked (object_entry_type s.records.done base.type is_extern i ls) (stated_type s.records.done base.type ls) i)) (λ x there.
     bind (λ (u : Unit {0}). Unit {0}) (Settles s) (may_define line r is_extern i) _ (trivially _) (λ u _.
     let y = declared_object s (r.is_file || is_extern) base.constant name linked (counted_by (is_some i && is_open ls) x (element_of x.0)) defines line in
     let z = changed_object y.1 y.0 (λ o. declared_again o x defines) in

@@ -6,7 +6,7 @@ use Rattle.c_scope.specs.declared.meaning.Meaning.{Meaning}
 use Rattle.c_scope.specs.declared.meaning.Meaning.TheVariants.{Object, Function}
 use Rattle.c_scope.specs.Scopes.{binding, Named, ObjectEntry, Scoped, object_at, linked_to}
 use Rattle.c_scope.specs.Faults.{◌>>=◌, Fault, fault, on_line}
-use Rattle.c_scope.specs.Types.{array_of}
+use Rattle.c_scope.specs.Types.{array_of, element_type}
 use Rattle.c_elab_base.specs.declared.regions.Region.{Region}
 use Rattle.c_elab_base.specs.Regions.{earlier}
 use Rattle.c_elab_base.specs.Derivations.{full_line}
@@ -17,7 +17,7 @@ use Rattle.c_elab_type.specs.Declarators.{given_lengths}
 -- the type that a declarator gives an object, and whether it is an array of so many elements of that type as no declaration says so far, which only `extern` allows
 abbrev pub object_entry_type : List Completed → CType → Bool → Option Initial → List (Option ℕ) → Result (CType × Bool) ℕ
 object_entry_type done base true None (None ∷ ls) = do
-  t ← array_of done base ls
+  t ← element_type done base ls
   u ← complete_type done t
   Ok (u, true)
 object_entry_type done base true None ls = array_of done base ls >>= λ t. Ok (t, false)
@@ -25,6 +25,15 @@ object_entry_type done base is_extern i ls = do
   t ← array_of done base (given_lengths i ls)
   u ← sized_type done t
   Ok (u, false)
+
+-- the type that a declarator says, which may be incomplete, where there is one
+abbrev pub made_type : Bool → Result CType ℕ → Option (CType × Bool)
+made_type unknown_length (Ok t) = Some (t, unknown_length)
+made_type unknown_length (Err rule) = None
+
+abbrev pub stated_type : List Completed → CType → List (Option ℕ) → Option (CType × Bool)
+stated_type done base (None ∷ ls) = made_type true (element_type done base ls)
+stated_type done base ls = made_type false (array_of done base ls)
 
 abbrev pub is_array_of : CType → CType → Bool
 is_array_of element void = false
@@ -58,14 +67,19 @@ abbrev pub may_again : Option ObjectEntry → Bool → CType × Bool → Option 
 may_again None constant x i = false
 may_again (Some o) constant x i = is_again o constant x i
 
--- rule 2: a scope may name an object again that has linkage, with the same type
-abbrev pub object_entry_again : Scoped → Bool → ℕ → Result (CType × Bool) ℕ → Option Initial → Result (CType × Bool) ℕ
-object_entry_again s constant k (Err rule) i = Err 2
-object_entry_again s constant k (Ok x) i = if may_again (object_at s k) constant x i then Ok x else Err 2
+-- the same of the type that its declarator says
+abbrev pub is_stated_again : Option ObjectEntry → Bool → Option (CType × Bool) → Option Initial → Bool
+is_stated_again o constant None i = false
+is_stated_again o constant (Some x) i = may_again o constant x i
 
-abbrev pub object_entry_node : Scoped → Bool → Option Meaning → Option ℕ → Result (CType × Bool) ℕ → Option Initial → Result (CType × Bool) ℕ
-object_entry_node s constant earlier None made i = if is_linked_to None earlier then made else Err 2
-object_entry_node s constant earlier (Some k) made i = if is_linked_to (Some k) earlier then object_entry_again s constant k made i else Err 2
+-- rule 2: a scope may name an object again that has linkage, with the same type; where that isn't complete, the rule that it breaks itself
+abbrev pub object_entry_again : Scoped → Bool → ℕ → Result (CType × Bool) ℕ → Option (CType × Bool) → Option Initial → Result (CType × Bool) ℕ
+object_entry_again s constant k (Err rule) stated i = if is_stated_again (object_at s k) constant stated i then Err rule else Err 2
+object_entry_again s constant k (Ok x) stated i = if may_again (object_at s k) constant x i then Ok x else Err 2
+
+abbrev pub object_entry_node : Scoped → Bool → Option Meaning → Option ℕ → Result (CType × Bool) ℕ → Option (CType × Bool) → Option Initial → Result (CType × Bool) ℕ
+object_entry_node s constant earlier None made stated i = if is_linked_to None earlier then made else Err 2
+object_entry_node s constant earlier (Some k) made stated i = if is_linked_to (Some k) earlier then object_entry_again s constant k made stated i else Err 2
 
 -- what is known of an object behind one more declarator of it
 abbrev pub declared_again : ObjectEntry → CType × Bool → Bool → ObjectEntry
@@ -141,7 +155,7 @@ with_initializer line x defines i within = do
 
 abbrev pub typed_object : Region → Bool → Scoped → Named → Full → Option Initial → List (Option ℕ) → Result Scoped Fault
 typed_object r is_extern s base d i ls = do
-  x ← on_line (full_line d) (object_entry_node s base.constant (earlier_linked r is_extern s (name_of d)) (linked_object r is_extern s (name_of d)) (object_entry_type s.records.done base.type is_extern i ls) i)
+  x ← on_line (full_line d) (object_entry_node s base.constant (earlier_linked r is_extern s (name_of d)) (linked_object r is_extern s (name_of d)) (object_entry_type s.records.done base.type is_extern i ls) (stated_type s.records.done base.type ls) i)
   may ← may_define (full_line d) r is_extern i
   with_initializer (full_line d) x (not is_extern || is_some i) i
       (declared_object s (r.is_file || is_extern) base.constant (name_of d) (linked_object r is_extern s (name_of d)) (counted_by (is_some i && is_open ls) x (element_of x.0)) (not is_extern || is_some i) (full_line d))

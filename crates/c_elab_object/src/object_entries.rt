@@ -5,17 +5,20 @@ ghost use Rattle.c_tree.specs.Declarations.{view_full, view_initializer, name_of
 ghost use Rattle.c_types.specs.Types.{CType, view as type_view};
 ghost use Rattle.c_scope.specs.Scopes.{view_named, view_object_entry, linked_to, is_known};
 ghost use Rattle.c_elab_base.specs.Derivations.{full_line};
-ghost use Rattle.c_scope.specs.Faults.{Gives, on_line};
+ghost use Rattle.c_scope.specs.Faults.{Gives, GivesNode, on_line};
 ghost use Rattle.c_elab_base.specs.Declarators.{is_open};
 ghost use Rattle.c_elab_type.specs.Initializers.{view_value};
-ghost use Rattle.c_elab_object.specs.ObjectEntries.{object_entry_type, is_array_of, compatible, is_again, is_linked_to, linked_object, object_entry_node, declared_again, counted_by, element_of, IsObjectThere, with_object, added_object, changed_object, declared_object, initialized_object, may_define, function_or, earlier_linked, typed_object};
+ghost use Rattle.c_elab_object.specs.ObjectEntries.{object_entry_type, made_type, stated_type, is_array_of, compatible, is_again, may_again, is_stated_again, is_linked_to, linked_object, object_entry_node, declared_again, counted_by, element_of, IsObjectThere, with_object, added_object, changed_object, declared_object, initialized_object, may_define, function_or, earlier_linked, typed_object};
 ghost use Rattle.c_elab_object.specs.Settled.{is_settled};
 
 use c_elab_base::{
     Region, complete_type, earlier, full_line, is_open, name_of, same_ctype, same_flag, sized_type,
 };
 use c_elab_type::{Value, give_lengths, initial_bytes, initializer_of};
-use c_scope::{Meaning, ObjectEntry, QualifiedType, Scope, TypingError, array_type};
+use c_scope::{
+    Broken, Meaning, ObjectEntry, QualifiedType, Scope, TypingError, array_of, array_type,
+    element_type, element_type_on,
+};
 use c_tree::{FullDeclarator, InitDeclarator, Initializer};
 use c_types::Ty;
 use std::alloc::{AllocError, Global};
@@ -45,7 +48,7 @@ fn object_entry_type(
     let element = base.copied()?;
     if is_extern && initializer.is_none() {
         if is_open(&lengths) {
-            let type_ = array_type(alloc, element, &lengths[1..], scope.layouts(), line)?;
+            let type_ = element_type_on(alloc, element, &lengths[1..], scope.layouts(), line)?;
             let type_ = complete_type(type_, scope.layouts(), line)?;
             return Ok(Said {
                 type_,
@@ -65,6 +68,38 @@ fn object_entry_type(
         type_,
         unknown_length: false,
     })
+}
+
+// The type that a declarator says, where there is one.
+fn made_type(unknown_length: bool, made: Result<Ty, Broken>) -> Result<Option<Said>, AllocError>
+    ensures { (r : Result CType ℕ) → GivesNode type_view made r → IfOk result (λ o. option_map (λ t. (type_view t.type_, t.unknown_length)) o ≡ made_type unknown_length r) }
+{
+    match made {
+        Ok(type_) => Ok(Some(Said {
+            type_,
+            unknown_length,
+        })),
+        Err(Broken::Rule { .. }) => Ok(None),
+        Err(Broken::Memory) => Err(AllocError),
+    }
+}
+
+// The type that a declarator with these lengths says, which may be incomplete, where there is one.
+fn stated_type(
+    alloc: Global,
+    base: &Ty,
+    lengths: &[Option<u64>],
+    scope: &Scope,
+) -> Result<Option<Said>, AllocError>
+    ensures { IfOk result (λ o. option_map (λ t. (type_view t.type_, t.unknown_length)) o ≡ stated_type scope.now.records.done (type_view base.now) lengths.now) }
+{
+    let element = base.copied()?;
+    if is_open(lengths) {
+        let made = element_type(alloc, element, &lengths[1..], scope.layouts());
+        return made_type(true, made);
+    }
+    let made = array_of(alloc, element, lengths, scope.layouts());
+    made_type(false, made)
 }
 
 fn is_array_of(element: &Ty, type_: &Ty) -> bool
@@ -108,6 +143,36 @@ fn is_again(
         && !(object.bytes.is_some() && initializer.is_some())
 }
 
+// There is such an object, and it can be declared once more so.
+fn may_again(
+    object: Option<&ObjectEntry>,
+    constant: bool,
+    said: &Said,
+    initializer: &Option<Initializer>,
+) -> bool
+    ensures { result ≡ may_again (option_map (λ o. view_object_entry o.now) object.entry) constant (type_view said.now.type_, said.now.unknown_length) (option_map view_initializer initializer.now) }
+{
+    match object {
+        None => false,
+        Some(object) => is_again(object, constant, said, initializer),
+    }
+}
+
+// The same of the type that its declarator says, complete or not.
+fn is_stated_again(
+    object: Option<&ObjectEntry>,
+    constant: bool,
+    stated: &Option<Said>,
+    initializer: &Option<Initializer>,
+) -> bool
+    ensures { result ≡ is_stated_again (option_map (λ o. view_object_entry o.now) object.entry) constant (option_map (λ t. (type_view t.type_, t.unknown_length)) stated.now) (option_map view_initializer initializer.now) }
+{
+    match stated {
+        None => false,
+        Some(said) => may_again(object, constant, said, initializer),
+    }
+}
+
 // The name's object in this scope is the one that it is linked to.
 fn is_linked_to(linked: Option<u32>, earlier: Option<Meaning>) -> bool
     ensures { result ≡ is_linked_to linked earlier }
@@ -122,6 +187,7 @@ fn is_linked_to(linked: Option<u32>, earlier: Option<Meaning>) -> bool
 // The type of an object that may be declared so where the name is declared as this already.
 fn object_entry_node(
     made: Result<Said, TypingError>,
+    stated: &Option<Said>,
     constant: bool,
     earlier: Option<Meaning>,
     linked: Option<u32>,
@@ -130,7 +196,7 @@ fn object_entry_node(
     scope: &Scope,
 ) -> Result<Said, TypingError>
     ensures { (r : Result (CType × Bool) ℕ) → Gives (λ t. (type_view t.type_, t.unknown_length)) made (on_line line r)
-        → Gives (λ t. (type_view t.type_, t.unknown_length)) result (on_line line (object_entry_node scope.now constant earlier linked r (option_map view_initializer initializer.now))) }
+        → Gives (λ t. (type_view t.type_, t.unknown_length)) result (on_line line (object_entry_node scope.now constant earlier linked r (option_map (λ t. (type_view t.type_, t.unknown_length)) stated.now) (option_map view_initializer initializer.now))) }
 {
     let again = TypingError::Typing { line, rule: 2 };
     if !is_linked_to(linked, earlier) {
@@ -140,17 +206,20 @@ fn object_entry_node(
         return made;
     };
     match made {
-        Ok(said) => match scope.object(number) {
-            Some(object) => {
-                if is_again(object, constant, &said, initializer) {
-                    Ok(said)
-                } else {
-                    Err(again)
-                }
+        Ok(said) => {
+            if may_again(scope.object(number), constant, &said, initializer) {
+                Ok(said)
+            } else {
+                Err(again)
             }
-            None => Err(again),
-        },
-        Err(TypingError::Typing { .. }) => Err(again),
+        }
+        Err(TypingError::Typing { line, rule }) => {
+            if is_stated_again(scope.object(number), constant, stated, initializer) {
+                Err(TypingError::Typing { line, rule })
+            } else {
+                Err(again)
+            }
+        }
         Err(TypingError::Memory) => Err(TypingError::Memory),
     }
 }
@@ -413,7 +482,7 @@ fn object_type(
     requires { region.outer ≤ length scope.now.bindings }
     ensures gives { Gives (λ t. (type_view t.type_, t.unknown_length)) result
         (on_line (full_line (view_full declared.now.declarator)) (object_entry_node scope.now base.now.constant (earlier_linked region is_extern scope.now (name_of (view_full declared.now.declarator)))
-        (linked_object region is_extern scope.now (name_of (view_full declared.now.declarator))) (object_entry_type scope.now.records.done (type_view base.now.type_) is_extern (option_map view_initializer declared.now.initializer) lengths.items)
+        (linked_object region is_extern scope.now (name_of (view_full declared.now.declarator))) (object_entry_type scope.now.records.done (type_view base.now.type_) is_extern (option_map view_initializer declared.now.initializer) lengths.items) (stated_type scope.now.records.done (type_view base.now.type_) lengths.items)
         (option_map view_initializer declared.now.initializer))) }
     ensures there { OnOk result (IfSome (linked_object region is_extern scope.now (name_of (view_full declared.now.declarator))) (λ k. IsObjectThere scope.now k)) }
 {
@@ -423,6 +492,7 @@ fn object_type(
     let initializer = &declared.initializer;
     let earlier = earlier_linked(name, region, is_extern, scope);
     let linked = linked_object(region, is_extern, name, scope);
+    let stated = stated_type(alloc, &base.type_, &lengths, scope)?;
     let made = object_entry_type(
         alloc,
         &base.type_,
@@ -434,6 +504,7 @@ fn object_type(
     );
     object_entry_node(
         made,
+        &stated,
         base.constant,
         earlier,
         linked,

@@ -17,7 +17,7 @@ use Rattle.c_scope.specs.declared.meaning.Meaning.TheVariants.{Enumerator, Recor
 use Rattle.c_scope.specs.Members.{Field, field_types}
 use Rattle.c_scope.specs.Scopes.{Named, FunctionType, FunctionTable, Scoped, tag_of, function_number}
 use Rattle.c_scope.specs.Faults.{◌>>=◌, Fault, on_line}
-use Rattle.c_scope.specs.Types.{nothing_specified, specified_type, one_array, array_of}
+use Rattle.c_scope.specs.Types.{nothing_specified, specified_type, one_array, array_of, element_type}
 use Rattle.c_scope.proofs.Variables.{both, and}
 use Rattle.c_elab_expr.proofs.WellTyped.{Holds, bind, given, refused, on_same_line}
 use Rattle.c_elab_base.specs.declared.regions.Region.{Region}
@@ -290,7 +290,7 @@ plain_given done several (ctypes.array e n) = sized_passable done (ctypes.array 
 array_given : (done : List Completed) (base : CType) (ls : List (Option ℕ)) → Holds (Passable done) (array_parameter done base ls)
 array_given done base [] = refused _ 7
 array_given done base (None ∷ ns) =
-    bind (λ (t : CType). Unit {0}) (Passable done) (array_of done base ns) _ (trivially _) (λ t _. bind (λ (u : CType). Unit {0}) (Passable done) (complete_type done t) _ (trivially _) (λ u _. refused _ 7))
+    bind (λ (t : CType). Unit {0}) (Passable done) (element_type done base ns) _ (trivially _) (λ t _. bind (λ (u : CType). Unit {0}) (Passable done) (complete_type done t) _ (trivially _) (λ u _. refused _ 7))
 array_given done base (Some n ∷ ns) = bind (λ (t : CType). Unit {0}) (Passable done) (array_of done base (Some n ∷ ns)) _ (trivially _) (λ t _. refused _ 7)
 
 made_given : (done : List Completed) (several : Bool) (base : CType) (x : Derivation) → Holds (Passable done) (parameter_made done several base x)

@@ -12,7 +12,7 @@ use Rattle.c_tree.specs.Tree.{view}
 use Rattle.c_scope.specs.Scopes.{Named, Scoped}
 use Rattle.c_scope.specs.Faults.{◌>>=◌, Fault, on_line, Fails}
 use Rattle.c_types.specs.Types.{CType, Completed}
-use Rattle.c_scope.specs.Types.{specified_type, array_of, type_size}
+use Rattle.c_scope.specs.Types.{specified_type, array_of, element_type, type_size}
 use Rattle.c_elab_expr.proofs.WellTyped.{Holds, bind, given, refused, on_same_line}
 use Rattle.c_elab_base.specs.Declarators.{complete_type, sized_type}
 use Rattle.c_elab_base.specs.declared.regions.Region.{Region}
@@ -264,7 +264,7 @@ plain_sized done several t = by (is_void t) several refl where
 made_sized : (done : List Completed) (several : Bool) (base : CType) (x : Derivation) → Holds (Sized done) (parameter_made done several base x)
 made_sized done several base (lengths []) = plain_sized done several base
 made_sized done several base (lengths (None ∷ ns)) =
-    bind (λ (t : CType). Unit {0}) (Sized done) (array_of done base ns) _ (λ t e. tt) (λ t _. bind (λ (u : CType). Unit {0}) (Sized done) (complete_type done t) _ (λ u e. tt) (λ u _. refused (Sized done) 7))
+    bind (λ (t : CType). Unit {0}) (Sized done) (element_type done base ns) _ (λ t e. tt) (λ t _. bind (λ (u : CType). Unit {0}) (Sized done) (complete_type done t) _ (λ u e. tt) (λ u _. refused (Sized done) 7))
 made_sized done several base (lengths (Some n ∷ ns)) = bind (λ (t : CType). Unit {0}) (Sized done) (array_of done base (Some n ∷ ns)) _ (λ t e. tt) (λ t _. refused (Sized done) 7)
 made_sized done several base (callable (Ok f)) = refused (Sized done) 7
 made_sized done several base (callable (Err rule)) = refused (Sized done) rule

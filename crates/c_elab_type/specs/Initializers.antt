@@ -28,16 +28,15 @@ use Rattle.c_elab_base.specs.Slots.{slot, slot_type}
 -- ---- what an initializer is, before the node around it is judged
 
 pub data Made : Type 0 where
-  nothing : Made  -- braces around another number of items than one, where an object isn't of struct, union or array type
   single : (operand : Operand) → Made  -- an expression
   text : (line : ℕ) (bytes : List ℕ) → Made  -- a string
   listed : (value : Structure) → Made  -- braces around the items of a struct, a union or an array
 
--- what braces are for a scalar: the one item in them
-abbrev pub only : List Made → Made
-only [] = nothing
-only (x ∷ []) = x
-only (x ∷ y ∷ rest) = nothing
+-- what braces are for a scalar: the one item in them (C11 6.7.9p11)
+abbrev pub only : List Made → Option Made
+only [] = None
+only (x ∷ []) = Some x
+only (x ∷ y ∷ rest) = None
 
 -- ---- values
 
@@ -65,7 +64,6 @@ is_character (array element n) = false
 
 -- rules 8 and 12: the value in the type of a scalar, which a string isn't (C11 6.7.9p11)
 abbrev pub scalar_value : IntegerType → Made → Result Value ℕ
-scalar_value t nothing = Err 12
 scalar_value t (single x) = do
   e ← number 8 x
   Ok (number_value (as_type t e))
@@ -74,7 +72,6 @@ scalar_value t (listed a) = Err 12
 
 -- rule 12: a struct or union has braces of its own, or an expression of its type (C11 6.7.9p13)
 abbrev pub record_node : List Completed → CType → Made → Result Value ℕ
-record_node done t nothing = Err 12
 record_node done t (single x) = do
   a ← required 12 (record_value done t x)
   Ok (structure_value a)
@@ -83,7 +80,6 @@ record_node done t (listed a) = Ok (structure_value a)
 
 -- rule 12: an array has braces of its own, or a string that fits, its end zero aside, in an array of characters (C11 6.7.9p14)
 abbrev pub array_node : CType → ℕ → Made → Result Value ℕ
-array_node element n nothing = Err 12
 array_node element n (single x) = Err 12
 array_node element n (text line bytes) = if is_character element && nat_le (length bytes) n then Ok (structure_value (string line n bytes)) else Err 12
 array_node element n (listed a) = Ok (structure_value a)
@@ -124,9 +120,10 @@ list_made line rs t xs = do
   ps ← on_line line (parts_from rs t 0 xs)
   Ok (listed (list line (size_of rs.done t) ps))
 
+-- rule 12: braces of a scalar have one item
 abbrev pub braced : ℕ → Records → CType → List Made → Result Made Fault
-braced line rs void xs = Ok (only xs)
-braced line rs (integer t) xs = Ok (only xs)
+braced line rs void xs = on_line line (required 12 (only xs))
+braced line rs (integer t) xs = on_line line (required 12 (only xs))
 braced line rs (aggregate p) xs = list_made line rs (aggregate p) xs
 braced line rs (array element n) xs = list_made line rs (array element n) xs
 
@@ -254,7 +251,6 @@ initial_elements (braces line items) = count items
 -- ---- what code holds
 
 abbrev pub view_made : CodeMade → Made
-view_made made.Nothing = nothing
 view_made (made.Single x) = single (view_operand x)
 view_made (made.Text line bytes) = text line bytes.items
 view_made (made.Listed a) = listed (view_structure a.value)

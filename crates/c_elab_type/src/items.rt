@@ -1,10 +1,10 @@
 //! What items in braces and expressions make of the objects that they initialize.
 
-ghost use Rattle.std.specs.Prelude.{◌≡◌, ℕ, List, map, reverse, Result, Err, OnOk, IfOk};
+ghost use Rattle.std.specs.Prelude.{◌≡◌, ℕ, List, map, option_map, reverse, Result, Err, OnOk, IfOk};
 ghost use Rattle.c_types.specs.Types.{view as type_view};
 ghost use Rattle.core_tree.specs.Trees.{Parts, with_part};
 ghost use Rattle.c_scope.specs.Types.{lower};
-ghost use Rattle.c_scope.specs.Faults.{Gives, GivesNode, on_line};
+ghost use Rattle.c_scope.specs.Faults.{Gives, GivesNode, on_line, required};
 ghost use Rattle.c_elab_base.specs.Slots.{slot};
 ghost use Rattle.c_elab_type.specs.Initializers.{Value as SpecValue, view_made, view_value, view_found, only, is_character, scalar_value, record_node, array_node, value_node, joined, part_with, item_node, parts_from, list_made, braced};
 
@@ -18,8 +18,6 @@ use std::alloc::{AllocError, Global};
 /// What an initializer is, before the node around it is judged.
 #[derive(Drop)]
 pub enum Made {
-    /// Braces around another number of items than one, where the object isn't of struct, union or array type.
-    Nothing,
     /// An expression.
     Single { operand: CoreOperand },
     /// A string, by its bytes without the zero behind them.
@@ -42,17 +40,20 @@ struct Found {
     broken: Option<u32>,
 }
 
-/// What braces are for a scalar: the one item in them.
-fn only(mut items: Vec<Made>) -> Made
-    ensures { view_made result ≡ only (map view_made items.items) }
+// What braces are for a scalar: the one item in them.
+fn only(mut items: Vec<Made>) -> Option<Made>
+    ensures { option_map view_made result ≡ only (map view_made items.items) }
 {
-    if items.len() == 1 {
-        match items.pop() {
-            Some(item) => item,
-            None => Made::Nothing,
-        }
-    } else {
-        Made::Nothing
+    if items.len() == 1 { items.pop() } else { None }
+}
+
+// Braces of a scalar on this line.
+fn only_on(line: u32, items: Vec<Made>) -> Result<Made, TypingError>
+    ensures { Gives view_made result (on_line line (required 12 (only (map view_made items.items)))) }
+{
+    match only(items) {
+        Some(item) => Ok(item),
+        None => Err(TypingError::Typing { line, rule: 12 }),
     }
 }
 
@@ -61,7 +62,6 @@ fn scalar_value(alloc: Global, type_: IntegerType, made: Made) -> Result<Value, 
     ensures { GivesNode view_value result (scalar_value type_ (view_made made)) }
 {
     match made {
-        Made::Nothing => Err(Broken::Rule { rule: 12 }),
         Made::Single { operand } => {
             let value = number(operand, 8)?;
             Ok(Value::Number {
@@ -78,7 +78,6 @@ fn record_node(alloc: Global, type_: &Ty, made: Made, layouts: &Layouts) -> Resu
     ensures { GivesNode view_value result (record_node layouts.now.done (type_view type_.now) (view_made made)) }
 {
     match made {
-        Made::Nothing => Err(Broken::Rule { rule: 12 }),
         Made::Single { operand } => Ok(Value::Structure {
             value: record_value(alloc, type_, operand, layouts, 12)?,
         }),
@@ -103,7 +102,6 @@ fn array_node(alloc: Global, element: &Ty, length: u32, made: Made) -> Result<Va
     ensures { GivesNode view_value result (array_node (type_view element.now) length (view_made made)) }
 {
     match made {
-        Made::Nothing => Err(Broken::Rule { rule: 12 }),
         Made::Single { .. } => Err(Broken::Rule { rule: 12 }),
         Made::Text { line, bytes } => {
             if is_character(element) && bytes.len() <= length as usize {
@@ -267,8 +265,8 @@ pub fn braced(
     ensures { Gives view_made result (braced line layouts.now (type_view type_.now) (map view_made items.items)) }
 {
     match type_ {
-        Ty::Void => Ok(only(items)),
-        Ty::Integer(_) => Ok(only(items)),
+        Ty::Void => only_on(line, items),
+        Ty::Integer(_) => only_on(line, items),
         Ty::Record(_) => list_made(alloc, line, type_, items, layouts),
         Ty::Array { .. } => list_made(alloc, line, type_, items, layouts),
     }

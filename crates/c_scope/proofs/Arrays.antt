@@ -7,10 +7,10 @@ use Rattle.c_types.specs.Layouts.{is_complete, is_sized, size_of, most_bytes}
 use Rattle.c_scope.specs.declared.fault.Broken.{Broken}
 use Rattle.c_scope.specs.declared.fault.Broken.TheVariants as broken
 use Rattle.c_scope.specs.Faults.{◌>>=◌, required, Breaks}
-use Rattle.c_scope.specs.Types.{sized_array, one_array, array_of, type_size}
+use Rattle.c_scope.specs.Types.{sized_array, one_array, arrays_of, type_size}
 
 -- a rule that an inner array breaks is broken
-array_fails : (done : List Completed) (t : CType) (i : ℕ) (ns : List (Option ℕ)) (rule : ℕ) → array_of done t (drop i ns) ≡ Err rule → array_of done t ns ≡ Err rule
+array_fails : (done : List Completed) (t : CType) (i : ℕ) (ns : List (Option ℕ)) (rule : ℕ) → arrays_of done t (drop i ns) ≡ Err rule → arrays_of done t ns ≡ Err rule
 array_fails done t zero ns rule e = e
 array_fails done t (suc i) [] rule e = e
 array_fails done t (suc i) (n ∷ ns) rule e = ap (λ (r : Result CType ℕ). r >>= λ y. one_array done y n) (array_fails done t i ns rule e)
@@ -20,15 +20,15 @@ breaks_on broken.Memory r s h g = tt
 breaks_on (broken.Rule rule) r s h g = h rule g
 
 pub array_breaks : (e : Broken) (done : List Completed) (t : CType) (ns : List (Option ℕ)) (left : ℕ) (d : Option ℕ) (element : CType) → 0 < left → left ≤ length ns
-    → array_of done t (drop left ns) ≡ Ok element → Breaks e (one_array done element (get_or ns (left - 1) d)) → Breaks e (array_of done t ns)
+    → arrays_of done t (drop left ns) ≡ Ok element → Breaks e (one_array done element (get_or ns (left - 1) d)) → Breaks e (arrays_of done t ns)
 array_breaks e done t ns left d element some within so_far bad =
     let i = left - 1 in
     let next : i + 1 ≡ left = omega (arith, some) in
     let n = get_or ns i d in
-    let inner : array_of done t (drop (i + 1) ns) ≡ Ok element = ap (λ (k : ℕ). array_of done t (drop k ns)) next ∙ so_far in
-    let here : array_of done t (drop i ns) ≡ one_array done element n =
-    ap (array_of done t) (drop_more ns i d (omega (arith, some, within))) ∙ ap (λ (r : Result CType ℕ). r >>= λ y. one_array done y n) inner in
-    breaks_on e (one_array done element n) (array_of done t ns) (λ rule told. array_fails done t i ns rule (here ∙ told)) bad
+    let inner : arrays_of done t (drop (i + 1) ns) ≡ Ok element = ap (λ (k : ℕ). arrays_of done t (drop k ns)) next ∙ so_far in
+    let here : arrays_of done t (drop i ns) ≡ one_array done element n =
+    ap (arrays_of done t) (drop_more ns i d (omega (arith, some, within))) ∙ ap (λ (r : Result CType ℕ). r >>= λ y. one_array done y n) inner in
+    breaks_on e (one_array done element n) (arrays_of done t ns) (λ rule told. array_fails done t i ns rule (here ∙ told)) bad
 
 -- the rule that is broken, from one type's answer to another's
 same_rule : (done : List Completed) (t : CType) (n : Option ℕ) (rule : ℕ) (told : Result ℕ ℕ) → IfErr told (λ x. one_array done t n ≡ Err x) → told ≡ Err rule → one_array done t n ≡ Err rule
@@ -46,10 +46,10 @@ one_fails done t (Some k) rule true false c z e =
 one_fails done t n rule true true c z e = absurd (subst (λ (r : Result ℕ ℕ). IfErr r (λ _. ⊥)) e tt)
 
 -- what is wrong with the innermost element is told where there is an array of it
-pub all_fail : (done : List Completed) (t : CType) (n : Option ℕ) (ns : List (Option ℕ)) (rule : ℕ) → type_size done t ≡ Err rule → array_of done t (n ∷ ns) ≡ Err rule
+pub all_fail : (done : List Completed) (t : CType) (n : Option ℕ) (ns : List (Option ℕ)) (rule : ℕ) → type_size done t ≡ Err rule → arrays_of done t (n ∷ ns) ≡ Err rule
 all_fail done t n [] rule e = one_fails done t n rule (is_complete done t) (is_sized done t) refl refl e
 all_fail done t n (m ∷ ns) rule e = ap (λ (r : Result CType ℕ). r >>= λ y. one_array done y n) (all_fail done t m ns rule e)
 
-pub all_break : (e : Broken) (done : List Completed) (t : CType) (ns : List (Option ℕ)) → 0 < length ns → Breaks e (type_size done t) → Breaks e (array_of done t ns)
+pub all_break : (e : Broken) (done : List Completed) (t : CType) (ns : List (Option ℕ)) → 0 < length ns → Breaks e (type_size done t) → Breaks e (arrays_of done t ns)
 all_break e done t [] some b = absurd (omega (arith, some))
-all_break e done t (n ∷ ns) some b = breaks_on e (type_size done t) (array_of done t (n ∷ ns)) (λ rule told. all_fail done t n ns rule told) b
+all_break e done t (n ∷ ns) some b = breaks_on e (type_size done t) (arrays_of done t (n ∷ ns)) (λ rule told. all_fail done t n ns rule told) b

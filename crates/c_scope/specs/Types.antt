@@ -1,5 +1,5 @@
 -- The types that specifiers and declarators say (C11 6.7.2, 6.7.3, 6.7.6.2).
-use Rattle.std.specs.Prelude.{ℕ, suc, ◌==◌, ◌++◌, Bool, true, false, ◌||◌, ◌&&◌, nat_le, nat_lt, List, [], ◌∷◌, length, Option, Some, None, option_map, slice_get, Result, Ok, Err, if◌then◌else◌}
+use Rattle.std.specs.Prelude.{ℕ, suc, ◌==◌, ◌++◌, Bool, true, false, ◌||◌, ◌&&◌, nat_le, nat_lt, List, [], ◌∷◌, length, Option, Some, None, is_none, option_map, slice_get, Result, Ok, Err, if◌then◌else◌}
 use Rattle.c_tree.specs.declared.specifier.TypeWord.{TypeWord}
 use Rattle.c_tree.specs.declared.specifier.TypeWord.TheVariants as words
 use Rattle.c_tree.specs.declared.specifier.Qualifier.{Qualifier}
@@ -253,10 +253,28 @@ sized_array done element (Some n) = if nat_le 1 n && nat_le n most_bytes && is_s
 abbrev pub one_array : List Completed → CType → Option ℕ → Result CType ℕ
 one_array done element n = if is_complete done element then required 4 (sized_array done element n) else Err 3
 
--- the type with arrays of these lengths, the outermost first
+-- arrays of these lengths, the outermost first, each judged alone
+abbrev pub arrays_of : List Completed → CType → List (Option ℕ) → Result CType ℕ
+arrays_of done t [] = Ok t
+arrays_of done t (n ∷ ns) = arrays_of done t ns >>= λ element. one_array done element n
+
+-- whether `[]` is among lengths
+abbrev pub has_open : List (Option ℕ) → Bool
+has_open [] = false
+has_open (n ∷ ns) = is_none n || has_open ns
+
+-- whether it is among those behind the outermost
+abbrev pub has_open_element : List (Option ℕ) → Bool
+has_open_element [] = false
+has_open_element (n ∷ ns) = has_open ns
+
+-- the type with arrays of these lengths, the outermost first; rule 3: an array of no length is incomplete, so it is no element
 abbrev pub array_of : List Completed → CType → List (Option ℕ) → Result CType ℕ
-array_of done t [] = Ok t
-array_of done t (n ∷ ns) = array_of done t ns >>= λ element. one_array done element n
+array_of done t ns = if has_open_element ns then Err 3 else arrays_of done t ns
+
+-- the type with arrays of these lengths as an element's
+abbrev pub element_type : List Completed → CType → List (Option ℕ) → Result CType ℕ
+element_type done t ns = if has_open ns then Err 3 else arrays_of done t ns
 
 -- the bytes of a complete type
 abbrev pub type_size : List Completed → CType → Result ℕ ℕ

@@ -4,7 +4,7 @@ ghost use Rattle.std.specs.Prelude.{◌≡◌, ◌≤◌, true, Ok, MatchResult,
 ghost use Rattle.c_tree.specs.Tree.{unnamed, suffixes_of, view_declarator};
 ghost use Rattle.c_types.specs.Types.{view};
 ghost use Rattle.c_types.specs.Layouts.{is_complete, is_sized, size_of, most_bytes};
-ghost use Rattle.c_scope.specs.Types.{declared_line, one_array, array_of, type_size};
+ghost use Rattle.c_scope.specs.Types.{declared_line, one_array, arrays_of, has_open, array_of, element_type, type_size};
 ghost use Rattle.c_scope.specs.Faults.{Gives, GivesNode, Fails, Unbroken, IsRule, IsTyping, on_line};
 
 use crate::fault::{Broken, TypingError};
@@ -97,7 +97,20 @@ fn array_over(
     }
 }
 
-/// The type with arrays of these lengths, the outermost first, or the lowest rule that is broken.
+// Whether `[]` is among lengths.
+fn has_open(lengths: &[Option<u64>]) -> bool
+    ensures { result ≡ has_open lengths.now }
+{
+    for length in lengths {
+        if length.is_none() {
+            return true;
+        }
+    }
+    false
+}
+
+/// The type with arrays of these lengths, the outermost first, or the lowest rule that is broken. As an
+/// element an array of no length breaks rule 3 (C11 6.7.6.2p1).
 pub fn array_of(
     alloc: Global,
     element: Ty,
@@ -105,6 +118,42 @@ pub fn array_of(
     layouts: &Layouts,
 ) -> Result<Ty, Broken>
     ensures { GivesNode view result (array_of layouts.now.done (view element) lengths.now) }
+{
+    match lengths {
+        [] => Ok(element),
+        [_, behind @ ..] => {
+            if has_open(behind) {
+                return Err(Broken::Rule { rule: 3 });
+            }
+            arrays_of(alloc, element, lengths, layouts)
+        }
+    }
+}
+
+/// The type of an array's elements, with arrays of these lengths, the outermost first, or the lowest rule that
+/// is broken (C11 6.7.6.2p1).
+pub fn element_type(
+    alloc: Global,
+    element: Ty,
+    lengths: &[Option<u64>],
+    layouts: &Layouts,
+) -> Result<Ty, Broken>
+    ensures { GivesNode view result (element_type layouts.now.done (view element) lengths.now) }
+{
+    if has_open(lengths) {
+        return Err(Broken::Rule { rule: 3 });
+    }
+    arrays_of(alloc, element, lengths, layouts)
+}
+
+// Arrays of these lengths, each of which is looked at alone.
+fn arrays_of(
+    alloc: Global,
+    element: Ty,
+    lengths: &[Option<u64>],
+    layouts: &Layouts,
+) -> Result<Ty, Broken>
+    ensures { GivesNode view result (arrays_of layouts.now.done (view element) lengths.now) }
 {
     if lengths.is_empty() {
         return Ok(element);
@@ -130,6 +179,23 @@ pub fn array_type(
     ensures { Gives view result (on_line line (array_of layouts.now.done (view element) lengths.now)) }
 {
     match array_of(alloc, element, lengths, layouts) {
+        Ok(type_) => Ok(type_),
+        Err(Broken::Rule { rule }) => Err(TypingError::Typing { line, rule }),
+        Err(Broken::Memory) => Err(TypingError::Memory),
+    }
+}
+
+/// The type of an array's elements, as `element_type` gives it, or the lowest rule that is broken, on the declarator's line.
+pub fn element_type_on(
+    alloc: Global,
+    element: Ty,
+    lengths: &[Option<u64>],
+    layouts: &Layouts,
+    line: u32,
+) -> Result<Ty, TypingError>
+    ensures { Gives view result (on_line line (element_type layouts.now.done (view element) lengths.now)) }
+{
+    match element_type(alloc, element, lengths, layouts) {
         Ok(type_) => Ok(type_),
         Err(Broken::Rule { rule }) => Err(TypingError::Typing { line, rule }),
         Err(Broken::Memory) => Err(TypingError::Memory),

@@ -14,7 +14,10 @@ mod specifiers;
 mod type_words;
 
 pub use built_ins::built_in;
-pub use declarators::{array_of, array_type, declared_line, object_size, one_array, type_size};
+pub use declarators::{
+    array_of, array_type, declared_line, element_type, element_type_on, object_size, one_array,
+    type_size,
+};
 pub use fault::{Broken, TypingError};
 pub use flow::{Cases, Flow};
 pub use functions::{Callable, FunctionType, Functions};

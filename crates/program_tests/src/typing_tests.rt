@@ -185,7 +185,10 @@ int main(void){char s[2]=${\"a\"};}@2 8
 int main(void){int a[2]=${1,2,3};}@2 12
 int main(void){int a[2][2]={{1,2},${1,2,3}};}@2 12
 int main(void){int a[2][2]=${1,2};}@2 12
-int main(void){int a[1]=${${1,2}};}@2 12
+int main(void){int a[1]=${${1,2}};}@3 12
+int main(void){int a[2]={${1,2},y};}@2 12
+int main(void){int x=${1,2};}@2 12
+int main(void){int x={{{1}}};}@
 int main(void){int a[1]=${assert(1),2};}@2 8
 int main(void){int a[1]={1,$y};}@2 1
 union U{int i,j;};int main(void){union U u=${1,2};}@2 12
@@ -200,6 +203,15 @@ int main(void){int a[2147483647];}@1 4
 int main(void){int a[];}@1 4
 int main(void){int a[]={1};}@
 int main(void){int a[2][0];}@1 4
+int main(void){int a[][0];}@1 4
+int main(void){int a[2][];}@1 3
+int main(void){int$a[2][]={{1}};}@2 3
+int main(void){int a[0][];}@1 3
+int main(void){return sizeof(int[2][]);}@1 3
+typedef int T[2][];int main(void){}@1 3
+struct S{int a[2][];};int main(void){}@1 3
+int f(int x[2][]);int main(void){}@1 3
+int f(int x[][]);int main(void){}@1 3
 int main(void){int (a[2])[0];}@1 4
 int main(void){int x;int a[x];}@1 13
 int main(void){int a[$1/0];}@2 13
@@ -251,6 +263,13 @@ extern int x=2;int main(void){}@
 $extern int x[];int main(void){}@
 extern int x[];int x[2];int main(void){}@
 extern int x[];int main(void){return sizeof x;}@1 3
+extern int x[2][];int main(void){}@1 3
+extern int x[][];int main(void){}@1 3
+extern int x[];$int x[];int main(void){}@2 4
+int x[2];$int x[];int main(void){}@2 4
+extern int x[];$char x[];int main(void){}@2 2
+int x;$int x[0];int main(void){}@2 2
+struct S;extern struct S s;$struct S s;int main(void){}@2 3
 int x[];int main(void){}@1 4
 int x[]={1,2};int main(void){}@
 char x[]=\"ab\";int main(void){}@

@@ -28,7 +28,7 @@ use Rattle.c_elab_base.specs.Declarators.{with_typedef, with_function_typedef, w
 use Rattle.c_elab_type.specs.Declarators.{Typed, in_front, variable_type, declared_item}
 use Rattle.c_elab_base.specs.Specifiers.{Fields, Parted, Passed, with_type_part, fields_within, fields_out, with_members, said_before, fields_behind, with_anonymous, has_untagged, is_none, is_anonymous, with_member, judged_parameter, ended, inner_region, are_several, parted, named_parts, lone_tag, with_lone}
 use Rattle.c_elab_type.specs.Specifiers.{Specification, said_bound, typed_part, typed_parts, typed_members, typed_fields, typed_full, typed_suffixes, typed_parameters, typed_specifiers}
-use Rattle.c_elab_object.specs.ObjectEntries.{changed_by, first_declared, changed_object, declared_object, initialized_object, object_entry_node, earlier_linked, linked_object, object_entry_type, may_define, counted_by, element_of, declared_again}
+use Rattle.c_elab_object.specs.ObjectEntries.{changed_by, first_declared, changed_object, declared_object, initialized_object, object_entry_node, earlier_linked, linked_object, object_entry_type, stated_type, may_define, counted_by, element_of, declared_again}
 use Rattle.c_elab_object.specs.Functions.{function_node, first_callable, callable_again, changed_callable, declared_callable, declared_or_built_in, typed_function}
 use Rattle.c_elab_object.specs.DeclaratorLists.{typedef_by, typed_typedefs, object_by, typed_objects, variable_by, typed_variables, typed_others, typed_by, typed_declaration}
 use Rattle.told_lines.specs.TypedLines.{InDeclared, InItems}
@@ -257,7 +257,7 @@ module _ (P : ℕ → Type 0) where
 
   object_good : (r : Region) (is_extern : Bool) (s : Scoped) (base : Named) (d : Full) (i : Option Initial) (x : Derivation) → Fine s → InDeclarator P d → Good Fine (object_by r is_extern s base d i x)
   object_good r is_extern s base d i (lengths ls) fine p =
-      pass Fine (on_line (full_line d) (object_entry_node s base.constant (earlier_linked r is_extern s (name_of d)) (linked_object r is_extern s (name_of d)) (object_entry_type s.records.done base.type is_extern i ls) i)) _ (λ x.
+      pass Fine (on_line (full_line d) (object_entry_node s base.constant (earlier_linked r is_extern s (name_of d)) (linked_object r is_extern s (name_of d)) (object_entry_type s.records.done base.type is_extern i ls) (stated_type s.records.done base.type ls) i)) _ (λ x.
       pass Fine (may_define (full_line d) r is_extern i) _ (λ may.
       let within = declared_object s (r.is_file || is_extern) base.constant (name_of d) (linked_object r is_extern s (name_of d)) (counted_by (is_some i && is_open ls) x (element_of x.0)) (not is_extern || is_some i) (full_line d) in
       pass Fine (initializer_of true (full_line d) within.1 x.0 i) _ (λ v.

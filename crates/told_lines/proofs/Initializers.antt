@@ -12,7 +12,7 @@ use Rattle.c_scope.specs.Faults.{required, on_line}
 use Rattle.c_elab_base.specs.Slots.{slot, slot_type}
 use Rattle.c_elab_expr.specs.Operands.{number, record_value}
 use Rattle.c_elab_expr.specs.Typing.{operand}
-use Rattle.c_elab_type.specs.Initializers.{Made, nothing, single, text, listed, only, Value, number_value, structure_value, is_character, scalar_value, record_node, array_node, value_node, part_with, joined, item_node, parts_from, list_made, braced, literal_of, constant_node, single_as, typed_initial, typed_initials, initializer_of}
+use Rattle.c_elab_type.specs.Initializers.{Made, single, text, listed, only, Value, number_value, structure_value, is_character, scalar_value, record_node, array_node, value_node, part_with, joined, item_node, parts_from, list_made, braced, literal_of, constant_node, single_as, typed_initial, typed_initials, initializer_of}
 use Rattle.told_lines.specs.TypedLines.{InExpression, InStructure, InParts}
 use Rattle.told_lines.specs.TreeLines.{InTree, InInitial, InInitials, InInitializer}
 use Rattle.told_lines.proofs.Results.{Good, ok, fails, bind, pass, on, Holds, needs, good_either, Each}
@@ -20,7 +20,6 @@ use Rattle.told_lines.proofs.Operands.{InOperand, number_good, record_lined, ope
 
 module _ (P : ℕ → Type 0) where
   abbrev InMade : Made → Type 0
-  InMade nothing = Unit {0}
   InMade (single x) = InOperand P x
   InMade (text line bytes) = P line
   InMade (listed a) = InStructure P a
@@ -29,25 +28,22 @@ module _ (P : ℕ → Type 0) where
   InValue (number_value e) = InExpression P e
   InValue (structure_value a) = InStructure P a
 
-  only_lined : (xs : List Made) → Each InMade xs → InMade (only xs)
-  only_lined [] h = tt
-  only_lined (x ∷ []) h = h.0
-  only_lined (x ∷ y ∷ rest) h = tt
+  only_good : (line : ℕ) (xs : List Made) → Each InMade xs → Good InMade (on_line line (required 12 (only xs)))
+  only_good line [] h = fails _ _
+  only_good line (x ∷ []) h = ok InMade _ h.0
+  only_good line (x ∷ y ∷ rest) h = fails _ _
 
   scalar_good : (t : IntegerType) (x : Made) → InMade x → Good InValue (scalar_value t x)
-  scalar_good t nothing h = fails _ _
   scalar_good t (single x) h = bind (InExpression P) InValue (number 8 x) _ (number_good P 8 x h) (λ e g. ok InValue _ (as_type_in P t e g))
   scalar_good t (text line bytes) h = fails _ _
   scalar_good t (listed a) h = fails _ _
 
   record_good : (done : List Completed) (t : CType) (x : Made) → InMade x → Good InValue (record_node done t x)
-  record_good done t nothing h = fails _ _
   record_good done t (single x) h = bind (InStructure P) InValue (required 12 (record_value done t x)) _ (needs (InStructure P) 12 (record_value done t x) (record_lined P done t x h)) (λ a g. ok InValue _ g)
   record_good done t (text line bytes) h = fails _ _
   record_good done t (listed a) h = ok InValue _ h
 
   array_good : (element : CType) (n : ℕ) (x : Made) → InMade x → Good InValue (array_node element n x)
-  array_good element n nothing h = fails _ _
   array_good element n (single x) h = fails _ _
   array_good element n (text line bytes) h = good_either InValue (is_character element && nat_le (length bytes) n) _ _ (ok InValue _ h) (fails _ _)
   array_good element n (listed a) h = ok InValue _ h
@@ -80,8 +76,8 @@ module _ (P : ℕ → Type 0) where
   list_good line rs t xs k h = bind (InParts P) InMade (on_line line (parts_from rs t 0 xs)) _ (on (InParts P) line (parts_from rs t 0 xs) (parts_from_good rs t 0 xs h)) (λ ps g. ok InMade _ (k, g))
 
   braced_good : (line : ℕ) (rs : Records) (t : CType) (xs : List Made) → P line → Each InMade xs → Good InMade (braced line rs t xs)
-  braced_good line rs ctypes.void xs k h = ok InMade _ (only_lined xs h)
-  braced_good line rs (ctypes.integer t) xs k h = ok InMade _ (only_lined xs h)
+  braced_good line rs ctypes.void xs k h = only_good line xs h
+  braced_good line rs (ctypes.integer t) xs k h = only_good line xs h
   braced_good line rs (ctypes.aggregate p) xs k h = list_good line rs (ctypes.aggregate p) xs k h
   braced_good line rs (ctypes.array element n) xs k h = list_good line rs (ctypes.array element n) xs k h
 

@@ -2,7 +2,7 @@ use Rattle.std.proofs.Common.{arith}
 use Rattle.std.proofs.lemmas.Result.{err_from_is_err_and}
 use Rattle.c_types.specs.Types.{view}
 use Rattle.c_scope.proofs.Arrays.{array_breaks, all_break}
-use Rattle.c_scope.proofs.declarators.array_of.Goals as goal
+use Rattle.c_scope.proofs.declarators.arrays_of.Goals as goal
 
 pub returns-in_err-size : goal.returns-in_err-size
 returns-in_err-size c =
