@@ -156,7 +156,8 @@ fn held_value(home: Home, line: u32, offset: u32, size: u32) -> CoreStructure
     }
 }
 
-// Bytes that take the place of those from an offset on.
+/// The structure value of an object behind a write: this value's bytes take the place of those of the
+/// variable or static object from an offset on (C11 6.5.16.1). The only error is want of memory.
 pub fn put_value(
     alloc: Global,
     home: Home,
@@ -188,7 +189,8 @@ pub fn put_value(
     }
 }
 
-// The value of an object.
+/// The structure value that an object of this type holds, read at an offset of a variable or static object
+/// (C11 6.3.2.1p2). The only error is want of memory.
 pub fn read_object(
     alloc: Global,
     line: u32,
