@@ -1,5 +1,5 @@
 //! The declarator of a definition.
-ghost use Rattle.std.specs.Prelude.{◌≡◌, ◌<◌, Bool, true, [], length, is_some, Some, None, MatchOption};
+ghost use Rattle.std.specs.Prelude.{◌≡◌, ◌<◌, Bool, true, [], is_some, Some, None, MatchOption};
 ghost use Rattle.c_tree.specs.Declarations.{Parameters, full_end, view_full, view_full_suffix, full_suffixes_of};
 ghost use Rattle.c_elab_base.specs.Derivations.{view_parameters, view_derived, view_deriveds};
 ghost use Rattle.c_elab_flow.specs.Files.{is_name_alone, one_function, own_parameters};

@@ -1,4 +1,4 @@
-use Rattle.std.proofs.Common.{◌≡◌, Result, Ok, sym, ap, ◌∙◌}
+use Rattle.std.proofs.Common.{Result, Ok, sym, ap, ◌∙◌}
 use Rattle.core_tree.specs.declared.statement.CoreStatement.{CoreStatement}
 use Rattle.core_tree.specs.Trees.{view_statement, items_of}
 use Rattle.core_tree.specs.Trees as cores
