@@ -12,7 +12,8 @@ use Rattle.goto_lower.specs.declared.exits.Exits.{Exits}
 use Rattle.goto_lower.specs.declared.exits.CasePlace.{CasePlace}
 use Rattle.lowered_code.specs.Lowering.{Frame, Ways, within_switch, ends, top, at_line, plains, to_place, code, part_code, test_code, part_registers, entry_code, entry_registers, items_registers, statement_registers, declares_none, case_registers, guarded, statement_code, items_code, case_jumps, default_place}
 use Rattle.lowered_code.specs.Registers.{types, part_types, case_types, entry_types, statement_types, items_types}
-use Rattle.goto_lower.specs.Drafts.{Listed, next, added, typed, flushed, after_entry, ways_of, case_place, cases_of, default_of, jump_code, jumps_to, entered_code, Drafted}
+use Rattle.code_draft.specs.Drafts.{Listed, next, added, flushed}
+use Rattle.goto_lower.specs.Statements.{typed, after_entry, ways_of, case_place, cases_of, default_of, jump_code, jumps_to, entered_code, Drafted}
 use Rattle.lowered_code.proofs.RegisterCounts.{types_length, part_length, case_length, entry_length, statement_length, items_length}
 use Rattle.goto_lower.proofs.Flushing.{typed_more, next_typed, flushed_draft, flushed_code}
 

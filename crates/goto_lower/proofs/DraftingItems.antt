@@ -6,11 +6,12 @@ use Rattle.core_tree.specs.Trees.{Expression, Structure, Statement, Items, done,
 use Rattle.c_meaning.specs.Meaning.{number_type}
 use Rattle.goto_prog.specs.Nodes.{Nodes, plain, node_count}
 use Rattle.goto_lower.specs.declared.exits.Exits.{Exits}
-use Rattle.goto_lower.specs.declared.exits.Target.{Target}
+use Rattle.code_draft.specs.declared.places.Target.{Target}
 use Rattle.goto_lower.specs.declared.exits.Cases.{Cases}
 use Rattle.lowered_code.specs.Lowering.{Frame, Ways, with_label, top, plains, code, initial_store, initial_code, items_registers, items_code, labels_of, statement_code}
 use Rattle.lowered_code.specs.Registers.{types, structure_types, statement_types, items_types}
-use Rattle.goto_lower.specs.Drafts.{Listed, next, typed, ways_of, target, case_place, targets_of, cases_of, Within, Drafted}
+use Rattle.code_draft.specs.Drafts.{Listed, next, target}
+use Rattle.goto_lower.specs.Statements.{typed, ways_of, case_place, targets_of, cases_of, Within, Drafted}
 use Rattle.lowered_code.proofs.RegisterCounts.{items_length}
 
 -- ---- the labels that are known among items

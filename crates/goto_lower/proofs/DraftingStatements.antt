@@ -5,9 +5,10 @@ use Rattle.c_types.specs.declared.integers.IntegerType.TheVariants.{UnsignedLong
 use Rattle.core_tree.specs.Trees.{Items}
 use Rattle.lowered_code.specs.Lowering.{first_registers, word_code, words_code, first_code, entry_code}
 use Rattle.lowered_code.specs.Registers.{first_types, entry_types}
-use Rattle.goto_lower.specs.Drafts.{Listed, next, added, after_words, after_entry}
+use Rattle.code_draft.specs.Drafts.{Listed, next, added}
+use Rattle.goto_lower.specs.Statements.{after_words, after_entry}
 use Rattle.lowered_code.proofs.RegisterCounts.{first_length}
-use Rattle.goto_lower.proofs.Drafting.{next_added, adds_more}
+use Rattle.code_draft.proofs.Drafting.{next_added, adds_more}
 
 pub nothing_added : (d : Listed) → added d [] [] ≡ d
 nothing_added d = λ i. record d { instructions = append-nil d.instructions i; registers = append-nil d.registers i }

@@ -12,10 +12,11 @@ use Rattle.goto_prog.specs.Nodes.{Nodes, plain, node_count}
 use Rattle.goto_lower.specs.declared.exits.CasePlace.{CasePlace}
 use Rattle.lowered_code.specs.Lowering.{Frame, at_line, plains, declares_none, entry_code, case_registers, case_tests, last_case, guarded}
 use Rattle.lowered_code.specs.Registers.{case_types, entry_types}
-use Rattle.goto_lower.specs.Drafts.{Listed, next, added, typed, flushed, after_entry, jumps_to, jump_code, case_code, after_tests, way_code, entered_code}
-use Rattle.goto_lower.proofs.Drafting.{adds_more}
+use Rattle.code_draft.specs.Drafts.{Listed, next, added, flushed}
+use Rattle.goto_lower.specs.Statements.{typed, after_entry, jumps_to, jump_code, case_code, after_tests, way_code, entered_code}
+use Rattle.code_draft.proofs.Drafting.{adds_more}
 use Rattle.goto_lower.proofs.Flushing.{typed_added, typed_more, typed_nothing, next_typed, flushed_draft, flushed_code}
-use Rattle.goto_lower.proofs.Making.{reversed_more}
+use Rattle.code_draft.proofs.Making.{reversed_more}
 use Rattle.lowered_code.proofs.RegisterCounts.{case_length}
 
 -- the registers of a case

@@ -4,7 +4,8 @@ use Rattle.c_types.specs.declared.integers.IntegerType.{IntegerType}
 use Rattle.goto_prog.specs.declared.code.Instruction.{Instruction}
 use Rattle.goto_prog.specs.Nodes.{Nodes, plain}
 use Rattle.lowered_code.specs.Lowering.{plains}
-use Rattle.goto_lower.specs.Drafts.{Listed, next, added, typed, flushed}
+use Rattle.code_draft.specs.Drafts.{Listed, next, added, flushed}
+use Rattle.goto_lower.specs.Statements.{typed}
 
 -- ---- registers alone
 

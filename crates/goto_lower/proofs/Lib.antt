@@ -1,8 +1,4 @@
-pub mod Making
 pub mod Flushing
-pub mod Drafting
-pub mod DraftingStructures
-pub mod DraftingCalls
 pub mod DraftingStatements
 pub mod DraftingSwitches
 pub mod DraftingItems

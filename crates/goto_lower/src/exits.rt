@@ -3,6 +3,7 @@
 ghost use Rattle.std.specs.Prelude.{◌≡◌, ◌+◌, [], None, IfOk};
 
 use c_types::IntegerType;
+use code_draft::more;
 use std::alloc::{AllocError, Global};
 
 /// How many places lie behind the nodes in front of which code is put, and behind the places where `break`
@@ -12,13 +13,6 @@ pub(crate) struct Exits {
     pub(crate) base: usize,
     pub(crate) break_at: usize,
     pub(crate) continue_at: usize,
-}
-
-/// A label, and how many places lie behind its place.
-#[derive(Clone, Copy)]
-pub(crate) struct Target {
-    pub(crate) label: u32,
-    pub(crate) place: usize,
 }
 
 /// A `case` with its line and its value, and how many places lie behind its place.
@@ -44,16 +38,6 @@ pub(crate) fn no_cases(alloc: Global) -> Cases
     Cases {
         places: Vec::new(alloc),
         otherwise: None,
-    }
-}
-
-/// So many places more. Code that reaches so far can't be had where that has no number.
-pub(crate) fn more(places: usize, count: usize) -> Result<usize, AllocError>
-    ensures { IfOk result (λ n. n ≡ places + count) }
-{
-    match places.checked_add(count) {
-        Some(sum) => Ok(sum),
-        None => Err(AllocError),
     }
 }
 

@@ -13,13 +13,14 @@ ghost use Rattle.lowered_code.specs.Lowering.{at_line, ends};
 ghost use Rattle.c_temporaries.specs.Temporaries.{statement_temporaries};
 ghost use Rattle.lowered_code.specs.Lowered.{given_size, blocks_of, first_frame, undefined_code, defined_code, function_code, function_codes, view_goto, lowered};
 
-use crate::draft::Draft;
 use crate::exits::Exits;
+use crate::statements::lower_statement;
 use actions::Store;
 use c_meaning::{are_storable, first_store, number_of_main};
 use c_profile::Admitted;
 use c_temporaries::statement_temporaries;
 use c_types::IntegerType;
+use code_draft::Draft;
 use core_tree::{CoreStatement, Function, Name, PassedType};
 use goto_prog::{Goto, Instruction, Node, Operation, Procedure};
 use std::alloc::{AllocError, Global};
@@ -116,7 +117,7 @@ fn lower_defined(
         break_at: 2,
         continue_at: 2,
     };
-    draft.statement(alloc, body, exits, &mut nodes)?;
+    lower_statement(&mut draft, alloc, body, exits, &mut nodes)?;
     nodes.reverse();
     Ok(Procedure {
         name: copy_name(alloc, &function.name)?,

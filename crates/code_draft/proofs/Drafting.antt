@@ -1,0 +1,551 @@
+-- What each expression adds to a draft, by what its parts add.
+use Rattle.std.proofs.Common.{◌≡◌, ℕ, ◌+◌, ◌-◌, Bool, List, [], ◌∷◌, ◌++◌, length, Option, Some, None, refl, sym, ap, subst, ◌∙◌, arith, append_assoc, append-nil, length-append}
+use Rattle.std.specs.Prelude.{if◌then◌else◌, Result, Ok, Err, IfOk, OnOk}
+use Rattle.std.proofs.Math.Seq.{set-append_seam}
+use Rattle.c_types.specs.declared.integers.IntegerType.{IntegerType}
+use Rattle.c_types.specs.declared.integers.IntegerType.TheVariants.{Int}
+use Rattle.c_types.specs.Integers.{bytes, promoted}
+use Rattle.core_tree.specs.declared.operators.ArithmeticOperator.{ArithmeticOperator}
+use Rattle.core_tree.specs.declared.operators.Comparison.{Comparison}
+use Rattle.core_tree.specs.declared.operators.LogicalOperator.TheVariants as logicals
+use Rattle.core_tree.specs.declared.operators.SignOperator.{SignOperator}
+use Rattle.core_tree.specs.declared.operators.StepOperator.{StepOperator}
+use Rattle.core_tree.specs.declared.expression.Place.{Place}
+use Rattle.core_tree.specs.declared.expression.Place.TheVariants.{Object}
+use Rattle.core_tree.specs.Operations.{step_operation}
+use Rattle.core_tree.specs.Trees.{Expression, constant, read, convert, sign, is_zero, arithmetic, compare, logical, choice, assign, update, step, comma, assertion, assumption, discard}
+use Rattle.core_tree.specs.Typed.{place_type}
+use Rattle.c_meaning.specs.Meaning.{number_type}
+use Rattle.goto_prog.specs.declared.code.Instruction.{Instruction}
+use Rattle.goto_prog.specs.declared.code.Operation.TheVariants as operations
+use Rattle.code_draft.specs.declared.operand.Operand.{Operand}
+use Rattle.code_draft.specs.declared.operand.Updated.{Updated}
+use Rattle.lowered_code.specs.Lowering.{Frame, top, line_of, at_line, read_code, write_code, update_code, logical_code, truth_code, code}
+use Rattle.lowered_code.specs.Registers.{types, update_types}
+use Rattle.lowered_code.proofs.RegisterCounts.{types_length}
+use Rattle.code_draft.specs.Drafts.{Listed, next, added, filled, jump, landed, operand, after, value_in, Lowers}
+
+-- ---- results
+
+pub ok_both : {T E : Type 0} (r : Result T E) (p : Type 0) (Q R : T → Type 0) → OnOk r p → IfOk r Q → ((x : T) → p → Q x → R x) → IfOk r R
+ok_both (Ok x) p Q R h k f = f x h k
+ok_both (Err e) p Q R h k f = k
+
+pub ok_maps : {T E : Type 0} (r : Result T E) (p q : Type 0) → (p → q) → OnOk r p → OnOk r q
+ok_maps (Ok x) p q f h = f h
+ok_maps (Err e) p q f h = h
+
+-- ---- one after the other
+
+pub next_added : (d : Listed) (xs : List Instruction) (ts : List IntegerType) → next (added d xs ts) ≡ next d + length ts
+next_added d xs ts = length-append d.registers ts
+
+pub adds_more : (d e g : Listed) (xs ys : List Instruction) (ts us : List IntegerType) → e ≡ added d xs ts → g ≡ added e ys us → g ≡ added d (xs ++ ys) (ts ++ us)
+adds_more d e g xs ys ts us first second =
+    second
+    ∙ (λ i. added (first i) ys us)
+    ∙ (λ i. record d { instructions = append_assoc d.instructions xs ys i; registers = append_assoc d.registers ts us i })
+
+pub next_after : (d : Listed) (e : Expression) → next (after d e) ≡ next d + (top e + 1)
+next_after d e = next_added d (code d.frame e (next d)) (types e) ∙ ap (λ n. next d + n) (types_length e)
+
+pub next_of : (old new : Listed) (e : Expression) (x : Operand) → Lowers old new e x → next new ≡ next old + (top e + 1)
+next_of old new e x h = ap next h.code_is ∙ next_after old e
+
+pub next_same : (d e : Listed) (xs : List Instruction) → e ≡ added d xs [] → next e ≡ next d
+next_same d e xs same = let sum : next (added d xs []) ≡ next d + 0 = next_added d xs [] in omega (arith, sum, ap next same)
+
+-- what comes behind an expression, by its value and the number of the next register
+pub behind_one : (old d new : Listed) (e : Expression) (x : Operand) (r : ℕ) (tail : Frame → Operand → ℕ → List Instruction) (ts : Operand → List IntegerType)
+    → Lowers old d e x → r ≡ next d → new ≡ added d (tail d.frame x r) (ts x)
+    → new ≡ added old (code old.frame e (next old) ++ tail old.frame (value_in old e) (next old + (top e + 1))) (types e ++ ts (value_in old e))
+behind_one old d new e x r tail ts h at same =
+    adds_more old (after old e) new (code old.frame e (next old)) (tail old.frame (value_in old e) (next (after old e))) (types e) (ts (value_in old e)) refl
+    (same ∙ (λ i. added d (tail d.frame x (at i)) (ts x)) ∙ (λ i. added (h.code_is i) (tail (h.code_is i).frame (h.value_is i) (next (h.code_is i))) (ts (h.value_is i))))
+    ∙ (λ i. added old (code old.frame e (next old) ++ tail old.frame (value_in old e) (next_after old e i)) (types e ++ ts (value_in old e)))
+
+-- the value of b, whose first register is m
+abbrev pub value_from : Expression → ℕ → Operand
+value_from b m = operand (m + top b) (number_type b) (line_of b)
+
+pub behind_two : (old mid d new : Listed) (a b : Expression) (x y : Operand) (r : ℕ) (tail : Frame → Operand → Operand → ℕ → List Instruction) (ts : Operand → List IntegerType)
+    → Lowers old mid a x → Lowers mid d b y → r ≡ next d → new ≡ added d (tail d.frame x y r) (ts x)
+    → (let m = next old + (top a + 1) in
+    new ≡ added old (code old.frame a (next old) ++ (code old.frame b m ++ tail old.frame (value_in old a) (value_from b m) (next old + (top a + (top b + 2))))) (types a ++ (types b ++ ts (value_in old a))))
+behind_two old mid d new a b x y r tail ts h k at same =
+    let m = next old + (top a + 1) in
+    let last : m + (top b + 1) ≡ next old + (top a + (top b + 2)) = omega arith in
+    behind_one old mid new a x (next mid) (λ f z n. code f b n ++ tail f z (value_from b n) (n + (top b + 1))) (λ z. types b ++ ts z) h refl
+    (behind_one mid d new b y r (λ f z n. tail f x z n) (λ z. ts x) k at same)
+    ∙ (λ i. added old (code old.frame a (next old) ++ (code old.frame b m ++ tail old.frame (value_in old a) (value_from b m) (last i))) (types a ++ (types b ++ ts (value_in old a))))
+
+-- ---- places
+
+pub read_object : (old d new : Listed) (x : Operand) (line : ℕ) (t : IntegerType) (k offset block count r : ℕ)
+    → block ≡ old.frame.free → count ≡ bytes t
+    → d ≡ added old (at_line old.frame line (operations.ReadObject block 0 k offset count) ∷ []) []
+    → r ≡ next d → new ≡ added d (at_line d.frame line (operations.Load r t block 0) ∷ []) (t ∷ []) → x ≡ operand (next d) t line
+    → Lowers old new (read (Object line t k offset)) x
+read_object old d new x line t k offset block count r is_block is_count first at second v =
+    let i = at_line old.frame line (operations.ReadObject old.frame.free 0 k offset (bytes t)) in
+    let first' : d ≡ added old (i ∷ []) [] = first ∙ (λ j. added old (at_line old.frame line (operations.ReadObject (is_block j) 0 k offset (is_count j)) ∷ []) []) in
+    let same : next d ≡ next old = next_same old d (i ∷ []) first' in
+    let start : next d ≡ next old + 0 = omega (arith, same) in
+    record {
+      code_is = adds_more old d new (i ∷ []) (at_line old.frame line (operations.Load (next old) t old.frame.free 0) ∷ []) [] (t ∷ []) first'
+          (second ∙ (λ j. added d (at_line (first' j).frame line (operations.Load ((at ∙ same) j) t (is_block j) 0) ∷ []) (t ∷ [])));
+      value_is = v ∙ (λ j. operand (start j) t line);
+    }
+
+pub write_object : (old d new : Listed) (line place_line : ℕ) (t : IntegerType) (k offset block count r : ℕ)
+    → block ≡ old.frame.free → count ≡ bytes t
+    → d ≡ added old (at_line old.frame line (operations.Store block 0 count r) ∷ []) []
+    → new ≡ added d (at_line d.frame line (operations.WriteObject k offset block 0 count) ∷ []) []
+    → new ≡ added old (write_code old.frame line (Object place_line t k offset) r) []
+write_object old d new line place_line t k offset block count r is_block is_count first second =
+    let i = at_line old.frame line (operations.Store old.frame.free 0 (bytes t) r) in
+    let first' : d ≡ added old (i ∷ []) [] = first ∙ (λ j. added old (at_line old.frame line (operations.Store (is_block j) 0 (is_count j) r) ∷ []) []) in
+    adds_more old d new (i ∷ []) (at_line old.frame line (operations.WriteObject k offset old.frame.free 0 (bytes t)) ∷ []) [] [] first'
+    (second ∙ (λ j. added d (at_line (first' j).frame line (operations.WriteObject k offset (is_block j) 0 (is_count j)) ∷ []) []))
+
+-- a read of a place, three operations on it, and a write of it
+pub update_adds : (old d1 d2 d3 d4 new : Listed) (p : Place) (loaded left value back : Operand) (line : ℕ) (op : ArithmeticOperator) (t u : IntegerType) (y a b c : ℕ)
+    → Lowers old d1 (read p) loaded
+    → a ≡ next d1 → d2 ≡ added d1 (at_line d1.frame line (operations.Convert a loaded.type_ t loaded.register) ∷ []) (t ∷ []) → left ≡ operand (next d1) t line
+    → b ≡ next d2 → d3 ≡ added d2 (at_line d2.frame line (operations.Arithmetic b op t u left.register y) ∷ []) (t ∷ []) → value ≡ operand (next d2) t line
+    → c ≡ next d3 → d4 ≡ added d3 (at_line d3.frame line (operations.Convert c t loaded.type_ value.register) ∷ []) (loaded.type_ ∷ []) → back ≡ operand (next d3) loaded.type_ line
+    → new ≡ added d4 (write_code d4.frame line p back.register) []
+    → new ≡ added old (update_code old.frame line p (place_type p) op t u y (next old)) (update_types p t)
+update_adds old d1 d2 d3 d4 new p loaded left value back line op t u y a b c h is_a first is_left is_b second is_value is_c third is_back last =
+    let n = next old in
+    let f = old.frame in
+    let place = place_type p in
+    let f1 : d1.frame ≡ f = λ i. (h.code_is i).frame in
+    let n1 : next d1 ≡ n + 1 = omega (arith, next_of old d1 (read p) loaded h) in
+    let none : n + 0 ≡ n = omega arith in
+    let from : loaded.register ≡ n = (λ i. (h.value_is i).register) ∙ none in
+    let is_place : loaded.type_ ≡ place = λ i. (h.value_is i).type_ in
+    let one = at_line f line (operations.Convert (n + 1) place t n) in
+    let first' : d2 ≡ added d1 (one ∷ []) (t ∷ []) = first ∙ (λ i. added d1 (at_line (f1 i) line (operations.Convert ((is_a ∙ n1) i) (is_place i) t (from i)) ∷ []) (t ∷ [])) in
+    let f2 : d2.frame ≡ f = (λ i. (first' i).frame) ∙ f1 in
+    let n2 : next d2 ≡ n + 2 = omega (arith, ap next first', next_added d1 (one ∷ []) (t ∷ []), n1) in
+    let left_is : left.register ≡ n + 1 = (λ i. (is_left i).register) ∙ n1 in
+    let two = at_line f line (operations.Arithmetic (n + 2) op t u (n + 1) y) in
+    let second' : d3 ≡ added d2 (two ∷ []) (t ∷ []) = second ∙ (λ i. added d2 (at_line (f2 i) line (operations.Arithmetic ((is_b ∙ n2) i) op t u (left_is i) y) ∷ []) (t ∷ [])) in
+    let f3 : d3.frame ≡ f = (λ i. (second' i).frame) ∙ f2 in
+    let n3 : next d3 ≡ n + 3 = omega (arith, ap next second', next_added d2 (two ∷ []) (t ∷ []), n2) in
+    let value_is : value.register ≡ n + 2 = (λ i. (is_value i).register) ∙ n2 in
+    let three = at_line f line (operations.Convert (n + 3) t place (n + 2)) in
+    let third' : d4 ≡ added d3 (three ∷ []) (place ∷ []) = third ∙ (λ i. added d3 (at_line (f3 i) line (operations.Convert ((is_c ∙ n3) i) t (is_place i) (value_is i)) ∷ []) (is_place i ∷ [])) in
+    let f4 : d4.frame ≡ f = (λ i. (third' i).frame) ∙ f3 in
+    let back_is : back.register ≡ n + 3 = (λ i. (is_back i).register) ∙ n3 in
+    let write = write_code f line p (n + 3) in
+    let last' : new ≡ added d4 write [] = last ∙ (λ i. added d4 (write_code (f4 i) line p (back_is i)) []) in
+    adds_more old d1 new (read_code f n p) (one ∷ two ∷ three ∷ write) (place ∷ []) (t ∷ t ∷ place ∷ []) h.code_is
+    (adds_more d1 d2 new (one ∷ []) (two ∷ three ∷ write) (t ∷ []) (t ∷ place ∷ []) first'
+    (adds_more d2 d3 new (two ∷ []) (three ∷ write) (t ∷ []) (place ∷ []) second'
+    (adds_more d3 d4 new (three ∷ []) write (place ∷ []) [] third' last')))
+
+pub update_registers : (old d1 d2 d3 : Listed) (p : Place) (loaded back : Operand) (updated : Updated) (xs ys : List Instruction) (t u v : IntegerType) (line : ℕ)
+    → Lowers old d1 (read p) loaded → d2 ≡ added d1 xs (t ∷ []) → d3 ≡ added d2 ys (u ∷ []) → back ≡ operand (next d3) v line
+    → updated ≡ record { old = loaded.register; new = back.register } → updated ≡ record { old = next old; new = next old + 3 }
+update_registers old d1 d2 d3 p loaded back updated xs ys t u v line h first second is_back is_updated =
+    let none : next old + 0 ≡ next old = omega arith in
+    let three : next d3 ≡ next old + 3 = omega (arith, ap next second, next_added d2 ys (u ∷ []), ap next first, next_added d1 xs (t ∷ []), next_of old d1 (read p) loaded h) in
+    is_updated ∙ (λ i. record { old = ((λ k. (h.value_is k).register) ∙ none) i; new = ((λ k. (is_back k).register) ∙ three) i })
+
+-- ---- behind one operand
+
+module _ (old d new : Listed) (e : Expression) (x y : Operand) (h : Lowers old d e x) where
+  value_behind : (t : Operand → IntegerType) (line : Operand → ℕ) → y ≡ operand (next d) (t x) (line x) → y ≡ operand (next old + (top e + 1)) (t (value_in old e)) (line (value_in old e))
+  value_behind t line v = v ∙ (λ i. operand (next_of old d e x h i) (t (h.value_is i)) (line (h.value_is i)))
+
+  pub lowers_convert : (to : IntegerType) (r : ℕ) → r ≡ next d
+      → new ≡ added d (at_line d.frame x.line (operations.Convert r x.type_ to x.register) ∷ []) (to ∷ []) → y ≡ operand (next d) to x.line
+      → Lowers old new (convert to e) y
+  lowers_convert to r at n v = record {
+    code_is = behind_one old d new e x r (λ f z m. at_line f z.line (operations.Convert m z.type_ to z.register) ∷ []) (λ z. to ∷ []) h at n;
+    value_is = value_behind (λ z. to) (λ z. z.line) v;
+  }
+
+  pub lowers_sign : (line : ℕ) (op : SignOperator) (r : ℕ) → r ≡ next d
+      → new ≡ added d (at_line d.frame line (operations.Sign r op x.type_ x.register) ∷ []) (x.type_ ∷ []) → y ≡ operand (next d) x.type_ line
+      → Lowers old new (sign line op e) y
+  lowers_sign line op r at n v = record {
+    code_is = behind_one old d new e x r (λ f z m. at_line f line (operations.Sign m op z.type_ z.register) ∷ []) (λ z. z.type_ ∷ []) h at n;
+    value_is = value_behind (λ z. z.type_) (λ z. line) v;
+  }
+
+  pub lowers_is_zero : (line : ℕ) (r : ℕ) → r ≡ next d
+      → new ≡ added d (at_line d.frame line (operations.IsZero r x.register) ∷ []) (Int ∷ []) → y ≡ operand (next d) Int line
+      → Lowers old new (is_zero line e) y
+  lowers_is_zero line r at n v = record {
+    code_is = behind_one old d new e x r (λ f z m. at_line f line (operations.IsZero m z.register) ∷ []) (λ z. Int ∷ []) h at n;
+    value_is = value_behind (λ z. Int) (λ z. line) v;
+  }
+
+  pub lowers_assign : (line : ℕ) (p : Place)
+      → new ≡ added d (write_code d.frame line p x.register) [] → y ≡ operand x.register (place_type p) line
+      → Lowers old new (assign line p e) y
+  lowers_assign line p n v = record {
+    code_is = behind_one old d new e x (next d) (λ f z m. write_code f line p z.register) (λ z. []) h refl n ∙ (λ i. added old (code old.frame (assign line p e) (next old)) (append-nil (types e) i));
+    value_is = v ∙ (λ i. operand (h.value_is i).register (place_type p) line);
+  }
+
+  pub lowers_update : (line : ℕ) (p : Place) (op : ArithmeticOperator) (t : IntegerType) (s : ℕ) → s ≡ next d + 3
+      → new ≡ added d (update_code d.frame line p (place_type p) op t x.type_ x.register (next d)) (update_types p t) → y ≡ operand s (place_type p) line
+      → Lowers old new (update line p op t e) y
+  lowers_update line p op t s from n v =
+      let last : s ≡ next old + (top e + 4) = omega (arith, next_of old d e x h, from) in
+      record {
+        code_is = behind_one old d new e x (next d) (λ f z m. update_code f line p (place_type p) op t z.type_ z.register m) (λ z. update_types p t) h refl n;
+        value_is = v ∙ (λ i. operand (last i) (place_type p) line);
+      }
+
+  pub lowers_assertion : (mid : Listed) (line : ℕ)
+      → mid ≡ added d (at_line d.frame line (operations.Assert x.register) ∷ []) [] → Lowers mid new (constant line Int 0) y
+      → Lowers old new (assertion line e) y
+  lowers_assertion mid line first k =
+      let at : next mid ≡ next d = next_same d mid (at_line d.frame line (operations.Assert x.register) ∷ []) first in
+      let last : next mid + 0 ≡ next old + (top e + 1) = omega (arith, at, next_of old d e x h) in
+      record {
+        code_is = behind_one old d new e x (next d) (λ f z m. at_line f line (operations.Assert z.register) ∷ at_line f line (operations.Constant m 0) ∷ []) (λ z. Int ∷ []) h refl
+            (adds_more d mid new (at_line d.frame line (operations.Assert x.register) ∷ []) (at_line d.frame line (operations.Constant (next d) 0) ∷ []) [] (Int ∷ []) first
+            (k.code_is ∙ (λ i. added mid (at_line (first i).frame line (operations.Constant (at i) 0) ∷ []) (Int ∷ []))));
+        value_is = k.value_is ∙ (λ i. operand (last i) Int line);
+      }
+
+  pub lowers_assumption : (mid : Listed) (line : ℕ)
+      → mid ≡ added d (at_line d.frame line (operations.Assume x.register) ∷ []) [] → Lowers mid new (constant line Int 0) y
+      → Lowers old new (assumption line e) y
+  lowers_assumption mid line first k =
+      let at : next mid ≡ next d = next_same d mid (at_line d.frame line (operations.Assume x.register) ∷ []) first in
+      let last : next mid + 0 ≡ next old + (top e + 1) = omega (arith, at, next_of old d e x h) in
+      record {
+        code_is = behind_one old d new e x (next d) (λ f z m. at_line f line (operations.Assume z.register) ∷ at_line f line (operations.Constant m 0) ∷ []) (λ z. Int ∷ []) h refl
+            (adds_more d mid new (at_line d.frame line (operations.Assume x.register) ∷ []) (at_line d.frame line (operations.Constant (next d) 0) ∷ []) [] (Int ∷ []) first
+            (k.code_is ∙ (λ i. added mid (at_line (first i).frame line (operations.Constant (at i) 0) ∷ []) (Int ∷ []))));
+        value_is = k.value_is ∙ (λ i. operand (last i) Int line);
+      }
+
+pub lowers_discard : (old d new : Listed) (e : Expression) (x y : Operand) (line : ℕ) → Lowers old d e x → Lowers d new (constant line Int 0) y → Lowers old new (discard line e) y
+lowers_discard old d new e x y line h k =
+    let last : next d + 0 ≡ next old + (top e + 1) = omega (arith, next_of old d e x h) in
+    record {
+      code_is = behind_one old d new e x (next d) (λ f z m. at_line f line (operations.Constant m 0) ∷ []) (λ z. Int ∷ []) h refl k.code_is;
+      value_is = k.value_is ∙ (λ i. operand (last i) Int line);
+    }
+
+-- ---- behind two
+
+module _ (old mid d new : Listed) (a b : Expression) (x y z : Operand) (h : Lowers old mid a x) (k : Lowers mid d b y) where
+  next_two : next d ≡ next old + (top a + (top b + 2))
+  next_two = omega (arith, next_of old mid a x h, next_of mid d b y k)
+
+  pub lowers_arithmetic : (line : ℕ) (op : ArithmeticOperator) (r : ℕ) → r ≡ next d
+      → new ≡ added d (at_line d.frame line (operations.Arithmetic r op x.type_ y.type_ x.register y.register) ∷ []) (x.type_ ∷ []) → z ≡ operand (next d) x.type_ line
+      → Lowers old new (arithmetic line op a b) z
+  lowers_arithmetic line op r at n v = record {
+    code_is = behind_two old mid d new a b x y r (λ f u w m. at_line f line (operations.Arithmetic m op u.type_ w.type_ u.register w.register) ∷ []) (λ u. u.type_ ∷ []) h k at n;
+    value_is = v ∙ (λ i. operand (next_two i) (h.value_is i).type_ line);
+  }
+
+  pub lowers_compare : (line : ℕ) (op : Comparison) (r : ℕ) → r ≡ next d
+      → new ≡ added d (at_line d.frame line (operations.Compare r op x.type_ x.register y.register) ∷ []) (Int ∷ []) → z ≡ operand (next d) Int line
+      → Lowers old new (compare line op a b) z
+  lowers_compare line op r at n v = record {
+    code_is = behind_two old mid d new a b x y r (λ f u w m. at_line f line (operations.Compare m op u.type_ u.register w.register) ∷ []) (λ u. Int ∷ []) h k at n;
+    value_is = v ∙ (λ i. operand (next_two i) Int line);
+  }
+
+  pub lowers_comma : (line : ℕ) → new ≡ d → z ≡ operand y.register y.type_ line → Lowers old new (comma line a b) z
+  lowers_comma line n v =
+      let last : next mid + top b ≡ next old + (top a + (top b + 1)) = omega (arith, next_of old mid a x h) in
+      record {
+        code_is = n ∙ behind_one old mid d a x (next mid) (λ f u m. code f b m) (λ u. types b) h refl k.code_is;
+        value_is = v ∙ (λ i. operand (k.value_is i).register (k.value_is i).type_ line) ∙ (λ i. operand (last i) (number_type b) line);
+      }
+
+-- ---- `++` and `--`
+
+step_lowers : (old d1 d2 new : Listed) (one z : Operand) (into line : ℕ) (p : Place) (op : StepOperator) (before : Bool)
+    → (let t = promoted (place_type p) in
+    Lowers old d1 (constant line t 1) one
+    → into ≡ next d2
+    → d2 ≡ added d1 (update_code d1.frame line p (place_type p) (step_operation op) t one.type_ one.register (next d1)) (update_types p t)
+    → new ≡ added d2 (at_line d2.frame line (operations.Copy into (if before then next d1 + 3 else next d1)) ∷ []) (place_type p ∷ [])
+    → z ≡ operand (next d2) (place_type p) line
+    → Lowers old new (step line p op before) z)
+step_lowers old d1 d2 new one z into line p op before h is_into second third v =
+    let t = promoted (place_type p) in
+    let updated = λ (f : Frame) (u : Operand) (m : ℕ). update_code f line p (place_type p) (step_operation op) t u.type_ u.register m in
+    let two : next d2 ≡ next d1 + 4 = ap next second ∙ next_added d1 (updated d1.frame one (next d1)) (update_types p t) in
+    let from : next old + 0 ≡ next old = omega arith in
+    let start : next old + (0 + 1) ≡ next old + 1 = omega arith in
+    let taken : next old + (0 + 1) + 3 ≡ next old + 4 = omega arith in
+    let last : next old + (0 + 1) + 4 ≡ next old + 5 = omega arith in
+    let at : next d2 ≡ next old + 5 = omega (arith, two, next_of old d1 (constant line t 1) one h) in
+    record {
+      code_is =
+          behind_one old d1 new (constant line t 1) one (next d1) (λ f u m. updated f u m ++ at_line f line (operations.Copy (m + 4) (if before then m + 3 else m)) ∷ []) (λ u. update_types p t ++ place_type p ∷ []) h refl
+          (adds_more d1 d2 new (updated d1.frame one (next d1)) (at_line d1.frame line (operations.Copy (next d1 + 4) (if before then next d1 + 3 else next d1)) ∷ []) (update_types p t) (place_type p ∷ []) second
+          (third ∙ (λ i. added d2 (at_line (second i).frame line (operations.Copy ((is_into ∙ two) i) (if before then next d1 + 3 else next d1)) ∷ []) (place_type p ∷ []))))
+          ∙ (λ i. added old (at_line old.frame line (operations.Constant (next old) 1) ∷ (update_code old.frame line p (place_type p) (step_operation op) t t (from i) (start i) ++ at_line old.frame line (operations.Copy (last i) (if before then taken i else start i)) ∷ [])) (t ∷ (update_types p t ++ place_type p ∷ [])));
+      value_is = v ∙ (λ i. operand (at i) (place_type p) line);
+    }
+
+pub lowers_step : (old d1 d2 new : Listed) (one z : Operand) (updated : Updated) (value into line : ℕ) (p : Place) (op : StepOperator) (before : Bool) (t u : IntegerType) (sum : ArithmeticOperator)
+    → t ≡ place_type p → u ≡ promoted t → sum ≡ step_operation op
+    → Lowers old d1 (constant line u 1) one
+    → d2 ≡ added d1 (update_code d1.frame line p (place_type p) sum u one.type_ one.register (next d1)) (update_types p u)
+    → updated ≡ record { old = next d1; new = next d1 + 3 }
+    → into ≡ next d2
+    → value ≡ (if before then updated.new else updated.old)
+    → new ≡ added d2 (at_line d2.frame line (operations.Copy into value) ∷ []) (t ∷ [])
+    → z ≡ operand (next d2) t line
+    → Lowers old new (step line p op before) z
+lowers_step old d1 d2 new one z updated value into line p op before t u sum is_t is_u is_sum h second is_updated is_into is_value third v =
+    let same : u ≡ promoted (place_type p) = is_u ∙ ap promoted is_t in
+    step_lowers old d1 d2 new one z into line p op before
+    (subst (λ (w : IntegerType). Lowers old d1 (constant line w 1) one) same h)
+    is_into
+    (second ∙ (λ i. added d1 (update_code d1.frame line p (place_type p) (is_sum i) (same i) one.type_ one.register (next d1)) (update_types p (same i))))
+    (third ∙ (λ i. added d2 (at_line d2.frame line (operations.Copy into ((is_value ∙ (λ k. if before then (is_updated k).new else (is_updated k).old)) i)) ∷ []) (is_t i ∷ [])))
+    (v ∙ (λ i. operand (next d2) (is_t i) line))
+
+-- ---- jumps
+
+-- a jump that lands behind the code that follows it
+pub landed_behind : (d : Listed) (hole : Instruction) (xs : List Instruction) (ts : List IntegerType) (place line : ℕ) (test : Option ℕ)
+    → place ≡ length d.instructions
+    → landed (added d (hole ∷ xs) ts) place line test ≡ added d (at_line d.frame line (jump test (length xs)) ∷ xs) ts
+landed_behind d hole xs ts place line test at =
+    let all : length (d.instructions ++ hole ∷ xs) ≡ length d.instructions + length (hole ∷ xs) = length-append d.instructions (hole ∷ xs) in
+    let count : length (d.instructions ++ hole ∷ xs) - (length d.instructions + 1) ≡ length xs = omega (arith, all) in
+    (λ i. landed (added d (hole ∷ xs) ts) (at i) line test)
+    ∙ (λ i. record d { instructions = set-append_seam d.instructions hole xs (at_line d.frame line (jump test (count i))) i; registers = d.registers ++ ts })
+
+-- a hole that is filled
+pub filled_in : (d : Listed) (hole new : Instruction) (xs : List Instruction) (ts : List IntegerType) (place : ℕ)
+    → place ≡ length d.instructions
+    → filled (added d (hole ∷ xs) ts) place new ≡ added d (new ∷ xs) ts
+filled_in d hole new xs ts place at =
+    (λ i. filled (added d (hole ∷ xs) ts) (at i) new)
+    ∙ (λ i. record d { instructions = set-append_seam d.instructions hole xs new i; registers = d.registers ++ ts })
+
+-- code behind a place that was left, and then landed
+module _ (old d new : Listed) (hole : Instruction) (xs : List Instruction) (ts : List IntegerType) (place line : ℕ) where
+  pub lands : (test : Option ℕ) → place ≡ length old.instructions → d ≡ added old (hole ∷ xs) ts → new ≡ landed d place line test
+      → new ≡ added old (at_line old.frame line (jump test (length xs)) ∷ xs) ts
+  lands test at before same = same ∙ (λ i. landed (before i) place line test) ∙ landed_behind old hole xs ts place line test at
+
+  pub fills : (i : Instruction) → place ≡ length old.instructions → d ≡ added old (hole ∷ xs) ts → new ≡ filled d place i
+      → new ≡ added old (i ∷ xs) ts
+  fills i at before same = same ∙ (λ k. filled (before k) place i) ∙ filled_in old hole i xs ts place at
+
+-- the register of the value of b, whose code's first register is m, is one before the next
+value_before : (mid d : Listed) (b : Expression) (y : Operand) → Lowers mid d b y → next d ≡ next mid + top b + 1
+value_before mid d b y k = omega (arith, next_of mid d b y k)
+
+pub lowers_and : (old d0 d1 d2 d3 d4 d5 new : Listed) (a b : Expression) (x y truth : Operand) (skip line : ℕ) (hole : Instruction)
+    → Lowers old d0 a x
+    → d1 ≡ added d0 (hole ∷ []) [] → skip ≡ length d0.instructions
+    → Lowers d1 d2 b y
+    → d3 ≡ added d2 (truth_code d2.frame line y.register (next d2)) (Int ∷ Int ∷ []) → truth ≡ operand (next d2 + 1) Int line
+    → d4 ≡ added d3 (at_line d3.frame line (operations.Skip 1) ∷ []) []
+    → d5 ≡ landed d4 skip line (Some x.register)
+    → new ≡ added d5 (at_line d5.frame line (operations.Constant truth.register 0) ∷ []) []
+    → Lowers old new (logical line logicals.And a b) truth
+lowers_and old d0 d1 d2 d3 d4 d5 new a b x y truth skip line hole h first at k third is_truth fourth fifth last =
+    let f = d0.frame in
+    let m = next d0 in
+    let from : next d1 ≡ m = next_same d0 d1 (hole ∷ []) first in
+    let xs = code f b m in
+    let r = m + top b in
+    let second : d2 ≡ added d1 (code f b m) (types b) = k.code_is ∙ (λ i. added d1 (code (first i).frame b (from i)) (types b)) in
+    let is_y : y.register ≡ r = (λ i. (k.value_is i).register) ∙ (λ i. from i + top b) in
+    let after_y : next d2 ≡ r + 1 = omega (arith, from, value_before d1 d2 b y k) in
+    let behind_y : next d2 + 1 ≡ r + 2 = omega (arith, after_y) in
+    let f1 : d1.frame ≡ f = λ i. (first i).frame in
+    let f2 : d2.frame ≡ f = (λ i. (second i).frame) ∙ f1 in
+    let f3 : d3.frame ≡ f = (λ i. (third i).frame) ∙ f2 in
+    let truths = at_line f line (operations.IsZero (r + 1) r) ∷ at_line f line (operations.IsZero (r + 2) (r + 1)) ∷ [] in
+    let third' : d3 ≡ added d2 truths (Int ∷ Int ∷ []) =
+    third ∙ (λ i. added d2 (at_line (f2 i) line (operations.IsZero (after_y i) (is_y i)) ∷ at_line (f2 i) line (operations.IsZero (behind_y i) (after_y i)) ∷ []) (Int ∷ Int ∷ [])) in
+    let over = at_line f line (operations.Skip 1) in
+    let fourth' : d4 ≡ added d3 (over ∷ []) [] = fourth ∙ (λ i. added d3 (at_line (f3 i) line (operations.Skip 1) ∷ []) []) in
+    let ts = types b ++ Int ∷ Int ∷ [] in
+    let tail = at_line f line (operations.IsZero (r + 1) r) ∷ at_line f line (operations.IsZero (r + 2) (r + 1)) ∷ over ∷ [] in
+    let all : d4 ≡ added d0 (hole ∷ (xs ++ tail)) ts =
+    adds_more d0 d1 d4 (hole ∷ []) (xs ++ tail) [] ts first
+    (adds_more d1 d2 d4 xs tail (types b) (Int ∷ Int ∷ []) second
+    (adds_more d2 d3 d4 truths (over ∷ []) (Int ∷ Int ∷ []) [] third' fourth')) in
+    let count : length (xs ++ tail) ≡ length xs + 3 = length-append xs tail in
+    let jumps : d5 ≡ added d0 (at_line f line (operations.SkipIfZero x.register (length xs + 3)) ∷ (xs ++ tail)) ts =
+    lands d0 d4 d5 hole (xs ++ tail) ts skip line (Some x.register) at all fifth
+    ∙ (λ i. added d0 (at_line f line (operations.SkipIfZero x.register (count i)) ∷ (xs ++ tail)) ts) in
+    let f5 : d5.frame ≡ f = λ i. (jumps i).frame in
+    let is_truth' : truth.register ≡ r + 2 = (λ i. (is_truth i).register) ∙ behind_y in
+    let zero = at_line f line (operations.Constant (r + 2) 0) in
+    let no_more : ts ++ [] ≡ ts = append-nil ts in
+    let whole : new ≡ added d0 (logical_code f line logicals.And x.register xs r) ts =
+    adds_more d0 d5 new (at_line f line (operations.SkipIfZero x.register (length xs + 3)) ∷ (xs ++ tail)) (zero ∷ []) ts [] jumps
+    (last ∙ (λ i. added d5 (at_line (f5 i) line (operations.Constant (is_truth' i) 0) ∷ []) []))
+    ∙ (λ i. added d0 (at_line f line (operations.SkipIfZero x.register (length xs + 3)) ∷ append_assoc xs tail (zero ∷ []) i) (no_more i)) in
+    let place : next d2 + 1 ≡ next old + (top a + (top b + 3)) = omega (arith, behind_y, next_of old d0 a x h) in
+    record {
+      code_is = behind_one old d0 new a x m (λ g z n. logical_code g line logicals.And z.register (code g b n) (n + top b)) (λ z. ts) h refl whole;
+      value_is = is_truth ∙ (λ i. operand (place i) Int line);
+    }
+
+-- the holes of a draft are where one ends that is as long
+pub length_added : (d : Listed) (xs : List Instruction) (ts : List IntegerType) → length (added d xs ts).instructions ≡ length d.instructions + length xs
+length_added d xs ts = length-append d.instructions xs
+
+pub lowers_or : (old d0 d1 d2 d3 d4 d5 d6 new : Listed) (a b : Expression) (x y truth : Operand) (one skip line : ℕ) (hole gap : Instruction)
+    → Lowers old d0 a x
+    → d1 ≡ added d0 (at_line d0.frame line (operations.SkipIfZero x.register 2) ∷ []) []
+    → d2 ≡ added d1 (hole ∷ []) [] → one ≡ length d1.instructions
+    → d3 ≡ added d2 (gap ∷ []) [] → skip ≡ length d2.instructions
+    → Lowers d3 d4 b y
+    → d5 ≡ added d4 (truth_code d4.frame line y.register (next d4)) (Int ∷ Int ∷ []) → truth ≡ operand (next d4 + 1) Int line
+    → d6 ≡ filled d5 one (at_line d5.frame line (operations.Constant truth.register 1))
+    → new ≡ landed d6 skip line None
+    → Lowers old new (logical line logicals.Or a b) truth
+lowers_or old d0 d1 d2 d3 d4 d5 d6 new a b x y truth one skip line hole gap h first second at third where_ k fourth is_truth fifth last =
+    let f = d0.frame in
+    let m = next d0 in
+    let test = at_line f line (operations.SkipIfZero x.register 2) in
+    let from1 : next d1 ≡ m = next_same d0 d1 (test ∷ []) first in
+    let from2 : next d2 ≡ m = next_same d1 d2 (hole ∷ []) second ∙ from1 in
+    let from : next d3 ≡ m = next_same d2 d3 (gap ∷ []) third ∙ from2 in
+    let xs = code f b m in
+    let r = m + top b in
+    let f1 : d1.frame ≡ f = λ i. (first i).frame in
+    let f2 : d2.frame ≡ f = (λ i. (second i).frame) ∙ f1 in
+    let f3 : d3.frame ≡ f = (λ i. (third i).frame) ∙ f2 in
+    let right : d4 ≡ added d3 xs (types b) = k.code_is ∙ (λ i. added d3 (code (f3 i) b (from i)) (types b)) in
+    let f4 : d4.frame ≡ f = (λ i. (right i).frame) ∙ f3 in
+    let is_y : y.register ≡ r = (λ i. (k.value_is i).register) ∙ (λ i. from i + top b) in
+    let after_y : next d4 ≡ r + 1 = omega (arith, from, value_before d3 d4 b y k) in
+    let behind_y : next d4 + 1 ≡ r + 2 = omega (arith, after_y) in
+    let truths = at_line f line (operations.IsZero (r + 1) r) ∷ at_line f line (operations.IsZero (r + 2) (r + 1)) ∷ [] in
+    let fourth' : d5 ≡ added d4 truths (Int ∷ Int ∷ []) =
+    fourth ∙ (λ i. added d4 (at_line (f4 i) line (operations.IsZero (after_y i) (is_y i)) ∷ at_line (f4 i) line (operations.IsZero (behind_y i) (after_y i)) ∷ []) (Int ∷ Int ∷ [])) in
+    let f5 : d5.frame ≡ f = (λ i. (fourth' i).frame) ∙ f4 in
+    let ts = types b ++ Int ∷ Int ∷ [] in
+    let tail = xs ++ truths in
+    let all : d5 ≡ added d1 (hole ∷ gap ∷ tail) ts =
+    adds_more d1 d2 d5 (hole ∷ []) (gap ∷ tail) [] ts second
+    (adds_more d2 d3 d5 (gap ∷ []) tail [] ts third
+    (adds_more d3 d4 d5 xs truths (types b) (Int ∷ Int ∷ []) right fourth')) in
+    let is_truth' : truth.register ≡ r + 2 = (λ i. (is_truth i).register) ∙ behind_y in
+    let set = at_line f line (operations.Constant (r + 2) 1) in
+    let filled_one : d6 ≡ added d1 (set ∷ gap ∷ tail) ts =
+    fills d1 d5 d6 hole (gap ∷ tail) ts one line set at all (fifth ∙ (λ i. filled d5 one (at_line (f5 i) line (operations.Constant (is_truth' i) 1)))) in
+    let e = added d1 (set ∷ []) [] in
+    let in_two : d6 ≡ added e (gap ∷ tail) ts = filled_one ∙ sym (adds_more d1 e (added e (gap ∷ tail) ts) (set ∷ []) (gap ∷ tail) [] ts refl refl) in
+    let there : skip ≡ length e.instructions = where_ ∙ (λ i. length (second i).instructions) ∙ length_added d1 (hole ∷ []) [] ∙ sym (length_added d1 (set ∷ []) []) in
+    let count : length tail ≡ length xs + 2 = length-append xs truths in
+    let over = at_line f line (operations.Skip (length xs + 2)) in
+    let jumps : new ≡ added e (over ∷ tail) ts =
+    lands e d6 new gap tail ts skip line None there in_two last
+    ∙ (λ i. added e (at_line (f1 i) line (operations.Skip (count i)) ∷ tail) ts) in
+    let whole : new ≡ added d0 (logical_code f line logicals.Or x.register xs r) ts =
+    adds_more d0 d1 new (test ∷ []) (set ∷ over ∷ tail) [] ts first
+    (adds_more d1 e new (set ∷ []) (over ∷ tail) [] ts refl jumps) in
+    let place : next d4 + 1 ≡ next old + (top a + (top b + 3)) = omega (arith, behind_y, next_of old d0 a x h) in
+    record {
+      code_is = behind_one old d0 new a x m (λ g z n. logical_code g line logicals.Or z.register (code g b n) (n + top b)) (λ z. ts) h refl whole;
+      value_is = is_truth ∙ (λ i. operand (place i) Int line);
+    }
+
+-- `?:` behind its test, whose value the register t has, with registers from m on
+abbrev choice_code : Frame → ℕ → Expression → Expression → ℕ → ℕ → List Instruction
+choice_code f line a b t m =
+    let second = m + (top a + 1) in
+    let result = second + (top b + 1) in
+    at_line f line (operations.SkipIfZero t (length (code f a m) + 2))
+    ∷ (code f a m
+    ++ at_line f line (operations.Copy result (m + top a))
+    ∷ at_line f line (operations.Skip (length (code f b second) + 1))
+    ∷ (code f b second ++ at_line f line (operations.Copy result (second + top b)) ∷ []))
+
+pub lowers_choice : (old d0 d1 d2 d3 d4 d5 d6 d7 d8 new : Listed) (e a b : Expression) (test x y z : Operand) (skip copied over into line : ℕ) (hole gap space : Instruction)
+    → Lowers old d0 e test
+    → d1 ≡ added d0 (hole ∷ []) [] → skip ≡ length d0.instructions
+    → Lowers d1 d2 a x
+    → d3 ≡ added d2 (gap ∷ []) [] → copied ≡ length d2.instructions
+    → d4 ≡ added d3 (space ∷ []) [] → over ≡ length d3.instructions
+    → d5 ≡ landed d4 skip line (Some test.register)
+    → Lowers d5 d6 b y
+    → into ≡ next d6
+    → d7 ≡ added d6 (at_line d6.frame line (operations.Copy into y.register) ∷ []) (x.type_ ∷ []) → z ≡ operand (next d6) x.type_ line
+    → d8 ≡ filled d7 copied (at_line d7.frame line (operations.Copy into x.register))
+    → new ≡ landed d8 over line None
+    → Lowers old new (choice line e a b) z
+lowers_choice old d0 d1 d2 d3 d4 d5 d6 d7 d8 new e a b test x y z skip copied over into line hole gap space h first at k third where_copy fourth where_over fifth l is_into sixth is_z seventh last =
+    let f = d0.frame in
+    let m = next d0 in
+    let from : next d1 ≡ m = next_same d0 d1 (hole ∷ []) first in
+    let xs = code f a m in
+    let ta = types a in
+    let f1 : d1.frame ≡ f = λ i. (first i).frame in
+    let yes : d2 ≡ added d1 xs ta = k.code_is ∙ (λ i. added d1 (code (f1 i) a (from i)) ta) in
+    let f2 : d2.frame ≡ f = (λ i. (yes i).frame) ∙ f1 in
+    let is_x : x ≡ operand (m + top a) (number_type a) (line_of a) = k.value_is ∙ (λ i. operand (from i + top a) (number_type a) (line_of a)) in
+    let before : d4 ≡ added d0 (hole ∷ (xs ++ gap ∷ space ∷ [])) (ta ++ []) =
+    adds_more d0 d1 d4 (hole ∷ []) (xs ++ gap ∷ space ∷ []) [] (ta ++ []) first
+    (adds_more d1 d2 d4 xs (gap ∷ space ∷ []) ta [] yes
+    (adds_more d2 d3 d4 (gap ∷ []) (space ∷ []) [] [] third fourth)) in
+    let count : length (xs ++ gap ∷ space ∷ []) ≡ length xs + 2 = length-append xs (gap ∷ space ∷ []) in
+    let jump1 = at_line f line (operations.SkipIfZero test.register (length xs + 2)) in
+    let jumps : d5 ≡ added d0 (jump1 ∷ (xs ++ gap ∷ space ∷ [])) (ta ++ []) =
+    lands d0 d4 d5 hole (xs ++ gap ∷ space ∷ []) (ta ++ []) skip line (Some test.register) at before fifth
+    ∙ (λ i. added d0 (at_line f line (operations.SkipIfZero test.register (count i)) ∷ (xs ++ gap ∷ space ∷ [])) (ta ++ [])) in
+    let e2 = added d0 (jump1 ∷ xs) ta in
+    let after_two : d5 ≡ added e2 (gap ∷ space ∷ []) [] = jumps ∙ sym (adds_more d0 e2 (added e2 (gap ∷ space ∷ []) []) (jump1 ∷ xs) (gap ∷ space ∷ []) ta [] refl refl) in
+    let second = m + (top a + 1) in
+    let from2 : next d5 ≡ second = next_same e2 d5 (gap ∷ space ∷ []) after_two ∙ next_added d0 (jump1 ∷ xs) ta ∙ ap (λ n. m + n) (types_length a) in
+    let f5 : d5.frame ≡ f = λ i. (jumps i).frame in
+    let ys = code f b second in
+    let tb = types b in
+    let no : d6 ≡ added d5 ys tb = l.code_is ∙ (λ i. added d5 (code (f5 i) b (from2 i)) tb) in
+    let f6 : d6.frame ≡ f = (λ i. (no i).frame) ∙ f5 in
+    let is_y : y.register ≡ second + top b = (λ i. (l.value_is i).register) ∙ (λ i. from2 i + top b) in
+    let result = second + (top b + 1) in
+    let is_result : next d6 ≡ result = omega (arith, value_before d5 d6 b y l, from2) in
+    let into_is : into ≡ result = is_into ∙ is_result in
+    let t = number_type a in
+    let copy2 = at_line f line (operations.Copy result (second + top b)) in
+    let sixth' : d7 ≡ added d6 (copy2 ∷ []) (t ∷ []) = sixth ∙ (λ i. added d6 (at_line (f6 i) line (operations.Copy (into_is i) (is_y i)) ∷ []) ((is_x i).type_ ∷ [])) in
+    let f7 : d7.frame ≡ f = (λ i. (sixth' i).frame) ∙ f6 in
+    let tail = ys ++ copy2 ∷ [] in
+    let ts = tb ++ t ∷ [] in
+    let two : d7 ≡ added e2 (gap ∷ space ∷ tail) ts =
+    adds_more e2 d5 d7 (gap ∷ space ∷ []) tail [] ts after_two
+    (adds_more d5 d6 d7 ys (copy2 ∷ []) tb (t ∷ []) no sixth') in
+    let copy1 = at_line f line (operations.Copy result (m + top a)) in
+    let long2 : length d2.instructions ≡ length e2.instructions =
+    (λ i. length (yes i).instructions) ∙ length_added d1 xs ta ∙ (λ i. length (first i).instructions + length xs) ∙ (λ i. length_added d0 (hole ∷ []) [] i + length xs)
+    ∙ (let same : length d0.instructions + length (hole ∷ []) + length xs ≡ length d0.instructions + length (jump1 ∷ xs) = omega arith in same)
+    ∙ sym (length_added d0 (jump1 ∷ xs) ta) in
+    let filled_copy : d8 ≡ added e2 (copy1 ∷ space ∷ tail) ts =
+    fills e2 d7 d8 gap (space ∷ tail) ts copied line copy1 (where_copy ∙ long2) two (seventh ∙ (λ i. filled d7 copied (at_line (f7 i) line (operations.Copy (into_is i) (is_x i).register)))) in
+    let e3 = added e2 (copy1 ∷ []) [] in
+    let in_three : d8 ≡ added e3 (space ∷ tail) ts = filled_copy ∙ sym (adds_more e2 e3 (added e3 (space ∷ tail) ts) (copy1 ∷ []) (space ∷ tail) [] ts refl refl) in
+    let long3 : length d3.instructions ≡ length e3.instructions =
+    (λ i. length (third i).instructions) ∙ length_added d2 (gap ∷ []) [] ∙ (λ i. long2 i + 1) ∙ sym (length_added e2 (copy1 ∷ []) []) in
+    let count2 : length tail ≡ length ys + 1 = length-append ys (copy2 ∷ []) in
+    let jump2 = at_line f line (operations.Skip (length ys + 1)) in
+    let landed_last : new ≡ added e3 (jump2 ∷ tail) ts =
+    lands e3 d8 new space tail ts over line None (where_over ∙ long3) in_three last
+    ∙ (λ i. added e3 (at_line f line (operations.Skip (count2 i)) ∷ tail) ts) in
+    let whole : new ≡ added d0 (choice_code f line a b test.register m) (ta ++ ts) =
+    adds_more d0 e2 new (jump1 ∷ xs) (copy1 ∷ jump2 ∷ tail) ta ts refl
+    (adds_more e2 e3 new (copy1 ∷ []) (jump2 ∷ tail) [] ts refl landed_last) in
+    let place : next d6 ≡ next old + (top e + (top a + (top b + 3))) = omega (arith, is_result, next_of old d0 e test h) in
+    record {
+      code_is = behind_one old d0 new e test m (λ g u n. choice_code g line a b u.register n) (λ u. ta ++ ts) h refl whole;
+      value_is = is_z ∙ (λ i. operand (place i) (is_x i).type_ line);
+    }

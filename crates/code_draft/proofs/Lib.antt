@@ -1,0 +1,4 @@
+pub mod Making
+pub mod Drafting
+pub mod DraftingStructures
+pub mod DraftingCalls

@@ -1,6 +1,0 @@
-use Rattle.std.proofs.Common.{◌≡◌, ◌-◌, ◌*◌}
-use Rattle.goto_lower.specs.Drafts.{after_words}
-use Rattle.goto_lower.proofs.draft.Draft.draw_words.Given as goal
-
-abbrev pub invariant-loop-word : goal.invariant-loop-word
-invariant-loop-word l = after_words l.self (l.word-end - l.word) l.line l.variable (8 * l.word) ≡ after_words l.initial.self l.word-end l.line l.variable 0

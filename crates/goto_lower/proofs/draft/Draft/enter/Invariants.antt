@@ -1,7 +1,0 @@
-use Rattle.std.proofs.Common.{◌≡◌, drop}
-use Rattle.core_tree.specs.Trees.{items_of}
-use Rattle.goto_lower.specs.Drafts.{after_entry}
-use Rattle.goto_lower.proofs.draft.Draft.enter.Given as goal
-
-abbrev pub invariant-loop-item : goal.invariant-loop-item
-invariant-loop-item l = after_entry l.self (items_of (drop l.item-index l.items)) ≡ after_entry l.initial.self (items_of l.items)

@@ -1,6 +1,0 @@
-use Rattle.std.proofs.Common.{◌≡◌, drop}
-use Rattle.goto_lower.specs.Drafts.{after_text}
-use Rattle.goto_lower.proofs.draft.Draft.text.Given as goal
-
-abbrev pub invariant-loop-byte : goal.invariant-loop-byte
-invariant-loop-byte l = after_text l.self l.line (drop l.byte-index l.bytes) l.register l.into l.offset ≡ after_text l.initial.self l.line l.bytes l.register l.into l.at

@@ -1,8 +1,0 @@
-use Rattle.goto_lower.specs.Drafts.{operand}
-use Rattle.goto_lower.proofs.Drafting.{lowers_update}
-use Rattle.goto_lower.proofs.draft.Draft.update.Goals as goal
-
-pub returns : goal.returns
-returns c = λ old e h.
-    lowers_update old c.args.self.now _ e c.args.y _ h c.args.line c.args.place c.args.operator c.args.type_ c.in_ok-updated.updated.new (λ i. (c.in_ok-updated.ensures.registers i).new) c.in_ok-updated.ensures.code
-    (λ i. operand c.in_ok-updated.updated.new (c.place_type.ensures i) c.args.line)

@@ -1,7 +1,0 @@
-use Rattle.std.proofs.Common.{◌≡◌, take}
-use Rattle.std.specs.Prelude.{reverse}
-use Rattle.goto_lower.specs.Drafts.{place_of}
-use Rattle.goto_lower.proofs.draft.find_label.Given as goal
-
-abbrev pub invariant-loop-k : goal.invariant-loop-k
-invariant-loop-k l = place_of (reverse (take l.k l.labels)) l.label ≡ place_of (reverse l.labels) l.label
