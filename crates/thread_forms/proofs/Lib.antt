@@ -9,3 +9,9 @@ pub mod Pairing
 pub mod Joining
 pub mod Marking
 pub mod Deciding
+pub mod Standing
+pub mod Values
+pub mod Shapes
+pub mod Fitting
+pub mod Counting
+pub mod Telling

@@ -1,6 +1,7 @@
 //! The laws of forms of many threads, as functions that do nothing.
 
 ghost use Rattle.std.specs.Prelude.{ℕ};
+ghost use Rattle.thread_forms.specs.EachRun.{CandidatesAreFit, RunsAreTold, RunsHaveGoals};
 ghost use Rattle.thread_forms.specs.Instance.{HasCreate, HasOrder, IsInstance};
 ghost use Rattle.thread_forms.specs.Meets.{MeetsIsConsistent};
 ghost use Rattle.thread_forms.specs.Order.{CandidateHasGoal, GoalIsCandidate};
@@ -23,6 +24,21 @@ pub fn runs_give_valuations()
 pub fn goals_are_candidates()
     ensures only { GoalIsCandidate }
     ensures each { CandidateHasGoal ℕ }
+{}
+
+/// Threads that hand over bytes, sizes and values of their kinds, whose threads of threads create none,
+/// and that make fewer than 65,536 objects each: in each of their consistent candidates every answer
+/// has the shape that its action asks for.
+pub fn candidates_are_fit()
+    ensures { CandidatesAreFit ℕ }
+{}
+
+/// Each run of such threads, on any inputs and by any schedule, is told by one valuation of their forms
+/// with marks that meet the conditions; where it breaks a check, a formula that keeps its promise is
+/// true for a valuation that takes its turns.
+pub fn runs_are_told()
+    ensures told { RunsAreTold }
+    ensures goals { RunsHaveGoals }
 {}
 
 /// What is asked of forms, of marks and of a formula is met: by a main that ends the process, by one

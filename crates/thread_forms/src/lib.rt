@@ -3,4 +3,7 @@
 
 mod laws;
 
-pub use laws::{forms_exist, goals_are_candidates, meets_is_consistent, runs_give_valuations};
+pub use laws::{
+    candidates_are_fit, forms_exist, goals_are_candidates, meets_is_consistent, runs_are_told,
+    runs_give_valuations,
+};

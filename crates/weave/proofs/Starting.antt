@@ -34,7 +34,7 @@ module _ {Id : Type 0} (c : Candidate Id) where
       (here, each_map ys (λ z l. before_trans c x y z here l) s.0)
 
   -- a thread's events are sorted
-  run_sorted : (b : Bool) (k : ℕ) (xs : List Id) → ((x : Id) → In x xs → c.thread x ≡ k) → Groups c b xs → Sorted c xs
+  pub run_sorted : (b : Bool) (k : ℕ) (xs : List Id) → ((x : Id) → In x xs → c.thread x ≡ k) → Groups c b xs → Sorted c xs
   run_sorted b k [] e g = tt
   run_sorted b k (x ∷ xs) e g =
       let rest : Sorted c xs = run_sorted (inside_after (mode_at c x) b) k xs (λ y i. e y (inr i)) g.1 in
@@ -45,7 +45,7 @@ module _ {Id : Type 0} (c : Candidate Id) where
   later_before y x (inr h) = inr (h.0, inr (h.1, h.2))
 
   -- two events of a sorted list
-  in_order : (xs : List Id) (x y : Id) → Sorted c xs → In x xs → In y xs → (x ≡ y) ⊎ (Before c x y ⊎ Before c y x)
+  pub in_order : (xs : List Id) (x y : Id) → Sorted c xs → In x xs → In y xs → (x ≡ y) ⊎ (Before c x y ⊎ Before c y x)
   in_order [] x y s i j = absurd i
   in_order (z ∷ zs) x y s (inl e) (inl f) = inl (e ∙ sym f)
   in_order (z ∷ zs) x y s (inl e) (inr j) = inr (inl (subst (λ (u : Id). Before c u y) (sym e) (each_in (Before c z) zs y s.0 j)))
