@@ -1,5 +1,5 @@
 -- The numbers that bounded threads give to new threads and objects are below 2 ^ 32.
-use Rattle.std.proofs.Common.{◌≡◌, ◌<◌, ◌≤◌, ◌+◌, ◌*◌, ◌^◌, ℕ, zero, suc, true, List, [], ◌∷◌, refl, sym, ap, subst, ◌∙◌, arith}
+use Rattle.std.proofs.Common.{◌≡◌, ◌<◌, ◌≤◌, ◌+◌, ◌*◌, ◌^◌, ℕ, zero, suc, true, List, [], ◌∷◌, refl, ap, arith}
 use Rattle.actions.specs.declared.action.Action.{Action}
 use Rattle.actions.specs.declared.action.Action.TheVariants.{Draw, Alloc, Create}
 use Rattle.actions.specs.declared.action.Answer.{Answer}
@@ -7,14 +7,12 @@ use Rattle.actions.specs.declared.action.Next.{Next}
 use Rattle.actions.specs.declared.action.Next.TheVariants.{Act, Ended, Blocked, Broken}
 use Rattle.actions.specs.Behaviour.{Behaviour, after, Program, Thread}
 use Rattle.actions.specs.Objects.{Objects}
-use Rattle.actions.specs.Row.{moves}
 use Rattle.interleave.specs.declared.counts.Counts.{Counts}
 use Rattle.interleave.specs.Own.{counted}
 use Rattle.interleave.specs.World.{Member, child}
 use Rattle.weave.specs.Step.{IsOwn, counted_by, told_by}
-use Rattle.weave.specs.Candidate.{Candidate, Executed}
-use Rattle.weave.specs.Consistent.{main_member, IsConsistent}
-use Rattle.weave.specs.Family.{creations_of, IsFamily}
+use Rattle.weave.specs.Consistent.{main_member}
+use Rattle.weave.specs.Family.{creations_of}
 use Rattle.weave.proofs.Local.{IsGood}
 use Rattle.thread_forms.specs.Bounds.{objects_of, objects_along, HasDepth, IsBounded}
 use Rattle.thread_forms.specs.EachRun.{CandidatesAreFit}

@@ -1,8 +1,7 @@
 -- In a consistent candidate of bounded threads each answer has the shape that its action asks for.
-use Rattle.std.proofs.Common.{◌≡◌, ◌<◌, ◌≤◌, ◌+◌, ◌-◌, ◌*◌, ◌^◌, ℕ, zero, suc, Bool, true, false, ◌&&◌, cond, List, [], ◌∷◌, length, slice_get, Option, Some, None, IfSome, ◌⊎◌, inl, inr, refl, sym, ap, subst, ◌∙◌, arith, nat_eq, nat_lt, nat_le}
+use Rattle.std.proofs.Common.{◌≡◌, ◌<◌, ◌≤◌, ◌+◌, ◌-◌, ℕ, zero, suc, Bool, true, false, ◌&&◌, cond, List, [], ◌∷◌, length, slice_get, Option, Some, None, IfSome, ◌⊎◌, inl, inr, refl, sym, ap, subst, ◌∙◌, arith, nat_eq, nat_lt, nat_le}
 use Rattle.std.proofs.lemmas.Bool.{ltb-true, leb-true}
 use Rattle.actions.specs.declared.action.Answer.{Answer}
-use Rattle.actions.specs.declared.action.Next.{Next}
 use Rattle.actions.specs.declared.cells.Cell.{Cell}
 use Rattle.actions.specs.declared.thread_state.ThreadState.TheVariants.{Running}
 use Rattle.actions.specs.Behaviour.{Thread, accepts}
@@ -10,11 +9,11 @@ use Rattle.actions.specs.Objects.{Objects, object_at, state_at}
 use Rattle.actions.specs.Pointer.{object_of, offset_of}
 use Rattle.actions.specs.StoredObject.{StoredObject}
 use Rattle.actions.specs.States.{ObjectState, dead, live, state_of}
-use Rattle.actions.specs.Memory.{thread_at, Change, keeps, adds, kills, puts, starts, ends}
+use Rattle.actions.specs.Memory.{Change, keeps, adds, kills, puts, starts, ends}
 use Rattle.actions.specs.Row.{moves}
 use Rattle.interleave.specs.World.{Member, first_common}
 use Rattle.weave.specs.Place.{Place, object, byte, thread, Value, is_object, is_byte, is_thread, byte_in, value_at, written}
-use Rattle.weave.specs.Step.{IsOwn, row_by}
+use Rattle.weave.specs.Step.{row_by}
 use Rattle.weave.specs.Candidate.{Candidate, In, Executed, outcome_at, change_at, ReadsAt, written_at, WritesAt, Later, Before}
 use Rattle.weave.specs.Consistent.{IsSource, IsConsistent}
 use Rattle.weave.specs.Family.{IsWhole, MakesWhole, IsFamily, AreWhole}

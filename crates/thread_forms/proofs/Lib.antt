@@ -15,3 +15,5 @@ pub mod Shapes
 pub mod Fitting
 pub mod Counting
 pub mod Telling
+pub mod Scripting
+pub mod Ending

@@ -1,5 +1,5 @@
 -- An answer that comes for values of their kinds has the shape that its action asks for.
-use Rattle.std.proofs.Common.{◌≡◌, ◌<◌, ◌≤◌, ◌+◌, ◌^◌, ℕ, zero, suc, Bool, true, false, ◌&&◌, cond, List, [], ◌∷◌, take, drop, length, slice_get, Option, Some, None, Result, Ok, Err, ◌⊎◌, inl, inr, refl, sym, ap, subst, ◌∙◌, arith, nat_eq, nat_lt}
+use Rattle.std.proofs.Common.{◌≡◌, ◌<◌, ◌≤◌, ◌+◌, ◌^◌, ℕ, zero, suc, Bool, true, false, ◌&&◌, cond, List, [], ◌∷◌, take, drop, length, slice_get, Option, Some, None, Ok, Err, inl, inr, refl, sym, ap, subst, arith, nat_eq, nat_lt}
 use Rattle.std.specs.Prelude.{◌==◌}
 use Rattle.std.proofs.lemmas.Bool.{lt-ltb, ltb-false, eq-eqb}
 use Rattle.words.specs.declared.check.Class.{Class}
@@ -22,10 +22,10 @@ use Rattle.actions.specs.Access.{access_break, is_mixed, look, size_in}
 use Rattle.actions.specs.Objects.{object_at, state_at, bytes_in, bytes_at}
 use Rattle.actions.specs.Memory.{Memory, thread_at, Change, keeps}
 use Rattle.actions.specs.Memory.{object as location_object, cell as location_cell, thread as location_thread}
-use Rattle.actions.specs.Row.{Row, comes, sees_bytes, sees_thread, Outcome, breaks, waits, moves, outcome_in, unless, Reads}
+use Rattle.actions.specs.Row.{Row, comes, sees_bytes, sees_thread, Outcome, breaks, moves, outcome_in, unless, Reads}
 use Rattle.actions.specs.ThreadRows.{joined}
 use Rattle.actions.specs.Table.{row}
-use Rattle.weave.specs.Place.{Place, object, byte, thread, is_object, is_byte, is_thread, byte_in, value_at, ReadsPlace}
+use Rattle.weave.specs.Place.{Place, object, byte, thread, is_object, is_thread, byte_in, value_at, ReadsPlace}
 use Rattle.weave.specs.Step.{row_by}
 use Rattle.thread_forms.proofs.Values.{IsValue, MovesWith, comes_with, both_true}
 
@@ -110,8 +110,8 @@ module _ (t own : ℕ) (m : Memory) where
       let here : IsLive (state_at m.objects (object_of p)) (offset_of p + n) = read_live (state_at m.objects (object_of p)) p n e in
       let all : ArePart n (bytes_at m.objects p n) =
       part_in (offset_of p) n (object_at m.objects (object_of p)) (λ i a b.
-          s.there (object_of p) i here.size here.cells here.readonly here.heap (location_object (object_of p), inl refl, refl) (location_cell (object_of p) (offset_of p) n, reads_cell p n e, (refl, a, b)) here.is
-          (let w : offset_of p + n ≤ here.size = here.within in omega (arith, w))) in
+      s.there (object_of p) i here.size here.cells here.readonly here.heap (location_object (object_of p), inl refl, refl) (location_cell (object_of p) (offset_of p) n, reads_cell p n e, (refl, a, b)) here.is
+      (let w : offset_of p + n ≤ here.size = here.within in omega (arith, w))) in
       both_true (length (bytes_at m.objects p n) == n) (are_bytes (bytes_at m.objects p n)) (eq-eqb (length (bytes_at m.objects p n)) n all.0) all.1
 
   size_by : (p size : ℕ) (s : ObjectState) (b : Bool) → cond b (Err class.Null) (size_in s) ≡ Ok size → IsValue (is_object s) → nat_lt size (2 ^ 32) ≡ true

@@ -79,7 +79,7 @@ module _ {Id : Type 0} (c : Candidate Id) (t : Thread) (objects : Objects) (fami
         member = child (main_member t objects) born.function born.value;
         good = good_child t family at.member (main_member t objects) born.function born.value create.line create.function next at.good refl;
         holds = subst (λ (j : ℕ). Q j (child (main_member t objects) born.function born.value)) same
-        (kept.child (c.thread born.creator) at.member born.function born.value create.line create.function at.good next can.0 can.1 at.holds);
+            (kept.child (c.thread born.creator) at.member born.function born.value create.line create.function at.good next can.0 can.1 at.holds);
         run = born.run;
       })
 

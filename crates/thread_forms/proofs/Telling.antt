@@ -1,12 +1,11 @@
 -- Each run of bounded threads is told by a valuation, and by one that makes a formula true where it breaks a check.
-use Rattle.std.proofs.Common.{◌≡◌, ℕ, List, length, refl, sym, ap, ◌∙◌}
+use Rattle.std.proofs.Common.{ℕ, List, length, ap, ◌∙◌}
 use Rattle.words.specs.declared.check.Check.{Check}
-use Rattle.words.specs.declared.check.Class.{Class}
 use Rattle.actions.specs.declared.action.Next.{Next}
 use Rattle.actions.specs.Behaviour.{Thread}
 use Rattle.actions.specs.Objects.{Objects}
 use Rattle.interleave.specs.Inputs.{InputLists}
-use Rattle.weave.specs.Candidate.{Candidate, Executed}
+use Rattle.weave.specs.Candidate.{Candidate}
 use Rattle.weave.specs.Step.{check_by}
 use Rattle.weave.specs.Order.{Breaks}
 use Rattle.weave.specs.RunCandidate.{from}
@@ -14,7 +13,7 @@ use Rattle.weave.specs.Family.{IsFamily, AreWhole}
 use Rattle.weave.specs.Laws.{IsOfRun}
 use Rattle.weave.proofs.Schedules.{runs_have_candidates}
 use Rattle.thread_forms.specs.Forms.{Valuation, Name, Forms, AreForms}
-use Rattle.thread_forms.specs.Valued.{Marks, candidate, IsTaken}
+use Rattle.thread_forms.specs.Valued.{Marks, candidate}
 use Rattle.thread_forms.specs.Runs.{AreFit, IsSame, HasValuation}
 use Rattle.thread_forms.specs.Bounds.{IsBounded}
 use Rattle.thread_forms.specs.EachRun.{turns, run_candidate, IsTold, RunsAreTold, RunsHaveGoals}

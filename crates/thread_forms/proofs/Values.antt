@@ -1,8 +1,8 @@
 -- What an event writes, and so what stands at a place, is a value of its kind.
-use Rattle.std.proofs.Common.{◌≡◌, ◌<◌, ◌≤◌, ◌^◌, ℕ, zero, suc, Bool, true, false, not, ◌&&◌, cond, List, [], ◌∷◌, length, slice_get, Option, Some, None, Result, Ok, Err, ◌⊎◌, inl, inr, refl, sym, ap, subst, ◌∙◌, arith, nat_eq, nat_lt, nat_le, true≢false}
+use Rattle.std.proofs.Common.{◌≡◌, ◌<◌, ◌^◌, ℕ, zero, suc, Bool, true, false, not, ◌&&◌, cond, List, [], ◌∷◌, length, slice_get, Option, Some, None, Result, Ok, Err, refl, sym, ap, subst, ◌∙◌, arith, nat_eq, nat_lt, nat_le, true≢false}
 use Rattle.std.specs.Prelude.{◌==◌, ◌-◌, ◌+◌}
 use Rattle.std.specs.Int.{w32, byte_at, to_le_bytes}
-use Rattle.std.proofs.lemmas.Bool.{ltb-true, lt-ltb, le-leb}
+use Rattle.std.proofs.lemmas.Bool.{ltb-true, lt-ltb}
 use Rattle.words.specs.declared.check.Class.{Class}
 use Rattle.words.specs.declared.check.Class.TheVariants as class
 use Rattle.words.specs.BitVector.{word}
@@ -16,7 +16,7 @@ use Rattle.actions.specs.declared.thread_state.ThreadState.TheVariants as thread
 use Rattle.actions.specs.ByteList.{are_bytes, mutex_number}
 use Rattle.actions.specs.Pointer.{object_of, offset_of}
 use Rattle.actions.specs.StoredObject.{StoredObject, as_live}
-use Rattle.actions.specs.States.{ObjectState, absent, dead, live, state_of, is_absent}
+use Rattle.actions.specs.States.{dead, live, state_of, is_absent}
 use Rattle.actions.specs.Access.{access_break, look, can_free}
 use Rattle.actions.specs.Objects.{state_at, bytes_at}
 use Rattle.actions.specs.Memory.{Memory, thread_at, Change, keeps, adds, kills, puts, starts, ends}
@@ -25,7 +25,7 @@ use Rattle.actions.specs.AccessRows.{looked}
 use Rattle.actions.specs.MutexRows.{set_mutex, held_by, destroyed}
 use Rattle.actions.specs.ThreadRows.{joined}
 use Rattle.actions.specs.Table.{row}
-use Rattle.weave.specs.Place.{Place, object, byte, thread, Value, is_object, is_byte, is_thread, only_if, written}
+use Rattle.weave.specs.Place.{Place, object, byte, thread, Value, is_object, is_byte, is_thread, written}
 use Rattle.weave.specs.Step.{row_by, change_by}
 use Rattle.weave.specs.Family.{IsWhole, MakesWhole}
 use Rattle.thread_forms.specs.Bounds.{IsTyped, HandsOver}

@@ -10,11 +10,14 @@ use Rattle.interleave.specs.declared.script.Step.{Step}
 use Rattle.interleave.specs.declared.script.Step.TheVariants as step
 use Rattle.interleave.specs.Script.{thread_of, start_at}
 use Rattle.interleave.specs.World.{first_common}
+use Rattle.weave.specs.Family.{IsFamily, AreWhole}
+use Rattle.weave.specs.Tables.{shared}
 use Rattle.thread_forms.specs.Forms.{Valuation, asks, stops, Event, Forms, AreForms}
 use Rattle.thread_forms.specs.Valued.{Marks, candidate}
 use Rattle.thread_forms.specs.Meets.{Meets}
 use Rattle.thread_forms.specs.Runs.{AreFit}
 use Rattle.thread_forms.specs.Order.{IsOrder}
+use Rattle.thread_forms.specs.Bounds.{IsBounded}
 
 abbrev pub exiting : Thread
 exiting = thread_of (step.Exit ∷ []) (start_at 0)
@@ -61,6 +64,24 @@ IsInstance = AreForms exiting exit_forms × ((v : Valuation) (objects : Objects)
 
 abbrev pub HasCreate : Type 0
 HasCreate = AreForms creating creating_forms
+
+-- both threads end: thread 1 between main's two events
+abbrev pub ended_clock : ℕ → ℕ → ℕ
+ended_clock zero zero = 0
+ended_clock zero (suc n) = 2
+ended_clock (suc i) n = 1
+
+abbrev pub ended_marks : Marks
+ended_marks = record { executed = λ i n. true; clock = ended_clock; view = λ i n. (first_common shared).memory }
+
+-- all that is asked is met at once by these two threads: of the program, of the first store, of the forms, and of a valuation with marks
+pub record AreTwoThreads : Type 0 where
+  pub family : IsFamily creating
+  pub whole : AreWhole shared
+  pub bounded : IsBounded creating shared
+  pub forms : AreForms creating creating_forms
+  pub meets : Meets creating_forms (λ x. 1) ended_marks shared
+  pub fit : AreFit (candidate creating_forms (λ x. 1) ended_marks)
 
 -- ---- a main that breaks a check, and a formula that is always true
 

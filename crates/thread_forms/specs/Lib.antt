@@ -5,4 +5,5 @@ pub mod Runs
 pub mod Bounds
 pub mod Order
 pub mod EachRun
+pub mod ScriptBounds
 pub mod Instance

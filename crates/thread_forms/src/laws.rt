@@ -2,10 +2,11 @@
 
 ghost use Rattle.std.specs.Prelude.{ℕ};
 ghost use Rattle.thread_forms.specs.EachRun.{CandidatesAreFit, RunsAreTold, RunsHaveGoals};
-ghost use Rattle.thread_forms.specs.Instance.{HasCreate, HasOrder, IsInstance};
+ghost use Rattle.thread_forms.specs.Instance.{AreTwoThreads, HasCreate, HasOrder, IsInstance};
 ghost use Rattle.thread_forms.specs.Meets.{MeetsIsConsistent};
 ghost use Rattle.thread_forms.specs.Order.{CandidateHasGoal, GoalIsCandidate};
 ghost use Rattle.thread_forms.specs.Runs.{RunsGiveValuations};
+ghost use Rattle.thread_forms.specs.ScriptBounds.{ScriptsAreBounded, SharedIsTyped};
 
 /// A valuation of the forms of a program's threads, with marks that meet conditions on one, two or
 /// three events at a time, gives a consistent candidate.
@@ -41,10 +42,18 @@ pub fn runs_are_told()
     ensures goals { RunsHaveGoals }
 {}
 
+/// Scripts in which no thread that one creates creates another are bounded threads.
+pub fn scripts_are_bounded()
+    ensures scripts { ScriptsAreBounded }
+    ensures store { SharedIsTyped }
+{}
+
 /// What is asked of forms, of marks and of a formula is met: by a main that ends the process, by one
-/// that creates a thread, and by one that breaks a check.
+/// that creates a thread, where all that is asked of two threads is met at once, and by one that breaks
+/// a check.
 pub fn forms_exist()
     ensures ends { IsInstance }
     ensures creates { HasCreate }
+    ensures both { AreTwoThreads }
     ensures breaks { HasOrder }
 {}

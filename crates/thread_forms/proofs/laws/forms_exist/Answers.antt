@@ -1,3 +1,4 @@
+use Rattle.thread_forms.proofs.Ending.{are_two_threads}
 use Rattle.thread_forms.proofs.Exiting.{is_instance}
 use Rattle.thread_forms.proofs.Creating.{has_create}
 use Rattle.thread_forms.proofs.Breaking.{has_order}
@@ -11,3 +12,6 @@ returns-clause-creates c = has_create
 
 pub returns-clause-breaks : goal.returns-clause-breaks
 returns-clause-breaks c = has_order
+
+pub returns-clause-both : goal.returns-clause-both
+returns-clause-both c = are_two_threads
