@@ -108,7 +108,7 @@ some_is x y e = cc e
 
 -- ---- which of two numbers is less
 
-three : (a b : ℕ) → (a < b) ⊎ ((a ≡ b) ⊎ (b < a))
+pub three : (a b : ℕ) → (a < b) ⊎ ((a ≡ b) ⊎ (b < a))
 three zero zero = inr (inl refl)
 three zero (suc b) = inl (omega arith)
 three (suc a) zero = inr (inr (omega arith))

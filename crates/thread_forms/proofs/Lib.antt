@@ -17,3 +17,6 @@ pub mod Counting
 pub mod Telling
 pub mod Scripting
 pub mod Ending
+pub mod Stepping
+pub mod Forking
+pub mod Tabling

@@ -6,4 +6,6 @@ pub mod Bounds
 pub mod Order
 pub mod EachRun
 pub mod ScriptBounds
+pub mod ScriptForms
+pub mod ToldTables
 pub mod Instance

@@ -7,6 +7,9 @@ ghost use Rattle.thread_forms.specs.Meets.{MeetsIsConsistent};
 ghost use Rattle.thread_forms.specs.Order.{CandidateHasGoal, GoalIsCandidate};
 ghost use Rattle.thread_forms.specs.Runs.{RunsGiveValuations};
 ghost use Rattle.thread_forms.specs.ScriptBounds.{ScriptsAreBounded, SharedIsTyped};
+ghost use Rattle.thread_forms.specs.ScriptForms.{ScriptsHaveForms};
+ghost use Rattle.thread_forms.specs.ToldTables.{AreToldRows};
+ghost use Rattle.weave.specs.Tables.{table};
 
 /// A valuation of the forms of a program's threads, with marks that meet conditions on one, two or
 /// three events at a time, gives a consistent candidate.
@@ -46,6 +49,18 @@ pub fn runs_are_told()
 pub fn scripts_are_bounded()
     ensures scripts { ScriptsAreBounded }
     ensures store { SharedIsTyped }
+{}
+
+/// A script whose main creates threads that create none has forms: one event for each step of each
+/// thread, and one variable for each answer.
+pub fn scripts_have_forms()
+    ensures { ScriptsHaveForms }
+{}
+
+/// The tables of small schedules as valuations: the scripts have forms, and a valuation with marks that
+/// meet the conditions tells the run of each schedule.
+pub fn tables_are_told()
+    ensures { AreToldRows table }
 {}
 
 /// What is asked of forms, of marks and of a formula is met: by a main that ends the process, by one

@@ -5,5 +5,5 @@ mod laws;
 
 pub use laws::{
     candidates_are_fit, forms_exist, goals_are_candidates, meets_is_consistent, runs_are_told,
-    runs_give_valuations, scripts_are_bounded,
+    runs_give_valuations, scripts_are_bounded, scripts_have_forms, tables_are_told,
 };
