@@ -20,3 +20,4 @@ pub mod Ending
 pub mod Stepping
 pub mod Forking
 pub mod Tabling
+pub mod Valuing

@@ -9,3 +9,4 @@ pub mod ScriptBounds
 pub mod ScriptForms
 pub mod ToldTables
 pub mod Instance
+pub mod ValuedTables

@@ -9,6 +9,7 @@ ghost use Rattle.thread_forms.specs.Runs.{RunsGiveValuations};
 ghost use Rattle.thread_forms.specs.ScriptBounds.{ScriptsAreBounded, SharedIsTyped};
 ghost use Rattle.thread_forms.specs.ScriptForms.{ScriptsHaveForms};
 ghost use Rattle.thread_forms.specs.ToldTables.{AreToldRows};
+ghost use Rattle.thread_forms.specs.ValuedTables.{AreValued, valued_table};
 ghost use Rattle.weave.specs.Tables.{table};
 
 /// A valuation of the forms of a program's threads, with marks that meet conditions on one, two or
@@ -58,9 +59,11 @@ pub fn scripts_have_forms()
 {}
 
 /// The tables of small schedules as valuations: the scripts have forms, and a valuation with marks that
-/// meet the conditions tells the run of each schedule.
+/// meet the conditions tells the run of each schedule. Of the shorter ones the valuation is evaluated:
+/// with its answers the events of each form are the run's turns of its thread.
 pub fn tables_are_told()
-    ensures { AreToldRows table }
+    ensures told { AreToldRows table }
+    ensures evaluated { AreValued valued_table }
 {}
 
 /// What is asked of forms, of marks and of a formula is met: by a main that ends the process, by one
