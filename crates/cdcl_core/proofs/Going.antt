@@ -10,16 +10,15 @@ use Rattle.cdcl_core.specs.Steps.{Course, known_value, known_truth, oldest, deci
 use Rattle.cdcl_core.specs.Settled.{IsReason}
 use Rattle.cdcl_core.specs.Lists.{IsEntered}
 use Rattle.cdcl_core.specs.Watched.{AreFalseBeside, AreOpen, AreListed, AreQuiet, IsHeld}
-use Rattle.cdcl_core.specs.Going.{remaining, GoesOn}
+use Rattle.cdcl_core.specs.Going.{GoesOn}
 use Rattle.cdcl_core.proofs.Courses.{oldest-more}
-use Rattle.cdcl_core.proofs.Descent.{remaining-push}
 use Rattle.cdcl_core.proofs.Places.{slice_get-new}
 use Rattle.cdcl_core.proofs.Listed.{AreListed-entered, IsWithin-contains, room-contains}
 use Rattle.cdcl_core.proofs.Watching.{known_truth-push, known_value-open, AreQuiet-gone, AreFresh-oldest}
 use Rattle.cdcl_core.proofs.Settling.{AreJustified-more, AreJustified-oldest, AreQuiet-more, AreQuiet-oldest}
 
 pub GoesOn-refl : (x : Course) → GoesOn x x
-GoesOn-refl x = record { variables = refl; longer = omega arith; oldest = λ k within. refl; kept = λ l b is. is; places = refl; remaining = omega arith }
+GoesOn-refl x = record { variables = refl; longer = omega arith; oldest = λ k within. refl; kept = λ l b is. is; places = refl }
 
 pub GoesOn-trans : (x y z : Course) → GoesOn x y → GoesOn y z → GoesOn x z
 GoesOn-trans x y z first second =
@@ -29,7 +28,6 @@ GoesOn-trans x y z first second =
       oldest = λ k within. second.oldest k (omega (arith, within, first.longer)) ∙ first.oldest k within;
       kept = λ l b is. second.kept l b (first.kept l b is);
       places = second.places ∙ first.places;
-      remaining = omega (arith, first.remaining, second.remaining);
     }
 
 decision_places-follows : (s : Step) (older : List Step) → s.decision ≡ false → decision_places (s ∷ older) ≡ decision_places older
@@ -41,7 +39,6 @@ pub GoesOn-push :
     length old.steps < old.variables → known_value old.steps s.literal.variable ≡ None → GoesOn old new
 GoesOn-push old new s is follows room none =
     let longer : Course = record { variables = old.variables; steps = s ∷ old.steps } in
-    let fewer : remaining longer.variables longer.steps < remaining old.variables old.steps = remaining-push old.variables s old.steps room in
     let at_longer : GoesOn old longer =
     record {
       variables = refl;
@@ -49,7 +46,6 @@ GoesOn-push old new s is follows room none =
       oldest = λ k within. oldest-more k s old.steps within;
       kept = λ l b told. known_truth-push s old.steps l b none told;
       places = decision_places-follows s old.steps follows;
-      remaining = omega (arith, fewer);
     } in
     subst (GoesOn old) (sym is) at_longer
 

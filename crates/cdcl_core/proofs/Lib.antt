@@ -1,6 +1,5 @@
 pub mod Courses
 pub mod Reading
-pub mod Descent
 pub mod Listing
 pub mod Places
 pub mod Listed
@@ -10,6 +9,7 @@ pub mod Looking
 pub mod Settling
 pub mod Logging
 pub mod Jumping
+pub mod Entering
 pub mod Learning
 pub mod Starting
 pub mod Known

@@ -1,5 +1,5 @@
--- A search at its start, with a decision more, and with its variables in another order.
-use Rattle.std.proofs.Common.{◌≡◌, ℕ, ◌<◌, true, false, List, [], ◌∷◌, ◌++◌, Vec, Global, length, get_or, None, refl, sym, ap, ◌∙◌, subst, arith, append-nil}
+-- A search at its start, with a decision more, and with steps that follow.
+use Rattle.std.proofs.Common.{◌≡◌, ℕ, suc, ◌-◌, ◌+◌, ◌*◌, ◌<◌, ◌≤◌, true, false, List, [], ◌∷◌, ◌++◌, Vec, Global, length, get_or, None, refl, sym, ap, ◌∙◌, subst, arith, append-nil}
 use Rattle.std.specs.Prelude.{Contains, if◌then◌else◌}
 use Rattle.std.proofs.lemmas.List.{length-append, get_or_default}
 use Rattle.sat_form.specs.Satisfaction.{Literal, Form, AreWithin}
@@ -10,10 +10,9 @@ use Rattle.cdcl_core.specs.declared.search.Search.{Search}
 use Rattle.cdcl_core.specs.Steps.{Course, known_value, oldest, decision_places}
 use Rattle.cdcl_core.specs.Learning.{IsClear}
 use Rattle.cdcl_core.specs.Watched.{AreListed, AreWatched, IsHeld}
-use Rattle.cdcl_core.specs.Going.{remaining, GoesOn}
-use Rattle.cdcl_core.specs.Answers.{IsLogged, IsKept, IsReady, IsWatching, IsPropagated}
+use Rattle.cdcl_core.specs.Going.{GoesOn}
+use Rattle.cdcl_core.specs.Answers.{IsLogged, IsKept, IsReady, IsWatching, IsPropagated, left}
 use Rattle.cdcl_core.proofs.Courses.{oldest-all, oldest-more}
-use Rattle.cdcl_core.proofs.Descent.{remaining-push}
 use Rattle.cdcl_core.proofs.Settling.{AreQuiet-decided, AreWatched-push, IsSettled-watched, no_conflict}
 
 none_allowed : (form : List (List Literal)) → AreAllowed form []
@@ -97,29 +96,13 @@ IsWatching-decided old t d s is =
           (AreWatched-push old.clauses.items old.watches.pairs.items s old.trail.steps is.open_ is.propagated.watched));
     }
 
-pub remaining-decided : (old : Search) (t : Course) (d : Vec ℕ Global) (s : Step) → IsDecided old t d s → remaining t.variables t.steps < remaining old.trail.variables old.trail.steps
-remaining-decided old t d s is =
-    subst (λ (x : Course). remaining x.variables x.steps < remaining old.trail.variables old.trail.steps) (sym is.trail) (remaining-push old.trail.variables s old.trail.steps is.room)
+one_more : (a v k : ℕ) → k < v → a + (v - suc k) < a + (v - k)
+one_more a v k room = omega (arith, room)
 
--- a search whose variables wait in another order
-pub IsReady-reordered : (form : Form) (n : ℕ) (old new : Search) → new ≡ record old { order = new.order } → IsReady form n old → IsReady form n new
-IsReady-reordered form n old new is ready =
-    subst (IsReady form n) (sym is)
-    (record {
-      kept = record { held = ready.kept.held; clear = ready.kept.clear; places = ready.kept.places };
-      variables = ready.variables;
-      logged = ready.logged;
-    })
-
-pub IsKept-reordered : (old new : Search) → new ≡ record old { order = new.order } → IsKept old → IsKept new
-IsKept-reordered old new is kept = subst IsKept (sym is) (record { held = kept.held; clear = kept.clear; places = kept.places })
-
-pub IsPropagated-reordered : (old new : Search) → new ≡ record old { order = new.order } → IsPropagated old → IsPropagated new
-IsPropagated-reordered old new is done = subst IsPropagated (sym is) (record { all = done.all; watched = done.watched })
-
-pub remaining-reordered :
-    (old new : Search) (k : ℕ) → new ≡ record old { order = new.order } → k < remaining new.trail.variables new.trail.steps → k < remaining old.trail.variables old.trail.steps
-remaining-reordered old new k is falls = subst (λ (x : Search). k < remaining x.trail.variables x.trail.steps) is falls
+pub left-decided : (n : ℕ) (old : Search) (t : Course) (d : Vec ℕ Global) (s : Step) → IsDecided old t d s → left n (record old { trail = t; decisions = d }) < left n old
+left-decided n old t d s is =
+    subst (λ (x : Course). (n - length old.log) * suc x.variables + (x.variables - length x.steps) < left n old) (sym is.trail)
+    (one_more ((n - length old.log) * suc old.trail.variables) old.trail.variables (length old.trail.steps) is.room)
 
 -- a search that has taken steps that follow
 pub IsReady-begun : (form : Form) (n : ℕ) (old new : Search) → new ≡ record old { trail = new.trail } → IsHeld old.clauses.items new.trail old.watches → GoesOn old.trail new.trail → IsReady form n old → IsReady form n new
@@ -145,6 +128,15 @@ IsReady-gone_on form n old new is held on ready =
       variables = on.variables ∙ ready.variables;
       logged = ready.logged;
     })
+
+no_more : (a v w k m : ℕ) → w ≡ v → k ≤ m → a * suc w + (w - m) ≤ a * suc v + (v - k)
+no_more a v w k m same longer = rw same (omega (arith, longer))
+
+pub left-gone_on :
+    (n : ℕ) (old new : Search) → new ≡ record old { trail = new.trail; watches = new.watches; propagated = new.propagated } → GoesOn old.trail new.trail → left n new ≤ left n old
+left-gone_on n old new is on =
+    subst (λ (x : Search). left n x ≤ left n old) (sym is)
+    (no_more (n - length old.log) old.trail.variables new.trail.variables (length old.trail.steps) (length new.trail.steps) on.variables on.longer)
 
 -- where a decision stands, the clauses do not come to a conflict by themselves
 pub undecided : (cs : List (List Literal)) (x : Course) (places : List ℕ) (s : Search) → IsHeld cs x s.watches → places ≡ decision_places x.steps → 0 < length places → Conflicts cs → ⊥

@@ -1,5 +1,5 @@
 -- What a search for a model knows, and what it may answer.
-use Rattle.std.specs.Prelude.{◌≡◌, ℕ, ◌<◌, ◌≤◌, Bool, true, false, List, [], ◌∷◌, ◌++◌, Option, Some, None, length, count_by, slice_get, IsSomeAnd}
+use Rattle.std.specs.Prelude.{◌≡◌, ℕ, suc, ◌+◌, ◌-◌, ◌*◌, ◌<◌, ◌≤◌, Bool, true, false, List, [], ◌∷◌, ◌++◌, Option, Some, None, length, count_by, slice_get, IsSomeAnd}
 use Rattle.sat_form.specs.Satisfaction.{Literal, Form, Satisfies, assignment_of}
 use Rattle.sat_form.specs.Databases.{added_clauses, deleted_numbers, numbered_clauses, AreEntriesWithin}
 use Rattle.sat_form.specs.Refutation.{IsRefutation}
@@ -10,7 +10,9 @@ use Rattle.cdcl_core.specs.Steps.{oldest, decision_places}
 use Rattle.cdcl_core.specs.Settled.{AreFalse}
 use Rattle.cdcl_core.specs.Learning.{IsClear}
 use Rattle.cdcl_core.specs.Watched.{AreWatched, IsHeld}
-use Rattle.cdcl_core.specs.Going.{remaining}
+use Rattle.cdcl_core.specs.Jumps.{IsNewest, IsFirstFrom}
+use Rattle.cdcl_core.specs.declared.trail.Step.{Step}
+use Rattle.cdcl_core.specs.declared.watches.Pair.{Pair}
 use Rattle.cdcl_core.specs.declared.search.Search.{Search}
 use Rattle.cdcl_core.specs.declared.search.Answer.{Answer}
 use Rattle.cdcl_core.specs.declared.search.Answer.TheVariants.{Sat, Unsat, Spent}
@@ -84,9 +86,18 @@ abbrev pub IsDone : Search → Option ℕ → Type 0
 IsDone s None = IsPropagated s
 IsDone s (Some number) = IsConflict s number
 
+-- how much of a search with a budget of n units is left: the units first, and then the variables without a value
+abbrev pub left : ℕ → Search → ℕ
+left n s = (n - length s.log) * suc s.trail.variables + (s.trail.variables - length s.trail.steps)
+
+-- the index of the oldest decision before which the clause leaves the first of the pair, where the second is the other one of
+-- its literals that got its value last
+pub record IsTarget (steps : List Step) (places : List ℕ) (clause : List Literal) (p : Pair) (index : ℕ) : Type 0 where
+  pub kept : ℕ
+  pub newest : IsNewest steps clause p.first p.second kept
+  pub first : IsFirstFrom places kept index
+
 -- a search has come to an answer, or less of it is left
 abbrev pub HasAdvanced : Form → ℕ → Search → Search → Option Answer → Type 0
 HasAdvanced form n old new (Some answer) = IsAnswer form n answer
-HasAdvanced form n old new None =
-    IsReady form n new × IsWatching new
-    × (remaining new.trail.variables new.trail.steps < remaining old.trail.variables old.trail.steps)
+HasAdvanced form n old new None = IsReady form n new × IsWatching new × (left n new < left n old)

@@ -3,6 +3,7 @@
 #![tactic(auto)]
 
 mod analysis;
+mod averages;
 mod lists;
 mod order;
 mod propagation;
@@ -11,7 +12,9 @@ mod trail;
 mod watches;
 
 pub use analysis::{Analysis, Lesson};
+pub use averages::Averages;
 pub use lists::{Lists, Watch};
-pub use search::{Answer, solve};
+pub use order::Order;
+pub use search::{Answer, solve, solve_by};
 pub use trail::{Mark, Step, Trail};
 pub use watches::{Pair, Watches};

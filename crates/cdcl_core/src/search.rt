@@ -1,4 +1,4 @@
-//! The search: propagate, analyze, backjump, decide, until there is a model, a refutation, or no budget.
+//! The search: propagation, decisions, and what is learned from conflicts.
 
 ghost use Rattle.std.specs.Prelude.{◌≡◌, ◌≢◌, ℕ, ◌^◌, ◌<◌, ◌≤◌, false, [], ◌∷◌, ◌++◌, length, take, IsTrue, IsFalse, IsSome, IfOk, OnOk, IfNone, IfSome, Some, None, Contains, List, slice_get, slice_index};
 ghost use Rattle.sat_form.specs.Satisfaction.{Form, Literal, IsWithin};
@@ -6,11 +6,12 @@ ghost use Rattle.cdcl_core.specs.Steps.{known_value, known_truth, oldest, decisi
 ghost use Rattle.cdcl_core.specs.Settled.{AreFalse};
 ghost use Rattle.cdcl_core.specs.Learning.{IsLearned};
 ghost use Rattle.cdcl_core.specs.Watched.{AreFalseBeside, HasTrue, AreOpen, IsWatched, AreWatched, AreSingle, IsHeld};
-ghost use Rattle.cdcl_core.specs.Going.{GoesOn, remaining};
-ghost use Rattle.cdcl_core.specs.Answers.{IsAnswer, IsKept, IsReady, IsConflict, IsWatching, IsPropagated, IsAt, IsDone, HasAdvanced};
+ghost use Rattle.cdcl_core.specs.Going.{GoesOn};
+ghost use Rattle.cdcl_core.specs.Answers.{IsAnswer, IsKept, IsReady, IsConflict, IsWatching, IsPropagated, IsAt, IsDone, IsTarget, HasAdvanced, left};
 ghost use Rattle.cdcl_core.specs.Jumps.{IsNewest, IsFirstFrom};
 
 use crate::analysis::{Analysis, Lesson};
+use crate::averages::Averages;
 use crate::order::Order;
 use crate::trail::Trail;
 use crate::watches::{Pair, Watches};
@@ -37,7 +38,6 @@ struct Search {
     clauses: Vec<Clause>,
     watches: Watches,
     analysis: Analysis,
-    order: Order,
     /// The places of the decisions among the steps.
     decisions: Vec<usize>,
     /// How many steps were propagated.
@@ -61,7 +61,6 @@ impl Search {
             clauses: copied(alloc, cnf.clauses())?,
             watches: Watches::new(alloc, variables, cnf.clauses())?,
             analysis: Analysis::new(alloc, variables)?,
-            order: Order::new(alloc, variables)?,
             decisions: Vec::new(alloc),
             propagated: 0,
             log: Log::new(alloc),
@@ -161,7 +160,7 @@ impl Search {
         ensures kept { OnOk result (IsKept self.new) }
         ensures ready { OnOk result ((form : Form) (n : ℕ) → IsReady form n self.old → IsReady form n self.new) }
         ensures done { IfOk result (IsDone self.new) }
-        ensures remaining { OnOk result (remaining self.new.trail.variables self.new.trail.steps ≤ remaining self.old.trail.variables self.old.trail.steps) }
+        ensures left { OnOk result ((n : ℕ) → left n self.new ≤ left n self.old) }
     {
         if conflict.is_some() {
             return Ok(conflict);
@@ -171,9 +170,10 @@ impl Search {
     }
 
     /// Goes on where each step is propagated: answers, decides a variable, or learns from a conflict.
-    fn advance(
+    fn advance<O: Order>(
         &mut self,
         alloc: Global,
+        order: &mut O,
         budget: u64,
         conflict: Option<usize>,
     ) -> Result<Option<Answer>, AllocError>
@@ -183,11 +183,11 @@ impl Search {
         ensures { IfOk result (λ answer. (form : Form) → IsReady form budget self.old → HasAdvanced form budget self.old self.new answer) }
     {
         if let Some(number) = conflict {
-            return self.resolve(alloc, budget, number);
+            return self.resolve(alloc, order, budget, number);
         }
-        match self.open_variable() {
+        match self.open_variable(order) {
             Some(variable) => {
-                self.decide(variable)?;
+                self.decide(variable, order.phase(variable))?;
                 Ok(None)
             }
             None => Ok(Some(Answer::Sat(self.trail.assignment(alloc)?))),
@@ -195,20 +195,19 @@ impl Search {
     }
 
     /// The next variable to decide, if one has no value.
-    fn open_variable(&mut self) -> Option<usize>
-        ensures same { self.new ≡ record self.old { order = self.new.order } }
-        ensures found { IfSome result (λ v. (v < self.old.trail.variables) × (known_value self.old.trail.steps v ≡ None)) }
+    fn open_variable<O: Order>(&self, order: &mut O) -> Option<usize>
+        ensures found { IfSome result (λ v. (v < self.now.trail.variables) × (known_value self.now.trail.steps v ≡ None)) }
         ensures limit { IfSome result (λ v. v < 2 ^ 31) }
-        ensures none { IfNone result ((v : ℕ) → v < self.old.trail.variables → IsSome (known_value self.old.trail.steps v)) }
+        ensures none { IfNone result ((v : ℕ) → v < self.now.trail.variables → IsSome (known_value self.now.trail.steps v)) }
     {
-        match self.order.next_open(&self.trail) {
+        match order.next_open(&self.trail) {
             Some(variable) => Some(variable),
             None => self.trail.first_open(),
         }
     }
 
-    /// Takes the variable as false, by choice.
-    fn decide(&mut self, variable: usize) -> Result<(), AllocError>
+    /// Gives the variable this value, by choice.
+    fn decide(&mut self, variable: usize, value: bool) -> Result<(), AllocError>
         requires kept { IsKept self.old }
         requires propagated { IsPropagated self.old }
         requires within { variable < self.old.trail.variables }
@@ -216,11 +215,11 @@ impl Search {
         requires limit { variable < 2 ^ 31 }
         ensures ready { OnOk result ((form : Form) (n : ℕ) → IsReady form n self.old → IsReady form n self.new) }
         ensures watching { OnOk result (IsWatching self.new) }
-        ensures falls { OnOk result (remaining self.new.trail.variables self.new.trail.steps < remaining self.old.trail.variables self.old.trail.steps) }
+        ensures falls { OnOk result ((n : ℕ) → left n self.new < left n self.old) }
     {
         self.decisions.push(self.trail.len())?;
         self.trail
-            .push(Lit::new(variable as u32, true), true, None)?;
+            .push(Lit::new(variable as u32, !value), true, None)?;
         Ok(())
     }
 
@@ -234,9 +233,10 @@ impl Search {
 
     /// Learns from a conflict of the clause with this number, or answers: that there is no model, or
     /// that the budget is spent.
-    fn resolve(
+    fn resolve<O: Order>(
         &mut self,
         alloc: Global,
+        order: &mut O,
         budget: u64,
         number: usize,
     ) -> Result<Option<Answer>, AllocError>
@@ -257,16 +257,18 @@ impl Search {
                 Ok(Some(Answer::Unsat(replace(&mut self.log, Log::new(alloc)))))
             }
             Lesson::Learned(clause, literal, hints) => {
-                self.learn(alloc, clause, literal, hints)?;
+                self.learn(alloc, order, clause, literal, hints)?;
                 Ok(None)
             }
         }
     }
 
-    /// Learns a clause and goes back to the oldest decision before which it leaves one literal.
-    fn learn(
+    /// Learns a clause and goes back to the oldest decision before which it leaves one literal, or to the first one where the
+    /// search is to start over.
+    fn learn<O: Order>(
         &mut self,
         alloc: Global,
+        order: &mut O,
         clause: Clause,
         literal: Lit,
         hints: Hints,
@@ -275,39 +277,94 @@ impl Search {
         requires learned { IsLearned self.old.trail.variables self.old.clauses.items self.old.trail.steps clause literal hints }
         ensures ready { OnOk result ((form : Form) (n : ℕ) → length self.old.log < n → IsReady form n self.old → IsReady form n self.new) }
         ensures watching { OnOk result (IsWatching self.new) }
-        ensures falls { OnOk result (remaining self.new.trail.variables self.new.trail.steps < remaining self.old.trail.variables self.old.trail.steps) }
+        ensures falls { OnOk result ((n : ℕ) → length self.old.log < n → left n self.new < left n self.old) }
     {
         let (beside, kept) = self.newest_beside(&clause, literal);
         let index = first_from(&self.decisions, kept);
-        self.release(index)?;
-        self.order.raise_all(self.analysis.touched());
-        self.log
-            .add(Clause::from_slice(alloc, clause.literals())?, hints)?;
         let pair = Pair {
             first: literal,
             second: beside,
         };
+        if 0 < index && order.starts_over() {
+            self.tell(order, 0)?;
+            return self.start_over(alloc, clause, pair, hints, index);
+        }
+        self.tell(order, index)?;
+        self.go_back(alloc, clause, pair, hints, index)
+    }
+
+    /// Learns a clause and goes back to before the decision of this index, where the clause leaves the first of these two of
+    /// its literals.
+    fn go_back(
+        &mut self,
+        alloc: Global,
+        clause: Clause,
+        pair: Pair,
+        hints: Hints,
+        index: usize,
+    ) -> Result<(), AllocError>
+        requires kept { IsKept self.old }
+        requires learned { IsLearned self.old.trail.variables self.old.clauses.items self.old.trail.steps clause pair.first hints }
+        requires target { IsTarget self.old.trail.steps self.old.decisions.items clause pair index }
+        ensures ready { OnOk result ((form : Form) (n : ℕ) → length self.old.log < n → IsReady form n self.old → IsReady form n self.new) }
+        ensures watching { OnOk result (IsWatching self.new) }
+        ensures falls { OnOk result ((n : ℕ) → length self.old.log < n → left n self.new < left n self.old) }
+    {
+        self.release(index);
+        self.log
+            .add(Clause::from_slice(alloc, clause.literals())?, hints)?;
         self.assert_clause(clause, pair)?;
         Ok(())
     }
 
-    /// Takes back the steps from one of the decisions on.
-    fn release(&mut self, index: usize) -> Result<(), AllocError>
-        requires { index < length self.old.decisions.items }
-        ensures same { OnOk result (self.new ≡ record self.old { trail = self.new.trail; order = self.new.order; decisions = self.new.decisions; propagated = slice_index self.old.decisions.items index }) }
-        ensures trail { OnOk result (self.new.trail ≡ record self.old.trail { steps = oldest (slice_index self.old.decisions.items index) self.old.trail.steps }) }
-        ensures decisions { OnOk result (self.new.decisions.items ≡ take index self.old.decisions.items) }
+    /// Learns a clause and goes back to before the first decision, where neither of these two of its literals is false.
+    fn start_over(
+        &mut self,
+        alloc: Global,
+        clause: Clause,
+        pair: Pair,
+        hints: Hints,
+        index: usize,
+    ) -> Result<(), AllocError>
+        requires kept { IsKept self.old }
+        requires learned { IsLearned self.old.trail.variables self.old.clauses.items self.old.trail.steps clause pair.first hints }
+        requires target { IsTarget self.old.trail.steps self.old.decisions.items clause pair index }
+        requires later { 0 < index }
+        ensures ready { OnOk result ((form : Form) (n : ℕ) → length self.old.log < n → IsReady form n self.old → IsReady form n self.new) }
+        ensures watching { OnOk result (IsWatching self.new) }
+        ensures falls { OnOk result ((n : ℕ) → length self.old.log < n → left n self.new < left n self.old) }
     {
-        let count = self.decisions[index];
-        for place in count..self.trail.len() {
+        self.release(0);
+        self.log
+            .add(Clause::from_slice(alloc, clause.literals())?, hints)?;
+        self.enter_clause(clause, pair)?;
+        Ok(())
+    }
+
+    /// Tells the order of a conflict, and of the steps that are taken back from one of the decisions on.
+    fn tell<O: Order>(&self, order: &mut O, index: usize) -> Result<(), AllocError>
+        requires { index < length self.now.decisions.items }
+    {
+        for place in self.decisions[index]..self.trail.len() {
             if let Some(step) = self.trail.step_at(place) {
-                self.order.offer(step.literal.variable() as usize)?;
+                order.release(step.literal)?;
             }
         }
+        order.raise_all(self.analysis.touched());
+        Ok(())
+    }
+
+    /// Takes back the steps from one of the decisions on.
+    fn release(&mut self, index: usize)
+        requires { index < length self.old.decisions.items }
+        ensures same { self.new ≡ record self.old { trail = self.new.trail; decisions = self.new.decisions; propagated = slice_index self.old.decisions.items index } }
+        ensures trail { self.new.trail ≡ record self.old.trail { steps = oldest (slice_index self.old.decisions.items index) self.old.trail.steps } }
+        ensures decisions { self.new.decisions.items ≡ take index self.old.decisions.items }
+    {
+        let count = self.decisions[index];
         self.trail.cut(count);
         self.propagated = count;
         self.decisions.truncate(index);
-        Ok(())
     }
 
     /// Adds a clause that leaves the first of these two of its literals, and takes that.
@@ -331,6 +388,23 @@ impl Search {
         self.watches.enter(pair)?;
         self.clauses.push(clause)?;
         self.trail.push(literal, false, Some(number))?;
+        Ok(())
+    }
+
+    /// Adds a clause of which these two literals are not false.
+    fn enter_clause(&mut self, clause: Clause, pair: Pair) -> Result<(), AllocError>
+        requires held { IsHeld self.old.clauses.items self.old.trail self.old.watches }
+        requires within { IsWithin self.old.trail.variables clause }
+        requires open_ { AreOpen self.old.trail.steps clause pair }
+        requires quiet { (d : ℕ) → Contains (decision_places self.old.trail.steps) d → AreOpen (oldest d self.old.trail.steps) clause pair }
+        requires watched { AreWatched self.old.trail.steps self.old.trail.steps self.old.clauses.items self.old.watches.pairs.items }
+        ensures same { OnOk result (self.new ≡ record self.old { clauses = self.new.clauses; watches = self.new.watches }) }
+        ensures clauses { OnOk result (self.new.clauses.items ≡ self.old.clauses.items ++ clause ∷ []) }
+        ensures held { OnOk result (IsHeld self.new.clauses.items self.old.trail self.new.watches) }
+        ensures watched { OnOk result (AreWatched self.old.trail.steps self.old.trail.steps self.new.clauses.items self.new.watches.pairs.items) }
+    {
+        self.watches.enter(pair)?;
+        self.clauses.push(clause)?;
         Ok(())
     }
 
@@ -397,7 +471,13 @@ fn copied(alloc: Global, clauses: &[Clause]) -> Result<Vec<Clause>, AllocError>
 
 /// A model of the form; a refutation of it by at most `budget` learned clauses, each a unit of the
 /// budget, and then the empty clause; or as many units as the budget, where these did not decide it.
-pub fn solve(alloc: Global, cnf: &Cnf, budget: u64) -> Result<Answer, AllocError>
+/// The order says which variables are decided.
+pub fn solve_by<O: Order>(
+    alloc: Global,
+    cnf: &Cnf,
+    order: &mut O,
+    budget: u64,
+) -> Result<Answer, AllocError>
     requires { 1 ≤ budget }
     ensures { IfOk result (IsAnswer cnf.now budget) }
 {
@@ -405,9 +485,18 @@ pub fn solve(alloc: Global, cnf: &Cnf, budget: u64) -> Result<Answer, AllocError
     let mut conflict = search.begin()?;
     loop {
         conflict = search.pursue(conflict)?;
-        if let Some(answer) = search.advance(alloc, budget, conflict)? {
+        if let Some(answer) = search.advance(alloc, order, budget, conflict)? {
             return Ok(answer);
         }
         conflict = None;
     }
+}
+
+/// As `solve_by`, with the order of averaged conflict numbers.
+pub fn solve(alloc: Global, cnf: &Cnf, budget: u64) -> Result<Answer, AllocError>
+    requires { 1 ≤ budget }
+    ensures { IfOk result (IsAnswer cnf.now budget) }
+{
+    let mut order = Averages::new(alloc, cnf.variables())?;
+    solve_by(alloc, cnf, &mut order, budget)
 }

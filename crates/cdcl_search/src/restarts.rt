@@ -1,7 +1,8 @@
 //! When a search starts over: after so many conflicts, by the sequence of Luby.
 
-/// How many conflicts a run has where the sequence says 1.
-const UNIT: u64 = 100;
+/// How many conflicts a run has where the sequence says 1. Runs are long, since learned clauses are kept for ever: each restart
+/// brings clauses of another part of the search, which all later propagation reads.
+const UNIT: u64 = 1000;
 
 /// When a search starts over (Luby, Sinclair and Zuckerman 1993, in the form of Knuth, TAOCP 7.2.2.2).
 #[derive(Drop)]
@@ -24,18 +25,18 @@ impl Restarts {
         }
     }
 
-    /// Whether the present run has had its conflicts.
-    pub fn is_due(&self) -> bool {
-        self.left == 0
-    }
-
-    /// Counts a conflict of the present run.
-    pub fn count(&mut self) {
-        self.left = self.left.saturating_sub(1);
+    /// Counts a conflict, and says whether the next run begins with it.
+    pub fn count(&mut self) -> bool {
+        if self.left > 0 {
+            self.left -= 1;
+            return false;
+        }
+        self.begin();
+        true
     }
 
     /// Begins the next run.
-    pub fn begin(&mut self) {
+    fn begin(&mut self) {
         if self.run & self.run.wrapping_neg() == self.member {
             self.run = self.run.saturating_add(1);
             self.member = 1;

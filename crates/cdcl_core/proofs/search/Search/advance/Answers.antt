@@ -1,26 +1,17 @@
-use Rattle.std.proofs.Common.{◌<◌, sym, subst}
-use Rattle.cdcl_core.specs.declared.search.Search.{Search}
-use Rattle.cdcl_core.specs.Going.{remaining}
-use Rattle.std.specs.Prelude.{IsSome}
-use Rattle.cdcl_core.specs.Steps.{known_value}
+use Rattle.std.proofs.Common.{subst}
 use Rattle.cdcl_core.specs.Answers.{IsPropagated, IsDone}
-use Rattle.cdcl_core.proofs.Starting.{IsReady-reordered, IsPropagated-reordered}
 use Rattle.cdcl_core.proofs.Models.{IsAnswer-sat}
 use Rattle.cdcl_core.proofs.search.Search.advance.Goals as goal
 
 pub returns-in_ok-decide-in-Some-open_variable : goal.returns-in_ok-decide-in-Some-open_variable
-returns-in_ok-decide-in-Some-open_variable c = λ form ready. (
-  c.in_ok-decide-in-Some-open_variable.ensures.ready form c.args.budget (IsReady-reordered form c.args.budget c.args.self.now c.open_variable.new.self c.open_variable.ensures.same ready),
+returns-in_ok-decide-in-Some-open_variable g c = λ form ready. (
+  c.in_ok-decide-in-Some-open_variable.ensures.ready form c.args.budget ready,
   c.in_ok-decide-in-Some-open_variable.ensures.watching,
-  subst (λ (x : Search). remaining c.decide.new.self.trail.variables c.decide.new.self.trail.steps < remaining x.trail.variables x.trail.steps) c.open_variable.ensures.same
-      c.in_ok-decide-in-Some-open_variable.ensures.falls,
+  c.in_ok-decide-in-Some-open_variable.ensures.falls c.args.budget,
 )
 
 pub returns-in_ok-assignment-in-None : goal.returns-in_ok-assignment-in-None
-returns-in_ok-assignment-in-None c = λ form ready.
+returns-in_ok-assignment-in-None g c = λ form ready.
     let done : IsPropagated c.args.self.now = subst (IsDone c.args.self.now) c.in_default.is c.requires.done in
-    IsAnswer-sat form c.args.budget c.open_variable.new.self c.in_ok-assignment-in-None.field-0
-    (IsReady-reordered form c.args.budget c.args.self.now c.open_variable.new.self c.open_variable.ensures.same ready)
-    (IsPropagated-reordered c.args.self.now c.open_variable.new.self c.open_variable.ensures.same done)
-    (λ v. subst (λ (x : Search). v < x.trail.variables → IsSome (known_value x.trail.steps v)) (sym c.open_variable.ensures.same) (c.in-None.ensures.none v))
+    IsAnswer-sat form c.args.budget c.args.self.now c.in_ok-assignment-in-None.field-0 ready done c.in-None.ensures.none
     c.in_ok-assignment-in-None.ensures.length c.in_ok-assignment-in-None.ensures.given

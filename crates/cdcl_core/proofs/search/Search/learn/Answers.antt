@@ -1,147 +1,22 @@
-use Rattle.std.proofs.Common.{◌≡◌, ℕ, ◌<◌, ◌≤◌, false, Some, List, [], ◌∷◌, ◌++◌, Vec, Global, length, get_or, refl, sym, ap, ◌∙◌, subst}
-use Rattle.std.specs.Prelude.{Contains}
-use Rattle.sat_form.specs.Satisfaction.{Literal}
-use Rattle.sat_form.specs.declared.clauses.Clause.{Clause}
-use Rattle.sat_form.specs.declared.logs.Entry.{Entry}
-use Rattle.sat_form.specs.declared.logs.Entry.TheVariants.{Added}
-use Rattle.cdcl_core.specs.declared.trail.Step.{Step}
-use Rattle.cdcl_core.specs.declared.watches.Watches.{Watches}
-use Rattle.cdcl_core.specs.declared.search.Search.{Search}
-use Rattle.cdcl_core.specs.Steps.{Course, known_truth, oldest, decision_places}
+use Rattle.std.proofs.Common.{ℕ, ◌<◌, ◌≤◌, List, length, get_or, sym, subst}
 use Rattle.cdcl_core.specs.Jumps.{IsFirstFrom}
-use Rattle.cdcl_core.specs.Watched.{AreFalseBeside, AreOpen, AreWatched, IsHeld}
-use Rattle.cdcl_core.proofs.Going.{IsHeld-oldest}
-use Rattle.cdcl_core.proofs.Jumping.{IsJump, place_from, place_stands, jump_open, jump_others, jump_quiet}
-use Rattle.cdcl_core.proofs.Learning.{HasLearned, IsReady-learned, IsWatching-learned, remaining-learned}
+use Rattle.cdcl_core.proofs.Jumping.{IsJump, place_from}
 use Rattle.cdcl_core.proofs.search.Search.learn.Goals as goal
 
 pub first_from-index-requires : goal.first_from-index-requires
-first_from-index-requires c =
+first_from-index-requires g c =
     let jump : IsJump c.args.self.now.trail.variables c.args.self.now.clauses.items c.args.self.now.trail.steps c.args.self.now.decisions.items c.args.clause c.args.literal c.args.hints c.newest_beside-beside.result.0 c.newest_beside-beside.result.1 =
     record { fresh = c.requires.kept.held.fresh; places_are = c.requires.kept.places; learned = c.requires.learned; newest = c.newest_beside-beside.ensures } in
     subst (λ (x : List ℕ). (j : ℕ) × (j < length x) × (c.newest_beside-beside.result.1 ≤ get_or x j 0)) (sym c.deref.ensures.value) (place_from c.args.self.now.trail.variables c.args.self.now.clauses.items c.args.self.now.trail.steps c.args.self.now.decisions.items c.args.clause c.args.literal c.args.hints c.newest_beside-beside.result.0 c.newest_beside-beside.result.1 jump)
 
-pub assert_clause-requires-clause-held : goal.assert_clause-requires-clause-held
-assert_clause-requires-clause-held c =
-    let count : ℕ = get_or c.args.self.now.decisions.items c.first_from-index.result 0 in
-    let clauses : c.release.new.self.clauses ≡ c.args.self.now.clauses = ap (λ (x : Search). x.clauses) c.in_ok-release.ensures.same in
-    let watches : c.release.new.self.watches ≡ c.args.self.now.watches = ap (λ (x : Search). x.watches) c.in_ok-release.ensures.same in
-    subst (λ (x : Vec Clause Global). IsHeld x.items c.release.new.self.trail c.release.new.self.watches) (sym clauses)
-    (subst (λ (x : Watches). IsHeld c.args.self.now.clauses.items c.release.new.self.trail x) (sym watches)
-    (subst (λ (x : Course). IsHeld c.args.self.now.clauses.items x c.args.self.now.watches) (sym c.in_ok-release.ensures.trail)
-    (IsHeld-oldest c.args.self.now.clauses.items c.args.self.now.trail c.args.self.now.watches count c.requires.kept.held)))
-
-pub assert_clause-requires-clause-open_ : goal.assert_clause-requires-clause-open_
-assert_clause-requires-clause-open_ c =
-    let jump : IsJump c.args.self.now.trail.variables c.args.self.now.clauses.items c.args.self.now.trail.steps c.args.self.now.decisions.items c.args.clause c.args.literal c.args.hints c.newest_beside-beside.result.0 c.newest_beside-beside.result.1 =
-    record { fresh = c.requires.kept.held.fresh; places_are = c.requires.kept.places; learned = c.requires.learned; newest = c.newest_beside-beside.ensures } in
+pub start_over-requires-clause-target : goal.start_over-requires-clause-target
+start_over-requires-clause-target g c =
     let first : IsFirstFrom c.args.self.now.decisions.items c.newest_beside-beside.result.1 c.first_from-index.result =
     subst (λ (x : List ℕ). IsFirstFrom x c.newest_beside-beside.result.1 c.first_from-index.result) c.deref.ensures.value c.first_from-index.ensures in
-    let count : ℕ = get_or c.args.self.now.decisions.items c.first_from-index.result 0 in
-    let steps : c.release.new.self.trail.steps ≡ oldest count c.args.self.now.trail.steps = ap (λ (x : Course). x.steps) c.in_ok-release.ensures.trail in
-    ap (λ (x : List Step). known_truth x c.args.literal) steps ∙ jump_open c.args.self.now.trail.variables c.args.self.now.clauses.items c.args.self.now.trail.steps c.args.self.now.decisions.items c.args.clause c.args.literal c.args.hints c.newest_beside-beside.result.0 c.newest_beside-beside.result.1 c.first_from-index.result jump first
+    record { kept = c.newest_beside-beside.result.1; newest = c.newest_beside-beside.ensures; first = first }
 
-pub assert_clause-requires-clause-others : goal.assert_clause-requires-clause-others
-assert_clause-requires-clause-others c =
-    let jump : IsJump c.args.self.now.trail.variables c.args.self.now.clauses.items c.args.self.now.trail.steps c.args.self.now.decisions.items c.args.clause c.args.literal c.args.hints c.newest_beside-beside.result.0 c.newest_beside-beside.result.1 =
-    record { fresh = c.requires.kept.held.fresh; places_are = c.requires.kept.places; learned = c.requires.learned; newest = c.newest_beside-beside.ensures } in
+pub go_back-requires-clause-target : goal.go_back-requires-clause-target
+go_back-requires-clause-target g c =
     let first : IsFirstFrom c.args.self.now.decisions.items c.newest_beside-beside.result.1 c.first_from-index.result =
     subst (λ (x : List ℕ). IsFirstFrom x c.newest_beside-beside.result.1 c.first_from-index.result) c.deref.ensures.value c.first_from-index.ensures in
-    let count : ℕ = get_or c.args.self.now.decisions.items c.first_from-index.result 0 in
-    let steps : c.release.new.self.trail.steps ≡ oldest count c.args.self.now.trail.steps = ap (λ (x : Course). x.steps) c.in_ok-release.ensures.trail in
-    subst (λ (x : List Step). AreFalseBeside x c.args.clause c.args.literal) (sym steps) (jump_others c.args.self.now.trail.variables c.args.self.now.clauses.items c.args.self.now.trail.steps c.args.self.now.decisions.items c.args.clause c.args.literal c.args.hints c.newest_beside-beside.result.0 c.newest_beside-beside.result.1 c.first_from-index.result jump first)
-
-pub assert_clause-requires-clause-quiet : goal.assert_clause-requires-clause-quiet
-assert_clause-requires-clause-quiet c =
-    let jump : IsJump c.args.self.now.trail.variables c.args.self.now.clauses.items c.args.self.now.trail.steps c.args.self.now.decisions.items c.args.clause c.args.literal c.args.hints c.newest_beside-beside.result.0 c.newest_beside-beside.result.1 =
-    record { fresh = c.requires.kept.held.fresh; places_are = c.requires.kept.places; learned = c.requires.learned; newest = c.newest_beside-beside.ensures } in
-    let first : IsFirstFrom c.args.self.now.decisions.items c.newest_beside-beside.result.1 c.first_from-index.result =
-    subst (λ (x : List ℕ). IsFirstFrom x c.newest_beside-beside.result.1 c.first_from-index.result) c.deref.ensures.value c.first_from-index.ensures in
-    let count : ℕ = get_or c.args.self.now.decisions.items c.first_from-index.result 0 in
-    let steps : c.release.new.self.trail.steps ≡ oldest count c.args.self.now.trail.steps = ap (λ (x : Course). x.steps) c.in_ok-release.ensures.trail in
-    subst (λ (x : List Step). (d : ℕ) → Contains (decision_places x) d → AreOpen (oldest d x) c.args.clause (record { first = c.args.literal; second = c.newest_beside-beside.result.0 })) (sym steps)
-    (jump_quiet c.args.self.now.trail.variables c.args.self.now.clauses.items c.args.self.now.trail.steps c.args.self.now.decisions.items c.args.clause c.args.literal c.args.hints c.newest_beside-beside.result.0 c.newest_beside-beside.result.1 c.first_from-index.result jump first)
-
-pub returns-clause-ready : goal.returns-clause-ready
-returns-clause-ready c =
-    let jump : IsJump c.args.self.now.trail.variables c.args.self.now.clauses.items c.args.self.now.trail.steps c.args.self.now.decisions.items c.args.clause c.args.literal c.args.hints c.newest_beside-beside.result.0 c.newest_beside-beside.result.1 =
-    record { fresh = c.requires.kept.held.fresh; places_are = c.requires.kept.places; learned = c.requires.learned; newest = c.newest_beside-beside.ensures } in
-    let first : IsFirstFrom c.args.self.now.decisions.items c.newest_beside-beside.result.1 c.first_from-index.result =
-    subst (λ (x : List ℕ). IsFirstFrom x c.newest_beside-beside.result.1 c.first_from-index.result) c.deref.ensures.value c.first_from-index.ensures in
-    let s : Step = record { literal = c.args.literal; decision = false; reason = Some (length c.release.new.self.clauses.items) } in
-    let clauses : c.release.new.self.clauses ≡ c.args.self.now.clauses = ap (λ (x : Search). x.clauses) c.in_ok-release.ensures.same in
-    let has : HasLearned c.args.self.now c.assert_clause.new.self c.args.clause c.args.hints c.first_from-index.result s =
-    record {
-      trail = c.in_ok-assert_clause.ensures.trail ∙ ap (λ (x : Course). let y : Course = record { variables = x.variables; steps = s ∷ x.steps } in y) c.in_ok-release.ensures.trail;
-      follows = refl;
-      clauses = c.in_ok-assert_clause.ensures.clauses ∙ ap (λ (x : Vec Clause Global). x.items ++ c.args.clause ∷ []) clauses;
-      log = ap (λ (x : Search). x.log) c.in_ok-assert_clause.ensures.same
-          ∙ c.in_ok-add.ensures.ok
-          ∙ ap (λ (x : List Literal). c.release.new.self.log ++ Added x c.args.hints ∷ []) (c.in_ok-from_slice.ensures ∙ c.literals.ensures)
-          ∙ ap (λ (x : List Entry). x ++ Added c.args.clause c.args.hints ∷ []) (ap (λ (x : Search). x.log) c.in_ok-release.ensures.same);
-      analysis = ap (λ (x : Search). x.analysis) c.in_ok-assert_clause.ensures.same ∙ ap (λ (x : Search). x.analysis) c.in_ok-release.ensures.same;
-      decisions = ap (λ (x : Search). x.decisions.items) c.in_ok-assert_clause.ensures.same ∙ c.in_ok-release.ensures.decisions;
-      propagated = ap (λ (x : Search). x.propagated) c.in_ok-assert_clause.ensures.same ∙ ap (λ (x : Search). x.propagated) c.in_ok-release.ensures.same;
-      within = first.within;
-      places = c.requires.kept.places;
-      stands = place_stands c.args.self.now.trail.variables c.args.self.now.clauses.items c.args.self.now.trail.steps c.args.self.now.decisions.items c.args.clause c.args.literal c.args.hints c.newest_beside-beside.result.0 c.newest_beside-beside.result.1 c.first_from-index.result jump first;
-      held = c.in_ok-assert_clause.ensures.held;
-    } in
-    λ form n room ready. IsReady-learned form n c.args.self.now c.assert_clause.new.self c.args.clause c.args.literal c.args.hints c.first_from-index.result s has c.requires.learned room ready
-
-pub returns-clause-falls : goal.returns-clause-falls
-returns-clause-falls c =
-    let jump : IsJump c.args.self.now.trail.variables c.args.self.now.clauses.items c.args.self.now.trail.steps c.args.self.now.decisions.items c.args.clause c.args.literal c.args.hints c.newest_beside-beside.result.0 c.newest_beside-beside.result.1 =
-    record { fresh = c.requires.kept.held.fresh; places_are = c.requires.kept.places; learned = c.requires.learned; newest = c.newest_beside-beside.ensures } in
-    let first : IsFirstFrom c.args.self.now.decisions.items c.newest_beside-beside.result.1 c.first_from-index.result =
-    subst (λ (x : List ℕ). IsFirstFrom x c.newest_beside-beside.result.1 c.first_from-index.result) c.deref.ensures.value c.first_from-index.ensures in
-    let s : Step = record { literal = c.args.literal; decision = false; reason = Some (length c.release.new.self.clauses.items) } in
-    let clauses : c.release.new.self.clauses ≡ c.args.self.now.clauses = ap (λ (x : Search). x.clauses) c.in_ok-release.ensures.same in
-    let has : HasLearned c.args.self.now c.assert_clause.new.self c.args.clause c.args.hints c.first_from-index.result s =
-    record {
-      trail = c.in_ok-assert_clause.ensures.trail ∙ ap (λ (x : Course). let y : Course = record { variables = x.variables; steps = s ∷ x.steps } in y) c.in_ok-release.ensures.trail;
-      follows = refl;
-      clauses = c.in_ok-assert_clause.ensures.clauses ∙ ap (λ (x : Vec Clause Global). x.items ++ c.args.clause ∷ []) clauses;
-      log = ap (λ (x : Search). x.log) c.in_ok-assert_clause.ensures.same
-          ∙ c.in_ok-add.ensures.ok
-          ∙ ap (λ (x : List Literal). c.release.new.self.log ++ Added x c.args.hints ∷ []) (c.in_ok-from_slice.ensures ∙ c.literals.ensures)
-          ∙ ap (λ (x : List Entry). x ++ Added c.args.clause c.args.hints ∷ []) (ap (λ (x : Search). x.log) c.in_ok-release.ensures.same);
-      analysis = ap (λ (x : Search). x.analysis) c.in_ok-assert_clause.ensures.same ∙ ap (λ (x : Search). x.analysis) c.in_ok-release.ensures.same;
-      decisions = ap (λ (x : Search). x.decisions.items) c.in_ok-assert_clause.ensures.same ∙ c.in_ok-release.ensures.decisions;
-      propagated = ap (λ (x : Search). x.propagated) c.in_ok-assert_clause.ensures.same ∙ ap (λ (x : Search). x.propagated) c.in_ok-release.ensures.same;
-      within = first.within;
-      places = c.requires.kept.places;
-      stands = place_stands c.args.self.now.trail.variables c.args.self.now.clauses.items c.args.self.now.trail.steps c.args.self.now.decisions.items c.args.clause c.args.literal c.args.hints c.newest_beside-beside.result.0 c.newest_beside-beside.result.1 c.first_from-index.result jump first;
-      held = c.in_ok-assert_clause.ensures.held;
-    } in
-    remaining-learned c.args.self.now c.assert_clause.new.self c.args.clause c.args.hints c.first_from-index.result s has
-
-pub returns-clause-watching : goal.returns-clause-watching
-returns-clause-watching c =
-    let jump : IsJump c.args.self.now.trail.variables c.args.self.now.clauses.items c.args.self.now.trail.steps c.args.self.now.decisions.items c.args.clause c.args.literal c.args.hints c.newest_beside-beside.result.0 c.newest_beside-beside.result.1 =
-    record { fresh = c.requires.kept.held.fresh; places_are = c.requires.kept.places; learned = c.requires.learned; newest = c.newest_beside-beside.ensures } in
-    let first : IsFirstFrom c.args.self.now.decisions.items c.newest_beside-beside.result.1 c.first_from-index.result =
-    subst (λ (x : List ℕ). IsFirstFrom x c.newest_beside-beside.result.1 c.first_from-index.result) c.deref.ensures.value c.first_from-index.ensures in
-    let count : ℕ = get_or c.args.self.now.decisions.items c.first_from-index.result 0 in
-    let steps : c.release.new.self.trail.steps ≡ oldest count c.args.self.now.trail.steps = ap (λ (x : Course). x.steps) c.in_ok-release.ensures.trail in
-    let s : Step = record { literal = c.args.literal; decision = false; reason = Some (length c.release.new.self.clauses.items) } in
-    let clauses : c.release.new.self.clauses ≡ c.args.self.now.clauses = ap (λ (x : Search). x.clauses) c.in_ok-release.ensures.same in
-    let has : HasLearned c.args.self.now c.assert_clause.new.self c.args.clause c.args.hints c.first_from-index.result s =
-    record {
-      trail = c.in_ok-assert_clause.ensures.trail ∙ ap (λ (x : Course). let y : Course = record { variables = x.variables; steps = s ∷ x.steps } in y) c.in_ok-release.ensures.trail;
-      follows = refl;
-      clauses = c.in_ok-assert_clause.ensures.clauses ∙ ap (λ (x : Vec Clause Global). x.items ++ c.args.clause ∷ []) clauses;
-      log = ap (λ (x : Search). x.log) c.in_ok-assert_clause.ensures.same
-          ∙ c.in_ok-add.ensures.ok
-          ∙ ap (λ (x : List Literal). c.release.new.self.log ++ Added x c.args.hints ∷ []) (c.in_ok-from_slice.ensures ∙ c.literals.ensures)
-          ∙ ap (λ (x : List Entry). x ++ Added c.args.clause c.args.hints ∷ []) (ap (λ (x : Search). x.log) c.in_ok-release.ensures.same);
-      analysis = ap (λ (x : Search). x.analysis) c.in_ok-assert_clause.ensures.same ∙ ap (λ (x : Search). x.analysis) c.in_ok-release.ensures.same;
-      decisions = ap (λ (x : Search). x.decisions.items) c.in_ok-assert_clause.ensures.same ∙ c.in_ok-release.ensures.decisions;
-      propagated = ap (λ (x : Search). x.propagated) c.in_ok-assert_clause.ensures.same ∙ ap (λ (x : Search). x.propagated) c.in_ok-release.ensures.same;
-      within = first.within;
-      places = c.requires.kept.places;
-      stands = place_stands c.args.self.now.trail.variables c.args.self.now.clauses.items c.args.self.now.trail.steps c.args.self.now.decisions.items c.args.clause c.args.literal c.args.hints c.newest_beside-beside.result.0 c.newest_beside-beside.result.1 c.first_from-index.result jump first;
-      held = c.in_ok-assert_clause.ensures.held;
-    } in
-    IsWatching-learned c.args.self.now c.assert_clause.new.self c.args.clause c.args.hints c.first_from-index.result s has
-    (subst (λ (x : List Step). AreWatched x c.assert_clause.new.self.trail.steps c.assert_clause.new.self.clauses.items c.assert_clause.new.self.watches.pairs.items) steps c.in_ok-assert_clause.ensures.watched)
+    record { kept = c.newest_beside-beside.result.1; newest = c.newest_beside-beside.ensures; first = first }

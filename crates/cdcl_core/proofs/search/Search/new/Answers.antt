@@ -12,7 +12,7 @@ returns-clause-ready c = λ budget.
     (c.in_ok-copied.ensures ∙ c.clauses.ensures.is) c.clauses.ensures.within
     (subst (λ n. AreListed n c.args.cnf.now.clauses c.in_ok-new-2.field-0.pairs.items c.in_ok-new-2.field-0.lists) c.variables-variables.ensures.is
     (subst (λ (x : List (List Literal)). AreListed c.variables-variables.result x c.in_ok-new-2.field-0.pairs.items c.in_ok-new-2.field-0.lists) c.clauses-2.ensures.is c.in_ok-new-2.ensures.listed))
-    (subst (λ n. IsClear n c.in_ok-new-3.field-0) c.variables-variables.ensures.is c.in_ok-new-3.ensures) c.new-5.ensures.items c.new-6.ensures
+    (subst (λ n. IsClear n c.in_ok-new-3.field-0) c.variables-variables.ensures.is c.in_ok-new-3.ensures) c.new-4.ensures.items c.new-5.ensures
 
 pub returns-clause-single : goal.returns-clause-single
 returns-clause-single c =

@@ -17,18 +17,18 @@ use Rattle.cdcl_core.proofs.Settling.{AreSettled-quiet}
 use Rattle.cdcl_core.proofs.search.Search.resolve.Goals as goal
 
 pub returns-then-is_spent : goal.returns-then-is_spent
-returns-then-is_spent c = λ form ready.
+returns-then-is_spent g c = λ form ready.
     subst (λ (x : List Entry). IsSpent form.clauses x c.args.budget × AreEntriesWithin form.variables x) (sym c.replace.ensures.value)
     (IsSpent-from form c.args.budget c.args.self.now.clauses.items c.args.self.now.log ready.logged (c.if-is_spent.ensures.spent refl).1 c.requires.budget
     (undecided c.args.self.now.clauses.items c.args.self.now.trail c.args.self.now.decisions.items c.args.self.now c.requires.kept.held c.requires.kept.places (c.if-is_spent.ensures.spent refl).0))
 
 pub lesson-requires-clause-settled : goal.lesson-requires-clause-settled
-lesson-requires-clause-settled c =
+lesson-requires-clause-settled g c =
     subst (λ (x : List (List Literal)). AreSettled x c.args.self.now.trail.steps) (sym c.deref.ensures.value)
     (AreSettled-quiet c.args.self.now.clauses.items c.args.self.now.watches.pairs.items c.args.self.now.trail.steps c.requires.kept.held.listed.count c.requires.kept.held.quiet)
 
 pub returns-in_ok-add-in-Refuted : goal.returns-in_ok-add-in-Refuted
-returns-in_ok-add-in-Refuted c = λ form ready.
+returns-in_ok-add-in-Refuted g c = λ form ready.
     let refuted : IsLesson c.args.self.now.trail.variables c.deref.result.now c.args.self.now.trail.steps (Refuted c.in-Refuted.hints) =
     subst (IsLesson c.args.self.now.trail.variables c.deref.result.now c.args.self.now.trail.steps) c.in-Refuted.is c.in_ok-lesson.ensures.lesson in
     let follows : Follows c.args.self.now.clauses.items [] = subst (λ (x : List (List Literal)). Follows x []) c.deref.ensures.value refuted.1 in
@@ -38,7 +38,7 @@ returns-in_ok-add-in-Refuted c = λ form ready.
     (IsRefutation-from form c.args.budget c.args.self.now.clauses.items c.args.self.now.log c.in-Refuted.hints ready.logged follows)
 
 pub returns-in_ok-learn-in-Learned : goal.returns-in_ok-learn-in-Learned
-returns-in_ok-learn-in-Learned c = λ form ready.
+returns-in_ok-learn-in-Learned g c = λ form ready.
     let learned : IsLesson c.args.self.now.trail.variables c.deref.result.now c.args.self.now.trail.steps (Learned c.in-Learned.clause c.in-Learned.literal c.in-Learned.hints) =
     subst (IsLesson c.args.self.now.trail.variables c.deref.result.now c.args.self.now.trail.steps) c.in-Learned.is c.in_ok-lesson.ensures.lesson in
     let some : 0 < length c.args.self.now.decisions.items =
@@ -50,5 +50,5 @@ returns-in_ok-learn-in-Learned c = λ form ready.
             logged = ready.logged;
           }),
       c.in_ok-learn-in-Learned.ensures.watching,
-      c.in_ok-learn-in-Learned.ensures.falls,
+      c.in_ok-learn-in-Learned.ensures.falls c.args.budget (c.if-is_spent.ensures.room refl some),
     )

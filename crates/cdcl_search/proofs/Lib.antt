@@ -1,4 +1,0 @@
-pub mod Starting
-pub mod Entering
-pub mod Learning
-pub mod Models
