@@ -6,6 +6,7 @@ pub mod Listed
 pub mod Watching
 pub mod Going
 pub mod Looking
+pub mod Blocking
 pub mod Settling
 pub mod Logging
 pub mod Jumping

@@ -33,10 +33,10 @@ pub index_of-below : (l : Literal) (n k : ℕ) → l.variable < n → k ≡ 2 * 
 index_of-below l n k less is = subst (λ m. index_of l < m) (sym is) (index_below l.variable n l.negated less)
 
 -- the watches on a literal after those on one were written
-watches_of-same : (lists : List (List Watch)) (l : Literal) (ws : List Watch) → index_of l < length lists → watches_of (with_watches lists l ws) l ≡ ws
+pub watches_of-same : (lists : List (List Watch)) (l : Literal) (ws : List Watch) → index_of l < length lists → watches_of (with_watches lists l ws) l ≡ ws
 watches_of-same lists l ws room = get_or-set_same lists (index_of l) ws [] room
 
-watches_of-other : (lists : List (List Watch)) (l m : Literal) (ws : List Watch) → m ≢ l → watches_of (with_watches lists l ws) m ≡ watches_of lists m
+pub watches_of-other : (lists : List (List Watch)) (l m : Literal) (ws : List Watch) → m ≢ l → watches_of (with_watches lists l ws) m ≡ watches_of lists m
 watches_of-other lists l m ws other = get_or-set_other lists (index_of l) (index_of m) ws [] (λ e. other (index_of-injective m l e))
 
 -- one more watch

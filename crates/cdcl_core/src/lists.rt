@@ -1,6 +1,6 @@
 //! Lists of literals and of numbers, written in place.
 
-ghost use Rattle.std.specs.Prelude.{◌≡◌, ◌<◌, [], ℕ, Some, IfOk, OnOk, length, slice_get, slice_index_or};
+ghost use Rattle.std.specs.Prelude.{◌≡◌, ◌<◌, [], ℕ, Some, IfOk, OnOk, length, slice_get, slice_set, slice_index_or};
 ghost use Rattle.sat_form.specs.Satisfaction.{index_of};
 
 use sat_form::Lit;
@@ -11,7 +11,7 @@ use std::marker::Model;
 #[derive(Clone, Copy)]
 pub struct Watch {
     /// The clause's number.
-    pub number: usize,
+    pub number: u32,
     /// A literal of the clause: where it is true, the clause needs no look.
     pub blocker: Lit,
 }
@@ -33,7 +33,7 @@ impl Model for Lists {
 }
 
 impl Lists {
-    ghost use Rattle.cdcl_core.specs.Lists.{watches_of, pushed, removed};
+    ghost use Rattle.cdcl_core.specs.Lists.{watches_of, with_watches, pushed, removed};
 
     /// No watches, for so many indices.
     pub fn new(alloc: Global, count: usize) -> Result<Self, AllocError>
@@ -71,6 +71,15 @@ impl Lists {
     {
         self.lists[literal.index()].push(watch)?;
         Ok(())
+    }
+
+    /// Puts another watch in the place of one of a literal's.
+    pub fn set(&mut self, literal: Lit, at: usize, watch: Watch)
+        requires index { index_of literal < length self.old }
+        requires at { at < length (watches_of self.old literal) }
+        ensures { self.new ≡ with_watches self.old literal (slice_set (watches_of self.old literal) at watch) }
+    {
+        self.lists[literal.index()][at] = watch;
     }
 
     /// Takes one of a literal's watches away; the last one stands in its place then.

@@ -60,14 +60,18 @@ impl Watches {
         Ok(watches)
     }
 
-    /// Watches two literals of the clause with the next number, if they differ.
+    /// Watches two literals of the clause with the next number, if they differ. Fails only for want of memory, and where there
+    /// are 2^32 clauses.
     pub fn enter(&mut self, pair: Pair) -> Result<(), AllocError>
         requires first { pair.first ≢ pair.second → index_of pair.first < length self.old.lists }
         requires second { pair.first ≢ pair.second → index_of pair.second < length self.old.lists }
         ensures pairs { OnOk result (self.new.pairs.items ≡ self.old.pairs.items ++ pair ∷ []) }
         ensures lists { OnOk result (IsEntered self.old.lists (length self.old.pairs.items) pair.first pair.second self.new.lists) }
     {
-        let number = self.pairs.len();
+        if self.pairs.len() > u32::MAX as usize {
+            return Err(AllocError);
+        }
+        let number = self.pairs.len() as u32;
         self.pairs.push(pair)?;
         if pair.first != pair.second {
             self.lists.push(
@@ -116,7 +120,7 @@ impl Watches {
         &mut self,
         literal: Lit,
         at: usize,
-        number: usize,
+        number: u32,
         pair: Pair,
     ) -> Result<Watch, AllocError>
         requires apart { pair.second ≢ literal }
@@ -135,7 +139,7 @@ impl Watches {
             },
         )?;
         let watch = self.lists.remove(literal, at);
-        self.pairs[number] = pair;
+        self.pairs[number as usize] = pair;
         Ok(watch)
     }
 
@@ -160,9 +164,17 @@ impl Watches {
         if trail.is_true(watch.blocker) {
             return Ok(Look::Kept);
         }
-        let other = self.other(watch.number, literal);
-        match read_beside(trail, &clauses[watch.number], other) {
-            Reading::True => Ok(Look::Kept),
+        let number = watch.number as usize;
+        let other = self.other(number, literal);
+        match read_beside(trail, &clauses[number], other) {
+            Reading::True => {
+                let blocked = Watch {
+                    number: watch.number,
+                    blocker: other,
+                };
+                self.lists.set(literal, at, blocked);
+                Ok(Look::Kept)
+            }
             Reading::Open(next) => {
                 let pair = Pair {
                     first: other,
@@ -172,10 +184,10 @@ impl Watches {
                 Ok(Look::Moved)
             }
             Reading::Single => {
-                trail.push(other, false, Some(watch.number))?;
+                trail.push(other, false, Some(number))?;
                 Ok(Look::Kept)
             }
-            Reading::False => Ok(Look::Conflict(watch.number)),
+            Reading::False => Ok(Look::Conflict(number)),
         }
     }
 

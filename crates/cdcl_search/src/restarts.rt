@@ -2,7 +2,7 @@
 
 /// How many conflicts a run has where the sequence says 1. Runs are long, since learned clauses are kept for ever: each restart
 /// brings clauses of another part of the search, which all later propagation reads.
-const UNIT: u64 = 1000;
+const UNIT: u64 = 2000;
 
 /// When a search starts over (Luby, Sinclair and Zuckerman 1993, in the form of Knuth, TAOCP 7.2.2.2).
 #[derive(Drop)]
