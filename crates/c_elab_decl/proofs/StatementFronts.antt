@@ -4,10 +4,13 @@ use Rattle.std.specs.Prelude.{Vec, Box}
 use Rattle.std.specs.Global.{Global}
 use Rattle.std.proofs.lemmas.List.{append_assoc, drop_more, map-append}
 use Rattle.c_tree.specs.declared.statement.Item.{Item}
+use Rattle.c_tree.specs.declared.statement.Stmt.{Stmt}
 use Rattle.c_tree.specs.declared.statement.External.{External}
 use Rattle.c_tree.specs.Declarations.{Full, Parts, Declarators}
 use Rattle.c_tree.specs.Tree.{Tree}
-use Rattle.c_tree.specs.Statements.{Statement, block, switch_on, view_item, Externals, declared, defines, view_external, externals_of, Items, items_of as trees}
+use Rattle.c_tree.specs.Statements.{Statement, block, switch_on, view_item, Externals, declared, defines, view_external, externals_of, Items, view_statement as tree, items_of as trees}
+use Rattle.c_tree.specs.Files.{is_block}
+use Rattle.c_tree.proofs.StatementViews.{view_block}
 use Rattle.core_tree.specs.declared.statement.CoreItem.{CoreItem}
 use Rattle.core_tree.specs.declared.statement.CoreItem as codes
 use Rattle.core_tree.specs.declared.statement.CoreStatement.{CoreStatement}
@@ -29,7 +32,7 @@ use Rattle.c_elab_flow.specs.Files.{Definition}
 use Rattle.c_elab_decl.specs.Files.{typed_definition, typed_externals}
 use Rattle.c_elab_flow.specs.Held.{view_definition, view_definitions}
 use Rattle.c_elab_decl.specs.DefinitionSteps.{TypedDefinitions, definitions_first, DefinitionStep}
-use Rattle.c_elab_decl.specs.StatementSteps.{Fronts}
+use Rattle.c_elab_decl.specs.StatementSteps.{Fronts, IsBlockOf}
 use Rattle.c_elab_base.proofs.Steps.{fails_bind, fails_along}
 use Rattle.c_elab_base.proofs.Growing.{Inner, kept}
 use Rattle.c_elab_type.proofs.Fronts.{none_first, prepend_all, prepend_push, behind_fails}
@@ -103,6 +106,15 @@ switch_behind a s line body x = switch_of s line x (typed_body (in_switch a) (wi
 pub switch_by_body : (a : Around) (s : Scoped) (line : ℕ) (e : Tree) (body : Statement) → typed_statement a s (switch_on line e body) ≡ (operand s e >>= λ x. switch_behind a s line body x)
 switch_by_body a s line e (block at is) = refl
 switch_by_body a s line e _ = refl
+
+-- a block is the block of its items
+pub block_as : (x : Stmt) (is : List Item) (b : IsBlockOf x is) → tree x ≡ block b.line (trees is)
+block_as x is b = ap tree b.is ∙ view_block b.line b.held ∙ ap (λ (xs : List Item). block b.line (trees xs)) (sym b.same)
+
+-- a body that is no block is one statement
+pub body_alone : (a : Around) (s : Scoped) (body : Statement) → is_block body ≡ false → typed_body a s body ≡ as_items (typed_statement a s body)
+body_alone a s (block line is) e = let none : ⊥ = cc in absurd none
+body_alone a s _ e = refl
 
 -- ---- what stands in a file
 

@@ -1,5 +1,8 @@
 -- What a step over a list of statements or cases says: what is made so far goes before what is made behind it.
-use Rattle.std.specs.Prelude.{◌≡◌, List, Result, Ok, Err}
+use Rattle.std.specs.Prelude.{◌≡◌, ℕ, List, Vec, Result, Ok, Err}
+use Rattle.std.specs.Global.{Global}
+use Rattle.c_tree.specs.declared.statement.Item.{Item}
+use Rattle.c_tree.specs.declared.statement.Stmt.{Stmt, Block}
 use Rattle.core_tree.specs.declared.statement.CoreItem.{CoreItem}
 use Rattle.core_tree.specs.Trees as cores
 use Rattle.c_scope.specs.declared.fault.TypingError.{TypingError}
@@ -16,3 +19,10 @@ Fronts (Err e) s before now front = Fails e front
 -- a statement in a list, without labels and cases before it
 abbrev pub alone : TypedStatement → TypedFront
 alone statement = statement >>= λ y. Ok (cores.does y.0, y.1)
+
+-- a block of the code, and its items
+pub record IsBlockOf (statement : Stmt) (items : List Item) : Type 0 where
+  pub line : ℕ
+  pub held : Vec Item Global
+  pub is : statement ≡ Block line held
+  pub same : items ≡ held.items

@@ -16,7 +16,7 @@ ghost use Rattle.c_elab_decl.specs.Files.{own_suffixes, definition_type, typed_e
 ghost use Rattle.c_elab_flow.specs.Held.{parameters_in, view_definitions};
 ghost use Rattle.c_elab_decl.specs.DefinitionSteps.{DefinitionStep, view_own};
 
-use crate::statements::typed_items;
+use crate::statements::{block_items, typed_items};
 use c_elab_base::{Derivation, Derived, Parameter, Region, derive, earlier, full_line, name_of};
 use c_elab_flow::{
     Around, Definition, Labels, add_labels, begin, block_of, end, give_bodies, is_variadic,
@@ -148,28 +148,12 @@ fn typed_body(
         breaks: false,
         continues: false,
     };
-    match body {
-        Stmt::Block { items, .. } => {
+    match block_items(body) {
+        Some(items) => {
             let items = typed_items(alloc, items, false, around, scope, outer)?;
             block_of(alloc, items)
         }
-        Stmt::If { .. }
-        | Stmt::IfElse { .. }
-        | Stmt::Evaluate { .. }
-        | Stmt::ReturnNothing { .. }
-        | Stmt::ReturnValue { .. }
-        | Stmt::Empty { .. }
-        | Stmt::While { .. }
-        | Stmt::Do { .. }
-        | Stmt::For { .. }
-        | Stmt::ForDeclared { .. }
-        | Stmt::Switch { .. }
-        | Stmt::Case { .. }
-        | Stmt::Default { .. }
-        | Stmt::Label { .. }
-        | Stmt::Goto { .. }
-        | Stmt::Break { .. }
-        | Stmt::Continue { .. } => block_of(alloc, Vec::new(alloc)),
+        None => block_of(alloc, Vec::new(alloc)),
     }
 }
 

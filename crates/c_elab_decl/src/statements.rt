@@ -1,9 +1,10 @@
 //! Statements.
 
-ghost use Rattle.std.specs.Prelude.{◌≡◌, ◌≤◌, ℕ, [], List, length, option_map, OnOk};
+ghost use Rattle.std.specs.Prelude.{◌≡◌, ◌≤◌, ℕ, [], List, false, length, option_map, MatchOption, OnOk};
 ghost use Rattle.c_tree.specs.Tree.{view as tree_of, boxed as boxed_tree};
 ghost use Rattle.c_tree.specs.Declarations.{parts_of, declarators_of};
 ghost use Rattle.c_tree.specs.Statements.{Items, done, view_item, for_declared, switch_on};
+ghost use Rattle.c_tree.specs.Files.{is_block};
 ghost use Rattle.c_tree.specs.Statements.{view_statement as tree};
 ghost use Rattle.c_tree.specs.Statements.{items_of as trees};
 ghost use Rattle.core_tree.specs.Trees.{boxed, view_statement, items_of};
@@ -12,7 +13,7 @@ ghost use Rattle.c_elab_type.specs.Steps.{Step};
 ghost use Rattle.c_elab_flow.specs.Nodes.{view_around, in_loop};
 ghost use Rattle.c_elab_flow.specs.Lookahead.{Passes, with_jumps, first_jumps, jumped_behind};
 ghost use Rattle.c_elab_decl.specs.Statements.{typed_statement, typed_rest, typed_body, typed_front, typed_items};
-ghost use Rattle.c_elab_decl.specs.StatementSteps.{Fronts, alone};
+ghost use Rattle.c_elab_decl.specs.StatementSteps.{Fronts, alone, IsBlockOf};
 
 use c_elab_base::Region;
 use c_elab_expr::operand;
@@ -27,6 +28,32 @@ use c_scope::{Scope, TypingError};
 use c_tree::{Declaration, Expr, Item, Stmt};
 use core_tree::{CoreExpr, CoreItem, CoreStatement};
 use std::alloc::Global;
+
+/// The items of a block; any other statement has none.
+pub(crate) fn block_items(statement: &Stmt) -> Option<&[Item]>
+    ensures { MatchOption result (is_block (tree statement.now) ≡ false) (λ items. IsBlockOf statement.now items.now) }
+{
+    match statement {
+        Stmt::Block { items, .. } => Some(items),
+        Stmt::If { .. }
+        | Stmt::IfElse { .. }
+        | Stmt::Evaluate { .. }
+        | Stmt::ReturnNothing { .. }
+        | Stmt::ReturnValue { .. }
+        | Stmt::Empty { .. }
+        | Stmt::While { .. }
+        | Stmt::Do { .. }
+        | Stmt::For { .. }
+        | Stmt::ForDeclared { .. }
+        | Stmt::Switch { .. }
+        | Stmt::Case { .. }
+        | Stmt::Default { .. }
+        | Stmt::Label { .. }
+        | Stmt::Goto { .. }
+        | Stmt::Break { .. }
+        | Stmt::Continue { .. } => None,
+    }
+}
 
 /// A statement. The scope keeps its names and gets the statement's variables.
 #[cycle(statement)]
@@ -202,30 +229,14 @@ fn typed_body(
     ensures gives { Gives (λ v. (items_of v.items, scope.new)) result (typed_body (view_around around.entry) scope.old (tree body.now)) }
     ensures names { OnOk result (scope.new.bindings ≡ scope.old.bindings) }
 {
-    match body {
-        Stmt::Block { items, .. } => {
+    match block_items(body) {
+        Some(items) => {
             let outer = scope.len();
             let items = typed_items(alloc, items, true, around, scope, outer)?;
             scope.leave(outer);
             Ok(items)
         }
-        Stmt::If { .. }
-        | Stmt::IfElse { .. }
-        | Stmt::Evaluate { .. }
-        | Stmt::ReturnNothing { .. }
-        | Stmt::ReturnValue { .. }
-        | Stmt::Empty { .. }
-        | Stmt::While { .. }
-        | Stmt::Do { .. }
-        | Stmt::For { .. }
-        | Stmt::ForDeclared { .. }
-        | Stmt::Switch { .. }
-        | Stmt::Case { .. }
-        | Stmt::Default { .. }
-        | Stmt::Label { .. }
-        | Stmt::Goto { .. }
-        | Stmt::Break { .. }
-        | Stmt::Continue { .. } => {
+        None => {
             let statement = typed_statement(alloc, body, around, scope)?;
             let mut items = Vec::new(alloc);
             items.push(CoreItem::Statement { statement })?;

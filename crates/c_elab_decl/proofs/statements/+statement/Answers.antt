@@ -1,4 +1,4 @@
-use Rattle.std.proofs.Common.{◌≡◌, ◌≤◌, ◌+◌, ◌-◌, ◌++◌, ℕ, Bool, true, false, List, [], length, set, drop, Option, Some, None, Ok, option_map, refl, sym, ap, subst, ◌∙◌, arith}
+use Rattle.std.proofs.Common.{◌≡◌, ◌≤◌, ◌+◌, ◌-◌, ◌++◌, ℕ, Bool, true, false, List, [], ◌∷◌, length, set, drop, Option, Some, None, Ok, option_map, refl, sym, ap, subst, ◌∙◌, arith}
 use Rattle.std.proofs.lemmas.Result.{err_from_is_err_and}
 use Rattle.std.proofs.lemmas.List.{drop_all}
 use Rattle.c_types.specs.declared.integers.IntegerType.{IntegerType}
@@ -26,11 +26,11 @@ use Rattle.c_elab_object.specs.DeclaratorLists.{typed_declaration}
 use Rattle.c_elab_flow.specs.Jumps.{jumps_in, is_passed}
 use Rattle.c_elab_flow.specs.Lookahead.{jumped_behind}
 use Rattle.c_elab_flow.specs.Nodes.{evaluated, returned, Around, view_around, in_loop, in_switch, with_switch, switch_type}
-use Rattle.c_elab_decl.specs.Statements.{TypedStatement, TypedFront, in_block, switch_ended, as_block, typed_statement, typed_rest, typed_body, typed_front, typed_items}
+use Rattle.c_elab_decl.specs.Statements.{TypedStatement, TypedFront, in_block, switch_ended, as_block, as_items, typed_statement, typed_rest, typed_body, typed_front, typed_items}
 use Rattle.c_elab_decl.specs.StatementSteps.{Fronts, alone}
 use Rattle.c_elab_type.proofs.Fronts.{none_first, prepend_all, behind_fails, fault_step}
 use Rattle.c_elab_base.proofs.Steps.{fails_bind, fails_along}
-use Rattle.c_elab_decl.proofs.StatementFronts.{items_at, fronted, front_more, block_by, items_names, names_left, fault_front, for_behind, declaration_names, for_typed, for_fails, switch_behind, switch_by_body}
+use Rattle.c_elab_decl.proofs.StatementFronts.{items_at, fronted, front_more, block_as, block_by, body_alone, items_names, names_left, fault_front, for_behind, declaration_names, for_typed, for_fails, switch_behind, switch_by_body}
 use Rattle.c_elab_decl.proofs.Fronting.{alone_front, label_front_fails, label_front, place_within, case_value_fails, case_body_fails, case_front_fails, case_front, default_body_fails, default_front, front_not, front_else, own_by, switch_body_fails, switch_ends, front_as}
 use Rattle.c_elab_decl.proofs.Chains.{whatever, statement_as, fails_at, if_behind, if_else_behind, while_test_fails, while_body_fails, while_behind, do_body_fails, do_test_fails, do_behind, for_first_fails, for_behind_first, case_behind, default_behind, label_body_fails, label_end_fails, label_typed, rest_body_fails, rest_behind}
 use Rattle.c_elab_flow.proofs.Jumping.{looks_next, passes_at}
@@ -607,44 +607,60 @@ typed_switch-returns-clause-gives t c =
     let closed : w2 ≡ switch_ended s u = c.close_switch.ensures ∙ ap (λ (o : Option Cases). record u { flow = record u.flow { switch = o } }) c.open_switch-outer.ensures.outer in
     subst (λ (r : TypedStatement). Gives (λ k. (view_statement k.value, w2)) c.switch_of.result r) (switch_ends a s c.args.line value body x c.in_ok-value.ensures.gives y w2 typed closed) (c.switch_of.ensures w2)
 
-pub typed_body-returns-in_err-items-in-Block-clause-gives : goal.typed_body-returns-in_err-items-in-Block-clause-gives
-typed_body-returns-in_err-items-in-Block-clause-gives t c =
+pub typed_body-returns-in_err-items-in-Some-clause-gives : goal.typed_body-returns-in_err-items-in-Some-clause-gives
+typed_body-returns-in_err-items-in-Some-clause-gives t c =
     let p = err_from_is_err_and c.from_residual.result c.from_residual.ensures.1 in
     let a = view_around c.args.around in
     let s = c.args.scope.now in
-    let items = trees c.in-Block.items.items in
-    let shape = ap (typed_body a s) (ap tree c.in-Block.is ∙ view_tree_block c.in-Block.line c.in-Block.items) in
-    let given : typed_items a true (length s.bindings) [] s items ≡ typed_items a true c.len-outer.result [] s (trees c.deref.result.now) = ap (λ (k : ℕ). typed_items a true k [] s items) (sym c.len-outer.ensures) ∙ ap (λ (is : List Item). typed_items a true c.len-outer.result [] s (trees is)) (sym c.deref.ensures.value) in
-    let e = c.in_err-items-in-Block.field-0.0 in
-    rw (p.1, p.2) (fails_along e _ (typed_body a s (tree c.args.body.now)) (sym shape) (fails_bind e (typed_items a true (length s.bindings) [] s items) _ (fails_along e _ _ (sym given) c.in_err-items-in-Block.ensures.gives)))
+    let items = trees c.in-Some.items.now in
+    let shape = ap (typed_body a s) (block_as c.args.body.now c.in-Some.items.now c.in-Some.ensures) in
+    let given : typed_items a true (length s.bindings) [] s items ≡ typed_items a true c.len-outer.result [] s items = ap (λ (k : ℕ). typed_items a true k [] s items) (sym c.len-outer.ensures) in
+    let e = c.in_err-items-in-Some.field-0.0 in
+    rw (p.1, p.2) (fails_along e _ (typed_body a s (tree c.args.body.now)) (sym shape) (fails_bind e (typed_items a true (length s.bindings) [] s items) _ (fails_along e _ _ (sym given) c.in_err-items-in-Some.ensures.gives)))
 
-pub typed_body-returns-in_ok-items-in-Block-clause-gives : goal.typed_body-returns-in_ok-items-in-Block-clause-gives
-typed_body-returns-in_ok-items-in-Block-clause-gives t c =
+pub typed_body-returns-in_ok-items-in-Some-clause-gives : goal.typed_body-returns-in_ok-items-in-Some-clause-gives
+typed_body-returns-in_ok-items-in-Some-clause-gives t c =
     let a = view_around c.args.around in
     let s = c.args.scope.now in
-    let items = trees c.in-Block.items.items in
-    let shape = ap (typed_body a s) (ap tree c.in-Block.is ∙ view_tree_block c.in-Block.line c.in-Block.items) in
-    let given : typed_items a true (length s.bindings) [] s items ≡ typed_items a true c.len-outer.result [] s (trees c.deref.result.now) = ap (λ (k : ℕ). typed_items a true k [] s items) (sym c.len-outer.ensures) ∙ ap (λ (is : List Item). typed_items a true c.len-outer.result [] s (trees is)) (sym c.deref.ensures.value) in
+    let items = trees c.in-Some.items.now in
+    let shape = ap (typed_body a s) (block_as c.args.body.now c.in-Some.items.now c.in-Some.ensures) in
+    let given : typed_items a true (length s.bindings) [] s items ≡ typed_items a true c.len-outer.result [] s items = ap (λ (k : ℕ). typed_items a true k [] s items) (sym c.len-outer.ensures) in
     let u = c.typed_items.new.scope in
-    let v = c.in_ok-items-in-Block.items in
+    let v = c.in_ok-items-in-Some.items in
     let left : c.leave.new.self ≡ record u { bindings = drop (length u.bindings - length s.bindings) u.bindings } = c.leave.ensures ∙ ap (λ (k : ℕ). record u { bindings = drop (length u.bindings - k) u.bindings }) c.len-outer.ensures in
-    let all = given ∙ c.in_ok-items-in-Block.ensures.gives in
+    let all = given ∙ c.in_ok-items-in-Some.ensures.gives in
     let names = items_names a true (length s.bindings) [] s u items (items_of v.items) all in
     shape ∙ own_by s u (typed_items a true (length s.bindings) [] s items) (items_of v.items) all names ∙ ap (λ (x : Scoped). Ok (items_of v.items, x)) (sym left)
 
-pub typed_body-returns-in_ok-items-in-Block-clause-names : goal.typed_body-returns-in_ok-items-in-Block-clause-names
-typed_body-returns-in_ok-items-in-Block-clause-names t c =
+pub typed_body-returns-in_ok-items-in-Some-clause-names : goal.typed_body-returns-in_ok-items-in-Some-clause-names
+typed_body-returns-in_ok-items-in-Some-clause-names t c =
     let a = view_around c.args.around in
     let s = c.args.scope.now in
-    let items = trees c.in-Block.items.items in
-    let shape = ap (typed_body a s) (ap tree c.in-Block.is ∙ view_tree_block c.in-Block.line c.in-Block.items) in
-    let given : typed_items a true (length s.bindings) [] s items ≡ typed_items a true c.len-outer.result [] s (trees c.deref.result.now) = ap (λ (k : ℕ). typed_items a true k [] s items) (sym c.len-outer.ensures) ∙ ap (λ (is : List Item). typed_items a true c.len-outer.result [] s (trees is)) (sym c.deref.ensures.value) in
+    let items = trees c.in-Some.items.now in
+    let given : typed_items a true (length s.bindings) [] s items ≡ typed_items a true c.len-outer.result [] s items = ap (λ (k : ℕ). typed_items a true k [] s items) (sym c.len-outer.ensures) in
     let u = c.typed_items.new.scope in
-    let v = c.in_ok-items-in-Block.items in
+    let v = c.in_ok-items-in-Some.items in
     let left : c.leave.new.self ≡ record u { bindings = drop (length u.bindings - length s.bindings) u.bindings } = c.leave.ensures ∙ ap (λ (k : ℕ). record u { bindings = drop (length u.bindings - k) u.bindings }) c.len-outer.ensures in
-    let all = given ∙ c.in_ok-items-in-Block.ensures.gives in
+    let all = given ∙ c.in_ok-items-in-Some.ensures.gives in
     let names = items_names a true (length s.bindings) [] s u items (items_of v.items) all in
     ap (λ (x : Scoped). x.bindings) left ∙ names_left s u names
+
+pub typed_body-returns-in_err-statement-in-None-clause-gives : goal.typed_body-returns-in_err-statement-in-None-clause-gives
+typed_body-returns-in_err-statement-in-None-clause-gives t c =
+    let p = err_from_is_err_and c.from_residual-in_err-statement-in-None.result c.from_residual-in_err-statement-in-None.ensures.1 in
+    let a = view_around c.args.around in
+    let s = c.args.scope.now in
+    let body = tree c.args.body.now in
+    let e = c.in_err-statement-in-None.field-0.0 in
+    rw (p.1, p.2) (fails_along e _ (typed_body a s body) (sym (body_alone a s body c.in-None.ensures)) (fails_bind e (typed_statement a s body) _ c.in_err-statement-in-None.ensures.gives))
+
+pub typed_body-returns-in_ok-push-in-None-clause-gives : goal.typed_body-returns-in_ok-push-in-None-clause-gives
+typed_body-returns-in_ok-push-in-None-clause-gives t c =
+    let a = view_around c.args.around in
+    let s = c.args.scope.now in
+    let u = c.typed_statement.new.scope in
+    let pushed = c.in_ok-push-in-None.ensures.items ∙ ap (λ (xs : List CoreItem). xs ++ codes.Statement c.in_ok-statement-in-None.statement ∷ []) c.new-items.ensures.items in
+    body_alone a s (tree c.args.body.now) c.in-None.ensures ∙ ap as_items c.in_ok-statement-in-None.ensures.gives ∙ ap (λ (xs : List CoreItem). Ok (items_of xs, u)) (sym pushed)
 
 -- ---- a statement of a list
 
