@@ -20,7 +20,7 @@ use crate::used::Used;
 use bit_blast::{blast, lift};
 use c_interp::safe_at_all;
 use c_profile::Admitted;
-use cdcl_core::{Answer, solve};
+use cdcl_search::{Answer, solve};
 use core_tree::Bounds;
 use goto_checks::insert;
 use goto_lower::lower;

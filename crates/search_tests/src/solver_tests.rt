@@ -72,17 +72,27 @@ fn form_of(alloc: Global, clauses: &[Vec<(u32, bool)>]) -> Result<Cnf, Fail> {
 // More units than the forms of these tests take.
 const AMPLE: u64 = 1_000_000;
 
-// Whether the form has a model; where it has none, the checker accepts the log, and not without its last entry.
+// Whether the form has a model, by both searches.
 fn fits(alloc: Global, cnf: &Cnf) -> Result<bool, Fail> {
-    match solve(alloc, cnf, AMPLE)? {
+    let first = is_model_found(alloc, cnf, &solve(alloc, cnf, AMPLE)?)?;
+    let second = is_model_found(alloc, cnf, &cdcl_search::solve(alloc, cnf, AMPLE)?)?;
+    if first != second {
+        return Err("two answers")?;
+    }
+    Ok(first)
+}
+
+// Whether the answer is a model; where it is none, the checker accepts the log, and not without its last entry.
+fn is_model_found(alloc: Global, cnf: &Cnf, answer: &Answer) -> Result<bool, Fail> {
+    match answer {
         Answer::Sat(model) => Ok(
-            model.values().len() == cnf.variables() as usize && is_model(cnf, &model),
+            model.values().len() == cnf.variables() as usize && is_model(cnf, model),
         ),
         Answer::Unsat(log) => {
-            if !accepts(alloc, cnf, &log)? {
+            if !accepts(alloc, cnf, log)? {
                 return Err("a log that is no refutation")?;
             }
-            if accepts(alloc, cnf, &without_last(alloc, &log)?)? {
+            if accepts(alloc, cnf, &without_last(alloc, log)?)? {
                 return Err("a log without the empty clause that is accepted")?;
             }
             Ok(false)
