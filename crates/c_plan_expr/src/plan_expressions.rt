@@ -7,7 +7,7 @@ ghost use Rattle.core_tree.specs.Operations as operations;
 ghost use Rattle.c_values.specs.Numbers.{same_width, are_operands_of};
 ghost use Rattle.c_tasks.specs.Items.{top, second, Item, evaluates, stores, combines, increments};
 ghost use Rattle.c_tasks.specs.Steps.{move_combined};
-ghost use Rattle.c_tasks.specs.Plans.{IsNoCall, IsByOperand, IsByStructure, IsNoOperation, IsTested};
+ghost use Rattle.c_tasks.specs.Plans.{IsNoOperation, IsTested};
 ghost use Rattle.c_tasks.specs.Tasks.{finish_of, with_task, without, behind};
 ghost use Rattle.c_tasks.specs.Plans.{FitsIn, PlansItem, Plans, code_in, active_in, items_behind, values_on, structures_on};
 
@@ -183,6 +183,27 @@ pub fn plan_expression<'a>(look: &Look, expr: &'a CoreExpr) -> Plan<'a>
     ensures { PlansItem look.now (evaluates (view expr.now)) result }
 {
     match expr {
+        CoreExpr::Constant { type_, bits, .. } => puts(Taken::None, Number::new(*type_, *bits)),
+        CoreExpr::Read { place } => plan_read(look, *place),
+        CoreExpr::Convert { operand, .. } => operand_first(operand, expr),
+        CoreExpr::Sign { operand, .. } => operand_first(operand, expr),
+        CoreExpr::IsZero { operand, .. } => operand_first(operand, expr),
+        CoreExpr::Arithmetic { left, right, .. } => operands_first(left, right, expr),
+        CoreExpr::Compare { left, right, .. } => operands_first(left, right, expr),
+        CoreExpr::Logical { left, .. } => operand_first(left, expr),
+        CoreExpr::Choice { test, .. } => operand_first(test, expr),
+        CoreExpr::Assign { value, .. } => operand_first(value, expr),
+        CoreExpr::Update { place, value, .. } => operand_and_place(value, *place, expr),
+        CoreExpr::Step { place, .. } => place_first(*place, expr),
+        CoreExpr::Comma { left, .. } => operand_first(left, expr),
+        CoreExpr::Assertion { condition, .. } => operand_first(condition, expr),
+        CoreExpr::Assumption { condition, .. } => operand_first(condition, expr),
+        CoreExpr::Draw { line, type_ } => {
+            Plan::Halts(Halt::Asks(Request::Draw(DrawBits::new(drawn_width(*type_))), *line))
+        }
+        CoreExpr::Member { value, .. } => structure_first(value, expr),
+        CoreExpr::Discard { operand, .. } => operand_first(operand, expr),
+        CoreExpr::DiscardStructure { value } => structure_first(value, expr),
         CoreExpr::Call {
             line,
             function,
@@ -191,59 +212,6 @@ pub fn plan_expression<'a>(look: &Look, expr: &'a CoreExpr) -> Plan<'a>
             arguments,
         } => plan_number_call(look, *line, *function, *used, *type_, arguments),
         CoreExpr::FunctionName { .. } => puts(Taken::None, Number::new(IntegerType::Int, 0)),
-        _ => plan_value(look, expr),
-    }
-}
-
-// The plan of an expression that neither calls nor names a function.
-fn plan_value<'a>(look: &Look, expr: &'a CoreExpr) -> Plan<'a>
-    requires no_call { IsNoCall (view expr.now) }
-    requires fits { FitsIn look.now (evaluates (view expr.now)) }
-    ensures { PlansItem look.now (evaluates (view expr.now)) result }
-{
-    match expr {
-        CoreExpr::Constant { type_, bits, .. } => puts(Taken::None, Number::new(*type_, *bits)),
-        CoreExpr::Read { place } => plan_read(look, *place),
-        CoreExpr::Step { place, .. } => place_first(*place, expr),
-        CoreExpr::Draw { line, type_ } => {
-            Plan::Halts(Halt::Asks(Request::Draw(DrawBits::new(drawn_width(*type_))), *line))
-        }
-        CoreExpr::Arithmetic { left, right, .. } => operands_first(left, right, expr),
-        CoreExpr::Compare { left, right, .. } => operands_first(left, right, expr),
-        _ => plan_operand(look, expr),
-    }
-}
-
-// The plan of an expression of which one operand is evaluated first.
-fn plan_operand<'a>(look: &Look, expr: &'a CoreExpr) -> Plan<'a>
-    requires { IsByOperand (view expr.now) }
-    ensures { PlansItem look.now (evaluates (view expr.now)) result }
-{
-    match expr {
-        CoreExpr::Convert { operand, .. } => operand_first(operand, expr),
-        CoreExpr::Sign { operand, .. } => operand_first(operand, expr),
-        CoreExpr::IsZero { operand, .. } => operand_first(operand, expr),
-        CoreExpr::Logical { left, .. } => operand_first(left, expr),
-        CoreExpr::Choice { test, .. } => operand_first(test, expr),
-        CoreExpr::Assign { value, .. } => operand_first(value, expr),
-        CoreExpr::Update { place, value, .. } => operand_and_place(value, *place, expr),
-        CoreExpr::Comma { left, .. } => operand_first(left, expr),
-        CoreExpr::Assertion { condition, .. } => operand_first(condition, expr),
-        CoreExpr::Assumption { condition, .. } => operand_first(condition, expr),
-        _ => plan_structure_operand(look, expr),
-    }
-}
-
-// The plan of an expression of which a structure value, or an operand that isn't used, is evaluated first.
-fn plan_structure_operand<'a>(look: &Look, expr: &'a CoreExpr) -> Plan<'a>
-    requires { IsByStructure (view expr.now) }
-    ensures { PlansItem look.now (evaluates (view expr.now)) result }
-{
-    match expr {
-        CoreExpr::Member { value, .. } => structure_first(value, expr),
-        CoreExpr::Discard { operand, .. } => operand_first(operand, expr),
-        CoreExpr::DiscardStructure { value } => structure_first(value, expr),
-        _ => unreachable!(),
     }
 }
 

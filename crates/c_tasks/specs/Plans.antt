@@ -52,24 +52,6 @@ move_of l i = move_item (code_in l) l.first true i (items_behind l) (active_in l
 abbrev pub PlansItem : Look → Item → Plan → Type 0
 PlansItem l i p = Plans l i (move_of l i) p
 
--- it neither calls nor names a function
-abbrev pub IsNoCall : Expression → Type 0
-IsNoCall (call line f used t args) = ⊥
-IsNoCall (function_name line f) = ⊥
-IsNoCall _ = Unit {0}
-
--- it has one operand that is evaluated first
-abbrev pub IsByOperand : Expression → Type 0
-IsByOperand (constant line t bits) = ⊥
-IsByOperand (read p) = ⊥
-IsByOperand (arithmetic line op a b) = ⊥
-IsByOperand (compare line op a b) = ⊥
-IsByOperand (step line p op before) = ⊥
-IsByOperand (draw line t) = ⊥
-IsByOperand (call line f used t args) = ⊥
-IsByOperand (function_name line f) = ⊥
-IsByOperand _ = Unit {0}
-
 -- its value is no operation's
 abbrev pub IsNoOperation : Expression → Type 0
 IsNoOperation (convert to e) = ⊥
@@ -96,13 +78,6 @@ IsTested (part line t offset a) = ⊥
 IsTested (discard line e) = ⊥
 IsTested (discard_structure a) = ⊥
 IsTested _ = Unit {0}
-
--- a structure value, or an operand that isn't used, is evaluated first
-abbrev pub IsByStructure : Expression → Type 0
-IsByStructure (part line t offset a) = Unit {0}
-IsByStructure (discard line e) = Unit {0}
-IsByStructure (discard_structure a) = Unit {0}
-IsByStructure _ = ⊥
 
 -- a part of the structure value is evaluated first
 abbrev pub IsByPart : Structure → Type 0
