@@ -8,7 +8,8 @@ ghost use Rattle.guarded_ssa.specs.Forms.{IsBit, AreWords, EventIn, FormIn};
 
 use actions::{Bytes, Cells, Object, Store};
 use guarded_ssa::{Event, EventKind, Nodes, ThreadForm};
-use mem_seq::{Sets, sequential};
+use mem_seq::sequential;
+use points_to::Sets;
 use std::alloc::{AllocError, Global};
 use std::test::*;
 use word_dag::{Comparison, Dag, Id, Node, Valuation};

@@ -17,3 +17,5 @@ pub mod Passing
 pub mod Writing
 pub mod Visiting
 pub mod Ranged
+pub mod Behind
+pub mod Told

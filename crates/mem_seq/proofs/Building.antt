@@ -18,18 +18,25 @@ use Rattle.word_dag.specs.Growth.{Within, Extends}
 use Rattle.word_dag.proofs.Grown.{extends_more}
 use Rattle.word_dag.proofs.Truth.{holds_bit}
 use Rattle.value_nodes.specs.Values.{IsWord, IsTest}
-use Rattle.interleave.specs.World.{first_world, no_counts}
+use Rattle.words.specs.declared.check.Check.{Check}
+use Rattle.interleave.specs.declared.turn.Outcome.TheVariants.{Broken}
+use Rattle.interleave.specs.Inputs.{InputLists}
+use Rattle.interleave.specs.World.{World, first_world, no_counts}
+use Rattle.interleave.specs.Run.{run}
 use Rattle.guarded_ssa.specs.declared.forms.Event.{Event}
 use Rattle.guarded_ssa.specs.declared.forms.EventKind.{EventKind}
 use Rattle.guarded_ssa.specs.declared.forms.EventKind.TheVariants as kinds
 use Rattle.guarded_ssa.specs.Runs.{Run, stops, asks}
 use Rattle.guarded_ssa.specs.Arrivals.{Seen, asked, stopped, read}
 use Rattle.guarded_ssa.specs.Forms.{kind_seen, event_seen, seen, run_read, Begins, Form, IsForm, IsBit, EventIn, KindIn, FormIn}
-use Rattle.mem_seq.specs.declared.formula.Formula.{Formula}
+use Rattle.guarded_ssa.specs.declared.formula.Formula.{Formula}
 use Rattle.mem_seq.specs.declared.memory.Note.{Note}
 use Rattle.mem_seq.specs.declared.memory.Note.TheVariants as notes
-use Rattle.mem_seq.specs.Accesses.{AreObjects, access_class, is_given, stored_by, unless, checked, agrees, behind}
-use Rattle.mem_seq.specs.Runs.{breaks, broken_check}
+use Rattle.guarded_ssa.specs.Accesses.{AreObjects, access_class, is_given, stored_by, unless, checked, agrees, behind}
+use Rattle.guarded_ssa.specs.Turns.{breaks, broken_check, happenings}
+use Rattle.guarded_ssa.specs.Happenings.{Happening, happened, check_in}
+use Rattle.guarded_ssa.proofs.Behind.{behind_append, seen_append, store_at, store_next}
+use Rattle.guarded_ssa.proofs.Told.{check_told}
 use Rattle.mem_seq.specs.Goals.{breaks_or, breaks_from}
 use Rattle.mem_seq.specs.declared.chain.Chain.{Chain}
 use Rattle.mem_seq.specs.declared.chain.Part.{Part}
@@ -37,9 +44,10 @@ use Rattle.mem_seq.specs.declared.chain.Part.TheVariants.{Breaks}
 use Rattle.mem_seq.specs.Chains.{with_part, chain_value, ChainIn}
 use Rattle.mem_seq.proofs.Chaining.{chain_stays}
 use Rattle.mem_seq.specs.Notes.{NoteIn, IsNote, AreNotes}
-use Rattle.mem_seq.specs.Formulas.{run_of, IsFormula, FormulaIn}
+use Rattle.guarded_ssa.specs.Goals.{Happens, IsGoal}
+use Rattle.guarded_ssa.specs.Formulas.{run_of, told_by, IsFormula, FormulaIn}
 use Rattle.mem_seq.proofs.Stores.{left_true, right_true}
-use Rattle.mem_seq.proofs.Breaking.{OnlyQuiet, kind_stays, event_stays, run_stays, form_quiet, found, quiet_ends, begins_break, whole, read_quiet, run_replays}
+use Rattle.mem_seq.proofs.Breaking.{OnlyQuiet, kind_stays, event_stays, run_stays, form_quiet, told_check, Found, Quiets, found, quiet_ends, begins_break, told_agrees, whole, read_quiet, run_happens}
 
 -- ---- one event
 
@@ -121,11 +129,6 @@ note_stays d e ev notes.Alone stores x there within is = λ v later.
 
 -- ---- all events
 
-pub behind_append : (objects : Objects) (xs ys : List Seen) → behind objects (xs ++ ys) ≡ behind (behind objects xs) ys
-behind_append objects [] ys = refl
-behind_append objects (asked action line f a ∷ xs) ys = behind_append (stored_by objects action) xs ys
-behind_append objects (stopped end ∷ xs) ys = behind_append objects xs ys
-
 pub breaks_append : (objects : Objects) (xs ys : List Seen) (later : Bool) → breaks_from objects (xs ++ ys) later ≡ breaks_from objects xs (breaks_from (behind objects xs) ys later)
 breaks_append objects [] ys later = refl
 breaks_append objects (asked action line f a ∷ xs) ys later = ap (λ b. breaks_or (access_class objects action) (is_given objects action a && b)) (breaks_append (stored_by objects action) xs ys later)
@@ -145,23 +148,6 @@ breaks_read objects [] = refl
 breaks_read objects (asked action line f a ∷ told) =
     checked_by (access_class objects action) objects action line f a (checked (stored_by objects action) (read told (stops (Ended (word_64 0))))) (breaks_from (stored_by objects action) told false) (breaks_read (stored_by objects action) told)
 breaks_read objects (stopped end ∷ told) = refl
-
-pub seen_append : (v : ℕ → ℕ) (d : List Node) (xs ys : List Event) → seen v d (xs ++ ys) ≡ seen v d xs ++ seen v d ys
-seen_append v d [] ys = refl
-seen_append v d (x ∷ xs) ys = ap (λ told. event_seen v d x ++ told) (seen_append v d xs ys) ∙ sym (append_assoc (event_seen v d x) (seen v d xs) (seen v d ys))
-
--- the store that is there where so many events were told
-abbrev pub store_at : Objects → List Node → List Event → ℕ → (ℕ → ℕ) → Objects
-store_at objects d es at v = behind objects (seen v d (take at es))
-
-pub store_next : (objects : Objects) (v : ℕ → ℕ) (d : List Node) (es : List Event) (at : ℕ) (ev : Event) → at < length es → ev ≡ get_or es at ev → store_at objects d es (at + 1) v ≡ behind (store_at objects d es at v) (event_seen v d ev)
-store_next objects v d es at ev lt is =
-    let one : seen v d (ev ∷ []) ≡ event_seen v d ev = append-nil (event_seen v d ev) in
-    (λ k. behind objects (seen v d (take_more es at ev lt k)))
-    ∙ (λ k. behind objects (seen v d (take at es ++ sym is k ∷ [])))
-    ∙ (λ k. behind objects (seen_append v d (take at es) (ev ∷ []) k))
-    ∙ behind_append objects (seen v d (take at es)) (seen v d (ev ∷ []))
-    ∙ (λ k. behind (store_at objects d es at v) (one k))
 
 pub notes_long : (stores : (ℕ → ℕ) → Objects) (d : List Node) (es : List Event) (ns : List Note) → AreNotes stores d es ns → length ns ≡ length es
 notes_long stores d [] [] h = refl
@@ -253,30 +239,61 @@ one_true : (b : Bool) → bit_value b ≡ 1 → b ≡ true
 one_true true h = refl
 one_true false h = cc
 
-pub is_formula : (d e : List Node) (f : Formula) (t : Thread) → is_ordered d ≡ true → Extends d e → FormIn d f.form.events → AreObjects f.form.store → IsTest e f.goal (λ v. breaks_in v d f.form) → IsForm t.behaves d f.form.events
-    → IsFormula (first_world t f.form.store) e f
-is_formula d e f t ordered x there all goal form =
-    let es = f.form.events in
-    let objects = f.form.store in
-    let stays : (v : ℕ → ℕ) → run_read v e es ≡ run_read v d es = λ v. run_stays v d e es x there in
-    let is : (v : ℕ → ℕ) → value v e f.goal ≡ bit_value (breaks_in v e f.form) =
-    λ v. goal.value_is v ∙ (λ k. bit_value (let r = checked objects (sym (stays v) k) in agrees objects r && breaks r)) in
-    record {
-      is = is;
-      replays = λ v h.
-          let r = run_read v e es in
-          let whole_is = one_true (breaks_in v e f.form) (sym (is v) ∙ h) in
-          let only : OnlyQuiet r = subst OnlyQuiet (sym (stays v)) (read_quiet v d ordered es there) in
-          run_replays t objects r only (whole r t.behaves (λ xs next begins. form.gives v xs next (subst (λ (r : Run). Begins xs next r) (stays v) begins)))
-          (left_true (agrees objects (checked objects r)) (breaks (checked objects r)) whole_is) (right_true (agrees objects (checked objects r)) (breaks (checked objects r)) whole_is);
-      given = λ inputs schedule check ends.
-          let F = found t.program inputs check schedule objects t.behaves (record no_counts { objects = length objects }) all (form_quiet t.behaves d es ordered there form) ends in
-          let h = form.has F.exchanges F.next F.local in
-          let v = h.0 in
-          let b = begins_break (run_read v d es) objects F.exchanges F.next check (quiet_ends (run_read v d es) (read_quiet v d ordered es there)) h.1 F.ends in
-          let goes = λ (r : Run). bit_value (agrees objects (checked objects r) && breaks (checked objects r)) in
-          (v, is v ∙ ap goes (stays v) ∙ (λ k. bit_value (b.agreed k && b.broken k)), ap (λ (r : Run). broken_check (checked objects r)) (stays v) ∙ b.check_is);
-    }
+module _ (d e : List Node) (f : Formula) (t : Thread) (ordered : is_ordered d ≡ true) (x : Extends d e) (there : FormIn d f.form.events) (all : AreObjects f.form.store) (goal : IsTest e f.goal (λ v. breaks_in v d f.form)) (form : IsForm t.behaves d f.form.events) where
+  abbrev objects : Objects
+  objects = f.form.store
+
+  abbrev first : World
+  first = first_world t objects
+
+  abbrev quiets : Quiets t.behaves
+  quiets = form_quiet t.behaves d f.form.events ordered there form
+
+  stays : (v : ℕ → ℕ) → run_read v e f.form.events ≡ run_read v d f.form.events
+  stays v = run_stays v d e f.form.events x there
+
+  is_true : (v : ℕ → ℕ) → value v e f.goal ≡ bit_value (breaks_in v e f.form)
+  is_true v = goal.value_is v ∙ (λ k. bit_value (let r = checked objects (sym (stays v) k) in agrees objects r && breaks r))
+
+  makes_true : (v : ℕ → ℕ) → agrees objects (checked objects (run_read v e f.form.events)) ≡ true → breaks (checked objects (run_read v e f.form.events)) ≡ true → value v e f.goal ≡ 1
+  makes_true v agreed broken = is_true v ∙ (λ k. bit_value (agreed k && broken k))
+
+  replayed : (v : ℕ → ℕ) → value v e f.goal ≡ 1 → (check : Check) × Happens first (told_by e f.form v) check
+  replayed v h =
+      let r = run_read v e f.form.events in
+      let whole_is = one_true (breaks_in v e f.form) (sym (is_true v) ∙ h) in
+      let only : OnlyQuiet r = subst OnlyQuiet (sym (stays v)) (read_quiet v d ordered f.form.events there) in
+      (
+        broken_check (checked objects r),
+        run_happens t objects r only (whole r t.behaves (λ xs next begins. form.gives v xs next (subst (λ (r : Run). Begins xs next r) (stays v) begins)))
+        (left_true (agrees objects (checked objects r)) (breaks (checked objects r)) whole_is) (right_true (agrees objects (checked objects r)) (breaks (checked objects r)) whole_is),
+      )
+
+  breaking : (inputs : InputLists) (schedule : List ℕ) (check : Check) → (run first inputs schedule).0 ≡ Broken check → Found objects t.behaves check (happened first inputs schedule)
+  breaking inputs schedule check ends = found t.program inputs check schedule objects t.behaves (record no_counts { objects = length objects }) all quiets ends
+
+  given : (inputs : InputLists) (schedule : List ℕ) (check : Check) → (run first inputs schedule).0 ≡ Broken check
+      → (v : ℕ → ℕ) × (value v e f.goal ≡ 1) × (told_by e f.form v ≡ happened first inputs schedule) × (check_in (told_by e f.form v) ≡ Some check)
+  given inputs schedule check ends =
+      let F = breaking inputs schedule check ends in
+      let h = form.has F.exchanges F.next F.local in
+      let v = h.0 in
+      let r = run_read v e f.form.events in
+      let only : OnlyQuiet r = subst OnlyQuiet (sym (stays v)) (read_quiet v d ordered f.form.events there) in
+      let b = begins_break r objects F.exchanges F.next check (quiet_ends r only) (subst (λ (r : Run). Begins F.exchanges F.next r) (sym (stays v)) h.1) F.ends in
+      (v, makes_true v b.agreed b.broken, b.told_is ∙ sym F.told_is, ap check_in b.told_is ∙ told_check F.exchanges check)
+
+  exactly : (v : ℕ → ℕ) (inputs : InputLists) (schedule : List ℕ) (check : Check) → (run first inputs schedule).0 ≡ Broken check → told_by e f.form v ≡ happened first inputs schedule → value v e f.goal ≡ 1
+  exactly v inputs schedule check ends same =
+      let F = breaking inputs schedule check ends in
+      let a = told_agrees (run_read v e f.form.events) objects F.exchanges F.next check F.ends (same ∙ F.told_is) in
+      makes_true v a.agreed a.broken
+
+  pub is_goal : IsGoal first e f.goal (told_by e f.form)
+  is_goal = record { replays = replayed; given = given }
+
+  pub is_formula : IsFormula first e f
+  is_formula = record { store = refl; is = is_true; exact = exactly }
 
 pub form_in_later : (d e : List Node) (es own : List Event) → own ≡ es → Extends d e → FormIn d es → FormIn e own
 form_in_later d e es own same x there = subst (FormIn e) (sym same) (form_in_stays d e es x there)

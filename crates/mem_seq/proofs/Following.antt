@@ -17,18 +17,20 @@ use Rattle.guarded_ssa.specs.declared.forms.Event.{Event}
 use Rattle.guarded_ssa.specs.Arrivals.{Seen, asked, stopped}
 use Rattle.guarded_ssa.specs.Forms.{event_seen, seen, run_read, EventIn, FormIn, Form, IsForm}
 use Rattle.interleave.specs.World.{first_world}
-use Rattle.mem_seq.specs.declared.formula.Formula.{Formula}
+use Rattle.guarded_ssa.specs.declared.formula.Formula.{Formula}
 use Rattle.mem_seq.specs.declared.memory.Memory.{Memory}
 use Rattle.mem_seq.specs.declared.memory.Note.{Note}
-use Rattle.mem_seq.specs.Accesses.{AreObjects, access_class, is_given, stored_by, checked, agrees, behind}
-use Rattle.mem_seq.specs.Runs.{breaks}
+use Rattle.guarded_ssa.specs.Accesses.{AreObjects, access_class, is_given, stored_by, checked, agrees, behind}
+use Rattle.guarded_ssa.specs.Turns.{breaks}
 use Rattle.mem_seq.specs.Goals.{breaks_or, breaks_from, gives}
 use Rattle.mem_seq.specs.Notes.{NoteIn, IsNote, AreNotes}
 use Rattle.mem_seq.specs.Memories.{StandsFor, MemoryIn}
-use Rattle.mem_seq.specs.Formulas.{IsFormula}
+use Rattle.guarded_ssa.specs.Goals.{IsGoal}
+use Rattle.guarded_ssa.specs.Formulas.{told_by, IsFormula}
 use Rattle.mem_seq.proofs.Stores.{left_true, right_true}
 use Rattle.mem_seq.proofs.Breaking.{event_stays, seen_stays}
-use Rattle.mem_seq.proofs.Building.{note_in_stays, behind_append, form_in_stays, breaks_append, breaks_read, seen_append, same_test, breaks_in, is_formula}
+use Rattle.guarded_ssa.proofs.Behind.{behind_append, seen_append}
+use Rattle.mem_seq.proofs.Building.{note_in_stays, form_in_stays, breaks_append, breaks_read, same_test, breaks_in, is_formula, is_goal}
 use Rattle.mem_seq.proofs.Noted.{notes_push, notes_stay}
 
 -- ---- what is told
@@ -189,8 +191,20 @@ test_of_others d m e goal given first store own others es first_is store_is own_
     same_test e goal _ _ (λ v. breaks_read store (seen v m own) ∙ (λ i. breaks_from ((store_is ∙ sym first_is) i) (seen v m (own_are i)) false) ∙ same v ∙ sym (breaks_read first (seen v d es))
     ∙ (λ i. agrees (first_is i) (checked (first_is i) (run_read v d (es_are i))) && breaks (checked (first_is i) (run_read v d (es_are i))))) test
 
+-- what is so of a formula over a form is so where the form is given
+by_form : (Q : (f : Form) → Type 0) (d : List Node) (f given : Form) (goal : (g : Form) → Type 0) (t : Thread) → f ≡ given
+    → (FormIn d f.events → goal f → AreObjects f.store → IsForm t.behaves d f.events → Q f)
+    → FormIn d given.events → goal given → AreObjects given.store → IsForm t.behaves d given.events → Q given
+by_form Q d f given goal t same made =
+    let P : Form → Type 0 = λ g. FormIn d g.events → goal g → AreObjects g.store → IsForm t.behaves d g.events → Q g in
+    subst P same made
+
 pub formula_over : (d e : List Node) (f : Formula) (given : Form) (t : Thread) → f.form ≡ given → is_ordered d ≡ true → Extends d e → FormIn d given.events → IsTest e f.goal (λ v. breaks_in v d given) → AreObjects given.store → IsForm t.behaves d given.events
     → IsFormula (first_world t given.store) e f
-formula_over d e f given t same ordered x there test all form =
-    let P : Form → Type 0 = λ g. FormIn d g.events → IsTest e f.goal (λ v. breaks_in v d g) → AreObjects g.store → IsForm t.behaves d g.events → IsFormula (first_world t g.store) e f in
-    subst P same (λ there' test' all' form'. is_formula d e f t ordered x there' all' test' form') there test all form
+formula_over d e f given t same ordered x =
+    by_form (λ g. IsFormula (first_world t g.store) e f) d f.form given (λ g. IsTest e f.goal (λ v. breaks_in v d g)) t same (λ there test all form. is_formula d e f t ordered x there all test form)
+
+pub goal_over : (d e : List Node) (f : Formula) (given : Form) (t : Thread) → f.form ≡ given → is_ordered d ≡ true → Extends d e → FormIn d given.events → IsTest e f.goal (λ v. breaks_in v d given) → AreObjects given.store → IsForm t.behaves d given.events
+    → IsGoal (first_world t given.store) e f.goal (told_by e f.form)
+goal_over d e f given t same ordered x =
+    by_form (λ g. IsGoal (first_world t g.store) e f.goal (told_by e f.form)) d f.form given (λ g. IsTest e f.goal (λ v. breaks_in v d g)) t same (λ there test all form. is_goal d e f t ordered x there all test form)

@@ -35,7 +35,7 @@ use Rattle.guarded_ssa.specs.Arrivals.{Seen, asked, stopped}
 use Rattle.guarded_ssa.specs.Runs.{bytes_of_words}
 use Rattle.guarded_ssa.specs.Forms.{AreWords, IsBit, KindIn, EventIn, kind_seen, event_seen}
 use Rattle.guarded_ssa.proofs.AnswerWords.{bytes_left, words_length}
-use Rattle.mem_seq.specs.Accesses.{same_bytes}
+use Rattle.guarded_ssa.specs.Accesses.{same_bytes}
 use Rattle.mem_seq.specs.Goals.{gives}
 use Rattle.mem_seq.proofs.Stores.{left_true, right_true}
 use Rattle.mem_seq.proofs.WordTests.{equal_is, more_words}

@@ -24,13 +24,14 @@ use Rattle.actions.specs.declared.action.Next.TheVariants.{Blocked, Broken}
 use Rattle.mem_seq.specs.declared.memory.Memory.{Memory}
 use Rattle.mem_seq.specs.declared.memory.Note.{Note}
 use Rattle.mem_seq.specs.declared.memory.Note.TheVariants as notes
-use Rattle.mem_seq.specs.Accesses.{same_bytes, behind}
+use Rattle.guarded_ssa.specs.Accesses.{same_bytes, behind}
 use Rattle.mem_seq.specs.Goals.{breaks_or, breaks_from}
 use Rattle.mem_seq.specs.Notes.{NoteIn, IsNote, AreNotes}
 use Rattle.mem_seq.specs.Memories.{StandsFor, MemoryIn, written_in}
 use Rattle.mem_seq.proofs.Written.{stands_stay, break_same}
 use Rattle.mem_seq.proofs.Breaking.{event_stays}
-use Rattle.mem_seq.proofs.Building.{note_stays, behind_append}
+use Rattle.guarded_ssa.proofs.Behind.{behind_append}
+use Rattle.mem_seq.proofs.Building.{note_stays}
 
 -- ---- one event
 

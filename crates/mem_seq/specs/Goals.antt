@@ -3,8 +3,8 @@ use Rattle.std.specs.Prelude.{Bool, true, ◌&&◌, List, [], ◌∷◌, Option,
 use Rattle.words.specs.declared.check.Class.{Class}
 use Rattle.actions.specs.Objects.{Objects}
 use Rattle.guarded_ssa.specs.Arrivals.{Seen, asked, stopped}
-use Rattle.mem_seq.specs.Accesses.{access_class, is_given, stored_by}
-use Rattle.mem_seq.specs.Runs.{is_break}
+use Rattle.guarded_ssa.specs.Accesses.{access_class, is_given, stored_by}
+use Rattle.guarded_ssa.specs.Turns.{is_break}
 
 abbrev pub breaks_or : Option Class → Bool → Bool
 breaks_or None later = later

@@ -7,7 +7,7 @@ use Rattle.guarded_ssa.specs.declared.forms.Event.{Event}
 use Rattle.guarded_ssa.specs.Forms.{kind_seen, event_seen, IsBit}
 use Rattle.mem_seq.specs.declared.memory.Note.{Note}
 use Rattle.mem_seq.specs.declared.memory.Note.TheVariants as notes
-use Rattle.mem_seq.specs.Accesses.{behind}
+use Rattle.guarded_ssa.specs.Accesses.{behind}
 use Rattle.mem_seq.specs.Goals.{breaks_from}
 
 -- the node that it names is a truth value of the graph

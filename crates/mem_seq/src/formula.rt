@@ -1,15 +1,16 @@
-//! The formula of one thread: its form, its goal, and what each answer has to be.
+//! The formula of one thread: its goal, and what each answer has to be.
 
 ghost use Rattle.std.specs.Prelude.{◌≡◌, ℕ, Bool, ◌&&◌, [], All, IfOk};
 ghost use Rattle.actions.specs.Behaviour.{Thread};
 ghost use Rattle.actions.specs.Objects.{Objects};
 ghost use Rattle.guarded_ssa.specs.Forms.{EventIn, event_seen, FormIn, IsForm};
 ghost use Rattle.interleave.specs.World.{first_world};
-ghost use Rattle.mem_seq.specs.Formulas.{IsFormula, FormulaIn};
+ghost use Rattle.guarded_ssa.specs.Goals.{IsGoal};
+ghost use Rattle.guarded_ssa.specs.Formulas.{told_by, IsFormula, FormulaIn};
 ghost use Rattle.guarded_ssa.specs.Forms.{run_read};
-ghost use Rattle.mem_seq.specs.Accesses.{AreObjects, checked, agrees};
+ghost use Rattle.guarded_ssa.specs.Accesses.{AreObjects, checked, agrees};
 ghost use Rattle.mem_seq.specs.Notes.{NoteIn, IsNote, AreNotes};
-ghost use Rattle.mem_seq.specs.Runs.{breaks};
+ghost use Rattle.guarded_ssa.specs.Turns.{breaks};
 ghost use Rattle.mem_seq.specs.Goals.{breaks_from};
 ghost use Rattle.mem_seq.specs.Chains.{PartIn, with_part};
 ghost use Rattle.value_nodes.specs.Values.{IsWord, IsTest};
@@ -19,22 +20,11 @@ ghost use Rattle.word_dag.specs.Meaning.{value, holds};
 use crate::chain::{Chain, Part};
 use crate::memory::{Note, notes};
 use actions::Store;
-use guarded_ssa::{Event, EventKind, ThreadForm};
+use guarded_ssa::{Event, EventKind, Formula, ThreadForm};
+use points_to::Sets;
 use std::alloc::{AllocError, Global};
 use value_nodes::{both, either, inverse};
 use word_dag::{Dag, Id};
-
-/// What is asked of the values of a graph's variables: that the goal, a node of 1 bit, is true. The form
-/// tells the run that they give, and the store from which it runs.
-#[derive(Drop)]
-pub struct Formula {
-    pub goal: Id,
-    pub form: ThreadForm,
-}
-
-/// For each pointer of an access the objects that it may point to. There are no pointers yet.
-#[derive(Clone, Copy)]
-pub struct Sets {}
 
 // Whether a test holds where the guard is true.
 fn under(dag: &mut Dag, guard: Id, test: Id) -> Result<Id, AllocError>
@@ -133,6 +123,7 @@ pub fn sequential(
     ensures within { IfOk result (λ f. FormulaIn dag.new f) }
     ensures form { IfOk result (λ f. (t : Thread) → IsForm t.behaves dag.old form.now.events → IsForm t.behaves dag.new f.form.events) }
     ensures formula { IfOk result (λ f. (t : Thread) → AreObjects form.now.store → IsForm t.behaves dag.old form.now.events → IsFormula (first_world t form.now.store) dag.new f) }
+    ensures runs { IfOk result (λ f. (t : Thread) → AreObjects form.now.store → IsForm t.behaves dag.old form.now.events → IsGoal (first_world t form.now.store) dag.new f.goal (told_by dag.new f.form)) }
 {
     let _ = dag.nodes();
     let noted = notes(alloc, dag, form.store(), form.events())?;

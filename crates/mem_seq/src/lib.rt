@@ -6,4 +6,4 @@ mod formula;
 mod memory;
 mod replacing;
 
-pub use formula::{Formula, Sets, sequential};
+pub use formula::sequential;

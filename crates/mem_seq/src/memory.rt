@@ -7,7 +7,7 @@ ghost use Rattle.actions.specs.Pointer.{offset_of};
 ghost use Rattle.actions.specs.Objects.{Objects, bytes_at, with_bytes, break_in};
 ghost use Rattle.guarded_ssa.specs.Runs.{bytes_of_words};
 ghost use Rattle.guarded_ssa.specs.Forms.{AreWords, IsBit, EventIn, FormIn, event_seen, seen};
-ghost use Rattle.mem_seq.specs.Accesses.{same_bytes, behind};
+ghost use Rattle.guarded_ssa.specs.Accesses.{same_bytes, behind};
 ghost use Rattle.mem_seq.specs.Goals.{breaks_from, gives};
 ghost use Rattle.mem_seq.specs.Memories.{MemoryIn, StandsFor, value_or, put_from, written_in};
 ghost use Rattle.mem_seq.specs.Notes.{NoteIn, IsNote, AreNotes};

@@ -3,7 +3,7 @@
 ghost use Rattle.std.specs.Prelude.{◌≡◌, ◌+◌, ◌*◌, ◌≤◌, ◌-◌, ℕ, true, All, length, map, take, drop, min, IfOk, OnOk};
 ghost use Rattle.guarded_ssa.specs.Runs.{bytes_of_words};
 ghost use Rattle.guarded_ssa.specs.Forms.{AreWords, KindIn, EventIn, kind_seen, event_seen};
-ghost use Rattle.mem_seq.specs.Accesses.{same_bytes};
+ghost use Rattle.guarded_ssa.specs.Accesses.{same_bytes};
 ghost use Rattle.rewritten_nodes.specs.Images.{KnownIn, Agrees};
 ghost use Rattle.value_nodes.specs.Values.{IsWord, AreBytes};
 ghost use Rattle.word_dag.specs.Growth.{Within, Extends};

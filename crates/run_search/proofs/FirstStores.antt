@@ -16,7 +16,7 @@ use Rattle.actions.specs.StoredObject.{StoredObject}
 use Rattle.c_meaning.specs.Source.{first_object, objects_from, first_objects, are_storable}
 use Rattle.goto_unwind.specs.Places.{places}
 use Rattle.goto_unwind.specs.Counts.{largest, object_bytes, passed}
-use Rattle.mem_seq.specs.Accesses.{HoldsBytes, AreObjects}
+use Rattle.guarded_ssa.specs.Accesses.{HoldsBytes, AreObjects}
 use Rattle.report.proofs.Both.{and_both}
 
 zero_bytes : (n : ℕ) → are_bytes (replicate n 0) ≡ true

@@ -1,5 +1,6 @@
--- From the formula of a program to its runs.
+-- From the goal of a program's runs to the runs.
 use Rattle.std.proofs.Common.{◌≡◌, ℕ, List, refl}
+use Rattle.word_dag.specs.declared.nodes.Id.{Id}
 use Rattle.word_dag.specs.declared.nodes.Node.{Node}
 use Rattle.word_dag.specs.Meaning.{value}
 use Rattle.interleave.specs.declared.turn.Outcome.{Outcome}
@@ -8,13 +9,14 @@ use Rattle.interleave.specs.Inputs.{InputLists}
 use Rattle.interleave.specs.World.{World}
 use Rattle.interleave.specs.Run.{run}
 use Rattle.interleave.specs.Replay.{IsSafe}
-use Rattle.mem_seq.specs.declared.formula.Formula.{Formula}
-use Rattle.mem_seq.specs.Formulas.{IsFormula}
+use Rattle.guarded_ssa.specs.Happenings.{Happening}
+use Rattle.guarded_ssa.specs.Goals.{IsGoal}
 
-fine_or_broken : (w : World) (d : List Node) (f : Formula) → IsFormula w d f → ((v : ℕ → ℕ) → value v d f.goal ≡ 1 → ⊥) → (inputs : InputLists) (schedule : List ℕ) (o : Outcome) → (run w inputs schedule).0 ≡ o → o ≡ Fine
-fine_or_broken w d f is none inputs schedule Fine e = refl
-fine_or_broken w d f is none inputs schedule (Broken check) e = let x = is.given inputs schedule check e in absurd (none x.0 x.1)
+module _ (w : World) (d : List Node) (goal : Id) (told : (ℕ → ℕ) → List Happening) (is : IsGoal w d goal told) (none : (v : ℕ → ℕ) → value v d goal ≡ 1 → ⊥) where
+  fine_or_broken : (inputs : InputLists) (schedule : List ℕ) (o : Outcome) → (run w inputs schedule).0 ≡ o → o ≡ Fine
+  fine_or_broken inputs schedule Fine e = refl
+  fine_or_broken inputs schedule (Broken check) e = let x = is.given inputs schedule check e in absurd (none x.0 x.1)
 
--- Where no values make the formula's goal true no run breaks a check.
-pub safe_without : (w : World) (d : List Node) (f : Formula) → IsFormula w d f → ((v : ℕ → ℕ) → value v d f.goal ≡ 1 → ⊥) → IsSafe w
-safe_without w d f is none inputs schedule = fine_or_broken w d f is none inputs schedule (run w inputs schedule).0 refl
+  -- Where no values make the goal true no run breaks a check.
+  pub safe_without : IsSafe w
+  safe_without inputs schedule = fine_or_broken inputs schedule (run w inputs schedule).0 refl

@@ -8,21 +8,26 @@ use Rattle.core_tree.specs.Trees.{TypedFile}
 use Rattle.core_tree.specs.Ranges.{Limits}
 use Rattle.guarded_ssa.specs.Forms.{IsForm}
 use Rattle.c_meaning.specs.Source.{source_thread}
-use Rattle.mem_seq.specs.declared.formula.Formula.{Formula}
-use Rattle.mem_seq.specs.Formulas.{IsFormula, FormulaIn}
+use Rattle.guarded_ssa.specs.declared.formula.Formula.{Formula}
+use Rattle.guarded_ssa.specs.Goals.{IsGoal}
+use Rattle.guarded_ssa.specs.Formulas.{told_by, IsFormula, FormulaIn}
 use Rattle.bit_blast.specs.Steps.{IsBlasted}
 use Rattle.cdcl_core.specs.Answers.{EndsAllowed, unit_count}
 use Rattle.run_search.specs.Executions.{bounded_world}
 use Rattle.run_search.specs.declared.used.Used.{Used}
 
--- The form is that of the program: there are nodes of a word graph and a formula over them, which is one of the program's runs
--- within the bounds, whose events are a form of the program's thread, so that each valuation tells a run and each run is told;
--- and the form has a step of clauses for each of the nodes under the formula's goal, the goal's own clause, and no other. Which
--- nodes and which clauses these are is no promise: they mean the program's runs and the nodes, in whatever way.
+-- The form is that of the program: there are nodes of a word graph and a formula over them, whose goal is one of the program's
+-- runs within the bounds. Where it is true a valuation gives a run that breaks a check, and each run that breaks a check is given
+-- by a valuation for which it is true (runs). The formula's store is the one at the program's start (of_runs), and its events are a
+-- form of the program's thread, so that each valuation tells a run and each run is told (told); the goal is true of each valuation
+-- whose run breaks a check (of_runs). And the form has a step of clauses for each of the nodes under the formula's goal, the goal's
+-- own clause, and no other. Which nodes and which clauses these are is no promise: they mean the program's runs and the nodes, in
+-- whatever way.
 pub record IsFormOf (limits : Limits) (core : TypedFile) (form : Form) : Type 0 where
   pub nodes : List Node
   pub formula : Formula
   pub within : FormulaIn nodes formula
+  pub runs : IsGoal (bounded_world limits core) nodes formula.goal (told_by nodes formula.form)
   pub of_runs : IsFormula (bounded_world limits core) nodes formula
   pub told : IsForm (source_thread core limits).behaves nodes formula.form.events
   pub variables : List (List Literal)

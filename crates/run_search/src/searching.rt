@@ -10,8 +10,9 @@ ghost use Rattle.interleave.specs.World.{first_world};
 ghost use Rattle.goto_prog.specs.Flat.{plain_thread};
 ghost use Rattle.goto_unwind.specs.Counts.{passed};
 ghost use Rattle.guarded_ssa.specs.Forms.{IsForm};
-ghost use Rattle.mem_seq.specs.Accesses.{AreObjects};
-ghost use Rattle.mem_seq.specs.Formulas.{IsFormula, FormulaIn};
+ghost use Rattle.guarded_ssa.specs.Accesses.{AreObjects};
+ghost use Rattle.guarded_ssa.specs.Goals.{IsGoal};
+ghost use Rattle.guarded_ssa.specs.Formulas.{told_by, IsFormula, FormulaIn};
 ghost use Rattle.run_search.specs.Stops.{StopsWith, IsPassed};
 ghost use Rattle.run_search.specs.Searches.{IsSolved, IsSearched};
 
@@ -26,9 +27,10 @@ use goto_checks::insert;
 use goto_lower::lower;
 use goto_prog::Unrolled;
 use goto_unwind::{UnwindError, passed_limit, unwind};
-use guarded_ssa::threads;
+use guarded_ssa::{Formula, threads};
 use interleave::Trace;
-use mem_seq::{Formula, Sets, sequential};
+use mem_seq::sequential;
+use points_to::Sets;
 use refutation_check::Checker;
 use sat_form::no_model;
 use std::alloc::{AllocError, Global};
@@ -90,6 +92,7 @@ fn formula_of(alloc: Global, dag: &mut Dag, unrolled: &Unrolled) -> Result<Formu
     ensures within { IfOk result (λ f. FormulaIn dag.new f) }
     ensures form { IfOk result (λ f. (t : Thread) → (plain_thread unrolled.now).behaves ≡ t.behaves → IsForm t.behaves dag.new f.form.events) }
     ensures formula { IfOk result (λ f. (t : Thread) → AreObjects unrolled.now.store → (plain_thread unrolled.now).behaves ≡ t.behaves → IsFormula (first_world t unrolled.now.store) dag.new f) }
+    ensures runs { IfOk result (λ f. (t : Thread) → AreObjects unrolled.now.store → (plain_thread unrolled.now).behaves ≡ t.behaves → IsGoal (first_world t unrolled.now.store) dag.new f.goal (told_by dag.new f.form)) }
 {
     let forms = threads(alloc, unrolled, dag)?;
     sequential(alloc, dag, &forms[0], &Sets {})

@@ -1,3 +1,4 @@
 pub mod States
 pub mod Walks
 pub mod NodeWords
+pub mod Replayed

@@ -12,7 +12,7 @@ use Rattle.actions.specs.Objects.{Objects, object_at, state_at, with_object, cha
 use Rattle.actions.specs.declared.action.Action.{Action}
 use Rattle.actions.specs.declared.action.Action.TheVariants.{Write}
 use Rattle.guarded_ssa.specs.Arrivals.{Seen, asked, stopped}
-use Rattle.mem_seq.specs.Accesses.{stored_by, behind}
+use Rattle.guarded_ssa.specs.Accesses.{stored_by, behind}
 use Rattle.trace_build.specs.Walking.{SameStates}
 
 module _ (at : ℕ) (new : List ℕ) (o : StoredObject) where

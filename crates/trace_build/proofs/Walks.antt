@@ -23,9 +23,10 @@ use Rattle.guarded_ssa.specs.declared.forms.EventKind.TheVariants as kinds
 use Rattle.guarded_ssa.specs.Runs.{Run, stops, asks, bytes_of_words}
 use Rattle.guarded_ssa.specs.Arrivals.{Seen, stopped, read}
 use Rattle.guarded_ssa.specs.Forms.{kind_seen, event_seen, seen, run_read}
-use Rattle.mem_seq.specs.Accesses.{unless, checked, behind}
-use Rattle.mem_seq.specs.Runs.{answer_words, drawn_words, turns}
-use Rattle.mem_seq.proofs.Building.{store_at, store_next}
+use Rattle.guarded_ssa.specs.Accesses.{unless, checked, behind}
+use Rattle.guarded_ssa.specs.Happenings.{words_given}
+use Rattle.guarded_ssa.specs.Turns.{drawn_words, turns}
+use Rattle.guarded_ssa.proofs.Behind.{store_at, store_next}
 use Rattle.trace_build.specs.Walking.{SameStates, IsWalk, IsEnd, WalksOn}
 use Rattle.trace_build.proofs.States.{same_break}
 
@@ -37,7 +38,7 @@ append_nil [] = refl
 append_nil (x ∷ xs) = ap (λ ys. x ∷ ys) (append_nil xs)
 
 -- an access, by the class that it breaks
-walk_access : (c : Option Class) (whole rest : Run) (action : Action) (line f : ℕ) (a : Answer) (words schedule words' schedule' : List ℕ) → ((drawn : List ℕ) → answer_words a drawn ≡ drawn)
+walk_access : (c : Option Class) (whole rest : Run) (action : Action) (line f : ℕ) (a : Answer) (words schedule words' schedule' : List ℕ) → ((drawn : List ℕ) → words_given a drawn ≡ drawn)
     → words' ≡ words → schedule' ≡ schedule ++ 0 ∷ [] → IsWalk whole (unless c line f (asks action line f a rest)) words schedule
     → WalksOn (option_map (λ class. check_of class line f 0) c) whole rest words' schedule'
 walk_access None whole rest action line f a words schedule words' schedule' none same_words same_turns walk =

@@ -3,7 +3,7 @@ use Rattle.std.specs.Prelude.{◌≡◌, ℕ, true, List, ◌++◌, Option, Some
 use Rattle.words.specs.declared.check.Check.{Check}
 use Rattle.actions.specs.Objects.{Objects, state_at}
 use Rattle.guarded_ssa.specs.Runs.{Run}
-use Rattle.mem_seq.specs.Runs.{breaks, drawn_words, turns, broken_check}
+use Rattle.guarded_ssa.specs.Turns.{breaks, drawn_words, turns, broken_check}
 
 -- stores whose objects are in the same states; their bytes may differ
 abbrev pub SameStates : Objects → Objects → Type 0

@@ -14,18 +14,18 @@ ghost use Rattle.guarded_ssa.specs.Runs.{Run, stops};
 ghost use Rattle.guarded_ssa.specs.Arrivals.{Seen, read};
 ghost use Rattle.guarded_ssa.specs.Forms.{event_seen, EventIn, FormIn};
 ghost use Rattle.actions.specs.Objects.{Objects};
-ghost use Rattle.mem_seq.specs.Accesses.{checked, behind};
-ghost use Rattle.mem_seq.specs.Runs.{breaks, drawn_words, inputs_for, turns, broken_check};
-ghost use Rattle.mem_seq.specs.Formulas.{IsFormula, FormulaIn, run_of, inputs_of, schedule_of, check_of as check_told};
+ghost use Rattle.guarded_ssa.specs.Accesses.{checked, behind};
+ghost use Rattle.guarded_ssa.specs.Turns.{breaks, drawn_words, inputs_for, turns, broken_check};
+ghost use Rattle.guarded_ssa.specs.Goals.{IsGoal};
+ghost use Rattle.guarded_ssa.specs.Formulas.{told_by, FormulaIn, run_of, inputs_of, schedule_of, check_of as check_told};
 ghost use Rattle.trace_build.specs.Walking.{SameStates, IsWalk, IsEnd, WalksOn};
 
 use actions::Store;
 use c_profile::Admitted;
 use c_values::pointer_to;
 use core_tree::Bounds;
-use guarded_ssa::{Event, EventKind, ThreadForm};
+use guarded_ssa::{Event, EventKind, Formula, ThreadForm};
 use interleave::{Inputs, Schedule, Trace, Words};
-use mem_seq::Formula;
 use std::alloc::{AllocError, Global};
 use word_dag::{Dag, Id, Valuation};
 use words::{Check, Class, Word};
@@ -194,6 +194,7 @@ fn inputs(alloc: Global, words: Vec<u64>) -> Result<Inputs, AllocError>
 /// The run that breaks a check, out of values of the variables that make the formula of a file true: on its
 /// inputs and by its schedule the last turn breaks the trace's check, every earlier turn moves, and the
 /// inputs are exactly the words drawn. The only error is that there is no memory.
+#[tactic(auto, using(crate::proofs::Replayed::goal_breaks))]
 pub fn build(
     alloc: Global,
     file: &Admitted,
@@ -202,7 +203,7 @@ pub fn build(
     formula: &Formula,
     valuation: &Valuation,
 ) -> Result<Trace, AllocError>
-    requires formula { IsFormula (source_world (view_core file.now) bounds.now) dag.now formula.now }
+    requires formula { IsGoal (source_world (view_core file.now) bounds.now) dag.now formula.now.goal (told_by dag.now formula.now.form) }
     requires within { FormulaIn dag.now formula.now }
     requires satisfied { value (valuation_of valuation.now) dag.now formula.now.goal ≡ 1 }
     ensures replays { IfOk result (λ t. Replays (source_world (view_core file.now) bounds.now) t.inputs t.schedule t.check) }

@@ -2,7 +2,7 @@ use Rattle.std.proofs.Common.{List, ap, subst, sym, ◌∙◌}
 use Rattle.word_dag.proofs.Grown.{extends_more}
 use Rattle.rewritten_nodes.proofs.Standing.{agrees_stays}
 use Rattle.guarded_ssa.specs.Arrivals.{Seen}
-use Rattle.mem_seq.specs.Accesses.{behind}
+use Rattle.guarded_ssa.specs.Accesses.{behind}
 use Rattle.mem_seq.specs.Goals.{gives}
 use Rattle.mem_seq.specs.Memories.{StandsFor, written_in}
 use Rattle.mem_seq.proofs.Written.{stands_stay}

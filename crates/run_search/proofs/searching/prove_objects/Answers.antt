@@ -1,7 +1,7 @@
 use Rattle.std.proofs.Common.{subst}
 use Rattle.core_tree.specs.Trees.{CoreFile, view_core}
 use Rattle.c_meaning.specs.Source.{first_objects}
-use Rattle.mem_seq.specs.Accesses.{AreObjects}
+use Rattle.guarded_ssa.specs.Accesses.{AreObjects}
 use Rattle.run_search.proofs.FirstStores.{file_holds}
 use Rattle.run_search.proofs.searching.prove_objects.Goals as goal
 

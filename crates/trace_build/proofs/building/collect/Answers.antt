@@ -4,9 +4,9 @@ use Rattle.words.specs.declared.check.Check.{Check}
 use Rattle.word_dag.specs.Meaning.{valuation_of}
 use Rattle.guarded_ssa.specs.declared.forms.Event.{Event}
 use Rattle.guarded_ssa.specs.Forms.{seen, run_read}
-use Rattle.mem_seq.specs.Accesses.{checked}
-use Rattle.mem_seq.specs.Formulas.{run_of}
-use Rattle.mem_seq.proofs.Building.{store_at}
+use Rattle.guarded_ssa.specs.Accesses.{checked}
+use Rattle.guarded_ssa.specs.Formulas.{run_of}
+use Rattle.guarded_ssa.proofs.Behind.{store_at}
 use Rattle.trace_build.specs.Walking.{SameStates, WalksOn}
 use Rattle.trace_build.proofs.States.{states_stay}
 use Rattle.trace_build.proofs.Walks.{walk_here, walk_next}

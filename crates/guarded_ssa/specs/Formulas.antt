@@ -10,10 +10,10 @@ use Rattle.interleave.specs.declared.turn.Outcome.TheVariants.{Broken}
 use Rattle.interleave.specs.Inputs.{InputLists}
 use Rattle.interleave.specs.World.{World}
 use Rattle.interleave.specs.Run.{run}
-use Rattle.interleave.specs.Replay.{Replays}
-use Rattle.mem_seq.specs.declared.formula.Formula.{Formula}
-use Rattle.mem_seq.specs.Accesses.{checked, agrees}
-use Rattle.mem_seq.specs.Runs.{breaks, drawn_words, inputs_for, turns, broken_check}
+use Rattle.guarded_ssa.specs.declared.formula.Formula.{Formula}
+use Rattle.guarded_ssa.specs.Accesses.{checked, agrees}
+use Rattle.guarded_ssa.specs.Turns.{breaks, drawn_words, inputs_for, turns, broken_check, happenings}
+use Rattle.guarded_ssa.specs.Happenings.{Happening, happened}
 
 -- the run that a valuation means, from the form's store on
 abbrev pub run_of : (ℕ → ℕ) → List Node → Form → Run
@@ -29,11 +29,15 @@ schedule_of v d f = turns (run_of v d f)
 abbrev pub check_of : (ℕ → ℕ) → List Node → Form → Check
 check_of v d f = broken_check (run_of v d f)
 
--- The formula is one of the runs from w. A valuation makes the goal true exactly where each read of the run that it gives gives what the store holds there, and the run breaks a check; such a run replays; and where a run from w breaks a check, a valuation that makes the goal true gives that check.
+-- what happens in it
+abbrev pub told_by : List Node → Form → (ℕ → ℕ) → List Happening
+told_by d f v = happenings (run_of v d f)
+
+-- The formula is one of the runs from w, a state with one thread, whose first store is its own. A valuation makes the goal true exactly where each read of the run that it gives gives what the store holds there, and the run breaks a check (is). So it is true where what happens in that run is what happens in a run from w that breaks a check (exact); that it is true only there, and that each run from w that breaks a check is given by such a valuation, is what `IsGoal` says.
 pub record IsFormula (w : World) (d : List Node) (f : Formula) : Type 0 where
+  pub store : f.form.store ≡ w.common.memory.objects
   pub is : (v : ℕ → ℕ) → value v d f.goal ≡ bit_value (agrees f.form.store (run_of v d f.form) && breaks (run_of v d f.form))
-  pub replays : (v : ℕ → ℕ) → value v d f.goal ≡ 1 → Replays w (inputs_of v d f.form) (schedule_of v d f.form) (check_of v d f.form)
-  pub given : (inputs : InputLists) (schedule : List ℕ) (check : Check) → (run w inputs schedule).0 ≡ Broken check → (v : ℕ → ℕ) × (value v d f.goal ≡ 1) × (check_of v d f.form ≡ check)
+  pub exact : (v : ℕ → ℕ) (inputs : InputLists) (schedule : List ℕ) (check : Check) → (run w inputs schedule).0 ≡ Broken check → told_by d f.form v ≡ happened w inputs schedule → value v d f.goal ≡ 1
 
 -- its nodes are nodes of the graph, and the goal is a truth value
 pub record FormulaIn (d : List Node) (f : Formula) : Type 0 where

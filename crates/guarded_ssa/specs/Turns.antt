@@ -2,32 +2,28 @@
 use Rattle.std.specs.Prelude.{ℕ, Bool, true, false, List, [], ◌∷◌}
 use Rattle.words.specs.declared.check.Class.TheVariants.{Assertion}
 use Rattle.words.specs.declared.check.Check.{Check}
-use Rattle.actions.specs.declared.action.Answer.{Answer}
-use Rattle.actions.specs.declared.action.Answer.TheVariants as answers
 use Rattle.actions.specs.declared.action.Next.{Next}
-use Rattle.actions.specs.declared.action.Next.TheVariants.{Broken}
+use Rattle.actions.specs.declared.action.Next.TheVariants.{Act, Ended, Blocked, Broken}
 use Rattle.interleave.specs.Inputs.{InputLists}
 use Rattle.interleave.specs.Turn.{check_of}
 use Rattle.guarded_ssa.specs.Runs.{Run, stops, asks}
+use Rattle.guarded_ssa.specs.Happenings.{Happening, does, fails, words_given}
 
 abbrev pub is_break : Next → Bool
+is_break (Act action line function) = false
+is_break (Ended v) = false
+is_break Blocked = false
 is_break (Broken class line function) = true
-is_break _ = false
 
 -- it ends in a broken check
 abbrev pub breaks : Run → Bool
 breaks (stops end) = is_break end
 breaks (asks action line function answer rest) = breaks rest
 
--- the words that an answer gives to a thread
-abbrev pub answer_words : Answer → List ℕ → List ℕ
-answer_words (answers.Word w) words = w.bits ∷ words
-answer_words _ words = words
-
 -- the words that it draws, in order
 abbrev pub drawn_words : Run → List ℕ
 drawn_words (stops end) = []
-drawn_words (asks action line function answer rest) = answer_words answer (drawn_words rest)
+drawn_words (asks action line function answer rest) = words_given answer (drawn_words rest)
 
 -- the inputs with these words for thread 0, and none for others
 abbrev pub inputs_for : List ℕ → InputLists
@@ -41,9 +37,23 @@ turns (asks action line function answer rest) = 0 ∷ turns rest
 
 -- the check that an end breaks, in thread 0; another end breaks none, and stands for any
 abbrev pub end_check : Next → Check
+end_check (Act action line function) = check_of Assertion 0 0 0
+end_check (Ended v) = check_of Assertion 0 0 0
+end_check Blocked = check_of Assertion 0 0 0
 end_check (Broken class line function) = check_of class line function 0
-end_check _ = check_of Assertion 0 0 0
 
 abbrev pub broken_check : Run → Check
 broken_check (stops end) = end_check end
 broken_check (asks action line function answer rest) = broken_check rest
+
+-- ---- what happens in it, in turns of thread 0
+
+abbrev pub end_happens : Next → List Happening
+end_happens (Act action line function) = []
+end_happens (Ended v) = []
+end_happens Blocked = []
+end_happens (Broken class line function) = fails (check_of class line function 0) ∷ []
+
+abbrev pub happenings : Run → List Happening
+happenings (stops end) = end_happens end
+happenings (asks action line function answer rest) = does 0 action line function answer ∷ happenings rest

@@ -1,0 +1,6 @@
+//! Which objects the pointers of unrolled code may point to.
+#![tactic(auto)]
+
+mod sets;
+
+pub use sets::Sets;
