@@ -1,11 +1,11 @@
 -- What initializers give is well typed.
 use Rattle.std.proofs.Common.{◌≡◌, ◌+◌, ◌*◌, ◌^◌, ◌%◌, ◌++◌, ℕ, suc, Bool, true, false, List, [], ◌∷◌, length, map, Option, Some, None, Result, Ok, Err, refl, ap, sym, subst, ◌∙◌, arith}
-use Rattle.std.specs.Prelude.{◌&&◌, ◌==◌, nat_lt, nat_le, if◌then◌else◌}
+use Rattle.std.specs.Prelude.{◌&&◌, ◌||◌, not, ◌==◌, nat_lt, nat_le, if◌then◌else◌}
 use Rattle.std.specs.List.{list_all}
 use Rattle.std.proofs.lemmas.Bool.{eqb-true}
 use borrow.Author.Tests.{le-leb, lt-ltb}
 use Rattle.c_lexer.specs.Literals.{string_bytes}
-use Rattle.c_tree.specs.Tree.{Tree, first_line}
+use Rattle.c_tree.specs.Tree.{Tree}
 use Rattle.c_tree.specs.Declarations.{Initial, initial, braces, Initials, no_initial, initials}
 use Rattle.c_types.specs.declared.integers.IntegerType.{IntegerType}
 use Rattle.c_types.specs.declared.integers.IntegerType.TheVariants as types
@@ -31,7 +31,7 @@ use Rattle.c_scope.proofs.Variables.{both, and}
 use Rattle.c_elab_expr.proofs.Types.{type_as, typed_as}
 use Rattle.c_elab_expr.proofs.WellTyped.{Holds, bind, given, refused, on_same_line, integer_is, well_used}
 use Rattle.c_elab_base.specs.Slots.{slot, slot_type}
-use Rattle.c_elab_type.specs.Initializers.{Made, single, text, listed, only, Value, number_value, structure_value, is_character, scalar_value, record_node, array_node, value_node, part_with, joined, item_node, parts_from, list_made, braced, literal_of, constant_node, single_as, typed_initial, typed_initials, initializer_of}
+use Rattle.c_elab_type.specs.Initializers.{Made, single, text, listed, only, Value, number_value, structure_value, is_character, scalar_value, record_node, array_node, value_node, is_constant, initial_value, part_with, joined, item_node, parts_from, list_made, braced, literal_of, single_as, typed_initial, typed_initials, initializer_of}
 use Rattle.c_elab_base.proofs.Signatures.{closed_scope, own_sizes}
 use Rattle.c_elab_base.proofs.Growing.{There}
 use Rattle.c_elab_decl.proofs.Closed.{operand_keeps}
@@ -180,11 +180,18 @@ array_node_fine s element n (text line bs) there o h = by (is_character element 
   by false e = refused (FineValue s (ctypes.array element n)) 12
 array_node_fine s element n (listed a) there o h = given (FineValue s (ctypes.array element n)) (structure_value a) h
 
-pub value_fine : (s : Scoped) (t : CType) (x : Made) → There s → IsObject s.records.done t → FineMade s t x → Holds (FineValue s t) (value_node s.records.done t x)
+value_fine : (s : Scoped) (t : CType) (x : Made) → There s → IsObject s.records.done t → FineMade s t x → Holds (FineValue s t) (value_node s.records.done t x)
 value_fine s ctypes.void x there o h = refused (FineValue s ctypes.void) 12
 value_fine s (ctypes.integer t) x there o h = scalar_fine s t x h
 value_fine s (ctypes.aggregate p) x there o h = record_node_fine s p x h
 value_fine s (ctypes.array element n) x there o h = array_node_fine s element n x there o h
+
+pub initial_value_fine : (object_entry : Bool) (s : Scoped) (t : CType) (x : Made) → There s → IsObject s.records.done t → FineMade s t x
+    → Holds (FineValue s t) (initial_value object_entry s.records.done t x)
+initial_value_fine object_entry s t x there o h = bind (FineValue s t) (FineValue s t) (value_node s.records.done t x) _ (value_fine s t x there o h) (λ v fit. by v fit (not object_entry || is_constant x)) where
+  by : (v : Value) → FineValue s t v → (b : Bool) → Holds {E = ℕ} (FineValue s t) (if b then Ok v else Err 13)
+  by v fit true = given (FineValue s t) v fit
+  by v fit false = refused (FineValue s t) 13
 
 -- ---- parts
 
@@ -210,23 +217,23 @@ joined_fine P Q R offset (Ok x) (Err rule) h g k = refused R rule
 joined_fine P Q R offset (Err rule) (Ok ps) h g k = refused R rule
 joined_fine P Q R offset (Err rule) (Err other) h g k = refused R _
 
-item_fine : (s : Scoped) (t : CType) (x : Made) (o : Option (CType × ℕ)) (rest : Result Parts ℕ) → There s → ((y : CType × ℕ) → o ≡ Some y → Lies s.records.done t y)
-    → FineMade s (slot_type o) x → Holds (FineParts s t) rest → Holds (FineParts s t) (item_node s.records.done o x rest)
-item_fine s t x None rest there lies h g = joined_fine (λ v. ⊥) (FineParts s t) (FineParts s t) 0 (Err 12) rest (refused (λ v. ⊥) 12) g (λ v ps bad _. absurd bad)
-item_fine s t x (Some y) rest there lies h g =
+item_fine : (object_entry : Bool) (s : Scoped) (t : CType) (x : Made) (o : Option (CType × ℕ)) (rest : Result Parts ℕ) → There s → ((y : CType × ℕ) → o ≡ Some y → Lies s.records.done t y)
+    → FineMade s (slot_type o) x → Holds (FineParts s t) rest → Holds (FineParts s t) (item_node object_entry s.records.done o x rest)
+item_fine object_entry s t x None rest there lies h g = joined_fine (λ v. ⊥) (FineParts s t) (FineParts s t) 0 (Err 12) rest (refused (λ v. ⊥) 12) g (λ v ps bad _. absurd bad)
+item_fine object_entry s t x (Some y) rest there lies h g =
     let here = lies y refl in
-    joined_fine (FineValue s y.0) (FineParts s t) (FineParts s t) y.1 (value_node s.records.done y.0 x) rest (value_fine s y.0 x there here.object h) g (λ v ps fit good. part_fine s t y v ps here fit good)
+    joined_fine (FineValue s y.0) (FineParts s t) (FineParts s t) y.1 (initial_value object_entry s.records.done y.0 x) rest (initial_value_fine object_entry s y.0 x there here.object h) g (λ v ps fit good. part_fine s t y v ps here fit good)
 
-parts_fine : (s : Scoped) (t : CType) (i : ℕ) (xs : List Made) → There s → IsObject s.records.done t → ItemsFine s t i xs → Holds (FineParts s t) (parts_from s.records t i xs)
-parts_fine s t i [] there o h = given (FineParts s t) cores.no_part refl
-parts_fine s t i (x ∷ xs) there o h =
-    item_fine s t x (slot s.records t i) (parts_from s.records t (suc i) xs) there (λ y e. slot_lies s.records there.built t i y o e) h.0 (parts_fine s t (suc i) xs there o h.1)
+parts_fine : (object_entry : Bool) (s : Scoped) (t : CType) (i : ℕ) (xs : List Made) → There s → IsObject s.records.done t → ItemsFine s t i xs → Holds (FineParts s t) (parts_from object_entry s.records t i xs)
+parts_fine object_entry s t i [] there o h = given (FineParts s t) cores.no_part refl
+parts_fine object_entry s t i (x ∷ xs) there o h =
+    item_fine object_entry s t x (slot s.records t i) (parts_from object_entry s.records t (suc i) xs) there (λ y e. slot_lies s.records there.built t i y o e) h.0 (parts_fine object_entry s t (suc i) xs there o h.1)
 
-list_fine : (s : Scoped) (t : CType) (line : ℕ) (xs : List Made) → There s → IsObject s.records.done t → ItemsFine s t 0 xs
-    → Holds (λ m. (a : Structure) × (m ≡ listed a) × FineStructure s (size_of s.records.done t) a) (list_made line s.records t xs)
-list_fine s t line xs there o h =
-    bind (FineParts s t) (λ m. (a : Structure) × (m ≡ listed a) × FineStructure s (size_of s.records.done t) a) (on_line line (parts_from s.records t 0 xs)) _
-    (on_same_line (FineParts s t) line (parts_from s.records t 0 xs) (parts_fine s t 0 xs there o h)) (λ ps good.
+list_fine : (object_entry : Bool) (s : Scoped) (t : CType) (line : ℕ) (xs : List Made) → There s → IsObject s.records.done t → ItemsFine s t 0 xs
+    → Holds (λ m. (a : Structure) × (m ≡ listed a) × FineStructure s (size_of s.records.done t) a) (list_made object_entry line s.records t xs)
+list_fine object_entry s t line xs there o h =
+    bind (FineParts s t) (λ m. (a : Structure) × (m ≡ listed a) × FineStructure s (size_of s.records.done t) a) (on_line line (parts_from object_entry s.records t 0 xs)) _
+    (on_same_line (FineParts s t) line (parts_from object_entry s.records t 0 xs) (parts_fine object_entry s t 0 xs there o h)) (λ ps good.
     given (λ m. (a : Structure) × (m ≡ listed a) × FineStructure s (size_of s.records.done t) a) (listed (cores.list line (size_of s.records.done t) ps))
     (cores.list line (size_of s.records.done t) ps, refl, record { size = refl; good = and _ _ (small s t there o) good }))
 
@@ -273,11 +280,11 @@ only_scalar s t line [] h = refused (FineMade s (ctypes.integer t)) (fault line 
 only_scalar s t line (x ∷ []) h = given (FineMade s (ctypes.integer t)) x (of_scalar s t x h.0)
 only_scalar s t line (x ∷ y ∷ rest) h = refused (FineMade s (ctypes.integer t)) (fault line 12)
 
-braced_fine : (s : Scoped) (t : CType) (line : ℕ) (xs : List Made) → There s → May s.records.done t → ItemsFine s t 0 xs → Holds (FineMade s t) (braced line s.records t xs)
-braced_fine s ctypes.void line xs there o h = only_fine s line xs h
-braced_fine s (ctypes.integer t) line xs there o h = only_scalar s t line xs h
-braced_fine s (ctypes.aggregate p) line xs there o h = λ m e. let d = list_fine s (ctypes.aggregate p) line xs there o h m e in subst (FineMade s (ctypes.aggregate p)) (sym d.1) d.2
-braced_fine s (ctypes.array element n) line xs there o h = λ m e. let d = list_fine s (ctypes.array element n) line xs there o h m e in subst (FineMade s (ctypes.array element n)) (sym d.1) d.2
+braced_fine : (object_entry : Bool) (s : Scoped) (t : CType) (line : ℕ) (xs : List Made) → There s → May s.records.done t → ItemsFine s t 0 xs → Holds (FineMade s t) (braced object_entry line s.records t xs)
+braced_fine object_entry s ctypes.void line xs there o h = only_fine s line xs h
+braced_fine object_entry s (ctypes.integer t) line xs there o h = only_scalar s t line xs h
+braced_fine object_entry s (ctypes.aggregate p) line xs there o h = λ m e. let d = list_fine object_entry s (ctypes.aggregate p) line xs there o h m e in subst (FineMade s (ctypes.aggregate p)) (sym d.1) d.2
+braced_fine object_entry s (ctypes.array element n) line xs there o h = λ m e. let d = list_fine object_entry s (ctypes.array element n) line xs there o h m e in subst (FineMade s (ctypes.array element n)) (sym d.1) d.2
 
 -- the bytes of a string have 8 bits
 low_bytes : (bs : List ℕ) → list_all (λ b. nat_lt b 256) (map (λ b. b % 256) bs) ≡ true
@@ -296,18 +303,15 @@ texts : (parts : List (List ℕ)) → list_all (λ b. nat_lt b 256) (bytes_of pa
 texts [] = refl
 texts (part ∷ parts) = all_in_both (text_bytes (string_bytes part)) (bytes_of parts) (one_text (string_bytes part)) (texts parts)
 
-single_fine : (object_entry : Bool) (s : Scoped) (t : CType) (e : Tree) (o : Option (ℕ × List (List ℕ))) → There s → Holds (FineMade s t) (single_as object_entry s e o)
-single_fine object_entry s t e None there =
-    bind (FineOperand s) (FineMade s t) (operand s e) _ (fine s true e there) (λ x good.
-    bind (λ (u : Unit {0}). Unit {0}) (FineMade s t) (on_line (first_line e) (constant_node object_entry x)) _ (λ u is. tt) (λ u _.
-    given (FineMade s t) (single x) good))
-single_fine object_entry s t e (Some literal) there = given (FineMade s t) (text literal.0 (bytes_of literal.1)) (texts literal.1)
+single_fine : (s : Scoped) (t : CType) (e : Tree) (o : Option (ℕ × List (List ℕ))) → There s → Holds (FineMade s t) (single_as s e o)
+single_fine s t e None there = bind (FineOperand s) (FineMade s t) (operand s e) _ (fine s true e there) (λ x good. given (FineMade s t) (single x) good)
+single_fine s t e (Some literal) there = given (FineMade s t) (text literal.0 (bytes_of literal.1)) (texts literal.1)
 
 mutual
   pub initial_fine : (object_entry : Bool) (s : Scoped) (t : CType) (i : Initial) → There s → May s.records.done t → Holds (FineMade s t) (typed_initial object_entry s t i)
-  initial_fine object_entry s t (initial e) there o = single_fine object_entry s t e (literal_of e) there
+  initial_fine object_entry s t (initial e) there o = single_fine s t e (literal_of e) there
   initial_fine object_entry s t (braces line items) there o =
-      bind (ItemsFine s t 0) (FineMade s t) (typed_initials object_entry s t 0 items) _ (initials_fine object_entry s t 0 items there o) (λ xs good. braced_fine s t line xs there o good)
+      bind (ItemsFine s t 0) (FineMade s t) (typed_initials object_entry s t 0 items) _ (initials_fine object_entry s t 0 items there o) (λ xs good. braced_fine object_entry s t line xs there o good)
 
   initials_fine : (object_entry : Bool) (s : Scoped) (t : CType) (i : ℕ) (is : Initials) → There s → May s.records.done t → Holds (ItemsFine s t i) (typed_initials object_entry s t i is)
   initials_fine object_entry s t i no_initial there o = given (ItemsFine s t i) [] tt
@@ -325,5 +329,5 @@ pub option_fine : (object_entry : Bool) (line : ℕ) (s : Scoped) (t : CType) (o
 option_fine object_entry line s t None there is = given (FineOption s t) None tt
 option_fine object_entry line s t (Some i) there is =
     bind (FineMade s t) (FineOption s t) (typed_initial object_entry s t i) _ (initial_fine object_entry s t i there (may s.records.done t is)) (λ x good.
-    bind (FineValue s t) (FineOption s t) (on_line line (value_node s.records.done t x)) _ (on_same_line (FineValue s t) line _ (value_fine s t x there is good)) (λ v fit.
+    bind (FineValue s t) (FineOption s t) (on_line line (initial_value object_entry s.records.done t x)) _ (on_same_line (FineValue s t) line _ (initial_value_fine object_entry s t x there is good)) (λ v fit.
     given (FineOption s t) (Some v) fit))

@@ -1,7 +1,7 @@
 -- Enumerators and their values (C11 6.7.2.2).
 use Rattle.std.specs.Prelude.{ℕ, ◌+◌, ◌%◌, ◌^◌, ◌==◌, List, [], ◌∷◌, Option, Some, None, Result, Ok, Err, if◌then◌else◌}
 use Rattle.words.specs.Operators.{fits_width}
-use Rattle.c_tree.specs.Tree.{Tree, first_line}
+use Rattle.c_tree.specs.Tree.{Tree}
 use Rattle.c_tree.specs.Declarations.{Enumerated}
 use Rattle.c_types.specs.declared.integers.IntegerType.TheVariants as types
 use Rattle.core_tree.specs.Operations.{number, converted}
@@ -19,25 +19,23 @@ use Rattle.c_elab_base.specs.Regions.{earlier}
 abbrev pub int_bits : TypedNumber → Option ℕ
 int_bits n = if fits_width 32 (number n.type n.bits) then Some (converted n.type types.Int n.bits) else None
 
+abbrev pub given_bits : Option TypedNumber → Option ℕ
+given_bits None = None
+given_bits (Some n) = int_bits n
+
 -- the first value is 0, each other one more than the one before
 abbrev pub next_bits : Option ℕ → Option ℕ
 next_bits None = Some 0
 next_bits (Some bits) = if bits == 2147483647 then None else Some ((bits + 1) % 2 ^ 32)
 
--- rule 13: a value that is given is an integer constant expression
-abbrev pub given_value : Scoped → Tree → Result TypedNumber Fault
-given_value s e = do
-  x ← operand s e
-  on_line (first_line e) (required 13 (constant_in x))
-
--- the bits of an enumerator behind one with these, if an int has its value
+-- the bits of an enumerator behind one with these, if it has a value: a given one is an integer constant expression, and an int has it
 abbrev pub enumerator_value : Scoped → Option ℕ → Option Tree → Result (Option ℕ) Fault
 enumerator_value s previous None = Ok (next_bits previous)
 enumerator_value s previous (Some e) = do
-  n ← given_value s e
-  Ok (int_bits n)
+  x ← operand s e
+  Ok (given_bits (constant_in x))
 
--- rule 2: the scope has no such name yet; rule 13: an int has the value
+-- rule 2: the scope has no such name yet; rule 13: there is a value
 abbrev pub enumerator_node : Option Meaning → Option ℕ → Result ℕ ℕ
 enumerator_node (Some m) value = Err 2
 enumerator_node None value = required 13 value

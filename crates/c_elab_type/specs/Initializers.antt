@@ -1,6 +1,6 @@
 -- Initializers (C11 6.7.9).
-use Rattle.std.specs.Prelude.{ℕ, suc, ◌+◌, ◌-◌, ◌++◌, is_some, ◌&&◌, nat_le, Bool, true, false, List, [], ◌∷◌, length, reverse, Option, Some, None, Result, Ok, Err, if◌then◌else◌}
-use Rattle.c_tree.specs.Tree.{Tree, constant, character, strings, name, parens, unary, cast, sizeof_expr, sizeof_type, step, member, binary, choice, assign, comma, call, first_line}
+use Rattle.std.specs.Prelude.{ℕ, suc, ◌+◌, ◌-◌, ◌++◌, is_some, not, ◌&&◌, ◌||◌, nat_le, Bool, true, false, List, [], ◌∷◌, length, reverse, Option, Some, None, Result, Ok, Err, if◌then◌else◌}
+use Rattle.c_tree.specs.Tree.{Tree, constant, character, strings, name, parens, unary, cast, sizeof_expr, sizeof_type, step, member, binary, choice, assign, comma, call}
 use Rattle.c_tree.specs.Declarations.{Initial, initial, braces, Initials, no_initial, initials}
 use Rattle.c_types.specs.declared.integers.IntegerType.{IntegerType}
 use Rattle.c_types.specs.declared.integers.IntegerType.TheVariants as types
@@ -91,6 +91,18 @@ value_node done (integer t) x = scalar_value t x
 value_node done (aggregate p) x = record_node done (aggregate p) x
 value_node done (array element n) x = array_node element n x
 
+-- what is judged as a constant: an expression, since a string is one, and braces judge their own items
+abbrev pub is_constant : Made → Bool
+is_constant (single x) = is_some (constant_in x)
+is_constant (text line bytes) = true
+is_constant (listed a) = true
+
+-- rule 13: the initializer of an object that lives as long as the program is of constants (C11 6.7.9p4)
+abbrev pub initial_value : Bool → List Completed → CType → Made → Result Value ℕ
+initial_value object_entry done t x = do
+  v ← value_node done t x
+  if not object_entry || is_constant x then Ok v else Err 13
+
 -- ---- braces
 
 abbrev pub part_with : ℕ → Value → Parts → Parts
@@ -105,27 +117,27 @@ joined offset (Err rule) (Ok rest) = Err rule
 joined offset (Err rule) (Err other) = Err (lower rule other)
 
 -- rule 12: there are no more items than objects
-abbrev pub item_node : List Completed → Option (CType × ℕ) → Made → Result Parts ℕ → Result Parts ℕ
-item_node done None x rest = joined 0 (Err 12) rest
-item_node done (Some object) x rest = joined object.1 (value_node done object.0 x) rest
+abbrev pub item_node : Bool → List Completed → Option (CType × ℕ) → Made → Result Parts ℕ → Result Parts ℕ
+item_node object_entry done None x rest = joined 0 (Err 12) rest
+item_node object_entry done (Some object) x rest = joined object.1 (initial_value object_entry done object.0 x) rest
 
--- the items of an object of this type, from a number on
-abbrev pub parts_from : Records → CType → ℕ → List Made → Result Parts ℕ
-parts_from rs t i [] = Ok no_part
-parts_from rs t i (x ∷ xs) = item_node rs.done (slot rs t i) x (parts_from rs t (suc i) xs)
+-- the items of an object of this type, which lives as long as the program or doesn't, from a number on
+abbrev pub parts_from : Bool → Records → CType → ℕ → List Made → Result Parts ℕ
+parts_from object_entry rs t i [] = Ok no_part
+parts_from object_entry rs t i (x ∷ xs) = item_node object_entry rs.done (slot rs t i) x (parts_from object_entry rs t (suc i) xs)
 
 -- braces on this line, with these items, of an object of this type
-abbrev pub list_made : ℕ → Records → CType → List Made → Result Made Fault
-list_made line rs t xs = do
-  ps ← on_line line (parts_from rs t 0 xs)
+abbrev pub list_made : Bool → ℕ → Records → CType → List Made → Result Made Fault
+list_made object_entry line rs t xs = do
+  ps ← on_line line (parts_from object_entry rs t 0 xs)
   Ok (listed (list line (size_of rs.done t) ps))
 
 -- rule 12: braces of a scalar have one item
-abbrev pub braced : ℕ → Records → CType → List Made → Result Made Fault
-braced line rs void xs = on_line line (required 12 (only xs))
-braced line rs (integer t) xs = on_line line (required 12 (only xs))
-braced line rs (aggregate p) xs = list_made line rs (aggregate p) xs
-braced line rs (array element n) xs = list_made line rs (array element n) xs
+abbrev pub braced : Bool → ℕ → Records → CType → List Made → Result Made Fault
+braced object_entry line rs void xs = on_line line (required 12 (only xs))
+braced object_entry line rs (integer t) xs = on_line line (required 12 (only xs))
+braced object_entry line rs (aggregate p) xs = list_made object_entry line rs (aggregate p) xs
+braced object_entry line rs (array element n) xs = list_made object_entry line rs (array element n) xs
 
 -- ---- initializers
 
@@ -148,34 +160,24 @@ literal_of (assign line op a b) = None
 literal_of (comma line a b) = None
 literal_of (call f arguments) = None
 
--- rule 13: the initializer of an object that lives as long as the program is of constants (C11 6.7.9p4)
-abbrev pub constant_node : Bool → Operand → Result (Unit {0}) ℕ
-constant_node false x = Ok tt
-constant_node true x = if is_some (constant_in x) then Ok tt else Err 13
-
 -- it stands for itself, and any other expression is an operand
-abbrev pub single_on : ℕ → Bool → Operand → Result Made Fault
-single_on line object_entry x = do
-  fit ← on_line line (constant_node object_entry x)
-  Ok (single x)
-
-abbrev pub single_as : Bool → Scoped → Tree → Option (ℕ × List (List ℕ)) → Result Made Fault
-single_as object_entry s e None = do
+abbrev pub single_as : Scoped → Tree → Option (ℕ × List (List ℕ)) → Result Made Fault
+single_as s e None = do
   x ← operand s e
-  single_on (first_line e) object_entry x
-single_as object_entry s e (Some literal) = Ok (text literal.0 (bytes_of literal.1))
+  Ok (single x)
+single_as s e (Some literal) = Ok (text literal.0 (bytes_of literal.1))
 
-abbrev pub typed_single : Bool → Scoped → Tree → Result Made Fault
-typed_single object_entry s e = single_as object_entry s e (literal_of e)
+abbrev pub typed_single : Scoped → Tree → Result Made Fault
+typed_single s e = single_as s e (literal_of e)
 
 -- Items are typed from left to right, and the braces around them are judged behind them.
 abbrev mutual
   -- an initializer of an object of this type, which lives as long as the program or doesn't
   pub typed_initial : Bool → Scoped → CType → Initial → Result Made Fault
-  typed_initial object_entry s t (initial e) = typed_single object_entry s e
+  typed_initial object_entry s t (initial e) = typed_single s e
   typed_initial object_entry s t (braces line items) = do
     xs ← typed_initials object_entry s t 0 items
-    braced line s.records t xs
+    braced object_entry line s.records t xs
 
   -- the items of braces around an object of this type, from a number on
   pub typed_initials : Bool → Scoped → CType → ℕ → Initials → Result (List Made) Fault
@@ -190,7 +192,7 @@ abbrev pub initializer_of : Bool → ℕ → Scoped → CType → Option Initial
 initializer_of object_entry line s t None = Ok None
 initializer_of object_entry line s t (Some i) = do
   x ← typed_initial object_entry s t i
-  v ← on_line line (value_node s.records.done t x)
+  v ← on_line line (initial_value object_entry s.records.done t x)
   Ok (Some v)
 
 -- rule 12: a typedef has no initializer

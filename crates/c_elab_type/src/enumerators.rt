@@ -6,10 +6,10 @@ ghost use Rattle.core_tree.specs.Operations.{number};
 ghost use Rattle.c_tree.specs.Tree.{view as tree, boxed};
 ghost use Rattle.c_tree.specs.Declarations.{view_enumerator};
 ghost use Rattle.c_scope.specs.Faults.{Gives, on_line};
-ghost use Rattle.c_elab_type.specs.Enumerations.{int_bits, next_bits, given_value, enumerator_value, enumerator_node, typed_enumerator, typed_enumerators};
+ghost use Rattle.c_elab_type.specs.Enumerations.{int_bits, given_bits, next_bits, enumerator_value, enumerator_node, typed_enumerator, typed_enumerators};
 
 use c_elab_base::{Region, earlier};
-use c_elab_expr::{constant_in, first_line, operand};
+use c_elab_expr::{constant_in, operand};
 use c_scope::{Meaning, Scope, TypingError};
 use c_tree::{Enumerator, Expr};
 use c_types::IntegerType;
@@ -68,20 +68,14 @@ fn next_bits(previous: Option<u32>) -> Option<u32>
     }
 }
 
-fn given_value(alloc: Global, expr: &Expr, scope: &Scope) -> Result<Number, TypingError>
-    ensures { Gives (λ n. n) result (given_value scope.now (tree expr.now)) }
+// An integer constant expression has a number.
+fn given_bits(value: Option<Number>) -> Option<u32>
+    ensures { result ≡ given_bits value }
 {
-    let core = operand(alloc, expr, scope)?;
-    match constant_in(&core) {
-        Some(number) => Ok(number),
-        None => Err(TypingError::Typing {
-            line: first_line(expr),
-            rule: 13,
-        }),
-    }
+    int_bits(value?)
 }
 
-// The bits of an enumerator behind one with these, if an int has its value.
+// The bits of an enumerator behind one with these, if it has a value: a given one is an integer constant expression, and an int has it.
 fn enumerator_value(
     alloc: Global,
     value: &Option<Box<Expr>>,
@@ -92,7 +86,10 @@ fn enumerator_value(
 {
     match value {
         None => Ok(next_bits(previous)),
-        Some(expr) => Ok(int_bits(given_value(alloc, expr, scope)?)),
+        Some(expr) => {
+            let core = operand(alloc, expr, scope)?;
+            Ok(given_bits(constant_in(&core)))
+        }
     }
 }
 

@@ -4,28 +4,17 @@ ghost use Rattle.std.specs.Prelude.{◌≡◌, map, option_map, IfOk};
 ghost use Rattle.c_tree.specs.Tree.{view as tree, view_name};
 ghost use Rattle.c_tree.specs.Declarations.{view_initializer, initials_of};
 ghost use Rattle.c_types.specs.Types.{view as type_view};
-ghost use Rattle.c_elab_expr.specs.Operands.{view_operand};
 ghost use Rattle.c_scope.specs.Faults.{Gives};
 ghost use Rattle.c_elab_base.specs.Slots.{slot, slot_type};
-ghost use Rattle.c_elab_type.specs.Initializers.{view_made, view_value, single_on, typed_single, typed_initial, typed_initials, initializer_of, no_initializer, literal_of, literal_length, initial_elements};
+ghost use Rattle.c_elab_type.specs.Initializers.{view_made, view_value, typed_single, typed_initial, typed_initials, initializer_of, no_initializer, literal_of, literal_length, initial_elements};
 
 use crate::items::{Made, Value, braced, value_on};
 use c_elab_base::slot;
-use c_elab_expr::{CoreOperand, constant_in, first_line, operand, strings_bytes};
+use c_elab_expr::{operand, strings_bytes};
 use c_scope::{Scope, TypingError};
 use c_tree::{Expr, Initializer, Name};
 use c_types::Ty;
 use std::alloc::{AllocError, Global};
-
-// An operand as an initializer. That of an object that lives as long as the program is a constant.
-fn single_on(line: u32, object_entry: bool, operand: CoreOperand) -> Result<Made, TypingError>
-    ensures { Gives view_made result (single_on line object_entry (view_operand operand)) }
-{
-    if object_entry && constant_in(&operand).is_none() {
-        return Err(TypingError::Typing { line, rule: 13 });
-    }
-    Ok(Made::Single { operand })
-}
 
 // A string, with its line.
 fn literal_of(expr: &Expr) -> Option<(u32, &[Name])>
@@ -38,13 +27,8 @@ fn literal_of(expr: &Expr) -> Option<(u32, &[Name])>
 }
 
 // A string stands for itself, and any other expression is an operand.
-fn typed_single(
-    alloc: Global,
-    object_entry: bool,
-    expr: &Expr,
-    scope: &Scope,
-) -> Result<Made, TypingError>
-    ensures { Gives view_made result (typed_single object_entry scope.now (tree expr.now)) }
+fn typed_single(alloc: Global, expr: &Expr, scope: &Scope) -> Result<Made, TypingError>
+    ensures { Gives view_made result (typed_single scope.now (tree expr.now)) }
 {
     match literal_of(expr) {
         Some((line, parts)) => Ok(Made::Text {
@@ -53,7 +37,7 @@ fn typed_single(
         }),
         None => {
             let operand = operand(alloc, expr, scope)?;
-            single_on(first_line(expr), object_entry, operand)
+            Ok(Made::Single { operand })
         }
     }
 }
@@ -70,10 +54,10 @@ fn typed_initial(
     ensures { Gives view_made result (typed_initial object_entry scope.now (type_view type_.now) (view_initializer initializer.now)) }
 {
     match initializer {
-        Initializer::Value(expr) => typed_single(alloc, object_entry, expr, scope),
+        Initializer::Value(expr) => typed_single(alloc, expr, scope),
         Initializer::List { line, items } => {
             let items = typed_initials(alloc, object_entry, type_, items, scope)?;
-            braced(alloc, *line, type_, items, scope.layouts())
+            braced(alloc, object_entry, *line, type_, items, scope.layouts())
         }
     }
 }
@@ -130,7 +114,7 @@ pub fn initializer_of(
         None => Ok(None),
         Some(initializer) => {
             let made = typed_initial(alloc, object_entry, type_, initializer, scope)?;
-            let value = value_on(alloc, line, type_, made, scope.layouts())?;
+            let value = value_on(alloc, object_entry, line, type_, made, scope.layouts())?;
             Ok(Some(value))
         }
     }

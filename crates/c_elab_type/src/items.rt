@@ -6,10 +6,10 @@ ghost use Rattle.core_tree.specs.Trees.{Parts, with_part};
 ghost use Rattle.c_scope.specs.Types.{lower};
 ghost use Rattle.c_scope.specs.Faults.{Gives, GivesNode, on_line, required};
 ghost use Rattle.c_elab_base.specs.Slots.{slot};
-ghost use Rattle.c_elab_type.specs.Initializers.{Value as SpecValue, view_made, view_value, view_found, only, is_character, scalar_value, record_node, array_node, value_node, joined, part_with, item_node, parts_from, list_made, braced};
+ghost use Rattle.c_elab_type.specs.Initializers.{Value as SpecValue, view_made, view_value, view_found, only, is_character, scalar_value, record_node, array_node, value_node, is_constant, initial_value, joined, part_with, item_node, parts_from, list_made, braced};
 
 use c_elab_base::{object_bytes, slot};
-use c_elab_expr::{CoreOperand, as_type, number, record_value};
+use c_elab_expr::{CoreOperand, as_type, constant_in, number, record_value};
 use c_scope::{Broken, TypingError};
 use c_types::{IntegerType, Layouts, Ty};
 use core_tree::{CoreExpr, CorePart, CoreStructure};
@@ -133,17 +133,47 @@ fn value_node(alloc: Global, type_: &Ty, made: Made, layouts: &Layouts) -> Resul
     }
 }
 
-/// The value of an object of this type, or the lowest rule, on the line.
+// Braces have judged their own items.
+fn is_constant(made: &Made) -> bool
+    ensures { result ≡ is_constant (view_made made.now) }
+{
+    match made {
+        Made::Single { operand } => constant_in(operand).is_some(),
+        Made::Text { .. } | Made::Listed { .. } => true,
+    }
+}
+
+// The same of an object that lives as long as the program, whose value is of constants, or of another.
+fn initial_value(
+    alloc: Global,
+    object_entry: bool,
+    type_: &Ty,
+    made: Made,
+    layouts: &Layouts,
+) -> Result<Value, Broken>
+    ensures { GivesNode view_value result (initial_value object_entry layouts.now.done (type_view type_.now) (view_made made)) }
+{
+    let fits = !object_entry || is_constant(&made);
+    let value = value_node(alloc, type_, made, layouts)?;
+    if fits {
+        Ok(value)
+    } else {
+        Err(Broken::Rule { rule: 13 })
+    }
+}
+
+/// The value of an object of this type, which lives as long as the program or doesn't, or the lowest rule, on the line.
 pub fn value_on(
     alloc: Global,
+    object_entry: bool,
     line: u32,
     type_: &Ty,
     made: Made,
     layouts: &Layouts,
 ) -> Result<Value, TypingError>
-    ensures { Gives view_value result (on_line line (value_node layouts.now.done (type_view type_.now) (view_made made))) }
+    ensures { Gives view_value result (on_line line (initial_value object_entry layouts.now.done (type_view type_.now) (view_made made))) }
 {
-    match value_node(alloc, type_, made, layouts) {
+    match initial_value(alloc, object_entry, type_, made, layouts) {
         Ok(value) => Ok(value),
         Err(Broken::Rule { rule }) => Err(TypingError::Typing { line, rule }),
         Err(Broken::Memory) => Err(TypingError::Memory),
@@ -188,6 +218,7 @@ fn join(found: &mut Found, offset: u32, node: Result<Value, Broken>) -> Result<(
 // The item with a number, in an object of this type, in front of those behind it.
 fn add_item(
     alloc: Global,
+    object_entry: bool,
     type_: &Ty,
     number: usize,
     made: Made,
@@ -195,11 +226,11 @@ fn add_item(
     found: &mut Found,
 ) -> Result<(), AllocError>
     ensures { OnOk result (view_found found.new.parts.items found.new.broken
-        ≡ item_node layouts.now.done (slot layouts.now (type_view type_.now) number) (view_made made) (view_found found.old.parts.items found.old.broken)) }
+        ≡ item_node object_entry layouts.now.done (slot layouts.now (type_view type_.now) number) (view_made made) (view_found found.old.parts.items found.old.broken)) }
 {
     match slot(type_, number, layouts)? {
         Some((object, offset)) => {
-            let node = value_node(alloc, object, made, layouts);
+            let node = initial_value(alloc, object_entry, object, made, layouts);
             join(found, offset, node)
         }
         None => join(found, 0, Err(Broken::Rule { rule: 12 })),
@@ -209,11 +240,12 @@ fn add_item(
 // The parts of the items of an object of this type.
 fn parts_from(
     alloc: Global,
+    object_entry: bool,
     type_: &Ty,
     items: Vec<Made>,
     layouts: &Layouts,
 ) -> Result<Found, AllocError>
-    ensures { IfOk result (λ f. view_found f.parts.items f.broken ≡ parts_from layouts.now (type_view type_.now) 0 (map view_made items.items)) }
+    ensures { IfOk result (λ f. view_found f.parts.items f.broken ≡ parts_from object_entry layouts.now (type_view type_.now) 0 (map view_made items.items)) }
 {
     let mut left = items;
     let mut found = Found {
@@ -221,7 +253,15 @@ fn parts_from(
         broken: None,
     };
     'items: while let Some(made) = left.pop() {
-        add_item(alloc, type_, left.len(), made, layouts, &mut found)?;
+        add_item(
+            alloc,
+            object_entry,
+            type_,
+            left.len(),
+            made,
+            layouts,
+            &mut found,
+        )?;
     }
     Ok(found)
 }
@@ -229,14 +269,15 @@ fn parts_from(
 // Braces on this line around these items of an object of this type.
 fn list_made(
     alloc: Global,
+    object_entry: bool,
     line: u32,
     type_: &Ty,
     items: Vec<Made>,
     layouts: &Layouts,
 ) -> Result<Made, TypingError>
-    ensures { Gives view_made result (list_made line layouts.now (type_view type_.now) (map view_made items.items)) }
+    ensures { Gives view_made result (list_made object_entry line layouts.now (type_view type_.now) (map view_made items.items)) }
 {
-    let mut found = parts_from(alloc, type_, items, layouts)?;
+    let mut found = parts_from(alloc, object_entry, type_, items, layouts)?;
     match found.broken {
         Some(rule) => Err(TypingError::Typing { line, rule }),
         None => {
@@ -257,17 +298,18 @@ fn list_made(
 /// What braces on this line around these items are for an object of this type.
 pub fn braced(
     alloc: Global,
+    object_entry: bool,
     line: u32,
     type_: &Ty,
     items: Vec<Made>,
     layouts: &Layouts,
 ) -> Result<Made, TypingError>
-    ensures { Gives view_made result (braced line layouts.now (type_view type_.now) (map view_made items.items)) }
+    ensures { Gives view_made result (braced object_entry line layouts.now (type_view type_.now) (map view_made items.items)) }
 {
     match type_ {
         Ty::Void => only_on(line, items),
         Ty::Integer(_) => only_on(line, items),
-        Ty::Record(_) => list_made(alloc, line, type_, items, layouts),
-        Ty::Array { .. } => list_made(alloc, line, type_, items, layouts),
+        Ty::Record(_) => list_made(alloc, object_entry, line, type_, items, layouts),
+        Ty::Array { .. } => list_made(alloc, object_entry, line, type_, items, layouts),
     }
 }

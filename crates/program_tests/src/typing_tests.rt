@@ -107,12 +107,14 @@ enum{A=-2147483648};int main(void){int x=A;}@
 enum{A=(signed char)-1,B=sizeof(int),C='a',D=(unsigned char)300};int main(void){int w=A,x=B,y=C,z=D;}@
 enum{A=1?2:1/0,B=0&&1/0};int main(void){int x=A,y=B;}@
 enum{A=1?2:(3,4),B=1||(2,3)};int main(void){int x=A,y=B;}@
-enum{A=$(3,4)};int main(void){}@2 13
+enum{A=$(3,4)};int main(void){}@1 13
+enum{A,$B=$A/0};int main(void){}@2 13
+enum{A,$A=$1/0};int main(void){}@2 2
 enum{A=2147483647,$B};int main(void){}@2 13
 enum{A=$2147483648};int main(void){}@1 13
 enum{A=-2147483649};int main(void){}@1 13
 enum{A=4294967295u};int main(void){}@1 13
-enum{A=$1/0};int main(void){}@2 13
+enum{$A=$1/0};int main(void){}@2 13
 int main(void){int x;enum{A=x};}@1 13
 enum{A,$A};int main(void){}@2 2
 enum{A=B,B};int main(void){}@1 1
@@ -276,9 +278,23 @@ char x[]=\"ab\";int main(void){}@
 struct s{char a;int b;}x={1,2};int main(void){}@
 extern struct s x;struct s{int a;};struct s x;int main(void){}@
 $struct s x;int main(void){}@2 3
-int y;int x=$y;int main(void){}@2 13
-int x=$1/0;int main(void){}@2 13
-int x=$nondet_int();int main(void){}@2 13
+int y;int x=$y;int main(void){}@1 13
+int$x=$1/0;int main(void){}@2 13
+int$(x)=$nondet_int();int main(void){}@2 13
+int main(void){int y;static int$x=$y;}@2 13
+int$x=$assert(1);int main(void){}@2 8
+int main(void){static int$x=$assert(1);}@2 8
+int y;int$x={$y};int main(void){}@2 13
+int y;int$x=${1,$y};int main(void){}@3 12
+int y;int x[2]=${1,$y};int main(void){}@2 13
+int y;int x[1]=${1,$y};int main(void){}@2 12
+int x[2]=${nondet_int(),$assert(1)};int main(void){}@2 8
+int y;int x[2]={y,$assert(1)+1};int main(void){}@2 7
+int y;int x[2][2]={{1},$ {y},{2},{3}};int main(void){}@2 13
+int y;int$x[2]=$y;int main(void){}@2 12
+struct s{int a;}y;struct s$x=$y;int main(void){}@2 13
+struct s{int a;}y;struct s x[1]=${$y};int main(void){}@2 13
+struct s{int a;}$x=$nondet_int();int main(void){}@2 12
 int x=sizeof x;int main(void){}@
 int main(void){static int x=7;static int y;}@
 int main(void){static int x;{static int x=1;}}@

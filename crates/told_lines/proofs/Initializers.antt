@@ -1,7 +1,7 @@
 -- The lines of typed initializers are those of their trees.
 use Rattle.std.proofs.Common.{ℕ, suc, Bool, List, [], ◌∷◌, length, Option, Some, None, Result, Ok, Err, refl}
-use Rattle.std.specs.Prelude.{◌&&◌, nat_le}
-use Rattle.c_tree.specs.Tree.{Tree, constant, character, strings, name, parens, unary, cast, sizeof_expr, sizeof_type, step, member, binary, choice, assign, comma, call, first_line}
+use Rattle.std.specs.Prelude.{◌&&◌, ◌||◌, not, nat_le}
+use Rattle.c_tree.specs.Tree.{Tree, constant, character, strings, name, parens, unary, cast, sizeof_expr, sizeof_type, step, member, binary, choice, assign, comma, call}
 use Rattle.c_tree.specs.Declarations.{Initial, initial, braces, Initials, no_initial, initials}
 use Rattle.c_types.specs.declared.integers.IntegerType.{IntegerType}
 use Rattle.c_types.specs.Types.{CType, Completed, Records}
@@ -12,10 +12,10 @@ use Rattle.c_scope.specs.Faults.{required, on_line}
 use Rattle.c_elab_base.specs.Slots.{slot, slot_type}
 use Rattle.c_elab_expr.specs.Operands.{number, record_value}
 use Rattle.c_elab_expr.specs.Typing.{operand}
-use Rattle.c_elab_type.specs.Initializers.{Made, single, text, listed, only, Value, number_value, structure_value, is_character, scalar_value, record_node, array_node, value_node, part_with, joined, item_node, parts_from, list_made, braced, literal_of, constant_node, single_as, typed_initial, typed_initials, initializer_of}
+use Rattle.c_elab_type.specs.Initializers.{Made, single, text, listed, only, Value, number_value, structure_value, is_character, scalar_value, record_node, array_node, value_node, is_constant, initial_value, part_with, joined, item_node, parts_from, list_made, braced, literal_of, single_as, typed_initial, typed_initials, initializer_of}
 use Rattle.told_lines.specs.TypedLines.{InExpression, InStructure, InParts}
 use Rattle.told_lines.specs.TreeLines.{InTree, InInitial, InInitials, InInitializer}
-use Rattle.told_lines.proofs.Results.{Good, ok, fails, bind, pass, on, Holds, needs, good_either, Each}
+use Rattle.told_lines.proofs.Results.{Good, ok, fails, bind, on, Holds, needs, good_either, Each}
 use Rattle.told_lines.proofs.Operands.{InOperand, number_good, record_lined, operand_good, as_type_in}
 
 module _ (P : ℕ → Type 0) where
@@ -54,6 +54,10 @@ module _ (P : ℕ → Type 0) where
   value_good done (ctypes.aggregate p) x h = record_good done (ctypes.aggregate p) x h
   value_good done (ctypes.array element n) x h = array_good element n x h
 
+  initial_value_good : (object_entry : Bool) (done : List Completed) (t : CType) (x : Made) → InMade x → Good InValue (initial_value object_entry done t x)
+  initial_value_good object_entry done t x h =
+      bind InValue InValue (value_node done t x) _ (value_good done t x h) (λ v g. good_either InValue (not object_entry || is_constant x) _ _ (ok InValue v g) (fails _ _))
+
   part_lined : (offset : ℕ) (v : Value) (rest : Parts) → InValue v → InParts P rest → InParts P (part_with offset v rest)
   part_lined offset (number_value e) rest h g = (h, g)
   part_lined offset (structure_value a) rest h g = (h, g)
@@ -64,22 +68,26 @@ module _ (P : ℕ → Type 0) where
   joined_good offset (Err rule) (Ok rest) h g = fails _ _
   joined_good offset (Err rule) (Err other) h g = fails _ _
 
-  item_good : (done : List Completed) (o : Option (CType × ℕ)) (x : Made) (rest : Result Parts ℕ) → InMade x → Good (InParts P) rest → Good (InParts P) (item_node done o x rest)
-  item_good done None x rest h g = joined_good 0 (Err 12) rest (fails _ _) g
-  item_good done (Some o) x rest h g = joined_good o.1 (value_node done o.0 x) rest (value_good done o.0 x h) g
+  item_good : (object_entry : Bool) (done : List Completed) (o : Option (CType × ℕ)) (x : Made) (rest : Result Parts ℕ) → InMade x → Good (InParts P) rest
+      → Good (InParts P) (item_node object_entry done o x rest)
+  item_good object_entry done None x rest h g = joined_good 0 (Err 12) rest (fails _ _) g
+  item_good object_entry done (Some o) x rest h g = joined_good o.1 (initial_value object_entry done o.0 x) rest (initial_value_good object_entry done o.0 x h) g
 
-  parts_from_good : (rs : Records) (t : CType) (i : ℕ) (xs : List Made) → Each InMade xs → Good (InParts P) (parts_from rs t i xs)
-  parts_from_good rs t i [] h = ok (InParts P) _ tt
-  parts_from_good rs t i (x ∷ xs) h = item_good rs.done (slot rs t i) x (parts_from rs t (suc i) xs) h.0 (parts_from_good rs t (suc i) xs h.1)
+  parts_from_good : (object_entry : Bool) (rs : Records) (t : CType) (i : ℕ) (xs : List Made) → Each InMade xs → Good (InParts P) (parts_from object_entry rs t i xs)
+  parts_from_good object_entry rs t i [] h = ok (InParts P) _ tt
+  parts_from_good object_entry rs t i (x ∷ xs) h =
+      item_good object_entry rs.done (slot rs t i) x (parts_from object_entry rs t (suc i) xs) h.0 (parts_from_good object_entry rs t (suc i) xs h.1)
 
-  list_good : (line : ℕ) (rs : Records) (t : CType) (xs : List Made) → P line → Each InMade xs → Good InMade (list_made line rs t xs)
-  list_good line rs t xs k h = bind (InParts P) InMade (on_line line (parts_from rs t 0 xs)) _ (on (InParts P) line (parts_from rs t 0 xs) (parts_from_good rs t 0 xs h)) (λ ps g. ok InMade _ (k, g))
+  list_good : (object_entry : Bool) (line : ℕ) (rs : Records) (t : CType) (xs : List Made) → P line → Each InMade xs → Good InMade (list_made object_entry line rs t xs)
+  list_good object_entry line rs t xs k h =
+      bind (InParts P) InMade (on_line line (parts_from object_entry rs t 0 xs)) _
+      (on (InParts P) line (parts_from object_entry rs t 0 xs) (parts_from_good object_entry rs t 0 xs h)) (λ ps g. ok InMade _ (k, g))
 
-  braced_good : (line : ℕ) (rs : Records) (t : CType) (xs : List Made) → P line → Each InMade xs → Good InMade (braced line rs t xs)
-  braced_good line rs ctypes.void xs k h = only_good line xs h
-  braced_good line rs (ctypes.integer t) xs k h = only_good line xs h
-  braced_good line rs (ctypes.aggregate p) xs k h = list_good line rs (ctypes.aggregate p) xs k h
-  braced_good line rs (ctypes.array element n) xs k h = list_good line rs (ctypes.array element n) xs k h
+  braced_good : (object_entry : Bool) (line : ℕ) (rs : Records) (t : CType) (xs : List Made) → P line → Each InMade xs → Good InMade (braced object_entry line rs t xs)
+  braced_good object_entry line rs ctypes.void xs k h = only_good line xs h
+  braced_good object_entry line rs (ctypes.integer t) xs k h = only_good line xs h
+  braced_good object_entry line rs (ctypes.aggregate p) xs k h = list_good object_entry line rs (ctypes.aggregate p) xs k h
+  braced_good object_entry line rs (ctypes.array element n) xs k h = list_good object_entry line rs (ctypes.array element n) xs k h
 
   abbrev InLiteral : Option (ℕ × List (List ℕ)) → Type 0
   InLiteral None = Unit {0}
@@ -103,15 +111,14 @@ module _ (P : ℕ → Type 0) where
   literal_lined (comma line a b) h = tt
   literal_lined (call f arguments) h = tt
 
-  single_good : (object_entry : Bool) (s : Scoped) (e : Tree) (o : Option (ℕ × List (List ℕ))) → InTree P e → InLiteral o → Good InMade (single_as object_entry s e o)
-  single_good object_entry s e None h g =
-      bind (InOperand P) InMade (operand s e) _ (operand_good P s e h) (λ x l. pass InMade (on_line (first_line e) (constant_node object_entry x)) _ (λ fit. ok InMade _ l))
-  single_good object_entry s e (Some l) h g = ok InMade _ g
+  single_good : (s : Scoped) (e : Tree) (o : Option (ℕ × List (List ℕ))) → InTree P e → InLiteral o → Good InMade (single_as s e o)
+  single_good s e None h g = bind (InOperand P) InMade (operand s e) _ (operand_good P s e h) (λ x l. ok InMade _ l)
+  single_good s e (Some l) h g = ok InMade _ g
 
   mutual
     initial_good : (object_entry : Bool) (s : Scoped) (t : CType) (i : Initial) → InInitial P i → Good InMade (typed_initial object_entry s t i)
-    initial_good object_entry s t (initial e) h = single_good object_entry s e (literal_of e) h (literal_lined e h)
-    initial_good object_entry s t (braces line items) h = bind (Each InMade) InMade (typed_initials object_entry s t 0 items) _ (initials_good object_entry s t 0 items h.1) (λ xs g. braced_good line s.records t xs h.0 g)
+    initial_good object_entry s t (initial e) h = single_good s e (literal_of e) h (literal_lined e h)
+    initial_good object_entry s t (braces line items) h = bind (Each InMade) InMade (typed_initials object_entry s t 0 items) _ (initials_good object_entry s t 0 items h.1) (λ xs g. braced_good object_entry line s.records t xs h.0 g)
 
     initials_good : (object_entry : Bool) (s : Scoped) (t : CType) (i : ℕ) (is : Initials) → InInitials P is → Good (Each InMade) (typed_initials object_entry s t i is)
     initials_good object_entry s t i no_initial h = ok (Each InMade) _ tt
@@ -123,4 +130,5 @@ module _ (P : ℕ → Type 0) where
   initializer_good object_entry line s t None h = ok (Holds InValue) _ tt
   initializer_good object_entry line s t (Some i) h =
       bind InMade (Holds InValue) (typed_initial object_entry s t i) _ (initial_good object_entry s t i h) (λ x g.
-      bind InValue (Holds InValue) (on_line line (value_node s.records.done t x)) _ (on InValue line (value_node s.records.done t x) (value_good s.records.done t x g)) (λ v l. ok (Holds InValue) _ l))
+      bind InValue (Holds InValue) (on_line line (initial_value object_entry s.records.done t x)) _
+      (on InValue line (initial_value object_entry s.records.done t x) (initial_value_good object_entry s.records.done t x g)) (λ v l. ok (Holds InValue) _ l))

@@ -25,9 +25,9 @@ typed_initial-returns-in_err-items-in-List t c =
     let e = c.in_err-items-in-List.field-0.0 in
     let whole = typed_initial object_entry s u (view_initializer c.args.initializer.now) in
     let shape = ap (λ (i : Initializer). typed_initial object_entry s u (view_initializer i)) c.in-List.is ∙ ap (typed_initial object_entry s u) (view_braces line c.in-List.items)
-    ∙ ap (λ (is : List Initializer). typed_initials object_entry s u 0 (initials_of is) >>= λ xs. braced line s.records u xs) (sym c.deref-in-List.ensures.value) in
+    ∙ ap (λ (is : List Initializer). typed_initials object_entry s u 0 (initials_of is) >>= λ xs. braced object_entry line s.records u xs) (sym c.deref-in-List.ensures.value) in
     gives_err _ _ p.0 e whole p.1 p.2
-    (fails_on e (typed_initials object_entry s u 0 (initials_of c.deref-in-List.result.now)) whole (λ f bad. shape ∙ ap (λ (r : Result (List Made) Fault). r >>= λ xs. braced line s.records u xs) bad)
+    (fails_on e (typed_initials object_entry s u 0 (initials_of c.deref-in-List.result.now)) whole (λ f bad. shape ∙ ap (λ (r : Result (List Made) Fault). r >>= λ xs. braced object_entry line s.records u xs) bad)
     c.in_err-items-in-List.ensures)
 
 pub typed_initial-returns-in_ok-items-in-List : goal.typed_initial-returns-in_ok-items-in-List
@@ -37,11 +37,11 @@ typed_initial-returns-in_ok-items-in-List t c =
     let u = type_view c.args.type_.now in
     let line = c.in-List.line in
     let whole = typed_initial object_entry s u (view_initializer c.args.initializer.now) in
-    let shape : whole ≡ braced line c.layouts.result.now u (views c.in_ok-items-in-List.items.items) =
+    let shape : whole ≡ braced object_entry line c.layouts.result.now u (views c.in_ok-items-in-List.items.items) =
     ap (λ (i : Initializer). typed_initial object_entry s u (view_initializer i)) c.in-List.is ∙ ap (typed_initial object_entry s u) (view_braces line c.in-List.items)
-    ∙ ap (λ (is : List Initializer). typed_initials object_entry s u 0 (initials_of is) >>= λ xs. braced line s.records u xs) (sym c.deref-in-List.ensures.value)
-    ∙ ap (λ (r : Result (List Made) Fault). r >>= λ xs. braced line s.records u xs) c.in_ok-items-in-List.ensures
-    ∙ ap (λ (rs : Records). braced line rs u (views c.in_ok-items-in-List.items.items)) (sym c.layouts.ensures) in
+    ∙ ap (λ (is : List Initializer). typed_initials object_entry s u 0 (initials_of is) >>= λ xs. braced object_entry line s.records u xs) (sym c.deref-in-List.ensures.value)
+    ∙ ap (λ (r : Result (List Made) Fault). r >>= λ xs. braced object_entry line s.records u xs) c.in_ok-items-in-List.ensures
+    ∙ ap (λ (rs : Records). braced object_entry line rs u (views c.in_ok-items-in-List.items.items)) (sym c.layouts.ensures) in
     subst (λ (r : Result Made Fault). Gives view_made c.braced.result r) (sym shape) c.braced.ensures
 
 pub typed_initials-loop-initializer-init : goal.typed_initials-loop-initializer-init

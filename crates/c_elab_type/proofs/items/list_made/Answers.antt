@@ -15,7 +15,7 @@ returns-in_ok-new-in-None c =
     let line = c.args.line in
     let found = c.in_ok-found.found in
     let size = c.in_ok-size-in-None.size in
-    let parts : parts_from rs t 0 (map view_made c.args.items.items) ≡ Ok (parts_of (reverse found.parts.items)) =
+    let parts : parts_from c.args.object_entry rs t 0 (map view_made c.args.items.items) ≡ Ok (parts_of (reverse found.parts.items)) =
     sym c.in_ok-found.ensures ∙ ap (λ (b : Option ℕ). view_found found.parts.items b) c.in-None.is in
     ap (λ (r : Result Parts ℕ). on_line line r >>= λ ps. Ok (listed (list line (size_of rs.done t) ps))) parts
     ∙ ap (λ (ps : Parts). Ok (listed (list line (size_of rs.done t) ps))) (ap parts_of (sym c.reverse.ensures.items))
