@@ -10,7 +10,7 @@ use Rattle.guarded_ssa.specs.Accesses.{stored_by, behind}
 
 pub behind_append : (objects : Objects) (xs ys : List Seen) → behind objects (xs ++ ys) ≡ behind (behind objects xs) ys
 behind_append objects [] ys = refl
-behind_append objects (asked action line f a ∷ xs) ys = behind_append (stored_by objects action) xs ys
+behind_append objects (asked action line f a ∷ xs) ys = behind_append (stored_by objects action a) xs ys
 behind_append objects (stopped end ∷ xs) ys = behind_append objects xs ys
 
 pub seen_append : (v : ℕ → ℕ) (d : List Node) (xs ys : List Event) → seen v d (xs ++ ys) ≡ seen v d xs ++ seen v d ys

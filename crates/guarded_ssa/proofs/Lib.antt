@@ -19,3 +19,4 @@ pub mod Visiting
 pub mod Ranged
 pub mod Behind
 pub mod Told
+pub mod Accesses

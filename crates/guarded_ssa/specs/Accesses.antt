@@ -1,14 +1,17 @@
--- What the actions of the one thread of a file do with the store, and the run as the store lets it go.
+-- What the actions of the one thread of a file do with the store, by the table of actions, and the run as the store lets it go.
 use Rattle.std.specs.Prelude.{◌≡◌, ℕ, Bool, true, false, ◌&&◌, ◌==◌, List, [], ◌∷◌, length, All, Option, Some, None}
 use Rattle.words.specs.declared.check.Class.{Class}
 use Rattle.actions.specs.ByteList.{are_bytes}
 use Rattle.actions.specs.StoredObject.{StoredObject}
-use Rattle.actions.specs.Objects.{Objects, bytes_at, break_in, write_break, after_write}
+use Rattle.actions.specs.Objects.{Objects}
+use Rattle.actions.specs.Memory.{Memory, changed}
+use Rattle.actions.specs.Row.{Outcome, breaks, waits, moves, outcome_in}
+use Rattle.actions.specs.Table.{row}
 use Rattle.actions.specs.declared.action.Action.{Action}
-use Rattle.actions.specs.declared.action.Action.TheVariants.{Read, Write}
 use Rattle.actions.specs.declared.action.Answer.{Answer}
-use Rattle.actions.specs.declared.action.Answer.TheVariants as answers
+use Rattle.actions.specs.declared.action.Answer.TheVariants.{Done, Bytes, Size, Word, Number, Value}
 use Rattle.actions.specs.declared.action.Next.TheVariants.{Broken}
+use Rattle.interleave.specs.World.{first_common}
 use Rattle.guarded_ssa.specs.Runs.{Run, stops, asks}
 use Rattle.guarded_ssa.specs.Arrivals.{Seen, asked, stopped}
 
@@ -20,29 +23,63 @@ pub record HoldsBytes (o : StoredObject) : Type 0 where
 abbrev pub AreObjects : Objects → Type 0
 AreObjects objects = All (λ (e : ℕ × StoredObject). HoldsBytes e.1) objects
 
--- ---- one action
+-- ---- one action, where it is given this answer
+
+abbrev pub memory_of : Objects → Memory
+memory_of objects = (first_common objects).memory
+
+-- what comes from the thread's own record: the word of a draw, or the number of what is made
+abbrev pub own_by : Answer → ℕ
+own_by Done = 0
+own_by (Bytes bytes) = 0
+own_by (Size size) = 0
+own_by (Word w) = w.bits
+own_by (Number number) = number
+own_by (Value v) = 0
+
+abbrev pub outcome_of : Objects → Action → Answer → Outcome
+outcome_of objects action a = outcome_in (memory_of objects) (row 0 (own_by a) action)
+
+abbrev pub class_in : Outcome → Option Class
+class_in (breaks class) = Some class
+class_in waits = None
+class_in (moves answer change) = None
 
 -- the class that it breaks
-abbrev pub access_class : Objects → Action → Option Class
-access_class objects (Read p n) = break_in objects false p n
-access_class objects (Write p bytes first) = write_break objects p bytes first
-access_class objects _ = None
+abbrev pub access_class : Objects → Action → Answer → Option Class
+access_class objects action a = class_in (outcome_of objects action a)
 
 abbrev pub same_bytes : List ℕ → List ℕ → Bool
 same_bytes [] [] = true
 same_bytes (b ∷ bs) (c ∷ cs) = (b == c) && same_bytes bs cs
 same_bytes _ _ = false
 
--- a read gives what the store holds there; what a draw gives is free
+abbrev pub same_answer : Answer → Answer → Bool
+same_answer Done Done = true
+same_answer (Bytes bs) (Bytes cs) = same_bytes bs cs
+same_answer (Size m) (Size n) = m == n
+same_answer (Word v) (Word w) = (v.width == w.width) && (v.bits == w.bits)
+same_answer (Number m) (Number n) = m == n
+same_answer (Value v) (Value w) = v == w
+same_answer _ _ = false
+
+abbrev pub has_answer : Outcome → Answer → Bool
+has_answer (breaks class) a = false
+has_answer waits a = false
+has_answer (moves answer change) a = same_answer a answer
+
+-- it moves with this answer: a read gives what the store holds there; what a draw gives is free
 abbrev pub is_given : Objects → Action → Answer → Bool
-is_given objects (Read p n) (answers.Bytes bytes) = same_bytes bytes (bytes_at objects p n)
-is_given objects (Read p n) _ = false
-is_given objects _ a = true
+is_given objects action a = has_answer (outcome_of objects action a) a
+
+abbrev pub objects_behind : Outcome → Objects → Objects
+objects_behind (breaks class) objects = objects
+objects_behind waits objects = objects
+objects_behind (moves answer change) objects = (changed (memory_of objects) change).objects
 
 -- the store behind it, which one that breaks a check leaves alone
-abbrev pub stored_by : Objects → Action → Objects
-stored_by objects (Write p bytes first) = after_write objects p bytes first
-stored_by objects _ = objects
+abbrev pub stored_by : Objects → Action → Answer → Objects
+stored_by objects action a = objects_behind (outcome_of objects action a) objects
 
 -- ---- a run
 
@@ -54,15 +91,15 @@ unless (Some class) line function run = stops (Broken class line function)
 abbrev pub checked : Objects → Run → Run
 checked objects (stops end) = stops end
 checked objects (asks action line function answer rest) =
-    unless (access_class objects action) line function (asks action line function answer (checked (stored_by objects action) rest))
+    unless (access_class objects action answer) line function (asks action line function answer (checked (stored_by objects action answer) rest))
 
--- each of its reads gives what the store holds there
+-- each of its actions moves with the answer that it is given
 abbrev pub agrees : Objects → Run → Bool
 agrees objects (stops end) = true
-agrees objects (asks action line function answer rest) = is_given objects action answer && agrees (stored_by objects action) rest
+agrees objects (asks action line function answer rest) = is_given objects action answer && agrees (stored_by objects action answer) rest
 
 -- the store behind all that is told
 abbrev pub behind : Objects → List Seen → Objects
 behind objects [] = objects
-behind objects (asked action line function a ∷ told) = behind (stored_by objects action) told
+behind objects (asked action line function a ∷ told) = behind (stored_by objects action a) told
 behind objects (stopped end ∷ told) = behind objects told

@@ -47,6 +47,7 @@ use Rattle.guarded_ssa.specs.Accesses.{AreObjects, access_class, same_bytes, is_
 use Rattle.guarded_ssa.specs.Happenings.{Happening, does, fails, happens, before, happened, AreDrawn, schedule_in, words_drawn, check_in}
 use Rattle.guarded_ssa.specs.Goals.{Happens}
 use Rattle.guarded_ssa.specs.Turns.{is_break, breaks, drawn_words, inputs_for, turns, end_check, broken_check, end_happens, happenings}
+use Rattle.guarded_ssa.proofs.Accesses.{read_class, read_stored, read_given, read_holds, write_class, write_stored, write_given, draw_given}
 use Rattle.guarded_ssa.proofs.Told.{turns_told, check_told, words_told, others_draw, are_drawn}
 use Rattle.mem_seq.proofs.Stores.{left_true, right_true, same_itself, bytes_same, bytes_fit, write_leaves}
 use Rattle.mem_seq.proofs.Alone.{alone, given, other_turn, own_turn, draw_turn, exit_turn, turned_by, after_read, after_told, read_turn, write_turn, over_fine, given_fits, not_below, not_zero}
@@ -141,13 +142,13 @@ form_quiet b d es ordered there form = λ xs next local. let h = form.has xs nex
 
 -- by itself, or by its access to the store
 abbrev pub BreaksNext : Objects → Next → Check → Type 0
-BreaksNext objects (Act action line f) check = (class : Class) × (access_class objects action ≡ Some class) × (check_of class line f 0 ≡ check)
+BreaksNext objects (Act action line f) check = (class : Class) × ((a : Answer) → access_class objects action a ≡ Some class) × (check_of class line f 0 ≡ check)
 BreaksNext objects (Broken class line f) check = check_of class line f 0 ≡ check
 BreaksNext objects _ check = ⊥
 
 abbrev pub EndsIn : Objects → List Exchange → Next → Check → Type 0
 EndsIn objects [] next check = BreaksNext objects next check
-EndsIn objects (x ∷ xs) next check = (access_class objects x.action ≡ None) × (is_given objects x.action x.answer ≡ true) × EndsIn (stored_by objects x.action) xs next check
+EndsIn objects (x ∷ xs) next check = (access_class objects x.action x.answer ≡ None) × (is_given objects x.action x.answer ≡ true) × EndsIn (stored_by objects x.action x.answer) xs next check
 
 -- what happens in such a run
 abbrev pub told_in : List Exchange → Check → List Happening
@@ -168,8 +169,8 @@ pub record Found (objects : Objects) (b : Behaviour) (check : Check) (told : Lis
 accepted : (b : Behaviour) (action : Action) (line f : ℕ) (a : Answer) → b [] ≡ Act action line f → has_shape (shape_of action) a ≡ true → accepts (b []) a ≡ true
 accepted b action line f a is fits = ap (λ (n : Next). accepts n a) is ∙ fits
 
-found_behind : (objects : Objects) (b : Behaviour) (action : Action) (line f : ℕ) (a : Answer) (check : Check) (told later : List Happening) → b [] ≡ Act action line f → accepts (b []) a ≡ true → access_class objects action ≡ None
-    → is_given objects action a ≡ true → told ≡ does 0 action line f a ∷ later → Found (stored_by objects action) (after b a) check later → Found objects b check told
+found_behind : (objects : Objects) (b : Behaviour) (action : Action) (line f : ℕ) (a : Answer) (check : Check) (told later : List Happening) → b [] ≡ Act action line f → accepts (b []) a ≡ true → access_class objects action a ≡ None
+    → is_given objects action a ≡ true → told ≡ does 0 action line f a ∷ later → Found (stored_by objects action a) (after b a) check later → Found objects b check told
 found_behind objects b action line f a check told later is ok fine given is_told found =
     record {
       exchanges = record { action = action; line = line; function = f; answer = a } ∷ found.exchanges;
@@ -214,29 +215,30 @@ module _ (program : Program) (inputs : InputLists) (check : Check) where
     found_read objects b counts p n line f (Some class) broken all quiet is ends =
         let same : check_of class line f 0 ≡ check = let broke : ending.Broken (check_of class line f 0) ≡ ending.Broken check = ends in cc in
         let happened_is = happens_from objects b counts (turned.Broken (check_of class line f 0)) (alone objects program b counts) (Some (fails (check_of class line f 0))) (read_turn objects program b counts inputs (Some class) p n line f is broken) (read_happens objects program b counts inputs (Some class) p n line f is broken) in
-        found_now objects b (Act (actions.Read p n) line f) check (check_of class line f 0) (told_of objects b counts (0 ∷ schedule)) is (class, broken, same) happened_is same
+        found_now objects b (Act (actions.Read p n) line f) check (check_of class line f 0) (told_of objects b counts (0 ∷ schedule)) is (class, (λ a. read_class objects p n a ∙ broken), same) happened_is same
     found_read objects b counts p n line f None fine all quiet is ends =
         let a = answers.Bytes (bytes_at objects p n) in
         let ok : accepts (b []) a ≡ true = accepted b (actions.Read p n) line f a is (bytes_fit objects p n all fine) in
         let happened_is = happens_from objects b counts turned.Moved (after_read objects program b counts inputs p n) (Some (does 0 (actions.Read p n) line f a)) (read_turn objects program b counts inputs None p n line f is fine) (read_happens objects program b counts inputs None p n line f is fine) in
-        found_behind objects b (actions.Read p n) line f a check (told_of objects b counts (0 ∷ schedule)) (told_of objects (after b a) counts schedule) is ok fine (same_itself (bytes_at objects p n)) happened_is
-        (later objects (after b a) counts all (quiets_behind b (actions.Read p n) line f a is ok quiet) ends)
+        found_behind objects b (actions.Read p n) line f a check (told_of objects b counts (0 ∷ schedule)) (told_of objects (after b a) counts schedule) is ok (read_class objects p n a ∙ fine) (read_given objects p n (bytes_at objects p n) fine ∙ same_itself (bytes_at objects p n)) happened_is
+        (subst (λ (os : Objects). Found os (after b a) check (told_of objects (after b a) counts schedule)) (sym (read_stored objects p n a)) (later objects (after b a) counts all (quiets_behind b (actions.Read p n) line f a is ok quiet) ends))
 
     found_write : (objects : Objects) (b : Behaviour) (counts : Counts) (p : ℕ) (new : List ℕ) (first : Bool) (line f : ℕ) (c : Option Class) → write_break objects p new first ≡ c → AreObjects objects → Quiets b
         → b [] ≡ Act (actions.Write p new first) line f → goes_on (turned_by objects program b counts inputs c line f (after_told objects program b counts inputs p new)) ≡ ending.Broken check → Found objects b check (told_of objects b counts (0 ∷ schedule))
     found_write objects b counts p new first line f (Some class) broken all quiet is ends =
         let same : check_of class line f 0 ≡ check = let broke : ending.Broken (check_of class line f 0) ≡ ending.Broken check = ends in cc in
         let happened_is = happens_from objects b counts (turned.Broken (check_of class line f 0)) (alone objects program b counts) (Some (fails (check_of class line f 0))) (write_turn objects program b counts inputs (Some class) p new first line f is broken) (write_happens objects program b counts inputs (Some class) p new first line f is broken) in
-        found_now objects b (Act (actions.Write p new first) line f) check (check_of class line f 0) (told_of objects b counts (0 ∷ schedule)) is (class, broken, same) happened_is same
+        found_now objects b (Act (actions.Write p new first) line f) check (check_of class line f 0) (told_of objects b counts (0 ∷ schedule)) is (class, (λ a. write_class objects p new first a ∙ broken), same) happened_is same
     found_write objects b counts p new first line f None fine all quiet is ends =
         let bytes : are_bytes new ≡ true = quiet [] (Act (actions.Write p new first) line f) is in
         let stored : with_bytes objects p new ≡ after_write objects p new first = ap (λ (c : Option Class). unless_changed c objects (with_bytes objects p new)) (sym fine) in
         let ok : accepts (b []) answers.Done ≡ true = accepted b (actions.Write p new first) line f answers.Done is refl in
         let happened_is = happens_from objects b counts turned.Moved (after_told objects program b counts inputs p new) (Some (does 0 (actions.Write p new first) line f answers.Done)) (write_turn objects program b counts inputs None p new first line f is fine) (write_happens objects program b counts inputs None p new first line f is fine) in
-        found_behind objects b (actions.Write p new first) line f answers.Done check (told_of objects b counts (0 ∷ schedule)) (told_of (after_write objects p new first) (after b answers.Done) counts schedule) is ok fine refl
+        found_behind objects b (actions.Write p new first) line f answers.Done check (told_of objects b counts (0 ∷ schedule)) (told_of (after_write objects p new first) (after b answers.Done) counts schedule) is ok (write_class objects p new first answers.Done ∙ fine) (write_given objects p new first fine)
         (happened_is ∙ (λ i. does 0 (actions.Write p new first) line f answers.Done ∷ told_of (stored i) (after b answers.Done) counts schedule))
+        (subst (λ (os : Objects). Found os (after b answers.Done) check (told_of (after_write objects p new first) (after b answers.Done) counts schedule)) (sym (write_stored objects p new first answers.Done))
         (later (after_write objects p new first) (after b answers.Done) counts (write_leaves objects p new first all bytes) (quiets_behind b (actions.Write p new first) line f answers.Done is ok quiet)
-        (subst (λ (os : Objects). Ends os (after b answers.Done) counts schedule) stored ends))
+        (subst (λ (os : Objects). Ends os (after b answers.Done) counts schedule) stored ends)))
 
     found_next : (objects : Objects) (b : Behaviour) (counts : Counts) (next : Next) → AreObjects objects → Quiets b → b [] ≡ next → Ends objects b counts (0 ∷ schedule) → Found objects b check (told_of objects b counts (0 ∷ schedule))
     found_next objects b counts (Act (actions.Draw n) line f) all quiet is ends =
@@ -245,7 +247,7 @@ module _ (program : Program) (inputs : InputLists) (check : Check) where
         let ok : accepts (b []) a ≡ true = accepted b (actions.Draw n) line f a is (given_fits n (next_word (words_of inputs 0) counts.used)) in
         let turn_is = draw_turn objects program b counts inputs n line f is in
         let happened_is = happens_from objects b counts turned.Moved (alone objects program (after b a) behind) (Some (does 0 (actions.Draw n) line f a)) turn_is (draw_happens objects program b counts inputs n line f is) in
-        found_behind objects b (actions.Draw n) line f a check (told_of objects b counts (0 ∷ schedule)) (told_of objects (after b a) behind schedule) is ok refl refl happened_is
+        found_behind objects b (actions.Draw n) line f a check (told_of objects b counts (0 ∷ schedule)) (told_of objects (after b a) behind schedule) is ok refl (draw_given objects n (low_bits n (next_word (words_of inputs 0) counts.used))) happened_is
         (later objects (after b a) behind all (quiets_behind b (actions.Draw n) line f a is ok quiet) (sym (ap goes_on turn_is) ∙ ends))
     found_next objects b counts (Act (actions.Read p n) line f) all quiet is ends =
         found_read objects b counts p n line f (break_in objects false p n) refl all quiet is (sym (ap goes_on (read_turn objects program b counts inputs (break_in objects false p n) p n line f is refl)) ∙ ends)
@@ -301,13 +303,13 @@ begins_break (stops end) objects [] next check are begins ends = broke_end objec
 begins_break (stops end) objects (x ∷ xs) next check are begins ends = absurd begins
 begins_break (asks action line f a rest) objects [] next check are begins ends =
     let h = subst (λ (n : Next). BreaksNext objects n check) (sym begins) ends in
-    let stopped_is : checked objects (asks action line f a rest) ≡ stops (Broken h.0 line f) = λ i. unless (h.1 i) line f (asks action line f a (checked (stored_by objects action) rest)) in
+    let stopped_is : checked objects (asks action line f a rest) ≡ stops (Broken h.0 line f) = λ i. unless (h.1 a i) line f (asks action line f a (checked (stored_by objects action a) rest)) in
     record { agreed = ap (agrees objects) stopped_is; broken = ap breaks stopped_is; told_is = ap happenings stopped_is ∙ ap (λ c. fails c ∷ []) h.2 }
 begins_break (asks action line f a rest) objects (x ∷ xs) next check are begins ends =
-    let fine : access_class objects action ≡ None = ap (access_class objects) (sym begins.0) ∙ ends.0 in
+    let fine : access_class objects action a ≡ None = (λ i. access_class objects (sym begins.0 i) (sym begins.3 i)) ∙ ends.0 in
     let given : is_given objects action a ≡ true = (λ i. is_given objects (sym begins.0 i) (sym begins.3 i)) ∙ ends.1 in
-    let later = begins_break rest (stored_by objects action) xs next check are begins.4 (subst (λ (k : Action). EndsIn (stored_by objects k) xs next check) begins.0 ends.2) in
-    let goes : checked objects (asks action line f a rest) ≡ asks action line f a (checked (stored_by objects action) rest) = λ i. unless (fine i) line f (asks action line f a (checked (stored_by objects action) rest)) in
+    let later = begins_break rest (stored_by objects action a) xs next check are begins.4 (subst (λ (os : Objects). EndsIn os xs next check) (λ i. stored_by objects (begins.0 i) (begins.3 i)) ends.2) in
+    let goes : checked objects (asks action line f a rest) ≡ asks action line f a (checked (stored_by objects action a) rest) = λ i. unless (fine i) line f (asks action line f a (checked (stored_by objects action a) rest)) in
     record {
       agreed = ap (agrees objects) goes ∙ (λ i. given i && later.agreed i);
       broken = ap breaks goes ∙ later.broken;
@@ -344,20 +346,20 @@ head_told : (action action' : Action) (line line' f f' : ℕ) (a a' : Answer) (h
 head_told action action' line line' f f' a a' hs ks same = (cc, cc, cc)
 
 agrees_by : (c : Option Class) (objects : Objects) (action : Action) (line f : ℕ) (a : Answer) (left : Run) (xs : List Exchange) (next : Next) (check : Check)
-    → ((ys : List Exchange) → EndsIn (stored_by objects action) ys next check → happenings left ≡ told_in ys check → Agrees (stored_by objects action) left)
+    → ((ys : List Exchange) → EndsIn (stored_by objects action a) ys next check → happenings left ≡ told_in ys check → Agrees (stored_by objects action a) left)
     → EndsIn objects xs next check → happenings (unless c line f (asks action line f a left)) ≡ told_in xs check → Agrees objects (unless c line f (asks action line f a left))
 agrees_by (Some class) objects action line f a left xs next check later ends same = record { agreed = refl; broken = refl }
 agrees_by None objects action line f a left [] next check later ends same = told_apart 0 action line f a check (happenings left) [] same
 agrees_by None objects action line f a left (x ∷ xs) next check later ends same =
     let parts = head_told action x.action line x.line f x.function a x.answer (happenings left) (told_in xs check) same in
     let given : is_given objects action a ≡ true = (λ i. is_given objects (parts.0 i) (parts.1 i)) ∙ ends.1 in
-    let more = later xs (subst (λ (k : Action). EndsIn (stored_by objects k) xs next check) (sym parts.0) ends.2) parts.2 in
+    let more = later xs (subst (λ (os : Objects). EndsIn os xs next check) (λ i. stored_by objects (sym parts.0 i) (sym parts.1 i)) ends.2) parts.2 in
     record { agreed = λ i. given i && more.agreed i; broken = more.broken }
 
 pub told_agrees : (r : Run) (objects : Objects) (xs : List Exchange) (next : Next) (check : Check) → EndsIn objects xs next check → happenings (checked objects r) ≡ told_in xs check → Agrees objects (checked objects r)
 told_agrees (stops end) objects xs next check ends same = agrees_end objects end xs check same
 told_agrees (asks action line f a rest) objects xs next check ends same =
-    agrees_by (access_class objects action) objects action line f a (checked (stored_by objects action) rest) xs next check (λ ys. told_agrees rest (stored_by objects action) ys next check) ends same
+    agrees_by (access_class objects action a) objects action line f a (checked (stored_by objects action a) rest) xs next check (λ ys. told_agrees rest (stored_by objects action a) ys next check) ends same
 
 -- ---- the run of a valuation is a whole local run
 
@@ -489,14 +491,16 @@ module _ (program : Program) (inputs : InputLists) (others : (t : ℕ) → words
   left_read objects b counts p n line f bs rest (Some class) broken_by is later front words used agreed broken =
       ran_now objects b counts class line f (read_turn objects program b counts inputs (Some class) p n line f is broken_by) (read_happens objects program b counts inputs (Some class) p n line f is broken_by) (none_left counts front words used)
   left_read objects b counts p n line f bs rest None fine is later front words used agreed broken =
-      let given : bs ≡ bytes_at objects p n = bytes_same bs (bytes_at objects p n) (left_true (same_bytes bs (bytes_at objects p n)) (agrees objects rest) agreed) in
+      let told = is_given objects (actions.Read p n) (answers.Bytes bs) in
+      let left = agrees (stored_by objects (actions.Read p n) (answers.Bytes bs)) rest in
+      let given : bs ≡ bytes_at objects p n = bytes_same bs (bytes_at objects p n) (read_holds objects p n bs (left_true told left agreed)) in
       let moved : MovesTo inputs 0 (alone objects program b counts) (alone objects program (after b (answers.Bytes bs)) counts) = record {
         turn_is = read_turn objects program b counts inputs None p n line f is fine ∙ (λ i. (turned.Moved, alone objects program (after b (answers.Bytes (sym given i))) counts));
         drawn = subst (λ (m : Next). IsDrawnWhole (Some m) (slice_get (words_of inputs 0) counts.used)) (sym is) tt;
       } in
       ran_behind (alone objects program b counts) (alone objects program (after b (answers.Bytes bs)) counts) (actions.Read p n) line f (answers.Bytes bs) rest moved
       (read_happens objects program b counts inputs None p n line f is fine ∙ (λ i. Some (does 0 (actions.Read p n) line f (answers.Bytes (sym given i)))))
-      (later front words used (right_true (same_bytes bs (bytes_at objects p n)) (agrees objects rest) agreed) broken)
+      (later front words used (subst (λ (os : Objects). agrees os rest ≡ true) (read_stored objects p n (answers.Bytes bs)) (right_true told left agreed)) broken)
 
   left_write : (objects : Objects) (b : Behaviour) (counts : Counts) (p : ℕ) (new : List ℕ) (first : Bool) (line f : ℕ) (rest : Run) (c : Option Class) → write_break objects p new first ≡ c → b [] ≡ Act (actions.Write p new first) line f
       → Left rest (after_write objects p new first) (after b answers.Done) counts → Left (unless c line f (asks (actions.Write p new first) line f answers.Done rest)) objects b counts
@@ -509,7 +513,9 @@ module _ (program : Program) (inputs : InputLists) (others : (t : ℕ) → words
         turn_is = write_turn objects program b counts inputs None p new first line f is fine ∙ (λ i. (turned.Moved, alone (stored i) program (after b answers.Done) counts));
         drawn = subst (λ (m : Next). IsDrawnWhole (Some m) (slice_get (words_of inputs 0) counts.used)) (sym is) tt;
       } in
-      ran_behind (alone objects program b counts) next (actions.Write p new first) line f answers.Done rest moved (write_happens objects program b counts inputs None p new first line f is fine) (later front words used agreed broken)
+      ran_behind (alone objects program b counts) next (actions.Write p new first) line f answers.Done rest moved (write_happens objects program b counts inputs None p new first line f is fine)
+      (later front words used
+      (subst (λ (os : Objects). agrees os rest ≡ true) (write_stored objects p new first answers.Done) (right_true (is_given objects (actions.Write p new first) answers.Done) (agrees (stored_by objects (actions.Write p new first) answers.Done) rest) agreed)) broken)
 
   pub ran_from : (r : Run) (objects : Objects) (b : Behaviour) (counts : Counts) → OnlyQuiet r → IsWhole b r → Left (checked objects r) objects b counts
   ran_from (stops end) objects b counts only is front words used agreed broken = ran_end objects b counts end is broken (none_left counts front words used)
@@ -529,13 +535,19 @@ module _ (program : Program) (inputs : InputLists) (others : (t : ℕ) → words
       ran_behind (alone objects program b counts) (alone objects program (after b (answers.Word w)) counts_behind) (actions.Draw n) line f (answers.Word w) (checked objects rest) moved
       (draw_happens objects program b counts inputs n line f is.0 ∙ ap (λ (a : Answer). Some (does 0 (actions.Draw n) line f a)) answer_is)
       (ran_from rest objects (after b (answers.Word w)) counts_behind only is.2 (front ++ w.bits ∷ []) (words ∙ sym (append_assoc front (w.bits ∷ []) left))
-      (used_more counts.used front all w.bits left used words) agreed broken)
+      (used_more counts.used front all w.bits left used words) (right_true (is_given objects (actions.Draw n) (answers.Word w)) (agrees objects (checked objects rest)) agreed) broken)
   ran_from (asks (actions.Draw n) line f a rest) objects b counts only is front words used agreed broken = absurd (true≢false (sym is.1))
   ran_from (asks (actions.Read p n) line f (answers.Bytes bs) rest) objects b counts only is front words used agreed broken =
-      left_read objects b counts p n line f bs (checked objects rest) (break_in objects false p n) refl is.0 (ran_from rest objects (after b (answers.Bytes bs)) counts only is.2) front words used agreed broken
+      let a = answers.Bytes bs in
+      let same : checked objects (asks (actions.Read p n) line f a rest) ≡ unless (break_in objects false p n) line f (asks (actions.Read p n) line f a (checked objects rest)) =
+      λ i. unless (read_class objects p n a i) line f (asks (actions.Read p n) line f a (checked (read_stored objects p n a i) rest)) in
+      subst (λ (r : Run). Left r objects b counts) (sym same) (left_read objects b counts p n line f bs (checked objects rest) (break_in objects false p n) refl is.0 (ran_from rest objects (after b a) counts only is.2)) front words used agreed broken
   ran_from (asks (actions.Read p n) line f a rest) objects b counts only is front words used agreed broken = absurd (true≢false (sym is.1))
   ran_from (asks (actions.Write p new first) line f answers.Done rest) objects b counts only is front words used agreed broken =
-      left_write objects b counts p new first line f (checked (after_write objects p new first) rest) (write_break objects p new first) refl is.0 (ran_from rest (after_write objects p new first) (after b answers.Done) counts only.1 is.2) front words used agreed broken
+      let a = answers.Done in
+      let same : checked objects (asks (actions.Write p new first) line f a rest) ≡ unless (write_break objects p new first) line f (asks (actions.Write p new first) line f a (checked (after_write objects p new first) rest)) =
+      λ i. unless (write_class objects p new first a i) line f (asks (actions.Write p new first) line f a (checked (write_stored objects p new first a i) rest)) in
+      subst (λ (r : Run). Left r objects b counts) (sym same) (left_write objects b counts p new first line f (checked (after_write objects p new first) rest) (write_break objects p new first) refl is.0 (ran_from rest (after_write objects p new first) (after b a) counts only.1 is.2)) front words used agreed broken
   ran_from (asks (actions.Write p new first) line f a rest) objects b counts only is front words used agreed broken = absurd (true≢false (sym is.1))
   ran_from (asks actions.Exit line f a rest) objects b counts only is front words used agreed broken = absurd (true≢false (sym broken ∙ ap (λ (r : Run). breaks (checked objects r)) only))
   ran_from (asks _ line f a rest) objects b counts only is front words used agreed broken = absurd only

@@ -131,22 +131,22 @@ note_stays d e ev notes.Alone stores x there within is = λ v later.
 
 pub breaks_append : (objects : Objects) (xs ys : List Seen) (later : Bool) → breaks_from objects (xs ++ ys) later ≡ breaks_from objects xs (breaks_from (behind objects xs) ys later)
 breaks_append objects [] ys later = refl
-breaks_append objects (asked action line f a ∷ xs) ys later = ap (λ b. breaks_or (access_class objects action) (is_given objects action a && b)) (breaks_append (stored_by objects action) xs ys later)
+breaks_append objects (asked action line f a ∷ xs) ys later = ap (λ b. breaks_or (access_class objects action a) (is_given objects action a && b)) (breaks_append (stored_by objects action a) xs ys later)
 breaks_append objects (stopped end ∷ xs) ys later = refl
 
 both_given : (g a b later : Bool) → (a && b) ≡ later → ((g && a) && b) ≡ (g && later)
 both_given true a b later is = is
 both_given false a b later is = refl
 
-checked_by : (c : Option Class) (objects : Objects) (action : Action) (line f : ℕ) (a : Answer) (rest : Run) (later : Bool) → (agrees (stored_by objects action) rest && breaks rest) ≡ later
+checked_by : (c : Option Class) (objects : Objects) (action : Action) (line f : ℕ) (a : Answer) (rest : Run) (later : Bool) → (agrees (stored_by objects action a) rest && breaks rest) ≡ later
     → (agrees objects (unless c line f (asks action line f a rest)) && breaks (unless c line f (asks action line f a rest))) ≡ breaks_or c (is_given objects action a && later)
-checked_by None objects action line f a rest later is = both_given (is_given objects action a) (agrees (stored_by objects action) rest) (breaks rest) later is
+checked_by None objects action line f a rest later is = both_given (is_given objects action a) (agrees (stored_by objects action a) rest) (breaks rest) later is
 checked_by (Some class) objects action line f a rest later is = refl
 
 pub breaks_read : (objects : Objects) (told : List Seen) → (let r = checked objects (read told (stops (Ended (word_64 0)))) in (agrees objects r && breaks r) ≡ breaks_from objects told false)
 breaks_read objects [] = refl
 breaks_read objects (asked action line f a ∷ told) =
-    checked_by (access_class objects action) objects action line f a (checked (stored_by objects action) (read told (stops (Ended (word_64 0))))) (breaks_from (stored_by objects action) told false) (breaks_read (stored_by objects action) told)
+    checked_by (access_class objects action a) objects action line f a (checked (stored_by objects action a) (read told (stops (Ended (word_64 0))))) (breaks_from (stored_by objects action a) told false) (breaks_read (stored_by objects action a) told)
 breaks_read objects (stopped end ∷ told) = refl
 
 pub notes_long : (stores : (ℕ → ℕ) → Objects) (d : List Node) (es : List Event) (ns : List Note) → AreNotes stores d es ns → length ns ≡ length es
@@ -262,11 +262,10 @@ module _ (d e : List Node) (f : Formula) (t : Thread) (ordered : is_ordered d �
   replayed v h =
       let r = run_read v e f.form.events in
       let whole_is = one_true (breaks_in v e f.form) (sym (is_true v) ∙ h) in
-      let only : OnlyQuiet r = subst OnlyQuiet (sym (stays v)) (read_quiet v d ordered f.form.events there) in
-      (
+      let only : OnlyQuiet r = subst OnlyQuiet (sym (stays v)) (read_quiet v d ordered f.form.events there) in (
         broken_check (checked objects r),
         run_happens t objects r only (whole r t.behaves (λ xs next begins. form.gives v xs next (subst (λ (r : Run). Begins xs next r) (stays v) begins)))
-        (left_true (agrees objects (checked objects r)) (breaks (checked objects r)) whole_is) (right_true (agrees objects (checked objects r)) (breaks (checked objects r)) whole_is),
+            (left_true (agrees objects (checked objects r)) (breaks (checked objects r)) whole_is) (right_true (agrees objects (checked objects r)) (breaks (checked objects r)) whole_is),
       )
 
   breaking : (inputs : InputLists) (schedule : List ℕ) (check : Check) → (run first inputs schedule).0 ≡ Broken check → Found objects t.behaves check (happened first inputs schedule)

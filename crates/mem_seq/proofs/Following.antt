@@ -46,7 +46,7 @@ and_assoc false b c = refl
 pub gives_append : (objects : Objects) (xs ys : List Seen) → gives objects (xs ++ ys) ≡ (gives objects xs && gives (behind objects xs) ys)
 gives_append objects [] ys = refl
 gives_append objects (asked action line f a ∷ xs) ys =
-    ap (λ b. is_given objects action a && b) (gives_append (stored_by objects action) xs ys) ∙ sym (and_assoc (is_given objects action a) (gives (stored_by objects action) xs) (gives (behind (stored_by objects action) xs) ys))
+    ap (λ b. is_given objects action a && b) (gives_append (stored_by objects action a) xs ys) ∙ sym (and_assoc (is_given objects action a) (gives (stored_by objects action a) xs) (gives (behind (stored_by objects action a) xs) ys))
 gives_append objects (stopped end ∷ xs) ys = gives_append objects xs ys
 
 lost_by : (g : Bool) (x y : Bool) → (g ≡ true → x ≡ y) → (g && x) ≡ (g && y)
@@ -61,8 +61,8 @@ lost_here false rest h is = absurd (let wrong : false ≡ true = is in cc)
 pub lost : (objects : Objects) (told : List Seen) (x y : Bool) → gives objects told ≡ false → breaks_from objects told x ≡ breaks_from objects told y
 lost objects [] x y h = absurd (let wrong : true ≡ false = h in cc)
 lost objects (asked action line f a ∷ told) x y h =
-    ap (breaks_or (access_class objects action)) (lost_by (is_given objects action a) (breaks_from (stored_by objects action) told x) (breaks_from (stored_by objects action) told y)
-    (λ is. lost (stored_by objects action) told x y (lost_here (is_given objects action a) (gives (stored_by objects action) told) h is)))
+    ap (breaks_or (access_class objects action a)) (lost_by (is_given objects action a) (breaks_from (stored_by objects action a) told x) (breaks_from (stored_by objects action a) told y)
+    (λ is. lost (stored_by objects action a) told x y (lost_here (is_given objects action a) (gives (stored_by objects action a) told) h is)))
 lost objects (stopped end ∷ told) x y h = refl
 
 -- ---- the first events

@@ -35,7 +35,10 @@ use Rattle.guarded_ssa.specs.Arrivals.{Seen, asked, stopped}
 use Rattle.guarded_ssa.specs.Runs.{bytes_of_words}
 use Rattle.guarded_ssa.specs.Forms.{AreWords, IsBit, KindIn, EventIn, kind_seen, event_seen}
 use Rattle.guarded_ssa.proofs.AnswerWords.{bytes_left, words_length}
-use Rattle.guarded_ssa.specs.Accesses.{same_bytes}
+use Rattle.actions.specs.declared.action.Action.TheVariants as actions
+use Rattle.actions.specs.declared.action.Answer.TheVariants as answers
+use Rattle.guarded_ssa.specs.Accesses.{same_bytes, is_given}
+use Rattle.guarded_ssa.proofs.Accesses.{read_holds}
 use Rattle.mem_seq.specs.Goals.{gives}
 use Rattle.mem_seq.proofs.Stores.{left_true, right_true}
 use Rattle.mem_seq.proofs.WordTests.{equal_is, more_words}
@@ -285,11 +288,13 @@ read_learned v d d1 ev object offset count p answer words held nodes objects x w
     let there : AreWords d count answer = subst (KindIn d) is within.kind in
     let here : holds (value v d ev.guard) ≡ true = ap holds (sym (x.value_stays v ev.guard within.guard.there)) ∙ guard_is in
     let tells : gives objects (kind_seen v d ev.line ev.function ev.kind) ≡ true = if_is (holds (value v d ev.guard)) objects (kind_seen v d ev.line ev.function ev.kind) here told in
-    let reads : (same_bytes (bytes_of_words count (map (value v d) answer)) (bytes_at objects (pointer_to object offset) count) && true) ≡ true = ap (λ (j : EventKind). gives objects (kind_seen v d ev.line ev.function j)) (sym is) ∙ tells in
+    let q = pointer_to object offset in
+    let bs = bytes_of_words count (map (value v d) answer) in
+    let reads : (is_given objects (actions.Read q count) (answers.Bytes bs) && true) ≡ true = ap (λ (j : EventKind). gives objects (kind_seen v d ev.line ev.function j)) (sym is) ∙ tells in
     let long : length nodes ≡ count = ap length nodes_are ∙ size in
     let words_is : map (value v d1) words ≡ map (value v d) answer = ap (map (value v d1)) words_are ∙ map_stays v d d1 answer x there.there in
     let bytes_is : map (value v d1) nodes ≡ bytes_at objects (pointer_to object offset) count = ap (map (value v d1)) nodes_are ∙ held_is ∙ ap (λ q. bytes_at objects q count) p_is in
-    (λ i. same_bytes (bytes_of_words (long i) (words_is i)) (bytes_is i)) ∙ left_true (same_bytes (bytes_of_words count (map (value v d) answer)) (bytes_at objects (pointer_to object offset) count)) true reads
+    (λ i. same_bytes (bytes_of_words (long i) (words_is i)) (bytes_is i)) ∙ read_holds objects q count bs (left_true (is_given objects (actions.Read q count) (answers.Bytes bs)) true reads)
 
 pub read_words : (d d1 : List Node) (k : EventKind) (object offset count : ℕ) (answer words held nodes : List Id) → Extends d d1 → KindIn d k → k ≡ kinds.Read object offset count answer → words ≡ answer → nodes ≡ held → length held ≡ count → AreWords d1 (length nodes) words
 read_words d d1 k object offset count answer words held nodes x within is words_are nodes_are size =

@@ -24,13 +24,16 @@ use Rattle.actions.specs.declared.action.Next.TheVariants.{Blocked, Broken}
 use Rattle.mem_seq.specs.declared.memory.Memory.{Memory}
 use Rattle.mem_seq.specs.declared.memory.Note.{Note}
 use Rattle.mem_seq.specs.declared.memory.Note.TheVariants as notes
-use Rattle.guarded_ssa.specs.Accesses.{same_bytes, behind}
+use Rattle.actions.specs.declared.action.Action.TheVariants as actions
+use Rattle.actions.specs.declared.action.Answer.TheVariants as answers
+use Rattle.guarded_ssa.specs.Accesses.{access_class, same_bytes, behind}
 use Rattle.mem_seq.specs.Goals.{breaks_or, breaks_from}
 use Rattle.mem_seq.specs.Notes.{NoteIn, IsNote, AreNotes}
 use Rattle.mem_seq.specs.Memories.{StandsFor, MemoryIn, written_in}
 use Rattle.mem_seq.proofs.Written.{stands_stay, break_same}
 use Rattle.mem_seq.proofs.Breaking.{event_stays}
 use Rattle.guarded_ssa.proofs.Behind.{behind_append}
+use Rattle.guarded_ssa.proofs.Accesses.{read_class, read_stored, read_given, write_class, write_stored, write_given, draw_given}
 use Rattle.mem_seq.proofs.Building.{note_stays}
 
 -- ---- one event
@@ -80,7 +83,8 @@ module _ (v : ℕ → ℕ) (d : List Node) (line f : ℕ) (objects : Objects) (k
   draw_leaves bits answer is = ap (λ (j : EventKind). behind objects (kind_seen v d line f j)) is
 
   pub read_leaves : (object offset count : ℕ) (answer : List Id) → k ≡ kinds.Read object offset count answer → behind objects (kind_seen v d line f k) ≡ objects
-  read_leaves object offset count answer is = ap (λ (j : EventKind). behind objects (kind_seen v d line f j)) is
+  read_leaves object offset count answer is =
+      ap (λ (j : EventKind). behind objects (kind_seen v d line f j)) is ∙ read_stored objects (pointer_to object offset) count (answers.Bytes (bytes_of_words count (map (value v d) answer)))
 
   pub exit_leaves : k ≡ kinds.Exit → behind objects (kind_seen v d line f k) ≡ objects
   exit_leaves is = ap (λ (j : EventKind). behind objects (kind_seen v d line f j)) is
@@ -94,13 +98,13 @@ module _ (v : ℕ → ℕ) (d : List Node) (line f : ℕ) (objects : Objects) (k
   pub broken_write_leaves : (object offset p : ℕ) (bytes : List Id) → k ≡ kinds.Write object offset bytes → p ≡ pointer_to object offset → is_some (break_in objects true p (length bytes)) ≡ true → behind objects (kind_seen v d line f k) ≡ objects
   broken_write_leaves object offset p bytes is p_is broken =
       let same : break_in objects true p (length bytes) ≡ break_in objects true (pointer_to object offset) (length (map (value v d) bytes)) = (λ i. break_in objects true (p_is i) (sym (length-map bytes (value v d)) i)) in
-      ap (λ (j : EventKind). behind objects (kind_seen v d line f j)) is
+      ap (λ (j : EventKind). behind objects (kind_seen v d line f j)) is ∙ write_stored objects (pointer_to object offset) (map (value v d) bytes) false answers.Done
       ∙ unchanged (break_in objects true (pointer_to object offset) (length (map (value v d) bytes))) objects (with_bytes objects (pointer_to object offset) (map (value v d) bytes)) (sym (ap is_some same) ∙ broken)
 
   pub write_leaves : (object offset p : ℕ) (bytes new : List Id) → k ≡ kinds.Write object offset bytes → p ≡ pointer_to object offset → new ≡ bytes → break_in objects true p (length new) ≡ None → behind objects (kind_seen v d line f k) ≡ with_bytes objects p (map (value v d) new)
   write_leaves object offset p bytes new is p_is new_is fine =
       let same : break_in objects true p (length new) ≡ break_in objects true (pointer_to object offset) (length (map (value v d) bytes)) = (λ i. break_in objects true (p_is i) (length (new_is i))) ∙ ap (break_in objects true (pointer_to object offset)) (sym (length-map bytes (value v d))) in
-      ap (λ (j : EventKind). behind objects (kind_seen v d line f j)) is
+      ap (λ (j : EventKind). behind objects (kind_seen v d line f j)) is ∙ write_stored objects (pointer_to object offset) (map (value v d) bytes) false answers.Done
       ∙ ap (λ (c : Option Class). unless_changed c objects (with_bytes objects (pointer_to object offset) (map (value v d) bytes))) (sym same ∙ fine)
       ∙ (λ i. with_bytes objects (sym p_is i) (map (value v d) (sym new_is i)))
 
@@ -114,7 +118,7 @@ module _ (e : List Node) (ev : Event) (stores : (ℕ → ℕ) → Objects) where
   alone_as k is same v later = told_as k is v later ∙ same v later ∙ ap (λ (j : EventKind). breaks_from [] (kind_seen v e ev.line ev.function j) later) (sym is)
 
   pub draw_note : (bits : ℕ) (answer : Id) → ev.kind ≡ kinds.Draw bits answer → IsNote stores e ev notes.Passes
-  draw_note bits answer is v later = told_as (kinds.Draw bits answer) is v later
+  draw_note bits answer is v later = told_as (kinds.Draw bits answer) is v later ∙ ap (λ b. b && later) (draw_given (stores v) bits (value v e answer))
 
   pub exit_note : ev.kind ≡ kinds.Exit → IsNote stores e ev notes.Alone
   exit_note is = alone_as kinds.Exit is (λ v later. refl)
@@ -127,17 +131,26 @@ module _ (e : List Node) (ev : Event) (stores : (ℕ → ℕ) → Objects) where
 
   pub broken_read_note : (object offset count p : ℕ) (answer : List Id) → ev.kind ≡ kinds.Read object offset count answer → p ≡ pointer_to object offset → ((v : ℕ → ℕ) → is_some (break_in (stores v) false p count) ≡ true) → IsNote stores e ev notes.Breaks
   broken_read_note object offset count p answer is p_is broken v later =
-      told_as (kinds.Read object offset count answer) is v later ∙ some_broken (break_in (stores v) false (pointer_to object offset) count) _ (ap (λ q. is_some (break_in (stores v) false q count)) (sym p_is) ∙ broken v)
+      let q = pointer_to object offset in
+      let a = answers.Bytes (bytes_of_words count (map (value v e) answer)) in
+      told_as (kinds.Read object offset count answer) is v later
+      ∙ some_broken (access_class (stores v) (actions.Read q count) a) _ (ap is_some (read_class (stores v) q count a) ∙ ap (λ r. is_some (break_in (stores v) false r count)) (sym p_is) ∙ broken v)
 
   pub broken_write_note : (object offset p : ℕ) (bytes : List Id) → ev.kind ≡ kinds.Write object offset bytes → p ≡ pointer_to object offset → ((v : ℕ → ℕ) → is_some (break_in (stores v) true p (length bytes)) ≡ true) → IsNote stores e ev notes.Breaks
   broken_write_note object offset p bytes is p_is broken v later =
       let same : break_in (stores v) true (pointer_to object offset) (length (map (value v e) bytes)) ≡ break_in (stores v) true p (length bytes) = (λ i. break_in (stores v) true (sym p_is i) (length-map bytes (value v e) i)) in
-      told_as (kinds.Write object offset bytes) is v later ∙ some_broken (break_in (stores v) true (pointer_to object offset) (length (map (value v e) bytes))) _ (ap is_some same ∙ broken v)
+      let q = pointer_to object offset in
+      let new = map (value v e) bytes in
+      told_as (kinds.Write object offset bytes) is v later
+      ∙ some_broken (access_class (stores v) (actions.Write q new false) answers.Done) _ (ap is_some (write_class (stores v) q new false answers.Done ∙ same) ∙ broken v)
 
   pub write_note : (object offset p : ℕ) (bytes new : List Id) → ev.kind ≡ kinds.Write object offset bytes → p ≡ pointer_to object offset → new ≡ bytes → ((v : ℕ → ℕ) → break_in (stores v) true p (length new) ≡ None) → IsNote stores e ev notes.Passes
   write_note object offset p bytes new is p_is new_is fine v later =
       let same : break_in (stores v) true (pointer_to object offset) (length (map (value v e) bytes)) ≡ break_in (stores v) true p (length new) = ap (break_in (stores v) true (pointer_to object offset)) (length-map bytes (value v e)) ∙ (λ i. break_in (stores v) true (sym p_is i) (length (sym new_is i))) in
-      told_as (kinds.Write object offset bytes) is v later ∙ ap (λ (c : Option Class). breaks_or c later) (same ∙ fine v)
+      let q = pointer_to object offset in
+      let own = map (value v e) bytes in
+      let class_is : access_class (stores v) (actions.Write q own false) answers.Done ≡ None = write_class (stores v) q own false answers.Done ∙ same ∙ fine v in
+      told_as (kinds.Write object offset bytes) is v later ∙ (λ i. breaks_or (class_is i) (write_given (stores v) q own false (same ∙ fine v) i && later))
 
   pub read_note : (d : List Node) (object offset count p : ℕ) (answer words : List Id) (test : Id) → Extends d e → Within d ev.guard → All (Within d) answer → ev.kind ≡ kinds.Read object offset count answer → p ≡ pointer_to object offset → words ≡ answer → ((v : ℕ → ℕ) → break_in (stores v) false p count ≡ None)
       → ((v : ℕ → ℕ) → holds (value v d ev.guard) ≡ true → holds (value v e test) ≡ same_bytes (bytes_of_words count (map (value v d) words)) (bytes_at (stores v) p count)) → IsNote stores e ev (notes.Gives test)
@@ -146,8 +159,10 @@ module _ (e : List Node) (ev : Event) (stores : (ℕ → ℕ) → Objects) where
       let bytes = bytes_of_words count (map (value v e) answer) in
       let test_is : same_bytes bytes (bytes_at (stores v) q count) ≡ holds (value v e test) =
       (λ i. same_bytes (bytes_of_words count (map_stays v d e answer x there i)) (bytes_at (stores v) q count)) ∙ (λ i. same_bytes (bytes_of_words count (map (value v d) (sym words_are i))) (bytes_at (stores v) (sym p_is i) count)) ∙ sym (given v (ap holds (sym (x.value_stays v ev.guard guard_there)) ∙ guard_is)) in
+      let none : break_in (stores v) false q count ≡ None = ap (λ r. break_in (stores v) false r count) (sym p_is) ∙ fine v in
+      let class_is : access_class (stores v) (actions.Read q count) (answers.Bytes bytes) ≡ None = read_class (stores v) q count (answers.Bytes bytes) ∙ none in
       told_as (kinds.Read object offset count answer) is v later
-      ∙ ap (λ (c : Option Class). breaks_or c (same_bytes bytes (bytes_at (stores v) q count) && later)) (ap (λ r. break_in (stores v) false r count) (sym p_is) ∙ fine v)
+      ∙ (λ i. breaks_or (class_is i) (read_given (stores v) q count bytes none i && later))
       ∙ ap (λ b. b && later) test_is
 
 -- without objects each access breaks one

@@ -14,11 +14,11 @@ breaks_or (Some class) later = true
 abbrev pub breaks_from : Objects → List Seen → Bool → Bool
 breaks_from objects [] later = later
 breaks_from objects (asked action line function a ∷ told) later =
-    breaks_or (access_class objects action) (is_given objects action a && breaks_from (stored_by objects action) told later)
+    breaks_or (access_class objects action a) (is_given objects action a && breaks_from (stored_by objects action a) told later)
 breaks_from objects (stopped end ∷ told) later = is_break end
 
 -- each read that is told gives what the store holds there; what is told behind an end counts as well
 abbrev pub gives : Objects → List Seen → Bool
 gives objects [] = true
-gives objects (asked action line function a ∷ told) = is_given objects action a && gives (stored_by objects action) told
+gives objects (asked action line function a ∷ told) = is_given objects action a && gives (stored_by objects action a) told
 gives objects (stopped end ∷ told) = gives objects told

@@ -1,5 +1,6 @@
 -- What is told leaves the states of a store's objects as they are.
-use Rattle.std.proofs.Common.{◌≡◌, ℕ, Bool, true, false, cond, List, [], ◌∷◌, Option, Some, None, refl, sym, ◌∙◌, ap}
+use Rattle.std.proofs.Common.{◌≡◌, ℕ, Bool, true, false, cond, List, [], ◌∷◌, map, Option, Some, None, refl, sym, ◌∙◌, ap}
+use Rattle.std.specs.Prelude.{if◌then◌else◌}
 use Rattle.std.specs.Ordering.{nat_cmp}
 use Rattle.std.specs.Map.{lookup}
 use Rattle.std.specs.BTreeMap.{is_at}
@@ -9,10 +10,21 @@ use Rattle.actions.specs.StoredObject.{StoredObject}
 use Rattle.actions.specs.States.{state_of}
 use Rattle.actions.specs.Access.{access_break}
 use Rattle.actions.specs.Objects.{Objects, object_at, state_at, with_object, changed_to, with_bytes, with_bytes_at, break_in, write_break, unless_changed}
-use Rattle.actions.specs.declared.action.Action.{Action}
-use Rattle.actions.specs.declared.action.Action.TheVariants.{Write}
-use Rattle.guarded_ssa.specs.Arrivals.{Seen, asked, stopped}
-use Rattle.guarded_ssa.specs.Accesses.{stored_by, behind}
+use Rattle.actions.specs.declared.action.Answer.TheVariants as answers
+use Rattle.actions.specs.declared.action.Next.{Next}
+use Rattle.actions.specs.declared.action.Next.TheVariants.{Blocked, Broken}
+use Rattle.c_values.specs.Variables.{pointer_to}
+use Rattle.word_dag.specs.declared.nodes.Node.{Node}
+use Rattle.word_dag.specs.Meaning.{value, holds}
+use Rattle.guarded_ssa.specs.declared.forms.Event.{Event}
+use Rattle.guarded_ssa.specs.declared.forms.EventKind.{EventKind}
+use Rattle.guarded_ssa.specs.declared.forms.EventKind.TheVariants as kinds
+use Rattle.guarded_ssa.specs.Runs.{bytes_of_words}
+use Rattle.guarded_ssa.specs.Forms.{kind_seen, event_seen, seen}
+use Rattle.guarded_ssa.specs.Arrivals.{stopped}
+use Rattle.guarded_ssa.specs.Accesses.{behind}
+use Rattle.guarded_ssa.proofs.Accesses.{read_stored, write_stored}
+use Rattle.guarded_ssa.proofs.Behind.{behind_append}
 use Rattle.trace_build.specs.Walking.{SameStates}
 
 module _ (at : ℕ) (new : List ℕ) (o : StoredObject) where
@@ -45,14 +57,32 @@ write_state : (objects : Objects) (p : ℕ) (new : List ℕ) (c : Option Class) 
 write_state objects p new None k = put_state objects p new k (object_at objects (object_of p)) refl
 write_state objects p new (Some class) k = refl
 
-action_state : (objects : Objects) (action : Action) → SameStates (stored_by objects action) objects
-action_state objects (Write p new first) k = write_state objects p new (write_break objects p new first) k
-action_state objects _ k = refl
+-- what events tell leaves them so
+told_state : (objects : Objects) (b : Bool) (end : Next) → SameStates (behind objects (if b then stopped end ∷ [] else [])) objects
+told_state objects true end k = refl
+told_state objects false end k = refl
 
-pub states_stay : (objects : Objects) (told : List Seen) → SameStates (behind objects told) objects
-states_stay objects [] k = refl
-states_stay objects (asked action line f a ∷ told) k = states_stay (stored_by objects action) told k ∙ action_state objects action k
-states_stay objects (stopped end ∷ told) k = states_stay objects told k
+kind_state : (v : ℕ → ℕ) (d : List Node) (objects : Objects) (line f : ℕ) (kind : EventKind) → SameStates (behind objects (kind_seen v d line f kind)) objects
+kind_state v d objects line f (kinds.Draw bits answer) k = refl
+kind_state v d objects line f (kinds.Read object offset count answer) k =
+    ap (λ (os : Objects). state_at os k) (read_stored objects (pointer_to object offset) count (answers.Bytes (bytes_of_words count (map (value v d) answer))))
+kind_state v d objects line f (kinds.Write object offset bytes) k =
+    let p = pointer_to object offset in
+    let new = map (value v d) bytes in
+    ap (λ (os : Objects). state_at os k) (write_stored objects p new false answers.Done) ∙ write_state objects p new (write_break objects p new false) k
+kind_state v d objects line f kinds.Exit k = refl
+kind_state v d objects line f (kinds.Check class failing) k = told_state objects (holds (value v d failing)) (Broken class line f) k
+kind_state v d objects line f (kinds.Assume failing) k = told_state objects (holds (value v d failing)) Blocked k
+
+event_state : (v : ℕ → ℕ) (d : List Node) (objects : Objects) (e : Event) (b : Bool) → SameStates (behind objects (if b then kind_seen v d e.line e.function e.kind else [])) objects
+event_state v d objects e true k = kind_state v d objects e.line e.function e.kind k
+event_state v d objects e false k = refl
+
+pub states_stay : (v : ℕ → ℕ) (d : List Node) (objects : Objects) (es : List Event) → SameStates (behind objects (seen v d es)) objects
+states_stay v d objects [] k = refl
+states_stay v d objects (e ∷ es) k =
+    ap (λ (os : Objects). state_at os k) (behind_append objects (event_seen v d e) (seen v d es))
+    ∙ states_stay v d (behind objects (event_seen v d e)) es k ∙ event_state v d objects e (holds (value v d e.guard)) k
 
 -- so an access breaks the same
 pub same_break : (first second : Objects) (writes : Bool) (p n : ℕ) → SameStates first second → break_in first writes p n ≡ break_in second writes p n

@@ -9,7 +9,7 @@ use Rattle.word_dag.specs.declared.nodes.Id.{Id}
 use Rattle.word_dag.specs.declared.nodes.Node.{Node}
 use Rattle.word_dag.specs.Meaning.{value, holds}
 use Rattle.c_values.specs.Variables.{pointer_to}
-use Rattle.actions.specs.Objects.{Objects, break_in, write_break, after_write}
+use Rattle.actions.specs.Objects.{Objects, break_in}
 use Rattle.actions.specs.declared.action.Action.{Action}
 use Rattle.actions.specs.declared.action.Action.TheVariants as actions
 use Rattle.actions.specs.declared.action.Answer.{Answer}
@@ -23,9 +23,10 @@ use Rattle.guarded_ssa.specs.declared.forms.EventKind.TheVariants as kinds
 use Rattle.guarded_ssa.specs.Runs.{Run, stops, asks, bytes_of_words}
 use Rattle.guarded_ssa.specs.Arrivals.{Seen, stopped, read}
 use Rattle.guarded_ssa.specs.Forms.{kind_seen, event_seen, seen, run_read}
-use Rattle.guarded_ssa.specs.Accesses.{unless, checked, behind}
+use Rattle.guarded_ssa.specs.Accesses.{access_class, stored_by, unless, checked, behind}
 use Rattle.guarded_ssa.specs.Happenings.{words_given}
 use Rattle.guarded_ssa.specs.Turns.{drawn_words, turns}
+use Rattle.guarded_ssa.proofs.Accesses.{read_class, write_class}
 use Rattle.guarded_ssa.proofs.Behind.{store_at, store_next}
 use Rattle.trace_build.specs.Walking.{SameStates, IsWalk, IsEnd, WalksOn}
 use Rattle.trace_build.proofs.States.{same_break}
@@ -108,10 +109,13 @@ module _ (v : ℕ → ℕ) (d : List Node) (e : Event) (objects : Objects) where
       → words' ≡ words → schedule' ≡ schedule ++ 0 ∷ [] → IsWalk whole (told more) words schedule → WalksOn found whole (left more) words' schedule'
   goes_read store found whole more words schedule words' schedule' object offset count answer states on is found_is same_words same_turns walk =
       let p = pointer_to object offset in
-      let class : found ≡ option_map (λ class. check_of class e.line e.function 0) (break_in objects false p count) = found_is ∙ ap (option_map (λ class. check_of class e.line e.function 0)) (sym (same_break objects store false p count states)) in
+      let a = answers.Bytes (bytes_of_words count (map (value v d) answer)) in
+      let class : found ≡ option_map (λ class. check_of class e.line e.function 0) (access_class objects (actions.Read p count) a) =
+      found_is ∙ ap (option_map (λ class. check_of class e.line e.function 0)) (sym (read_class objects p count a ∙ same_break objects store false p count states)) in
+      let rest = checked (stored_by objects (actions.Read p count) a) (read more end) in
       by_seen (kinds.Read object offset count answer) found whole more words schedule words' schedule' on is (λ w.
-      subst (λ (f : Option Check). WalksOn f whole (checked objects (read more end)) words' schedule') (sym class)
-      (walk_access (break_in objects false p count) whole (checked objects (read more end)) (actions.Read p count) e.line e.function (answers.Bytes (bytes_of_words count (map (value v d) answer))) words schedule words' schedule' (λ drawn. refl) same_words same_turns w)) walk
+      subst (λ (f : Option Check). WalksOn f whole rest words' schedule') (sym class)
+      (walk_access (access_class objects (actions.Read p count) a) whole rest (actions.Read p count) e.line e.function a words schedule words' schedule' (λ drawn. refl) same_words same_turns w)) walk
 
   pub goes_written : (store : Objects) (found : Option Check) (whole : Run) (more : List Seen) (words schedule words' schedule' : List ℕ) (object offset count : ℕ) (bytes : List Id) → SameStates objects store → holds (value v d e.guard) ≡ true
       → e.kind ≡ kinds.Write object offset bytes → count ≡ length bytes → found ≡ option_map (λ class. check_of class e.line e.function 0) (break_in store true (pointer_to object offset) count)
@@ -120,12 +124,12 @@ module _ (v : ℕ → ℕ) (d : List Node) (e : Event) (objects : Objects) where
       let p = pointer_to object offset in
       let new = map (value v d) bytes in
       let long : count ≡ length new = count_is ∙ sym (length-map bytes (value v d)) in
-      let class : found ≡ option_map (λ class. check_of class e.line e.function 0) (write_break objects p new false) =
-      found_is ∙ ap (option_map (λ class. check_of class e.line e.function 0)) (sym (same_break objects store true p count states) ∙ ap (break_in objects true p) long) in
-      let rest = checked (after_write objects p new false) (read more end) in
+      let class : found ≡ option_map (λ class. check_of class e.line e.function 0) (access_class objects (actions.Write p new false) answers.Done) =
+      found_is ∙ ap (option_map (λ class. check_of class e.line e.function 0)) (sym (same_break objects store true p count states) ∙ ap (break_in objects true p) long ∙ sym (write_class objects p new false answers.Done)) in
+      let rest = checked (stored_by objects (actions.Write p new false) answers.Done) (read more end) in
       by_seen (kinds.Write object offset bytes) found whole more words schedule words' schedule' on is (λ w.
       subst (λ (f : Option Check). WalksOn f whole rest words' schedule') (sym class)
-      (walk_access (write_break objects p new false) whole rest (actions.Write p new false) e.line e.function answers.Done words schedule words' schedule' (λ drawn. refl) same_words same_turns w)) walk
+      (walk_access (access_class objects (actions.Write p new false) answers.Done) whole rest (actions.Write p new false) e.line e.function answers.Done words schedule words' schedule' (λ drawn. refl) same_words same_turns w)) walk
 
   -- behind an exit nothing breaks
   pub goes_exit : {P : Type 0} (whole : Run) (more : List Seen) (words schedule : List ℕ) → holds (value v d e.guard) ≡ true → e.kind ≡ kinds.Exit → IsWalk whole (told more) words schedule → P

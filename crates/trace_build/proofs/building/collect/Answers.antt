@@ -25,7 +25,7 @@ returns-in-Some c =
     let same : c.events-event-items.result.now ≡ es = c.events-event-items.ensures in
     let there : i < length es = omega (arith, ap (λ (xs : List Event). length xs) same) in
     let here : ev ≡ get_or es i ev = c.event-item.is ∙ ap (λ (xs : List Event). get_or xs i ev) same in
-    let states = subst (SameStates objects) (sym c.store.ensures) (states_stay f.store (seen v d (take i es))) in
+    let states = subst (SameStates objects) (sym c.store.ensures) (states_stay v d f.store (take i es)) in
     let made = c.in_ok-check.ensures whole (seen v d (drop (suc i) es)) objects states (walk_here v d objects es i ev whole c.walking.walk.words.items c.walking.walk.turns.items there here c.walking.invariant) in
     subst (λ (found : Option Check). WalksOn found whole (checked (store_at f.store d es (i + 1) v) (run_read v d (drop (i + 1) es))) c.step.new.self.words.items c.step.new.self.turns.items) c.in-Some.is
     (walk_next v d f.store es i ev c.in_ok-check.field-0 whole c.step.new.self.words.items c.step.new.self.turns.items there here made)
@@ -43,7 +43,7 @@ walking-preserved c =
     let same : c.events-event-items.result.now ≡ es = c.events-event-items.ensures in
     let there : i < length es = omega (arith, ap (λ (xs : List Event). length xs) same) in
     let here : ev ≡ get_or es i ev = c.event-item.is ∙ ap (λ (xs : List Event). get_or xs i ev) same in
-    let states = subst (SameStates objects) (sym c.store.ensures) (states_stay f.store (seen v d (take i es))) in
+    let states = subst (SameStates objects) (sym c.store.ensures) (states_stay v d f.store (take i es)) in
     let made = c.in_ok-check.ensures whole (seen v d (drop (suc i) es)) objects states (walk_here v d objects es i ev whole c.walking.walk.words.items c.walking.walk.turns.items there here c.walking.invariant) in
     subst (λ (found : Option Check). WalksOn found whole (checked (store_at f.store d es (i + 1) v) (run_read v d (drop (i + 1) es))) c.step.new.self.words.items c.step.new.self.turns.items) c.in_default.is
     (walk_next v d f.store es i ev c.in_ok-check.field-0 whole c.step.new.self.words.items c.step.new.self.turns.items there here made)
