@@ -243,8 +243,36 @@ fn constants_are_folded(rt: HostRuntime) -> Result<(), Fail> {
     assert!(rt; are_made(&mut dag, &FOLDED_FIRST));
     assert_eq!(rt; wrong_folding(&mut dag, &FOLDED), None);
     let chosen = made(&mut dag, Node::Choice(TRUE, FREE, SIX));
-    let count = FOLDED_FIRST.len() + FOLDED.len() - 1;
+    // Eleven of the nodes weren't there.
+    let count = FOLDED_FIRST.len() + 11;
     assert_eq!(rt; (chosen, dag.len()), (Some(FREE), count));
+    Ok(())
+}
+
+// The first row whose node is another one, or is added once more, where it is made again.
+fn made_again(dag: &mut Dag, rows: &[(Node, Node)]) -> Option<usize> {
+    for (i, (node, _)) in rows.iter().enumerate() {
+        let first = made(dag, *node);
+        let count = dag.len();
+        if made(dag, *node) != first || dag.len() != count {
+            return Some(i);
+        }
+    }
+    None
+}
+
+// Operands the other way round make another node.
+#[test]
+fn a_node_is_made_once(rt: HostRuntime) -> Result<(), Fail> {
+    let mut dag = Dag::new(rt.alloc());
+    assert!(rt; are_made(&mut dag, &FOLDED_FIRST));
+    assert_eq!(rt; made_again(&mut dag, &FOLDED), None);
+    let count = dag.len();
+    let turned = made(&mut dag, Node::Binary(BinaryOperator::And, NONE, FREE));
+    assert_eq!(rt;
+        (turned, dag.len().saturating_sub(count)),
+        (Some(Id { index: count }), 1)
+    );
     Ok(())
 }
 

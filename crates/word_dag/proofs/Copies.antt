@@ -7,11 +7,12 @@ use Rattle.word_dag.specs.declared.nodes.Id.{Id}
 use Rattle.word_dag.specs.declared.nodes.Node.{Node}
 use Rattle.word_dag.specs.declared.nodes.Node.TheVariants.{Cut, Quantify}
 use Rattle.word_dag.specs.declared.nodes.Quantifier.{Quantifier}
-use Rattle.word_dag.specs.Meaning.{bit_value, places, at_places, quantified, values, width, value}
-use Rattle.word_dag.specs.Fitting.{is_ordered}
-use Rattle.word_dag.specs.Growth.{Within, Extends, Makes, IsTruthValue, IsCopied, Quantifies, IsFitting}
+use Rattle.word_dag.specs.Meaning.{bit_value, places, at_places, quantified, widths, values, width, value}
+use Rattle.word_dag.specs.Fitting.{fits, is_ordered}
+use Rattle.word_dag.specs.Growth.{Within, Extends, Makes, MeansSame, IsTruthValue, IsCopied, Quantifies, IsFitting}
 use Rattle.word_dag.proofs.Bounds.{value_below}
-use Rattle.word_dag.proofs.Grown.{extends_itself, extends_more}
+use Rattle.word_dag.proofs.Grown.{extends_itself, extends_more, extends_push}
+use Rattle.word_dag.proofs.Shared.{made_behind, made_same, stands_last}
 use Rattle.word_dag.proofs.Places.{places_below, places_more, at_agree, only_bit}
 
 -- ---- one copy
@@ -19,14 +20,18 @@ use Rattle.word_dag.proofs.Places.{places_below, places_more, at_agree, only_bit
 pub copy_fits : (d : List Node) (i : Id) → IsTruthValue d i → IsFitting d (Cut i 0 1)
 copy_fits d i bit = (bit.there, omega arith, omega (arith, bit.width_is))
 
-pub copied_by : (d e : List Node) (i j : Id) → is_ordered d ≡ true → IsTruthValue d i → Makes d e (Cut i 0 1) j → j ≡ record { index = length d } → length e ≡ length d + 1 → IsCopied d e i
-copied_by d e i j ordered bit made last more = record {
-  count = more;
-  width_is = ap (width e) (sym last) ∙ made.width_is;
-  value_is = λ v.
-      ap (value v e) (sym last) ∙ made.value_is v
-      ∙ only_bit (value v d i) (subst (λ (w : ℕ). value v d i < 2 ^ w) bit.width_is (value_below v d i ordered bit.there));
-}
+-- m means what the cut means, and stands behind the nodes of d
+pub copied_by : (d e : List Node) (i : Id) (m : Node) (j : Id) → is_ordered d ≡ true → is_ordered e ≡ true → IsTruthValue d i → MeansSame d (Cut i 0 1) m → fits (widths d) m ≡ true → e ≡ d ++ m ∷ [] → j ≡ record { index = length d } → IsCopied d e i
+copied_by d e i m j ordered grown bit same fit more last =
+    let extends : Extends d e = subst (Extends d) (sym more) (extends_push d m) in
+    let made : Makes d e (Cut i 0 1) j = made_same d e (Cut i 0 1) m j same (made_behind d e m j extends grown fit (stands_last d e m j more last)) in
+    record {
+      count = ap length more ∙ length_push d m;
+      width_is = ap (width e) (sym last) ∙ made.width_is;
+      value_is = λ v.
+          ap (value v e) (sym last) ∙ made.value_is v
+          ∙ only_bit (value v d i) (subst (λ (w : ℕ). value v d i < 2 ^ w) bit.width_is (value_below v d i ordered bit.there));
+    }
 
 -- ---- copies of the first of some nodes
 

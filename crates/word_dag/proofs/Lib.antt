@@ -9,3 +9,5 @@ pub mod Steps
 pub mod Conditions
 pub mod Copies
 pub mod Truth
+pub mod Shared
+pub mod Same

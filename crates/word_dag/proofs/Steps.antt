@@ -1,5 +1,5 @@
 -- What the code of a graph rests on: its widths, its constants, and the node that it adds.
-use Rattle.std.proofs.Common.{◌≡◌, ℕ, ◌+◌, ◌<◌, ◌≤◌, true, false, IsTrue, is_ok, is_err, if◌then◌else◌, Result, Ok, Err, IfOk, OnOk, OnErr, List, [], ◌∷◌, ◌++◌, length, get_or, map, take, inl, inr, sym, ap, subst, ◌∙◌, arith}
+use Rattle.std.proofs.Common.{◌≡◌, ℕ, ◌+◌, ◌<◌, ◌≤◌, true, IsTrue, List, [], ◌∷◌, ◌++◌, length, get_or, map, take, sym, ap, subst, ◌∙◌, arith}
 use Rattle.std.proofs.lemmas.List.{get_or_read, take_more, take_all, length-map, map-append, get_or-map}
 use Rattle.words.specs.BitVector.{BitVector, word}
 use Rattle.word_dag.specs.declared.nodes.Id.{Id}
@@ -7,12 +7,12 @@ use Rattle.word_dag.specs.declared.nodes.Node.{Node}
 use Rattle.word_dag.specs.declared.nodes.Node.TheVariants.{Constant, Choice}
 use Rattle.word_dag.specs.Meaning.{node_width, node_value, widths, values, width, value}
 use Rattle.word_dag.specs.Fitting.{fits, is_ordered}
-use Rattle.word_dag.specs.Growth.{Within, Extends, Makes, Grows, IsDecided}
+use Rattle.word_dag.specs.Growth.{Within, Makes}
 use Rattle.word_dag.proofs.Folds.{length_widths, widths-push, values-push}
 use Rattle.word_dag.proofs.Operands.{IsWidth, chosen}
 use Rattle.word_dag.proofs.Order.{fits-at, ordered-push}
 use Rattle.word_dag.proofs.Bounds.{width_is_range}
-use Rattle.word_dag.proofs.Grown.{ConstantAt, constant_at, extends_itself, extends_push, makes_push, makes_constant, makes_first, makes_second}
+use Rattle.word_dag.proofs.Grown.{ConstantAt, constant_at, makes_first, makes_second}
 
 -- ---- reading
 
@@ -42,37 +42,13 @@ chosen_second d n c a b m k e f h q p =
 
 -- ---- adding
 
-pub extends_put : {E : Type 0} (r : Result Id E) (d e : List Node) (n : Node) → OnOk r (e ≡ d ++ n ∷ []) → OnErr r (e ≡ d) → Extends d e
-extends_put (Ok i) d e n h k = subst (Extends d) (sym h) (extends_push d n)
-extends_put (Err x) d e n h k = subst (Extends d) (sym k) (extends_itself d)
-
-pub grows_put : {E : Type 0} (r : Result Id E) (d e : List Node) (n : Node) → OnOk r (e ≡ d ++ n ∷ []) → OnErr r (e ≡ d) → Grows d e n
-grows_put (Ok i) d e n h k = inr (inl h)
-grows_put (Err x) d e n h k = inl k
-
-pub grows_folded : {E : Type 0} (r : Result Id E) (d e : List Node) (n : Node) (bits w : ℕ) → OnOk r (e ≡ d ++ Constant bits w ∷ []) → OnErr r (e ≡ d) → Grows d e n
-grows_folded (Ok i) d e n bits w h k = inr (inr (bits, w, h))
-grows_folded (Err x) d e n bits w h k = inl k
-
-pub makes_put : {E : Type 0} (r : Result Id E) (d e : List Node) (n : Node) → OnOk r (e ≡ d ++ n ∷ []) → IfOk r (λ i. i ≡ record { index = length d }) → IfOk r (Makes d e n)
-makes_put (Ok i) d e n h k =
-    subst (λ (xs : List Node). Makes d xs n i) (sym h) (subst (λ (j : Id). Makes d (d ++ n ∷ []) n j) (sym k) (makes_push d n))
-makes_put (Err x) d e n h k = tt
-
-pub makes_folded : {E : Type 0} (r : Result Id E) (d e : List Node) (n : Node) (w : BitVector) (bits u : ℕ) → OnOk r (e ≡ d ++ Constant bits u ∷ []) → IfOk r (λ i. i ≡ record { index = length d }) → IsDecided d n w → bits ≡ w.bits → u ≡ w.width → IfOk r (Makes d e n)
-makes_folded (Ok i) d e n w bits u h k x p q =
-    subst (λ (xs : List Node). Makes d xs n i) (sym (h ∙ (λ j. d ++ Constant (p j) (q j) ∷ [])))
-    (subst (λ (j : Id). Makes d (d ++ Constant w.bits w.width ∷ []) n j) (sym k) (makes_constant d n w x))
-makes_folded (Err x) d e n w bits u h k y p q = tt
-
-pub graph_put : {A B : Type 0} (r : Result A B) (ns d ms : List Node) (n : Node) (ws us : List ℕ) (w : ℕ) → is_err r ≡ false → IsTrue (is_ordered ns) → ws ≡ widths ns → ns ≡ d → IsTrue (fits (widths d) n) → w ≡ node_width (widths d) n → us ≡ ws ++ w ∷ [] → ms ≡ (if is_ok r then ns ++ n ∷ [] else ns) → IsTrue (is_ordered ms) × (us ≡ widths ms)
-graph_put (Ok x) ns d ms n ws us w h o e v f g p q =
+pub graph_put : (ns d ms : List Node) (n : Node) (ws us : List ℕ) (w : ℕ) → IsTrue (is_ordered ns) → ws ≡ widths ns → ns ≡ d → IsTrue (fits (widths d) n) → w ≡ node_width (widths d) n → us ≡ ws ++ w ∷ [] → ms ≡ ns ++ n ∷ [] → IsTrue (is_ordered ms) × (us ≡ widths ms)
+graph_put ns d ms n ws us w o e v f g p q =
     let fit : IsTrue (fits (widths ns) n) = subst (λ (xs : List Node). IsTrue (fits (widths xs) n)) (sym v) f in
     let wide : w ≡ node_width (widths ns) n = g ∙ ap (λ (xs : List Node). node_width (widths xs) n) (sym v) in (
       subst (λ (xs : List Node). IsTrue (is_ordered xs)) (sym q) (ordered-push ns n o fit),
       p ∙ (λ k. e k ++ wide k ∷ []) ∙ sym (widths-push ns n) ∙ ap widths (sym q),
     )
-graph_put (Err x) ns d ms n ws us w h o e v f g p q = cc
 
 -- ---- the words of the nodes
 

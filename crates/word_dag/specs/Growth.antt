@@ -63,9 +63,23 @@ pub record Quantifies (d e : List Node) (q : Quantifier) (ids : List Id) (i : Id
 abbrev pub Grows : List Node → List Node → Node → Type 0
 Grows d e n = (e ≡ d) ⊎ ((e ≡ d ++ n ∷ []) ⊎ ((bits : ℕ) × (w : ℕ) × (e ≡ d ++ Constant bits w ∷ [])))
 
--- e is d with one more node, a constant
-abbrev pub GrowsByConstant : List Node → List Node → Type 0
-GrowsByConstant d e = (bits : ℕ) × (w : ℕ) × (e ≡ d ++ Constant bits w ∷ [])
+-- the node i is n itself
+abbrev pub Stands : List Node → Node → Id → Type 0
+Stands d n i = Within d i × (slice_index_or d i.index n ≡ n)
+
+-- n is one of the nodes
+abbrev pub IsNode : List Node → Node → Type 0
+IsNode d n = (i : Id) × Stands d n i
+
+-- e is d where n is one of its nodes, and else d with n behind it
+pub record Shares (d e : List Node) (n : Node) : Type 0 where
+  pub there : IsNode d n → e ≡ d
+  pub added : (IsNode d n → ⊥) → e ≡ d ++ n ∷ []
+
+-- behind the nodes of d both mean the same
+pub record MeansSame (d : List Node) (n m : Node) : Type 0 where
+  pub width_is : node_width (widths d) m ≡ node_width (widths d) n
+  pub value_is : (v : ℕ → ℕ) → node_value v (widths d) (values v d) m ≡ node_value v (widths d) (values v d) n
 
 -- the word is what n means behind the nodes of d, whatever the variables are
 pub record IsDecided (d : List Node) (n : Node) (w : BitVector) : Type 0 where

@@ -27,28 +27,40 @@ ghost use Rattle.std.specs.Prelude.{
   OnErr,
   All,
   ◌==◌,
+  true,
+  Some,
+  None,
+  IfNone,
+  ◌⊎◌,
+  vec_len,
+  vec_capacity,
 };
 ghost use Rattle.std.specs.List.{list_all};
 ghost use Rattle.words.specs.BitVector.{BitVector, word};
 ghost use Rattle.word_dag.specs.Meaning.{node_width, node_value, widths, values, width, value, valuation_of};
 ghost use Rattle.word_dag.specs.Fitting.{is_width, is_there, are_alike, are_bits, fits, is_ordered};
-ghost use Rattle.word_dag.specs.Folding.{is_constant, folds, chooses};
-ghost use Rattle.word_dag.specs.Growth.{Within, Extends, Makes, Quantifies, IsTruthValue, IsCopied, Grows, GrowsByConstant, IsDecided, IsFitting};
+ghost use Rattle.word_dag.specs.Folding.{is_literal, is_constant, folds, chooses};
+ghost use Rattle.word_dag.specs.Index.{IsIndex, IsNoted};
+ghost use Rattle.word_dag.specs.Growth.{Within, IsNode, Stands, Shares, Extends, Makes, Quantifies, IsTruthValue, IsCopied, Grows, MeansSame, IsDecided, IsFitting};
 
 use crate::evaluate;
 use crate::nodes::{Id, Node, Quantifier};
 use crate::valuations::Valuation;
+use indexmap::IndexMap;
 use std::alloc::{AllocError, Global};
 use std::marker::Model;
 use words::Word;
 
 /// A graph of operations on words: a list of nodes, each of which has earlier nodes as operands, of
-/// fitting widths. A node that is made keeps its Id, its width and its meaning.
+/// fitting widths. A node that is made keeps its Id, its width and its meaning, and one that is there is not
+/// made again.
 #[derive(Drop)]
 pub struct Dag {
     nodes: Vec<Node>,
     // The width of each node.
     node_widths: Vec<u32>,
+    // A place of each node.
+    places: IndexMap<Node, usize>,
 }
 
 impl Model for Dag {
@@ -56,12 +68,13 @@ impl Model for Dag {
     ghost use Rattle.word_dag.specs.declared.nodes.Node.{Node};
     ghost use Rattle.word_dag.specs.Meaning.{widths};
     ghost use Rattle.word_dag.specs.Fitting.{is_ordered};
+    ghost use Rattle.word_dag.specs.Index.{IsIndex};
 
     ghost Value = { List Node };
 
     ghost view = { λ d. d.nodes.items };
 
-    ghost invariant = { λ d. IsTrue (is_ordered d.nodes.items) × (d.node_widths.items ≡ widths d.nodes.items) };
+    ghost invariant = { λ d. IsTrue (is_ordered d.nodes.items) × (d.node_widths.items ≡ widths d.nodes.items) × IsIndex ⟦<Node as PartialEq>⟧.eq d.nodes.items d.places };
 }
 
 impl Dag {
@@ -72,6 +85,7 @@ impl Dag {
         Dag {
             nodes: Vec::new(alloc),
             node_widths: Vec::new(alloc),
+            places: IndexMap::new(alloc),
         }
     }
 
@@ -116,29 +130,26 @@ impl Dag {
     }
 
     /// Makes a node, and gives its Id. A node of constants, other than one over a list, is made as the
-    /// constant that it comes to, the one node that is added, and for a choice by a constant the Id of the
-    /// chosen operand is given and nothing is added. Any other node is added as it is, and no other. The
-    /// only error is that there is no memory; the graph is then unchanged.
+    /// constant that it comes to, and for a choice by a constant the Id of the chosen operand is given. A
+    /// node that is there already is not added again: its Id is given. Any other is added as it is, and
+    /// nothing else. The only error is that there is no memory; the graph is then unchanged.
     pub fn make(&mut self, node: Node) -> Result<Id, AllocError>
         requires { IsFitting self.old node }
         ensures extends { Extends self.old self.new }
         ensures made { IfOk result (Makes self.old self.new node) }
         ensures grows { Grows self.old self.new node }
         ensures folded { IsTrue (folds self.old node) → IfOk result (λ i. IsTrue (is_constant self.new i)) }
-        ensures constant { IsTrue (folds self.old node) → OnOk result (GrowsByConstant self.old self.new) }
+        ensures constant { IsTrue (folds self.old node) → OnOk result ((n : Node) × (is_literal n ≡ true) × Shares self.old self.new n) }
         ensures chosen { IsTrue (chooses self.old node) → self.new ≡ self.old }
-        ensures plain { IsFalse (folds self.old node) → IsFalse (chooses self.old node) → OnOk result (self.new ≡ self.old ++ node ∷ []) }
-        ensures last { IsFalse (chooses self.old node) → IfOk result (λ i. i ≡ record { index = length self.old }) }
-        ensures one_more { IsFalse (chooses self.old node) → OnOk result (length self.new ≡ length self.old + 1) }
+        ensures plain { IsFalse (folds self.old node) → IsFalse (chooses self.old node) → IfOk result (Stands self.new node) }
+        ensures shared { IsFalse (folds self.old node) → IsFalse (chooses self.old node) → OnOk result (Shares self.old self.new node) }
         ensures err { OnErr result (self.new ≡ self.old) }
     {
         if let Some(id) = self.chosen(node) {
             return Ok(id);
         }
-        match self.folded(node) {
-            Some(word) => self.put(Node::Constant(word.bits(), word.width())),
-            None => self.put(node),
-        }
+        let reduced = self.reduced(node);
+        self.kept(reduced)
     }
 
     /// Makes a node that tells whether all, or any, of these truth values are true: copies of them, one
@@ -156,15 +167,56 @@ impl Dag {
         Ok(made)
     }
 
-    // Adds a node that has the value of this truth value.
+    // Adds a node that has the value of this truth value, be there such a node or not.
     fn copy(&mut self, id: Id) -> Result<(), AllocError>
         requires { IsTruthValue self.old id }
         ensures extends { Extends self.old self.new }
         ensures copied { OnOk result (IsCopied self.old self.new id) }
     {
         let _ = self.nodes();
-        self.make(Node::Cut(id, 0, 1))?;
+        let copy = self.reduced(Node::Cut(id, 0, 1));
+        self.put(copy)?;
         Ok(())
+    }
+
+    // The constant that a node comes to, or else the node.
+    fn reduced(&self, node: Node) -> Node
+        requires { IsTrue (fits (widths self.now) node) }
+        ensures fits { IsTrue (fits (widths self.now) result) }
+        ensures same { MeansSame self.now node result }
+        ensures constant { IsTrue (folds self.now node) → IsTrue (is_literal result) }
+        ensures plain { IsFalse (folds self.now node) → result ≡ node }
+        ensures either { (result ≡ node) ⊎ IsTrue (is_literal result) }
+    {
+        match self.folded(node) {
+            Some(word) => Node::Constant(word.bits(), word.width()),
+            None => node,
+        }
+    }
+
+    // The Id of this very node, which is added where it isn't there.
+    fn kept(&mut self, node: Node) -> Result<Id, AllocError>
+        requires { IsTrue (fits (widths self.old) node) }
+        ensures id { IfOk result (Stands self.new node) }
+        ensures shares { OnOk result (Shares self.old self.new node) }
+        ensures grows { (self.new ≡ self.old) ⊎ (self.new ≡ self.old ++ node ∷ []) }
+        ensures ordered { IsTrue (is_ordered self.new) }
+        ensures err { OnErr result (self.new ≡ self.old) }
+    {
+        match self.place(node) {
+            Some(id) => Ok(id),
+            None => self.put(node),
+        }
+    }
+
+    // A place of this very node, where it is there.
+    fn place(&self, node: Node) -> Option<Id>
+        ensures there { IfSome result (λ i. Stands self.now node i) }
+        ensures none { IfNone result (IsNode self.now node → ⊥) }
+        ensures ordered { IsTrue (is_ordered self.now) }
+    {
+        let index = self.places.get(&node)?;
+        Some(Id { index: *index })
     }
 
     /// The word of each node where the variables have these values.
@@ -224,16 +276,17 @@ impl Dag {
         ensures ok { OnOk result (self.new ≡ self.old ++ node ∷ []) }
         ensures id { IfOk result (λ i. i ≡ record { index = length self.old }) }
         ensures err { OnErr result (self.new ≡ self.old) }
+        ensures ordered { IsTrue (is_ordered self.new) }
     {
         let id = Id {
             index: self.nodes.len(),
         };
         let width = self.width_of(node);
-        self.node_widths.push(width)?;
-        if self.nodes.push(node).is_err() {
-            self.node_widths.pop();
-            return Err(AllocError);
-        }
+        self.nodes.reserve(1)?;
+        self.node_widths.reserve(1)?;
+        note(&mut self.places, node, id.index)?;
+        add(&mut self.node_widths, width);
+        add(&mut self.nodes, node);
         Ok(id)
     }
 
@@ -355,6 +408,29 @@ impl Dag {
             )),
         }
     }
+}
+
+// Adds an item where there is room for it.
+fn add<T: Copy>(items: &mut Vec<T>, item: T)
+    requires { vec_len items.old < vec_capacity items.old }
+    ensures { items.new.items ≡ items.old.items ++ item ∷ [] }
+{
+    match items.push(item) {
+        Ok(()) => {}
+        Err(_) => unreachable!(),
+    }
+}
+
+// Notes the place of a node that has none yet.
+fn note(places: &mut IndexMap<Node, usize>, node: Node, place: usize) -> Result<(), AllocError>
+    ensures ok { OnOk result (IsNoted ⟦<Node as PartialEq>⟧.eq places.old places.new node place) }
+    ensures err { OnErr result (places.new.entries ≡ places.old.entries) }
+{
+    if places.contains_key(&node) {
+        return Ok(());
+    }
+    places.insert(node, place)?;
+    Ok(())
 }
 
 // Whether each number is 1.

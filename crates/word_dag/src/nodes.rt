@@ -1,13 +1,13 @@
 //! What a node is.
 
 /// The place of a node among the nodes of its graph, from 0.
-#[derive(Clone, Copy, Debug, PartialEq, Eq)]
+#[derive(Clone, Copy, Debug, PartialEq, Eq, Hash)]
 pub struct Id {
     pub index: usize,
 }
 
 /// An operation on two words of one width that gives a word of that width.
-#[derive(Clone, Copy, PartialEq, Eq)]
+#[derive(Clone, Copy, PartialEq, Eq, Hash)]
 pub enum BinaryOperator {
     /// The sum modulo 2 ^ width (C11 6.5.6p5).
     Add,
@@ -34,7 +34,7 @@ pub enum BinaryOperator {
 }
 
 /// A shift (C11 6.5.7). Where the count is at least the width, the value is 0.
-#[derive(Clone, Copy, PartialEq, Eq)]
+#[derive(Clone, Copy, PartialEq, Eq, Hash)]
 pub enum ShiftKind {
     /// The bits moved up, zeros coming in (C11 6.5.7p4).
     Left,
@@ -46,7 +46,7 @@ pub enum ShiftKind {
 }
 
 /// A test of two words of one width.
-#[derive(Clone, Copy, PartialEq, Eq)]
+#[derive(Clone, Copy, PartialEq, Eq, Hash)]
 pub enum Comparison {
     /// Whether they are equal (C11 6.5.9p3).
     Equal,
@@ -57,7 +57,7 @@ pub enum Comparison {
 }
 
 /// A test of whether a result on signed numbers is in the range of the operands' width (C11 6.5p5).
-#[derive(Clone, Copy, PartialEq, Eq)]
+#[derive(Clone, Copy, PartialEq, Eq, Hash)]
 pub enum FitsTest {
     /// Whether the sum is in range.
     Sum,
@@ -71,7 +71,7 @@ pub enum FitsTest {
 }
 
 /// What a node over a list of truth values asks.
-#[derive(Clone, Copy, PartialEq, Eq)]
+#[derive(Clone, Copy, PartialEq, Eq, Hash)]
 pub enum Quantifier {
     /// Whether each is true.
     All,
@@ -81,7 +81,7 @@ pub enum Quantifier {
 
 /// A word by its operation on earlier nodes. Widths are from 1 to 64; a truth value is a word of
 /// width 1, which is 1 for true.
-#[derive(Clone, Copy, PartialEq, Eq)]
+#[derive(Clone, Copy, PartialEq, Eq, Hash)]
 pub enum Node {
     /// These bits, below 2 ^ width, at this width.
     Constant(u64, u32),
