@@ -1,6 +1,6 @@
 //! What a conflict teaches: the first unique implication point, with the clauses that it comes from (1UIP).
 
-ghost use Rattle.std.specs.Prelude.{◌≡◌, ℕ, suc, ◌+◌, ◌<◌, ◌≤◌, ◌⊎◌, min, max, Bool, List, [], ◌∷◌, ◌++◌, None, Some, length, reverse, slice_get, IsSome, IsSomeAnd, IfOk, OnOk};
+ghost use Rattle.std.specs.Prelude.{◌≡◌, ◌≢◌, ℕ, suc, ◌+◌, ◌<◌, ◌≤◌, ◌⊎◌, min, max, Bool, List, [], ◌∷◌, ◌++◌, None, Some, length, reverse, slice_get, IsSome, IsSomeAnd, IfOk, OnOk};
 ghost use Rattle.sat_form.specs.Satisfaction.{Literal, IsWithin, AreWithin};
 ghost use Rattle.cdcl_core.specs.Steps.{known_value, oldest, AreFresh, decision_places};
 ghost use Rattle.cdcl_core.specs.Settled.{AreFalse, IsReason, AreJustified, AreSettled};
@@ -90,6 +90,7 @@ impl Analysis {
         numbers.push(conflict)?;
         self.mark_clause(trail, &clauses[conflict], count)?;
         self.resolve_newest(trail, clauses, &mut numbers)?;
+        self.minimise(alloc, trail, clauses, &mut numbers)?;
         self.resolve_first(trail, clauses, &mut numbers)?;
         numbers.reverse();
         let hints = Hints::from_numbers(numbers);
@@ -196,7 +197,7 @@ impl Analysis {
         requires clear { IsClear trail.now.variables self.old }
         requires fresh { AreFresh trail.now.variables trail.now.steps }
         requires reached { IsReached trail.now.steps self.old }
-        requires place { (place < self.old.first) ⊎ (self.old.low < place) }
+        requires apart { place ≢ self.old.low }
         requires high { place ≤ self.old.high }
         requires cut { IsCut clauses.now trail.now.steps (suc place) self.old.marked.items (reverse numbers.old.items) }
         requires step { oldest (suc place) trail.now.steps ≡ step ∷ oldest place trail.now.steps }
@@ -274,6 +275,124 @@ impl Analysis {
         Ok(())
     }
 
+    /// Leaves out of the clause the literals of steps between the first decision and the newest that another clause gives from
+    /// those that stay and from level 0.
+    fn minimise(
+        &mut self,
+        alloc: Global,
+        trail: &Trail,
+        clauses: &[Clause],
+        numbers: &mut Vec<usize>,
+    ) -> Result<(), AllocError>
+        requires within { AreWithin trail.now.variables clauses.now }
+        requires clear { IsClear trail.now.variables self.old }
+        requires fresh { AreFresh trail.now.variables trail.now.steps }
+        requires justified { AreJustified clauses.now trail.now.steps }
+        requires reached { IsReached trail.now.steps self.old }
+        requires cut { IsCut clauses.now trail.now.steps self.old.high self.old.marked.items (reverse numbers.old.items) }
+        requires single { self.old.high ≤ suc self.old.low }
+        ensures clear { OnOk result (IsClear trail.now.variables self.new) }
+        ensures reached { OnOk result (IsReached trail.now.steps self.new) }
+        ensures places { OnOk result ((self.new.first ≡ self.old.first) × (self.new.newest ≡ self.old.newest) × (self.new.low ≤ self.old.low)) }
+        ensures cut { OnOk result (IsCut clauses.now trail.now.steps self.new.first self.new.marked.items (reverse numbers.new.items)) }
+        ensures single { OnOk result (self.new.high ≤ suc self.new.low) }
+    {
+        let places = self.places_between(alloc, trail)?;
+        let mut bound = self.newest;
+        for place in &places {
+            if self.first <= *place && *place < bound {
+                bound = *place;
+                self.leave_out(trail, clauses, numbers, *place)?;
+            }
+        }
+        Ok(())
+    }
+
+    /// The places of the marked steps between the first decision and the newest, the newest first.
+    fn places_between(&self, alloc: Global, trail: &Trail) -> Result<Vec<usize>, AllocError> {
+        let mut places = Vec::new(alloc);
+        for variable in &self.touched {
+            if self.is_marked(*variable) && *variable < trail.variables() {
+                if let Some(place) = trail.place_of(*variable) {
+                    if self.first <= place && place < self.newest {
+                        places.push(place)?;
+                    }
+                }
+            }
+        }
+        places.sort_unstable();
+        places.reverse();
+        Ok(places)
+    }
+
+    /// Whether a variable is marked.
+    fn is_marked(&self, variable: usize) -> bool {
+        match self.marked.get(variable) {
+            Some(marked) => *marked,
+            None => false,
+        }
+    }
+
+    /// Takes the mark of the step at a place away, if its reason's other literals are marked or of level 0.
+    fn leave_out(
+        &mut self,
+        trail: &Trail,
+        clauses: &[Clause],
+        numbers: &mut Vec<usize>,
+        place: usize,
+    ) -> Result<(), AllocError>
+        requires within { AreWithin trail.now.variables clauses.now }
+        requires clear { IsClear trail.now.variables self.old }
+        requires fresh { AreFresh trail.now.variables trail.now.steps }
+        requires justified { AreJustified clauses.now trail.now.steps }
+        requires reached { IsReached trail.now.steps self.old }
+        requires place { place < self.old.newest }
+        requires cut { IsCut clauses.now trail.now.steps (suc place) self.old.marked.items (reverse numbers.old.items) }
+        ensures clear { OnOk result (IsClear trail.now.variables self.new) }
+        ensures reached { OnOk result (IsReached trail.now.steps self.new) }
+        ensures reaches { OnOk result (Reaches place self.old self.new) }
+        ensures cut { OnOk result (IsCut clauses.now trail.now.steps place self.new.marked.items (reverse numbers.new.items)) }
+    {
+        if let Some(step) = trail.step_at(place) {
+            if !step.decision && self.marked[step.literal.variable() as usize] {
+                if let Some(reason) = step.reason {
+                    if self.is_implied(trail, clauses, reason, step.literal) {
+                        return self.replace(trail, clauses, numbers, place, step, reason);
+                    }
+                }
+            }
+        }
+        Ok(())
+    }
+
+    /// Whether the other literals of a literal's reason are marked or of level 0.
+    fn is_implied(&self, trail: &Trail, clauses: &[Clause], reason: usize, literal: Lit) -> bool {
+        let Some(clause) = clauses.get(reason) else {
+            return false;
+        };
+        for other in clause.literals() {
+            if *other != literal && !self.is_kept(trail, other.variable() as usize) {
+                return false;
+            }
+        }
+        true
+    }
+
+    /// Whether a variable is marked or has its value from level 0.
+    fn is_kept(&self, trail: &Trail, variable: usize) -> bool {
+        if self.is_marked(variable) {
+            return true;
+        }
+        if variable < trail.variables() {
+            match trail.place_of(variable) {
+                Some(place) => place < self.first,
+                None => false,
+            }
+        } else {
+            false
+        }
+    }
+
     /// Traces the conflict through level 0, so that none of its steps is marked.
     fn resolve_first(
         &mut self,
@@ -286,7 +405,7 @@ impl Analysis {
         requires fresh { AreFresh trail.now.variables trail.now.steps }
         requires justified { AreJustified clauses.now trail.now.steps }
         requires reached { IsReached trail.now.steps self.old }
-        requires cut { IsCut clauses.now trail.now.steps self.old.high self.old.marked.items (reverse numbers.old.items) }
+        requires cut { IsCut clauses.now trail.now.steps self.old.first self.old.marked.items (reverse numbers.old.items) }
         requires single { self.old.high ≤ suc self.old.low }
         ensures clear { OnOk result (IsClear trail.now.variables self.new) }
         ensures reached { OnOk result (IsReached trail.now.steps self.new) }

@@ -49,9 +49,9 @@ returns-in_ok-clause-in-Some-clause-lesson c =
     let numbers : List ℕ = c.from_numbers-hints.result in
     let named : numbers ≡ reverse c.resolve_first.new.numbers.items = c.from_numbers-hints.ensures ∙ c.reverse.ensures.items in
     let is_first : a.first ≡ first =
-    c.in_ok-resolve_first.ensures.places.0 ∙ c.in_ok-resolve_newest.ensures.places.0 ∙ c.in_ok-mark_clause.ensures.reaches.first ∙ c.begin.ensures.places.0 in
+    c.in_ok-resolve_first.ensures.places.0 ∙ c.in_ok-minimise.ensures.places.0 ∙ c.in_ok-resolve_newest.ensures.places.0 ∙ c.in_ok-mark_clause.ensures.reaches.first ∙ c.begin.ensures.places.0 in
     let is_newest : a.newest ≡ newest =
-    c.in_ok-resolve_first.ensures.places.1 ∙ c.in_ok-resolve_newest.ensures.places.1 ∙ c.in_ok-mark_clause.ensures.reaches.newest ∙ c.begin.ensures.places.1 in
+    c.in_ok-resolve_first.ensures.places.1 ∙ c.in_ok-minimise.ensures.places.1 ∙ c.in_ok-resolve_newest.ensures.places.1 ∙ c.in_ok-mark_clause.ensures.reaches.newest ∙ c.begin.ensures.places.1 in
     subst (λ (l : Literal). IsLearned n clauses steps c.in_ok-clause-in-Some.clause l numbers) (sym c.inverse.ensures)
     (IsLearned-at_end n clauses steps c.args.decisions.now c.len-count.result first newest a numbers s c.in_ok-clause-in-Some.clause
     c.requires.fresh c.requires.settled c.requires.places c.len-count.ensures.is c.ends_of-first.ensures is_first is_newest
@@ -74,14 +74,14 @@ returns-in-None-clause-lesson c =
     let numbers : List ℕ = c.from_numbers-hints.result in
     let named : numbers ≡ reverse c.resolve_first.new.numbers.items = c.from_numbers-hints.ensures ∙ c.reverse.ensures.items in
     let is_first : a.first ≡ first =
-    c.in_ok-resolve_first.ensures.places.0 ∙ c.in_ok-resolve_newest.ensures.places.0 ∙ c.in_ok-mark_clause.ensures.reaches.first ∙ c.begin.ensures.places.0 in
+    c.in_ok-resolve_first.ensures.places.0 ∙ c.in_ok-minimise.ensures.places.0 ∙ c.in_ok-resolve_newest.ensures.places.0 ∙ c.in_ok-mark_clause.ensures.reaches.first ∙ c.begin.ensures.places.0 in
     let b_newest : b.newest ≡ newest = c.in_ok-mark_clause.ensures.reaches.newest ∙ c.begin.ensures.places.1 in
-    let is_newest : a.newest ≡ newest = c.in_ok-resolve_first.ensures.places.1 ∙ c.in_ok-resolve_newest.ensures.places.1 ∙ b_newest in
+    let is_newest : a.newest ≡ newest = c.in_ok-resolve_first.ensures.places.1 ∙ c.in_ok-minimise.ensures.places.1 ∙ c.in_ok-resolve_newest.ensures.places.1 ∙ b_newest in
     IsRefuted-at_end n clauses steps c.args.decisions.now c.len-count.result first newest a b numbers c.args.conflict c.index-clauses-conflict.result c.begin.new.self.marked.items
     c.requires.fresh c.requires.settled c.requires.places c.len-count.ensures.is c.ends_of-first.ensures is_first is_newest
     c.in_ok-resolve_first.ensures.reached c.in_ok-resolve_first.ensures.single c.in_ok-resolve_first.ensures.none
     (subst (IsCut clauses steps a.top a.marked.items) (sym named) c.in_ok-resolve_first.ensures.cut)
     c.requires.conflict (λ d found. c.index-clauses-conflict.is ∙ get_or_from_slice_get clauses c.args.conflict d c.index-clauses-conflict.result found)
     c.in_ok-mark_clause.ensures.marks c.in_ok-mark_clause.ensures.reached b_newest
-    (omega (arith, c.in_ok-resolve_first.ensures.places.2, c.in_ok-resolve_newest.ensures.places.2))
+    (omega (arith, c.in_ok-resolve_first.ensures.places.2, c.in_ok-minimise.ensures.places.2, c.in_ok-resolve_newest.ensures.places.2))
     (past_end a.low (length steps) c.in-None.ensures.found.1)

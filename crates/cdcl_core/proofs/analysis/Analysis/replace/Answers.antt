@@ -12,17 +12,13 @@ use Rattle.cdcl_core.proofs.Marking.{IsReached-cleared}
 use Rattle.cdcl_core.proofs.Cutting.{IsCut-replaced, off-replaced}
 use Rattle.cdcl_core.proofs.analysis.Analysis.replace.Goals as goal
 
-not_low : (place first newest low : ℕ) → (place < first) ⊎ (low < place) → first ≤ newest → newest ≤ low → place ≢ low
-not_low place first newest low (inl early) x y same = omega (arith, early, x, y, same)
-not_low place first newest low (inr late) x y same = omega (arith, late, same)
-
 pub mark_clause-requires-clause-reached : goal.mark_clause-requires-clause-reached
 mark_clause-requires-clause-reached c =
     let a : Analysis = c.args.self.now in
     let steps : List Step = c.args.trail.now.steps in
     IsReached-cleared steps a (with_item a.marked c.variable.result false) c.variable.result c.args.place refl
     (ap (known_place steps) c.variable.ensures.is ∙ place_of-step c.args.trail.now.variables c.args.place steps c.args.step c.requires.fresh c.requires.step)
-    (not_low c.args.place a.first a.newest a.low c.requires.place c.requires.reached.first c.requires.reached.newest) c.requires.reached
+    c.requires.apart c.requires.reached
 
 pub returns-clause-cut : goal.returns-clause-cut
 returns-clause-cut c =

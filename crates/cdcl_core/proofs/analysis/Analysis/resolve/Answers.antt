@@ -1,4 +1,4 @@
-use Rattle.std.proofs.Common.{◌≡◌, ℕ, suc, ◌<◌, ◌≤◌, ◌⊎◌, inl, inr, false, List, Option, Some, None, get_or, refl, sym, ◌∙◌, subst, arith}
+use Rattle.std.proofs.Common.{◌≡◌, ◌≢◌, ℕ, suc, ◌<◌, ◌≤◌, ◌⊎◌, inl, inr, false, List, Option, Some, None, get_or, refl, sym, ◌∙◌, subst, arith}
 use Rattle.std.specs.Prelude.{IsSomeAnd}
 use Rattle.std.proofs.lemmas.Bool.{cases_Bool, true≢false}
 use Rattle.cdcl_core.specs.declared.trail.Step.{Step}
@@ -20,6 +20,14 @@ no_decision steps a place s r where_ at =
           let between : (a.first ≤ place) × (place ≤ a.newest) = r.decisions place s at decides in
           absurd (elim where_ [ inl early ↦ omega (arith, early, between.0) | inr late ↦ omega (arith, late, between.1, r.newest) ])
     ]
+
+not_low : (place first newest low : ℕ) → (place < first) ⊎ (low < place) → first ≤ newest → newest ≤ low → place ≢ low
+not_low place first newest low (inl early) x y same = omega (arith, early, x, y, same)
+not_low place first newest low (inr late) x y same = omega (arith, late, same)
+
+pub replace-requires-clause-apart : goal.replace-requires-clause-apart
+replace-requires-clause-apart c =
+    let a : Analysis = c.args.self.now in not_low c.args.place a.first a.newest a.low c.requires.place c.requires.reached.first c.requires.reached.newest
 
 pub replace-requires-clause-reason : goal.replace-requires-clause-reason
 replace-requires-clause-reason c =

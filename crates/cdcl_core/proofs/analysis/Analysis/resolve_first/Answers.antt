@@ -12,8 +12,7 @@ loop-self-init c =
       first = refl;
       newest = refl;
       low = omega arith;
-      cut = IsCut-fewer c.args.clauses.now c.args.trail.now.steps a.high a.top a.marked.items (reverse c.args.numbers.now.items)
-          (omega (arith, c.requires.reached.top, c.requires.reached.first, c.requires.reached.newest, c.requires.reached.low)) c.requires.cut;
+      cut = IsCut-fewer c.args.clauses.now c.args.trail.now.steps a.first a.top a.marked.items (reverse c.args.numbers.now.items) c.requires.reached.top c.requires.cut;
       single = c.requires.single;
     }
 
