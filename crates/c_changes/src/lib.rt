@@ -9,5 +9,4 @@ pub use activations::{close_activation, first_left, open_activation};
 pub use answered::answer_task;
 pub use stacks::{
     change_numbers, change_structures, change_tasks, change_variables, cut_items, push_back,
-    take_caller,
 };

@@ -1,16 +1,18 @@
 //! What is to be done and the numbers that wait, as stacks.
 
-ghost use Rattle.std.specs.Prelude.{◌≡◌, ◌+◌, ◌<◌, ◌≤◌, ◌∷◌, true, false, [], ◌++◌, length, slice_index, vec_len, vec_capacity, IsSome, MatchOption};
+ghost use Rattle.std.specs.Prelude.{◌≡◌, ◌+◌, ◌-◌, ◌<◌, ◌≤◌, ◌∷◌, true, false, None, ◌++◌, drop, length, slice_index, vec_len, vec_capacity, IsNone, IsSome, MatchOption};
 ghost use Rattle.core_tree.specs.Typed.{is_within};
 ghost use Rattle.c_values.specs.Variables.{low_bytes, put_at, put_bytes, cleared};
 ghost use Rattle.c_tasks.specs.Fits.{sizes_of, rest_sizes, has_top};
 ghost use Rattle.c_tasks.specs.Items.{rest, top_bytes, rest_bytes, second_bytes};
-ghost use Rattle.c_tasks.specs.Steps.{after_break, after_continue, after_jump};
-ghost use Rattle.c_tasks.specs.Tasks.{IsBack, IsBehind, IsLabelItem, IsCut, item_of, items_in, values_in, with_task, with_tasks, with_put, without, structures_in, with_stacked, StacksWithin, with_written, LiesWithin, behind};
+ghost use Rattle.core_tree.specs.Trees.{items_of, view_statement};
+ghost use Rattle.c_tasks.specs.Items.{leaves, leaves_parameters, goes_on, goes_out, loops, resumes, switches};
+ghost use Rattle.c_tasks.specs.Tasks.{IsOut, IsBehind, IsLabelItem, way_of, want_of, loop_in, item_of, items_in, values_in, with_task, with_tasks, with_put, without, structures_in, with_stacked, StacksWithin, with_written, LiesWithin, behind};
+ghost use Rattle.c_changes.specs.Ways.{IsFound, LeadsTo};
 
-use c_tasks::{Block, Caller, Cut, Stacked, Stage, Taken, Task, Tasks, Written};
+use c_tasks::{Block, Caller, Cut, Part, Stacked, Stage, Taken, Task, Tasks, Wanted, Written};
 use c_values::Number;
-use core_tree::CoreItem;
+use core_tree::{CoreItem, CoreStatement};
 
 #[tactic(auto, using(c_tasks::proofs::Tops::items_push))]
 fn push_task<'a>(tasks: &mut Vec<Task<'a>>, task: Option<Task<'a>>)
@@ -31,7 +33,9 @@ fn push_task<'a>(tasks: &mut Vec<Task<'a>>, task: Option<Task<'a>>)
 #[tactic(auto, using(c_tasks::proofs::Tops::items_push))]
 pub fn change_tasks<'a>(tasks: &mut Vec<Task<'a>>, more: Tasks<'a>)
     requires { vec_len tasks.old + 3 ≤ vec_capacity tasks.old }
-    ensures { items_in tasks.new.items ≡ with_tasks more.entry (behind (items_in tasks.old.items)) }
+    ensures items { items_in tasks.new.items ≡ with_tasks more.entry (behind (items_in tasks.old.items)) }
+    ensures len { vec_len tasks.new ≤ vec_len tasks.old + 3 }
+    ensures capacity { vec_capacity tasks.old ≤ vec_capacity tasks.new }
 {
     drop_task(tasks);
     push_task(tasks, more.third);
@@ -42,7 +46,7 @@ pub fn change_tasks<'a>(tasks: &mut Vec<Task<'a>>, more: Tasks<'a>)
 #[tactic(auto, using(c_tasks::proofs::Tops::items_push, c_tasks::proofs::Tops::no_tasks))]
 fn drop_task(tasks: &mut Vec<Task>)
     ensures items { items_in tasks.new.items ≡ behind (items_in tasks.old.items) }
-    ensures len { vec_len tasks.new ≤ vec_len tasks.old }
+    ensures len { vec_len tasks.new ≡ vec_len tasks.old - 1 }
     ensures capacity { vec_capacity tasks.new ≡ vec_capacity tasks.old }
 {
     match tasks.pop() {
@@ -72,6 +76,11 @@ fn take_numbers(numbers: &mut Vec<Number>, taken: Taken)
         Taken::None => {}
         Taken::One => drop_number(numbers),
         Taken::Two => {
+            drop_number(numbers);
+            drop_number(numbers);
+        }
+        Taken::Three => {
+            drop_number(numbers);
             drop_number(numbers);
             drop_number(numbers);
         }
@@ -271,11 +280,13 @@ pub fn change_structures(structures: &mut Vec<Block>, stacked: Stacked)
 
 // ---- ways out
 
-/// A task that was taken off comes back.
+/// A task comes first.
 #[tactic(auto, using(c_tasks::proofs::Tops::items_push))]
 pub fn push_back<'a>(tasks: &mut Vec<Task<'a>>, task: Task<'a>)
     requires { vec_len tasks.old < vec_capacity tasks.old }
-    ensures { items_in tasks.new.items ≡ item_of task.entry ∷ items_in tasks.old.items }
+    ensures items { items_in tasks.new.items ≡ item_of task.entry ∷ items_in tasks.old.items }
+    ensures len { vec_len tasks.new ≡ vec_len tasks.old + 1 }
+    ensures capacity { vec_capacity tasks.old ≤ vec_capacity tasks.new }
 {
     match tasks.push(task) {
         Ok(()) => {}
@@ -304,110 +315,164 @@ fn behind_label(items: &[CoreItem], from: usize, label: u32) -> Option<usize>
     None
 }
 
-// Cuts the tasks back to behind the innermost loop or switch.
-#[tactic(auto, using(c_tasks::proofs::Tops::items_push, c_tasks::proofs::Tops::no_tasks))]
-fn cut_to_break(tasks: &mut Vec<Task>)
-    ensures { items_in tasks.new.items ≡ after_break (items_in tasks.old.items) }
+// The objects of a block's variables die, and then the way leads on.
+fn leave_block<'a>(tasks: &mut Vec<Task<'a>>, items: &'a Vec<CoreItem>, from: usize, cut: Cut)
+    requires { vec_len tasks.old + 2 ≤ vec_capacity tasks.old }
+    ensures { items_in tasks.new.items ≡ leaves (items_of (drop from items.now.items)) ∷ goes_out (way_of cut) ∷ items_in tasks.old.items }
 {
-    while let Some(task) = tasks.pop() {
-        match task {
-            Task::Statement {
-                stage: Stage::Body(_),
-                ..
-            } => return,
-            Task::Switched => return,
-            Task::Resume { .. } => tasks.clear(),
-            _ => {}
-        }
-    }
+    push_back(tasks, Task::Out(cut));
+    let part = Part::Exit;
+    push_back(tasks, Task::Items { items, from, part });
 }
 
-// Cuts the tasks back to the end of the innermost loop's body.
-#[tactic(auto, using(c_tasks::proofs::Tops::items_push, c_tasks::proofs::Tops::no_tasks))]
-fn cut_to_continue<'a>(tasks: &mut Vec<Task<'a>>)
-    ensures { items_in tasks.new.items ≡ after_continue (items_in tasks.old.items) }
+// The objects of the parameters die, and then the way leads on.
+fn leave_parameters<'a>(tasks: &mut Vec<Task<'a>>, count: usize, cut: Cut)
+    requires { vec_len tasks.old + 2 ≤ vec_capacity tasks.old }
+    ensures { items_in tasks.new.items ≡ leaves_parameters count 0 ∷ goes_out (way_of cut) ∷ items_in tasks.old.items }
 {
-    while let Some(task) = tasks.pop() {
-        match task {
-            Task::Statement {
-                statement,
-                stage: Stage::Body(rounds),
-            } => {
-                push_back(
-                    tasks,
-                    Task::Statement {
-                        statement,
-                        stage: Stage::Body(rounds),
-                    },
-                );
-                return;
-            }
-            Task::Resume { .. } => tasks.clear(),
-            _ => {}
-        }
-    }
+    push_back(tasks, Task::Out(cut));
+    push_back(tasks, Task::LeaveParameters(0, count));
 }
 
-// Cuts the tasks back to behind the innermost label with this number.
-#[tactic(auto, using(c_tasks::proofs::Tops::items_push, c_tasks::proofs::Tops::no_tasks))]
-fn cut_to_label<'a>(tasks: &mut Vec<Task<'a>>, label: u32)
-    ensures { items_in tasks.new.items ≡ after_jump label (items_in tasks.old.items) }
-{
-    while let Some(task) = tasks.pop() {
-        match task {
-            Task::Items {
-                items,
-                from,
-                entered: true,
-            } => {
-                if let Some(place) = behind_label(items, from, label) {
-                    push_back(
-                        tasks,
-                        Task::Items {
-                            items,
-                            from: place,
-                            entered: true,
-                        },
-                    );
-                    return;
-                }
-            }
-            Task::Resume { .. } => tasks.clear(),
-            _ => {}
-        }
-    }
-}
-
-/// Cuts the tasks back within the function.
-pub fn cut_items(tasks: &mut Vec<Task>, cut: Cut)
-    ensures { IsCut cut (items_in tasks.old.items) (items_in tasks.new.items) }
+// A switch is left: by `break` for good.
+fn leave_switch<'a>(tasks: &mut Vec<Task<'a>>, items: &'a Vec<CoreItem>, cut: Cut)
+    requires { vec_len tasks.old + 2 ≤ vec_capacity tasks.old }
+    ensures { IsOut cut (switches (items_of items.now.items) ∷ items_in tasks.old.items) (items_in tasks.new.items) None }
 {
     match cut {
-        Cut::Break => cut_to_break(tasks),
-        Cut::Continue => cut_to_continue(tasks),
-        Cut::Jump(label) => cut_to_label(tasks, label),
-        Cut::Return(_) => {}
+        Cut::Break => {
+            let (from, part) = (0, Part::Exit);
+            push_back(tasks, Task::Items { items, from, part });
+        }
+        Cut::Continue | Cut::Jump(_) | Cut::Return(_) => leave_block(tasks, items, 0, cut),
     }
 }
 
-/// Takes off the tasks up to the end of the function that runs, where there is one.
-#[tactic(auto, using(c_tasks::proofs::Tops::items_push, c_tasks::proofs::Tops::no_tasks))]
-pub fn take_caller(tasks: &mut Vec<Task>) -> Option<Caller>
-    ensures back { IsBack (items_in tasks.old.items) (items_in tasks.new.items) result }
-    ensures room { IsSome result → vec_len tasks.new < vec_capacity tasks.new }
+// The function is left, to its caller; another way leads nowhere.
+fn leave_function<'a>(
+    tasks: &mut Vec<Task<'a>>,
+    want: Wanted,
+    caller: u32,
+    saved: Vec<Block>,
+    cut: Cut,
+) -> Option<Caller>
+    requires { vec_len tasks.old + 2 ≤ vec_capacity tasks.old }
+    ensures { IsOut cut (resumes (want_of want) caller saved.items ∷ items_in tasks.old.items) (items_in tasks.new.items) result }
 {
-    while let Some(task) = tasks.pop() {
-        if let Task::Resume {
+    match cut {
+        Cut::Return(how) => {
+            push_back(tasks, Task::Get(want, how));
+            Some(Caller {
+                function: caller,
+                variables: saved,
+            })
+        }
+        Cut::Break | Cut::Continue | Cut::Jump(_) => {
+            tasks.clear();
+            push_back(tasks, Task::Stray);
+            None
+        }
+    }
+}
+
+// Whether a way leads to a loop's body: behind the loop, or to the end of the body.
+fn leave_loop<'a>(
+    tasks: &mut Vec<Task<'a>>,
+    statement: &'a CoreStatement,
+    rounds: u32,
+    cut: Cut,
+) -> bool
+    requires { vec_len tasks.old + 2 ≤ vec_capacity tasks.old }
+    ensures found { IsFound cut (loops rounds (loop_in (view_statement statement.now))) (items_in tasks.old.items) (items_in tasks.new.items) result }
+    ensures same { result ≡ false → tasks.new ≡ tasks.old }
+{
+    match cut {
+        Cut::Break => true,
+        Cut::Continue => {
+            let stage = Stage::Body(rounds);
+            push_back(tasks, Task::Statement { statement, stage });
+            true
+        }
+        Cut::Jump(_) | Cut::Return(_) => false,
+    }
+}
+
+// Whether a way leads behind a label of these items.
+fn leave_items<'a>(
+    tasks: &mut Vec<Task<'a>>,
+    items: &'a Vec<CoreItem>,
+    from: usize,
+    cut: Cut,
+) -> bool
+    requires { vec_len tasks.old + 2 ≤ vec_capacity tasks.old }
+    ensures found { IsFound cut (goes_on (items_of (drop from items.now.items))) (items_in tasks.old.items) (items_in tasks.new.items) result }
+    ensures same { result ≡ false → tasks.new ≡ tasks.old }
+{
+    match cut {
+        Cut::Jump(label) => match behind_label(items, from, label) {
+            Some(from) => {
+                let part = Part::Body;
+                push_back(tasks, Task::Items { items, from, part });
+                true
+            }
+            None => false,
+        },
+        Cut::Break | Cut::Continue | Cut::Return(_) => false,
+    }
+}
+
+// Where a way leads from a task that was taken off; none where it leads on.
+fn leave_task<'a>(tasks: &mut Vec<Task<'a>>, task: Task<'a>, cut: Cut) -> Option<Option<Caller>>
+    requires { vec_len tasks.old + 2 ≤ vec_capacity tasks.old }
+    ensures leads { LeadsTo cut (item_of task.entry) (items_in tasks.old.items) (items_in tasks.new.items) result }
+    ensures same { IsNone result → tasks.new ≡ tasks.old }
+{
+    let found = match task {
+        Task::Items {
+            items,
+            from,
+            part: Part::End,
+        } => {
+            leave_block(tasks, items, from, cut);
+            true
+        }
+        Task::EndParameters(count) => {
+            leave_parameters(tasks, count, cut);
+            true
+        }
+        Task::Switched(items) => {
+            leave_switch(tasks, items, cut);
+            true
+        }
+        Task::Statement {
+            statement,
+            stage: Stage::Body(rounds),
+        } => leave_loop(tasks, statement, rounds, cut),
+        Task::Items {
+            items,
+            from,
+            part: Part::Body,
+        } => leave_items(tasks, items, from, cut),
+        Task::Resume {
             want,
             caller,
             saved,
-        } = task
-        {
-            return Some(Caller {
-                want,
-                function: caller,
-                variables: saved,
-            });
+        } => return Some(leave_function(tasks, want, caller, saved, cut)),
+        _ => false,
+    };
+    if found { Some(None) } else { None }
+}
+
+/// Cuts the tasks back to where a way out of statements leads, or to the next end of a block before that.
+/// Where the caller runs again, it is given.
+#[tactic(auto, using(c_tasks::proofs::Tops::items_push, c_tasks::proofs::Tops::no_tasks))]
+pub fn cut_items<'a>(tasks: &mut Vec<Task<'a>>, cut: Cut) -> Option<Caller>
+    requires { vec_len tasks.old < vec_capacity tasks.old }
+    ensures { IsOut cut (items_in tasks.old.items) (items_in tasks.new.items) result }
+{
+    while let Some(task) = tasks.pop() {
+        if let Some(caller) = leave_task(tasks, task, cut) {
+            return caller;
         }
     }
     None

@@ -10,18 +10,17 @@ use Rattle.c_types.specs.Types.{CType, Completed}
 use Rattle.c_types.specs.Layouts.{is_completed, is_complete, is_sized, fits, size_of, with_completed, IsBuilt}
 use Rattle.c_types.proofs.CellLists.{small_sized}
 use Rattle.c_types.specs.Layouts as layouts
-use Rattle.core_tree.specs.declared.expression.Place.{Place}
-use Rattle.core_tree.specs.declared.expression.Place.TheVariants as places
 use Rattle.c_types.proofs.Records.{same_type}
-use Rattle.core_tree.specs.Trees.{Expression, constant, read, convert, sign, is_zero, arithmetic, compare, logical, choice, assign, update, step, comma, assertion, assumption, draw, part, discard, discard_structure, call, function_name, Structure, copy, load, choose, put, store, follow, section, list, string, give, Parts, no_part, number_part, structure_part, Arguments, no_argument, number_argument, structure_argument}
+use Rattle.core_tree.specs.Trees.{Place, variable_at, object_at as static_at, literal_at, pointed, arrow, member, element, subscript, Expression, constant, read, convert, sign, is_zero, arithmetic, compare, logical, choice, assign, update, step, comma, assertion, assumption, draw, part, discard, discard_structure, call, function_name, size_of_value, size_of_structure, address, sum, distance, relation, pointer_update, pointer_step, allocate, allocate_zeroed, release, exit, abort, Structure, copy, choose, put, follow, section, list, string, give, Parts, no_part, number_part, structure_part, Arguments, no_argument, number_argument, structure_argument}
+use Rattle.core_tree.specs.declared.functions.Variable.{Variable as CoreVariable}
 use Rattle.core_tree.specs.declared.functions.PassedType.{PassedType}
 use Rattle.core_tree.specs.declared.functions.PassedType.TheVariants as passed
-use Rattle.core_tree.specs.Typed.{are_small, size_of as bytes_of, Sizes, Signature, is_within, is_in_object, is_place, is_typed, is_structure, are_parts, are_arguments, given_as, gives_this, parameters_of, is_integer}
+use Rattle.core_tree.specs.Typed.{sizes_of_variables, are_small, size_of as bytes_of, Sizes, Signature, is_within, is_in_object, is_place, is_typed, is_structure, are_parts, are_arguments, given_as, gives_this, parameters_of, is_integer}
 use Rattle.c_scope.specs.declared.meaning.Meaning.{Meaning}
 use Rattle.c_scope.specs.declared.meaning.Meaning.TheVariants.{Object, Typedef}
 use Rattle.c_scope.specs.Members.{Members}
-use Rattle.c_scope.specs.Scopes.{Environment, binding, Named, ObjectEntry, Linked, FunctionType, Callable, Scoped, with_callable, are_there, is_known, are_known, are_complete, sizes, object_at, object_entry_size}
-use Rattle.c_scope.proofs.Variables.{both, and, are_there_wider, complete_more, sizes_more, complete_later, variables_later}
+use Rattle.c_scope.specs.Scopes.{Environment, binding, Named, ObjectEntry, Linked, FunctionType, Callable, Scoped, with_callable, are_there, is_known, are_known, are_complete, variable_of, variables_of, variables_in, sizes, object_at, object_entry_size}
+use Rattle.c_scope.proofs.Variables.{both, and, are_there_wider, complete_more, variables_more, sizes_more, complete_later, variables_later}
 use Rattle.c_elab_base.specs.Declarators.{with_function_type, with_typedef, with_variable}
 use Rattle.c_elab_base.specs.Specifiers.{ended}
 use Rattle.c_elab_base.specs.Tags.{with_record}
@@ -69,18 +68,21 @@ under_at (x ∷ xs) [] v u h = absurd u
 under_at (x ∷ xs) (y ∷ ys) zero u h = u.0
 under_at (x ∷ xs) (y ∷ ys) (suc v) u h = under_at xs ys v u.1 (omega (arith, h))
 
--- the sizes of the same variables and more, and of the same objects, larger ones and more, and the types of the same functions
+-- the sizes of the same variables and more, and of the same objects, larger ones and more, and the types of the same functions;
+-- no form with a pointer stands among the first
 pub record Wider (a b : Sizes) : Type 0 where
+  pub no_pointers : a.pointers ≡ false
   pub variables : Grows a.variables b.variables
   pub objects : Under a.objects b.objects
   pub functions : Signed a.functions b.functions
   pub gives : b.gives ≡ a.gives
 
-pub wider_refl : (a : Sizes) → Wider a a
-wider_refl a = record { variables = grows_refl a.variables; objects = under_refl a.objects; functions = signed_refl a.functions; gives = refl }
+pub wider_refl : (a : Sizes) → a.pointers ≡ false → Wider a a
+wider_refl a none = record { no_pointers = none; variables = grows_refl a.variables; objects = under_refl a.objects; functions = signed_refl a.functions; gives = refl }
 
 pub wider_trans : (a b c : Sizes) → Wider a b → Wider b c → Wider a c
 wider_trans a b c g h = record {
+  no_pointers = g.no_pointers;
   variables = grows_trans a.variables b.variables c.variables g.variables h.variables;
   objects = under_trans a.objects b.objects c.objects g.objects h.objects;
   functions = signed_trans a.functions b.functions c.functions g.functions h.functions;
@@ -134,6 +136,9 @@ two : (a b c : Bool) → (b ≡ true → c ≡ true) → (a && b) ≡ true → (
 two true b c h e = h e
 two false b c h e = e
 
+first_of : (a b : Bool) → (a && b) ≡ true → a ≡ true
+first_of a b h = (both a b h).0
+
 both_more : (a b c d : Bool) → (a ≡ true → c ≡ true) → (b ≡ true → d ≡ true) → (a && b) ≡ true → (c && d) ≡ true
 both_more a b c d h g e = let parts = both a b e in and c d (h parts.0) (g parts.1)
 
@@ -154,14 +159,24 @@ module _ (few many : Sizes) (wide : Wider few many) where
         ap (λ (o : Option Signature). are_arguments many (parameters_of o) args) there.1 ∙ ap (λ (ps : List PassedType). are_arguments many ps args) (sym there.2.parameters) ∙ more g.parameters fit,
       )
 
-  place_more : (p : Place) → is_place few p ≡ true → is_place many p ≡ true
-  place_more (places.Variable line t v offset) h = variable_more v offset (bytes t) h
-  place_more (places.Object line t k offset) h = object_more k offset (bytes t) h
+  -- what would need pointers doesn't stand there
+  never : (b : Bool) → few.pointers ≡ true → b ≡ true
+  never b h = let same : false ≡ true = sym wide.no_pointers ∙ h in let none : ⊥ = cc in absurd none
+
+  place_more : (n : ℕ) (p : Place) → is_place few n p ≡ true → is_place many n p ≡ true
+  place_more n (variable_at line v offset) h = variable_more v offset n h
+  place_more n (static_at line k offset) h = object_more k offset n h
+  place_more n (literal_at line k) h = never _ (first_of _ _ h)
+  place_more n (pointed line e) h = never _ (first_of _ _ (first_of _ _ h))
+  place_more n (arrow line e offset) h = never _ (first_of _ _ (first_of _ _ h))
+  place_more n (member line p offset) h = never _ (first_of _ _ h)
+  place_more n (element line p e size whole swapped) h = never _ (first_of _ _ (first_of _ _ (first_of _ _ (first_of _ _ (first_of _ _ (first_of _ _ h))))))
+  place_more n (subscript line a e size swapped) h = never _ (first_of _ _ (first_of _ _ (first_of _ _ (first_of _ _ (first_of _ _ h)))))
 
   mutual
     pub typed_more : (x : Expression) → is_typed few x ≡ true → is_typed many x ≡ true
     typed_more (constant line t bits) h = h
-    typed_more (read p) h = place_more p h
+    typed_more (read t p) h = place_more (bytes t) p h
     typed_more (convert to e) h = two _ _ _ (typed_more e) h
     typed_more (sign line op e) h = two _ _ _ (typed_more e) h
     typed_more (is_zero line e) h = two _ _ _ (typed_more e) h
@@ -169,9 +184,9 @@ module _ (few many : Sizes) (wide : Wider few many) where
     typed_more (compare line op a b) h = both_more _ _ _ _ (two _ _ _ (typed_more a)) (typed_more b) h
     typed_more (logical line op a b) h = both_more _ _ _ _ (two _ _ _ (typed_more a)) (typed_more b) h
     typed_more (choice line test a b) h = both_more _ _ _ _ (both_more _ _ _ _ (two _ _ _ (typed_more test)) (typed_more a)) (typed_more b) h
-    typed_more (assign line p e) h = both_more _ _ _ _ (both_more _ _ _ _ (place_more p) (λ g. g)) (typed_more e) h
-    typed_more (update line p op t e) h = both_more _ _ _ _ (both_more _ _ _ _ (place_more p) (λ g. g)) (typed_more e) h
-    typed_more (step line p op before) h = place_more p h
+    typed_more (assign line t p e) h = both_more _ _ _ _ (both_more _ _ _ _ (place_more (bytes t) p) (λ g. g)) (typed_more e) h
+    typed_more (update line t p op u e) h = both_more _ _ _ _ (both_more _ _ _ _ (place_more (bytes t) p) (λ g. g)) (typed_more e) h
+    typed_more (step line t p op before) h = place_more (bytes t) p h
     typed_more (comma line a b) h = both_more _ _ _ _ (typed_more a) (typed_more b) h
     typed_more (assertion line e) h = two _ _ _ (typed_more e) h
     typed_more (assumption line e) h = two _ _ _ (typed_more e) h
@@ -184,17 +199,25 @@ module _ (few many : Sizes) (wide : Wider few many) where
         let first = both (not used || is_integer t) (gives_this (given_as t) (slice_get few.functions f)) parts.0 in
         let more = call_more f (given_as t) args (slice_get few.functions f) (small_as t) (λ ps g. arguments_more args ps g) refl first.1 parts.1 in
         and _ _ (and _ _ first.0 more.0) more.1
-    typed_more (function_name line f) h =
-        let long = signed_length few.functions many.functions wide.functions in
-        let below = ltb-true f (length few.functions) h in
-        lt-ltb f (length many.functions) (omega (arith, long, below))
+    typed_more (function_name line) h = h
+    typed_more (size_of_value line bits e) h = two _ _ _ (typed_more e) h
+    typed_more (size_of_structure line bits a) h = two _ _ _ (structure_more a) h
+    typed_more (address line p) h = never _ (first_of _ _ (first_of _ _ h))
+    typed_more (sum line a e n swapped) h = never _ (first_of _ _ (first_of _ _ (first_of _ _ (first_of _ _ h))))
+    typed_more (distance line a b n) h = never _ (first_of _ _ (first_of _ _ (first_of _ _ (first_of _ _ (first_of _ _ h)))))
+    typed_more (relation line op a b) h = never _ (first_of _ _ (first_of _ _ (first_of _ _ (first_of _ _ (first_of _ _ h)))))
+    typed_more (pointer_update line p n e) h = never _ (first_of _ _ (first_of _ _ (first_of _ _ h)))
+    typed_more (pointer_step line p n before) h = never _ (first_of _ _ h)
+    typed_more (allocate line e) h = never _ (first_of _ _ (first_of _ _ h))
+    typed_more (allocate_zeroed line a b) h = never _ (first_of _ _ (first_of _ _ (first_of _ _ (first_of _ _ h))))
+    typed_more (release line e) h = never _ (first_of _ _ (first_of _ _ h))
+    typed_more (exit line e) h = never _ (first_of _ _ (first_of _ _ h))
+    typed_more (abort line) h = never _ h
 
     pub structure_more : (a : Structure) → is_structure few a ≡ true → is_structure many a ≡ true
-    structure_more (copy line v offset size) h = variable_more v offset size h
-    structure_more (load line k offset size) h = object_more k offset size h
+    structure_more (copy p size) h = place_more size p h
     structure_more (choose line test a b) h = both_more _ _ _ _ (both_more _ _ _ _ (two _ _ _ (typed_more test)) (structure_more a)) (structure_more b) h
-    structure_more (put line v offset a) h = both_more _ _ _ _ (variable_more v offset (bytes_of a)) (structure_more a) h
-    structure_more (store line k offset a) h = both_more _ _ _ _ (object_more k offset (bytes_of a)) (structure_more a) h
+    structure_more (put line p a) h = both_more _ _ _ _ (place_more (bytes_of a) p) (structure_more a) h
     structure_more (follow line e a) h = both_more _ _ _ _ (typed_more e) (structure_more a) h
     structure_more (section line offset size a) h = two _ _ _ (structure_more a) h
     structure_more (list line size ps) h = two _ _ _ (parts_more size ps) h
@@ -232,7 +255,7 @@ pub record There (s : Scoped) : Type 0 where
   pub known : are_known s ≡ true
   pub few : 9 ≤ length s.types
   pub complete : are_complete s.records.done s.variables ≡ true
-  pub small : are_small (sizes s) ≡ true
+  pub small : are_small (variables_in s) ≡ true
   pub built : IsBuilt s.records.done
   pub calls : Called s.records.done s.functions s.flow
 
@@ -255,7 +278,7 @@ follows_refl s = record {
   names = inner_refl s.bindings;
   variables = omega arith;
   objects = omega arith;
-  sizes = λ h. wider_refl (own_sizes s);
+  sizes = λ h. wider_refl (own_sizes s) refl;
   types = omega arith;
   records = omega arith;
   calls = goes_refl s.functions s.flow s.records.done;
@@ -337,7 +360,7 @@ binding_settles s name m h = record {
     names = (binding name m ∷ [], refl);
     variables = omega arith;
     objects = omega arith;
-    sizes = λ g. wider_refl (own_sizes s);
+    sizes = λ g. wider_refl (own_sizes s) refl;
     types = omega arith;
     records = omega arith;
     calls = goes_refl s.functions s.flow s.records.done;
@@ -354,7 +377,7 @@ record_settles s kind =
         names = inner_refl s.bindings;
         variables = omega arith;
         objects = omega arith;
-        sizes = λ g. wider_refl (own_sizes s);
+        sizes = λ g. wider_refl (own_sizes s) refl;
         types = omega arith;
         records = omega (arith, long);
         calls = goes_refl s.functions s.flow s.records.done;
@@ -399,7 +422,8 @@ completed_settles s p kind ts ms before complete fit = let later = later_complet
     variables = omega arith;
     objects = omega arith;
     sizes = λ g. record {
-      variables = ([], (variables_later s.records.done (record { place = p; kind = kind; members = ts }) s.variables before g.complete).1 ∙ sym (append-nil (sizes s)));
+      no_pointers = refl;
+      variables = ([], ap sizes_of_variables (variables_later s.records.done (record { place = p; kind = kind; members = ts }) s.variables before g.complete).1 ∙ sym (append-nil (sizes s)));
       objects = objects_later s.records.done (record { place = p; kind = kind; members = ts }) s.objects before;
       functions = signed_later later s.functions.all g.calls.callables;
       gives = given_by_kept later s.flow.gives g.calls.gives;
@@ -430,7 +454,7 @@ typedef_settles s name n =
         names = (binding name (Typedef (length s.types)) ∷ [], refl);
         variables = omega arith;
         objects = omega arith;
-        sizes = λ g. wider_refl (own_sizes s);
+        sizes = λ g. wider_refl (own_sizes s) refl;
         types = omega (arith, long);
         records = omega arith;
         calls = goes_refl s.functions s.flow s.records.done;
@@ -455,7 +479,7 @@ pub new_variable : (s : Scoped) (name : List ℕ) (n : Named) (vs : List ℕ) �
 new_variable s name n vs g =
     let size = size_of s.records.done n.type in
     let all : vs ≡ (sizes s ++ size ∷ []) ++ g.0 = g.1 ∙ ap (λ (l : List ℕ). l ++ g.0) (sizes_more s.records.done s.variables n) in
-    let count : length s.variables ≡ length (sizes s) = sym (length-map s.variables (λ (m : Named). size_of s.records.done m.type)) in
+    let count : length s.variables ≡ length (sizes s) = sym (length-map (variables_in s) (λ (v : CoreVariable). v.size) ∙ length-map s.variables (variable_of s.records.done)) in
     let one = length-append (sizes s) (size ∷ []) in
     let long = ap (λ (l : List ℕ). length l) all ∙ length-append (sizes s ++ size ∷ []) g.0 in (
       lt-ltb (length s.variables) (length vs) (omega (arith, count, one, long)),
@@ -464,9 +488,9 @@ new_variable s name n vs g =
           ∙ get_or_push (sizes s) size 0 (length s.variables) (sym count),
     )
 
-small_more : (sizes : List ℕ) (size : ℕ) → are_small sizes ≡ true → nat_lt size (2 ^ 31) ≡ true → are_small (sizes ++ size ∷ []) ≡ true
-small_more [] size h e = and (nat_lt size (2 ^ 31)) true e refl
-small_more (n ∷ ns) size h e = let parts = both (nat_lt n (2 ^ 31)) (are_small ns) h in and (nat_lt n (2 ^ 31)) (are_small (ns ++ size ∷ [])) parts.0 (small_more ns size parts.1 e)
+small_more : (variables : List CoreVariable) (v : CoreVariable) → are_small variables ≡ true → nat_lt v.size (2 ^ 31) ≡ true → are_small (variables ++ v ∷ []) ≡ true
+small_more [] v h e = and (nat_lt v.size (2 ^ 31)) true e refl
+small_more (w ∷ ws) v h e = let parts = both (nat_lt w.size (2 ^ 31)) (are_small ws) h in and (nat_lt w.size (2 ^ 31)) (are_small (ws ++ v ∷ [])) parts.0 (small_more ws v parts.1 e)
 
 pub variable_follows : (s : Scoped) (name : List ℕ) (n : Named) → is_complete s.records.done n.type ≡ true → is_sized s.records.done n.type ≡ true → Follows s (with_variable s name n)
 variable_follows s name n complete sized =
@@ -475,7 +499,7 @@ variable_follows s name n complete sized =
       names = (_ ∷ [], refl);
       variables = omega (arith, long);
       objects = omega arith;
-      sizes = λ g. record { variables = (size_of s.records.done n.type ∷ [], sizes_more s.records.done s.variables n); objects = under_refl (own_sizes s).objects; functions = signed_refl (own_sizes s).functions; gives = refl };
+      sizes = λ g. record { no_pointers = refl; variables = (size_of s.records.done n.type ∷ [], sizes_more s.records.done s.variables n); objects = under_refl (own_sizes s).objects; functions = signed_refl (own_sizes s).functions; gives = refl };
       types = omega arith;
       records = omega arith;
       calls = goes_refl s.functions s.flow s.records.done;
@@ -488,7 +512,7 @@ variable_follows s name n complete sized =
         complete = complete_more s.records.done s.variables n g.complete complete;
         small =
             let most = small_sized s.records.done n.type g.built sized in
-            ap are_small (sizes_more s.records.done s.variables n) ∙ small_more (sizes s) (size_of s.records.done n.type) g.small (lt-ltb (size_of s.records.done n.type) (2 ^ 31) (omega arith));
+            ap are_small (variables_more s.records.done s.variables n) ∙ small_more (variables_in s) (variable_of s.records.done n) g.small (lt-ltb (size_of s.records.done n.type) (2 ^ 31) (omega arith));
         built = g.built;
         calls = g.calls;
       };
@@ -507,6 +531,7 @@ object_settles s o linked =
         variables = omega arith;
         objects = omega (arith, long);
         sizes = λ g. record {
+          no_pointers = refl;
           variables = grows_refl (sizes s);
           objects = subst (Under (map size s.objects)) (sym (map-append size s.objects (o ∷ []))) (under_append (map size s.objects) (size o ∷ []));
           functions = signed_refl (own_sizes s).functions;
@@ -542,7 +567,7 @@ object_set s i o p h le =
         names = inner_refl s.bindings;
         variables = omega arith;
         objects = omega (arith, long);
-        sizes = λ g. record { variables = grows_refl (sizes s); objects = set_under (object_entry_size s.records.done) s.objects i o p h le; functions = signed_refl (own_sizes s).functions; gives = refl };
+        sizes = λ g. record { no_pointers = refl; variables = grows_refl (sizes s); objects = set_under (object_entry_size s.records.done) s.objects i o p h le; functions = signed_refl (own_sizes s).functions; gives = refl };
         types = omega arith;
         records = omega arith;
         calls = goes_refl s.functions s.flow s.records.done;
@@ -597,6 +622,7 @@ function_settles H s name c there h = record {
     variables = omega arith;
     objects = omega arith;
     sizes = λ g. record {
+      no_pointers = refl;
       variables = grows_refl (sizes s);
       objects = under_refl (own_sizes s).objects;
       functions = signed_added s.records.done s.functions.all c;
@@ -617,7 +643,7 @@ function_type_settles H s f there h = record {
     names = inner_refl s.bindings;
     variables = omega arith;
     objects = omega arith;
-    sizes = λ g. wider_refl (own_sizes s);
+    sizes = λ g. wider_refl (own_sizes s) refl;
     types = omega arith;
     records = omega arith;
     calls = goes_typed s.functions f s.flow s.records.done;
@@ -636,7 +662,8 @@ ended_settles s t f = record {
     variables = omega arith;
     objects = f.objects;
     sizes = λ g. record {
-      variables = ([], (variables_kept f.calls.later s.variables g.complete).1 ∙ sym (append-nil (sizes s)));
+      no_pointers = refl;
+      variables = ([], ap sizes_of_variables (variables_kept f.calls.later s.variables g.complete).1 ∙ sym (append-nil (sizes s)));
       objects = (f.sizes g).objects;
       functions = (f.sizes g).functions;
       gives = (f.sizes g).gives;

@@ -15,10 +15,11 @@ use Rattle.c_types.specs.Types as ctypes
 use Rattle.c_types.specs.Layouts.{is_completed, is_complete, size_of}
 use Rattle.c_types.specs.Layouts as layouts
 use Rattle.c_types.proofs.Records.{same_type}
+use Rattle.core_tree.specs.declared.functions.Variable.{Variable as CoreVariable}
 use Rattle.core_tree.specs.declared.functions.PassedType.{PassedType}
 use Rattle.core_tree.specs.declared.functions.PassedType.TheVariants as passed
 use Rattle.core_tree.specs.Typed.{Sizes, Signature, same_given, given_as}
-use Rattle.c_scope.specs.Scopes.{Named, Linked, FunctionType, Callable, FunctionTable, Flow, Cases, Scoped, are_complete, sizes_of, linked_to, passed_as, given_by, signature_of, all_sizes, with_callable}
+use Rattle.c_scope.specs.Scopes.{Named, Linked, FunctionType, Callable, FunctionTable, Flow, Cases, Scoped, are_complete, variable_by, variables_of, linked_to, passed_as, given_by, signature_of, all_sizes, with_callable}
 use Rattle.c_scope.proofs.Variables.{both, and, complete_later}
 
 -- ---- what calls give
@@ -119,13 +120,13 @@ all_passed_kept {older} {newer} later (t ∷ ts) h =
     let parts = both (is_complete older t) (layouts.are_complete older ts) h in ap₂ (λ (p : PassedType) (ps : List PassedType). p ∷ ps) (passed_kept later t parts.0) (all_passed_kept later ts parts.1)
 
 pub variables_kept : {older newer : List Completed} → Later older newer → (variables : List Named) → are_complete older variables ≡ true
-    → (are_complete newer variables ≡ true) × (sizes_of newer variables ≡ sizes_of older variables)
+    → (are_complete newer variables ≡ true) × (variables_of newer variables ≡ variables_of older variables)
 variables_kept later [] h = (refl, refl)
 variables_kept {older} {newer} later (n ∷ ns) h =
     let parts = both (is_complete older n.type) (are_complete older ns) h in
     let rest = variables_kept later ns parts.1 in
     let one = later.keeps n.type parts.0 in
-    (and (is_complete newer n.type) (are_complete newer ns) one.0 rest.0, ap₂ (λ (x : ℕ) (xs : List ℕ). x ∷ xs) one.1 rest.1)
+    (and (is_complete newer n.type) (are_complete newer ns) one.0 rest.0, ap₂ (λ (x : ℕ) (xs : List CoreVariable). variable_by x n.constant ∷ xs) one.1 rest.1)
 
 -- ---- functions as calls see them
 

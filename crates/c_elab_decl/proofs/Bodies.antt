@@ -13,13 +13,15 @@ use Rattle.c_types.specs.Types.{CType, Completed}
 use Rattle.c_types.specs.Types as ctypes
 use Rattle.c_types.specs.Layouts.{is_complete, size_of}
 use Rattle.c_types.specs.Layouts as layouts
+use Rattle.core_tree.specs.declared.functions.Variable.{Variable}
 use Rattle.core_tree.specs.Trees.{Procedure, Static, TypedFile}
 use Rattle.core_tree.specs.Trees as cores
-use Rattle.core_tree.specs.Typed.{Sizes, Signature, are_small, have_small, is_typed_statement, is_static, sizes_of_objects, signature, passed_size, have_parameters, is_typed_body, is_typed_function, are_typed}
+use Rattle.core_tree.specs.Typed.{Sizes, Signature, sizes_of_variables, homes_of, is_home, are_small, have_small, is_typed_statement, is_static, sizes_of_objects, signature, passed_size, have_parameters, is_typed_body, is_typed_function, are_typed}
+use Rattle.core_tree.specs.declared.functions.PassedType.{PassedType}
 use Rattle.c_scope.specs.declared.meaning.Meaning.{Meaning}
 use Rattle.c_scope.specs.declared.meaning.Meaning.TheVariants.{Function}
 use Rattle.c_scope.specs.declared.fault.TypingError.{TypingError}
-use Rattle.c_scope.specs.Scopes.{Environment, binding, Named, Linked, FunctionType, Callable, FunctionTable, ObjectEntry, Scoped, is_there, are_there, first_scope, with_defined, sizes, sizes_of, object_entry_size, passed_as, given_by, linked_to}
+use Rattle.c_scope.specs.Scopes.{Environment, binding, Named, Linked, FunctionType, Callable, FunctionTable, ObjectEntry, Scoped, is_there, are_there, first_scope, with_defined, variables_of, variables_in, sizes, sizes_of, object_entry_size, passed_as, given_by, linked_to}
 use Rattle.c_scope.specs.Faults.{◌>>=◌, Fault, Gives, on_line}
 use Rattle.c_elab_expr.specs.Operands.{given_size}
 use Rattle.std.specs.Prelude.{OnOk}
@@ -116,9 +118,10 @@ pub record DefinitionDone (s : Scoped) (x : Definition) : Type 0 where
   pub is : slice_get s.functions.all x.number ≡ Some function
   pub given : is_given s.records.done function.type.gives.type ≡ true
   pub takes : layouts.are_complete s.records.done function.type.parameters ≡ true
-  pub have : have_parameters x.variables (map (passed_as s.records.done) function.type.parameters) ≡ true
+  pub have : have_parameters (sizes_of_variables x.variables) (map (passed_as s.records.done) function.type.parameters) ≡ true
+  pub homeless : (zs : Sizes) → list_all (is_home zs) (homes_of x.variables) ≡ true
   pub small : are_small x.variables ≡ true
-  pub good : (zs : Sizes) → zs.variables ≡ x.variables → Under (own_sizes s).objects zs.objects → Signed (own_sizes s).functions zs.functions → zs.gives ≡ given_by s.records.done function.type.gives.type
+  pub good : (zs : Sizes) → zs.variables ≡ sizes_of_variables x.variables → Under (own_sizes s).objects zs.objects → Signed (own_sizes s).functions zs.functions → zs.gives ≡ given_by s.records.done function.type.gives.type
       → is_typed_statement zs x.body ≡ true
 
 given_stays : {older newer : List Completed} → Later older newer → (t : CType) → is_given older t ≡ true → is_given newer t ≡ true
@@ -136,8 +139,9 @@ definition_later s t x f d =
       is = now.1;
       given = ap (λ (y : FunctionType). is_given t.records.done y.gives.type) same ∙ given_stays f.later d.function.type.gives.type d.given;
       takes = ap (λ (y : FunctionType). layouts.are_complete t.records.done y.parameters) same ∙ complete_kept f.later d.function.type.parameters d.takes;
-      have = ap (λ (y : FunctionType). have_parameters x.variables (map (passed_as t.records.done) y.parameters)) same
-          ∙ ap (have_parameters x.variables) (all_passed_kept f.later d.function.type.parameters d.takes) ∙ d.have;
+      have = ap (λ (y : FunctionType). have_parameters (sizes_of_variables x.variables) (map (passed_as t.records.done) y.parameters)) same
+          ∙ ap (have_parameters (sizes_of_variables x.variables)) (all_passed_kept f.later d.function.type.parameters d.takes) ∙ d.have;
+      homeless = d.homeless;
       small = d.small;
       good = λ zs variables objects functions gives.
           d.good zs variables (under_trans (own_sizes s).objects (own_sizes t).objects zs.objects f.objects objects)
@@ -413,6 +417,11 @@ have_first done [] [] = refl
 have_first done [] (n ∷ more) = refl
 have_first done (p ∷ ps) more = and _ _ (passed_bytes done p.type.type) (have_first done ps more)
 
+-- none of them has an address
+no_homes : (zs : Sizes) (done : List Completed) (ns : List Named) → list_all (is_home zs) (homes_of (variables_of done ns)) ≡ true
+no_homes zs done [] = refl
+no_homes zs done (n ∷ ns) = no_homes zs done ns
+
 -- ---- definitions
 
 pub record DefinedDone (s : Scoped) (x : Definition × Scoped) : Type 0 where
@@ -446,7 +455,7 @@ module _ (outer : Scoped) (d : Full) (ds : List Derived) (p : Passed) (base : Na
   variables_are = own.variables bare t.names types_are.1
 
   pub defined_done : (labels : ℕ) (y : cores.Statement × Scoped) → BodyDone (within_body outer p.scope d f) y
-      → DefinedDone outer (record { number = own_number (linked_to y.1.functions.named (name_of d)); variables = sizes y.1; labels = labels; body = y.0 }, outside outer y.1 (name_of d))
+      → DefinedDone outer (record { number = own_number (linked_to y.1.functions.named (name_of d)); variables = variables_in y.1; labels = labels; body = y.0 }, outside outer y.1 (name_of d))
   defined_done labels y b =
       let now = b.follows.there here_there in
       let s = p.scope in
@@ -488,9 +497,11 @@ module _ (outer : Scoped) (d : Full) (ds : List Derived) (p : Passed) (base : Na
               ∙ ap₂ (λ (vs : List ℕ) (ts : List CType). have_parameters vs (map (passed_as s.records.done) ts))
               (wide.variables.1 ∙ ap (λ (ns : List Named). sizes_of s.records.done ns ++ wide.variables.0) variables_are) types_are.0
               ∙ have_first s.records.done p.parameters wide.variables.0;
+          homeless = λ zs. no_homes zs done y.1.variables;
           small = now.small;
           good = λ zs variables objects signed given_back.
               b.good here_there zs (record {
+                no_pointers = refl;
                 variables = ([], variables ∙ sym (append-nil (sizes y.1)));
                 objects = objects;
                 functions = signed;
@@ -569,14 +580,28 @@ noted_empty s (defines parts d body rest) = noted_empty (record s { functions = 
 
 -- ---- bodies are given to functions
 
+-- what functions name, where no form has a pointer
+abbrev sizes_among : List ℕ → List Signature → List Variable → Option PassedType → Sizes
+sizes_among objects functions variables gives = record {
+  variables = sizes_of_variables variables;
+  homes = homes_of variables;
+  objects = objects;
+  literals = 0;
+  functions = functions;
+  gives = gives;
+  pointers = false;
+}
+
 -- a function is well typed among these
 abbrev is_typed_among : List ℕ → List Signature → Procedure → Bool
-is_typed_among objects functions f = (have_parameters f.variables f.parameters || not (is_some f.body)) && is_typed_body (record { variables = f.variables; objects = objects; functions = functions; gives = f.gives }) f.body
+is_typed_among objects functions f =
+    (have_parameters (sizes_of_variables f.variables) f.parameters || not (is_some f.body)) && list_all (is_home (sizes_among objects functions f.variables f.gives)) (homes_of f.variables)
+    && is_typed_body (sizes_among objects functions f.variables f.gives) f.body
 
 abbrev are_typed_among : List ℕ → List Signature → List Procedure → Bool
 are_typed_among objects functions fs = list_all (is_typed_among objects functions) fs
 
-same_signatures : (fs : List Procedure) (k : ℕ) (f : Procedure) (variables : List ℕ) (labels : ℕ) (body : Option cores.Statement) → slice_get fs k ≡ Some f
+same_signatures : (fs : List Procedure) (k : ℕ) (f : Procedure) (variables : List Variable) (labels : ℕ) (body : Option cores.Statement) → slice_get fs k ≡ Some f
     → map signature (slice_set fs k (record f { variables = variables; labels = labels; body = body })) ≡ map signature fs
 same_signatures [] k f variables labels body e = refl
 same_signatures (g ∷ fs) zero f variables labels body e = ap (λ (x : Procedure). signature x ∷ map signature fs) (sym (same_Some g f e))
@@ -616,7 +641,7 @@ or_true false = refl
 
 bodies_left : (done : List Completed) (objects : List ℕ) (functions : List Signature) (all : List Callable) → are_typed_among objects functions (map (procedure_of done) all) ≡ true
 bodies_left done objects functions [] = refl
-bodies_left done objects functions (c ∷ all) = and _ _ (and _ _ (or_true _) refl) (bodies_left done objects functions all)
+bodies_left done objects functions (c ∷ all) = and _ _ (and _ _ (and _ _ (or_true _) refl) refl) (bodies_left done objects functions all)
 
 module _ (s : Scoped) (objects : List ℕ) (under : Under (own_sizes s).objects objects) where
   signs : List Signature
@@ -632,10 +657,10 @@ module _ (s : Scoped) (objects : List ℕ) (under : Under (own_sizes s).objects 
       let is : signature f ≡ signature (procedure_of done d.function) = same_Some (signature f) (signature (procedure_of done d.function)) sign in
       let parameters : f.parameters ≡ map (passed_as done) d.function.type.parameters = ap (λ (g : Signature). g.parameters) is in
       let gives : f.gives ≡ given_by done d.function.type.gives.type = ap (λ (g : Signature). g.gives) is in
-      let have : have_parameters x.variables f.parameters ≡ true = ap (have_parameters x.variables) parameters ∙ d.have in
-      let zs : Sizes = record { variables = x.variables; objects = objects; functions = plain_signed done s.functions.all; gives = f.gives } in
+      let have : have_parameters (sizes_of_variables x.variables) f.parameters ≡ true = ap (have_parameters (sizes_of_variables x.variables)) parameters ∙ d.have in
+      let zs : Sizes = sizes_among objects (plain_signed done s.functions.all) x.variables f.gives in
       typed_set objects (plain_signed done s.functions.all) fs x.number (record f { variables = x.variables; labels = x.labels; body = Some x.body }) h
-      (and _ _ (ap (λ (b : Bool). b || false) have) (d.good zs refl under (signed_open done s.functions.all) gives))
+      (and _ _ (and _ _ (ap (λ (b : Bool). b || false) have) (d.homeless zs)) (d.good zs refl under (signed_open done s.functions.all) gives))
 
   all_bodies : (fs : List Procedure) (xs : List Definition) → map signature fs ≡ plain_signed s.records.done s.functions.all → AllDone s xs
       → are_typed_among objects (plain_signed s.records.done s.functions.all) fs ≡ true → are_typed_among objects (plain_signed s.records.done s.functions.all) (with_bodies fs xs) ≡ true
@@ -666,21 +691,26 @@ static_sizes : (older : List Completed) (objects : List ObjectEntry) → sizes_o
 static_sizes older [] = refl
 static_sizes older (o ∷ objects) = ap (λ (ns : List ℕ). object_entry_size older o ∷ ns) (static_sizes older objects)
 
--- the functions of a file, as they are among its objects and functions
-typed_in : (file : TypedFile) (fs : List Procedure) → are_typed_among (sizes_of_objects file.objects) (map signature file.functions) fs ≡ list_all (is_typed_function file) fs
-typed_in file [] = refl
-typed_in file (f ∷ fs) = ap (λ (b : Bool). is_typed_function file f && b) (typed_in file fs)
+-- the functions of a file without literals, as they are among its objects and functions
+typed_in : (functions : List Procedure) (objects : List Static) (fs : List Procedure)
+    → are_typed_among (sizes_of_objects objects) (map signature functions) fs ≡ list_all (is_typed_function (record { functions = functions; objects = objects; literals = []; pointers = false })) fs
+typed_in functions objects [] = refl
+typed_in functions objects (f ∷ fs) = ap (λ (b : Bool). is_typed_function (record { functions = functions; objects = objects; literals = []; pointers = false }) f && b) (typed_in functions objects fs)
+
+-- objects that hold no address are the same among others
+statics_among : (n m : ℕ) (older : List Completed) (objects : List ObjectEntry) → list_all (is_static n m) (map (static_of older) objects) ≡ list_all (is_static 0 0) (map (static_of older) objects)
+statics_among n m older [] = refl
+statics_among n m older (o ∷ objects) = ap (λ (b : Bool). is_static 0 0 (static_of older o) && b) (statics_among n m older objects)
 
 functions_typed : (ds : Externals) (xs : List Definition) (s : Scoped) (objects : List Static) → typed_externals (with_definitions first_scope ds) ds ≡ Ok (xs, s) → objects ≡ map (static_of s.records.done) s.objects
-    → let file : TypedFile = record { functions = with_bodies (map (procedure_of s.records.done) s.functions.all) xs; objects = objects } in list_all (is_typed_function file) file.functions ≡ true
+    → let file : TypedFile = record { functions = with_bodies (map (procedure_of s.records.done) s.functions.all) xs; objects = objects; literals = []; pointers = false } in list_all (is_typed_function file) file.functions ≡ true
 functions_typed ds xs s objects e is =
     let done = s.records.done in
     let fs = map (procedure_of done) s.functions.all in
-    let file : TypedFile = record { functions = with_bodies fs xs; objects = objects } in
     let d = externals_done (with_definitions first_scope ds) ds (noted_empty first_scope ds) (noted_there first_scope ds there_first) (xs, s) e in
     let sizes_are : map (object_entry_size done) s.objects ≡ sizes_of_objects objects = sym (ap sizes_of_objects is ∙ static_sizes done s.objects) in
     let under : Under (own_sizes s).objects (sizes_of_objects objects) = subst (Under (own_sizes s).objects) sizes_are (under_refl (own_sizes s).objects) in
-    sym (typed_in file (with_bodies fs xs))
+    sym (typed_in (with_bodies fs xs) objects (with_bodies fs xs))
     ∙ ap (λ (signs : List Signature). are_typed_among (sizes_of_objects objects) signs (with_bodies fs xs)) (bodies_signatures fs xs)
     ∙ all_bodies s (sizes_of_objects objects) under fs xs refl d.good (bodies_left done (sizes_of_objects objects) (map signature fs) s.functions.all)
 
@@ -692,10 +722,12 @@ nothing_outside (Err e) s t parts ds bare g = tt
 
 -- a file of these functions and objects is well typed
 pub file_typed : (ds : Externals) (xs : List Definition) (s : Scoped) (fs : List Procedure) (objects : List Static) → typed_externals (with_definitions first_scope ds) ds ≡ Ok (xs, s)
-    → fs ≡ with_bodies (map (procedure_of s.records.done) s.functions.all) xs → objects ≡ map (static_of s.records.done) s.objects → list_all is_static objects ≡ true
-    → are_typed (record { functions = fs; objects = objects }) ≡ true
+    → fs ≡ with_bodies (map (procedure_of s.records.done) s.functions.all) xs → objects ≡ map (static_of s.records.done) s.objects → list_all (is_static 0 0) objects ≡ true
+    → are_typed (record { functions = fs; objects = objects; literals = []; pointers = false }) ≡ true
 file_typed ds xs s fs objects e functions is fit =
-    subst (λ (gs : List Procedure). are_typed (record { functions = gs; objects = objects }) ≡ true) (sym functions) (and _ _ fit (functions_typed ds xs s objects e is))
+    let among : list_all (is_static (length objects) 0) objects ≡ true =
+    ap (list_all (is_static (length objects) 0)) is ∙ statics_among (length objects) 0 s.records.done s.objects ∙ ap (list_all (is_static 0 0)) (sym is) ∙ fit in
+    subst (λ (gs : List Procedure). are_typed (record { functions = gs; objects = objects; literals = []; pointers = false }) ≡ true) (sym functions) (and _ _ among (functions_typed ds xs s objects e is))
 
 -- and its variables are small
 pub file_small : (ds : Externals) (xs : List Definition) (s : Scoped) (fs : List Procedure) → typed_externals (with_definitions first_scope ds) ds ≡ Ok (xs, s)
@@ -706,7 +738,7 @@ file_small ds xs s fs e functions =
     (small_bodies s (map (procedure_of s.records.done) s.functions.all) xs d.good (called_small s.records.done s.functions.all))
 
 pub file_given : (ds : Externals) (xs : List Definition) (s : Scoped) (fs : List Procedure) (objects : List Static) → typed_externals (with_definitions first_scope ds) ds ≡ Ok (xs, s)
-    → fs ≡ with_bodies (map (procedure_of s.records.done) s.functions.all) xs → objects ≡ map (static_of s.records.done) s.objects → elaborated ds ≡ Ok (record { functions = fs; objects = objects })
+    → fs ≡ with_bodies (map (procedure_of s.records.done) s.functions.all) xs → objects ≡ map (static_of s.records.done) s.objects → elaborated ds ≡ Ok (record { functions = fs; objects = objects; literals = []; pointers = false })
 file_given ds xs s fs objects e functions is =
-    ap (λ (r : Result (List Definition × Scoped) Fault). r >>= λ x. Ok (record { functions = with_bodies (map (procedure_of x.1.records.done) x.1.functions.all) x.0; objects = map (static_of x.1.records.done) x.1.objects })) e
-    ∙ ap₂ (λ (gs : List Procedure) (os : List Static). Ok (record { functions = gs; objects = os })) (sym functions) (sym is)
+    ap (λ (r : Result (List Definition × Scoped) Fault). r >>= λ x. Ok (record { functions = with_bodies (map (procedure_of x.1.records.done) x.1.functions.all) x.0; objects = map (static_of x.1.records.done) x.1.objects; literals = []; pointers = false })) e
+    ∙ ap₂ (λ (gs : List Procedure) (os : List Static). Ok (record { functions = gs; objects = os; literals = []; pointers = false })) (sym functions) (sym is)

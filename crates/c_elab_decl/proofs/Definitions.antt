@@ -4,9 +4,10 @@ use Rattle.std.proofs.lemmas.List.{append_assoc, length-append}
 use Rattle.c_tree.specs.Declarations.{Parts, Declarators, Full, name_of}
 use Rattle.c_tree.specs.Statements.{Statement, Externals, declared}
 use Rattle.c_types.specs.Types.{CType}
+use Rattle.core_tree.specs.declared.functions.Variable.{Variable}
 use Rattle.core_tree.specs.Trees as cores
 use Rattle.c_scope.specs.declared.meaning.Meaning.TheVariants.{Function}
-use Rattle.c_scope.specs.Scopes.{Environment, Binding, binding, Named, FunctionType, FunctionTable, Scoped, are_there, are_known, no_flow, first_scope, sizes, linked_to}
+use Rattle.c_scope.specs.Scopes.{Environment, Binding, binding, Named, FunctionType, FunctionTable, Scoped, are_there, are_known, no_flow, first_scope, variables_in, linked_to}
 use Rattle.c_scope.specs.Faults.{◌>>=◌, Fault, Gives, on_line}
 use Rattle.c_scope.specs.declared.fault.TypingError.{TypingError}
 use Rattle.c_scope.proofs.Variables.{are_there_wider}
@@ -36,7 +37,7 @@ node_behind line (Err rule) g f e = let none : ⊥ = cc in absurd none
 -- a fault of what stands in a file is the file's
 pub file_fails : (ds : Externals) (f : Fault) → typed_externals (with_definitions first_scope ds) ds ≡ Err f → elaborated ds ≡ Err f
 file_fails ds f e =
-    ap (λ (r : Result (List Definition × Scoped) Fault). r >>= λ x. Ok (record { functions = with_bodies (map (procedure_of x.1.records.done) x.1.functions.all) x.0; objects = map (static_of x.1.records.done) x.1.objects })) e
+    ap (λ (r : Result (List Definition × Scoped) Fault). r >>= λ x. Ok (record { functions = with_bodies (map (procedure_of x.1.records.done) x.1.functions.all) x.0; objects = map (static_of x.1.records.done) x.1.objects; literals = []; pointers = false })) e
 
 -- a declaration in a file
 pub outside_step : (r : Result (Unit {0}) TypingError) (s t : Scoped) (parts : Parts) (ds : Declarators) (rest : Externals) (before : List CodeDefinition) → Gives (λ (u : Unit {0}). t) r (typed_outside s parts ds)
@@ -46,7 +47,7 @@ outside_step (Err e) s t parts ds rest before h = fails_on e (typed_outside s pa
 
 module _ (s : Scoped) (parts : Parts) (d : Full) (body : Statement) where
   abbrev at_body : Scoped → Result (cores.Statement × Scoped) Fault → Result (Definition × Scoped) Fault
-  at_body outer r = r >>= λ y. Ok (record { number = own_number (linked_to y.1.functions.named (name_of d)); variables = sizes y.1; labels = length (labels_in body); body = y.0 }, outside outer y.1 (name_of d))
+  at_body outer r = r >>= λ y. Ok (record { number = own_number (linked_to y.1.functions.named (name_of d)); variables = variables_in y.1; labels = length (labels_in body); body = y.0 }, outside outer y.1 (name_of d))
 
   abbrev at_type : Scoped → Passed → Result FunctionType Fault → Result (Definition × Scoped) Fault
   at_type outer p r = r >>= λ f. at_body outer (typed_body_of (length outer.bindings + 1) (within_body outer p.scope d f) body)
@@ -164,7 +165,7 @@ module _ (s : Scoped) (parts : Parts) (d : Full) (body : Statement) where
           (omega arith) (omega (arith, objects, more_objects)) (omega (arith, types, more_types)) (omega (arith, records, more_records))
           (ap (λ (m : ℕ). are_there m (length outer.objects) (length outer.types) (length outer.records.declared) outer.bindings) (sym (ap (λ (vs : List Named). length vs) bare)) ∙ known)
 
-      pub defined_so : (e g h : Scoped) (k : ℕ) (vs : List ℕ) (l : ℕ) → k ≡ own_callable.0 → e ≡ record y { bindings = drop (length y.bindings - (n + 1)) y.bindings } → g ≡ record e { flow = no_flow } → h ≡ record g { variables = [] } → vs ≡ sizes g → l ≡ length (labels_in body)
+      pub defined_so : (e g h : Scoped) (k : ℕ) (vs : List Variable) (l : ℕ) → k ≡ own_callable.0 → e ≡ record y { bindings = drop (length y.bindings - (n + 1)) y.bindings } → g ≡ record e { flow = no_flow } → h ≡ record g { variables = [] } → vs ≡ variables_in g → l ≡ length (labels_in body)
           → typed_definition s parts d body ≡ Ok (record { number = k; variables = vs; labels = l; body = x }, h)
       defined_so e g h k vs l number left ended taken said counted =
           let g_is : g ≡ record y { bindings = own_name ∷ outer.bindings; flow = no_flow } =
@@ -172,8 +173,8 @@ module _ (s : Scoped) (parts : Parts) (d : Full) (body : Statement) where
           let h_is : h ≡ outside outer y (name_of d) =
           taken ∙ ap (λ (z : Scoped). record z { variables = [] }) g_is
           ∙ ap (λ (l : ℕ). record y { bindings = binding (name_of d) (Function l) ∷ outer.bindings; variables = []; flow = no_flow }) (sym number_is) in
-          let vs_are : vs ≡ sizes y = said ∙ ap sizes g_is in
+          let vs_are : vs ≡ variables_in y = said ∙ ap variables_in g_is in
           let k_is : k ≡ own_number (linked_to y.functions.named (name_of d)) = number ∙ sym number_is in
           ap at_parts e1 ∙ ap (at_own (base, outer)) e2 ∙ ap (at_type outer p) e3 ∙ ap (at_body outer) whole
-          ∙ ap₂ (λ (m : ℕ) (ws : List ℕ). Ok (record { number = m; variables = ws; labels = length (labels_in body); body = x }, outside outer y (name_of d))) (sym k_is) (sym vs_are)
+          ∙ ap₂ (λ (m : ℕ) (ws : List Variable). Ok (record { number = m; variables = ws; labels = length (labels_in body); body = x }, outside outer y (name_of d))) (sym k_is) (sym vs_are)
           ∙ ap₂ (λ (j : ℕ) (z : Scoped). Ok (record { number = k; variables = vs; labels = j; body = x }, z)) (sym counted) (sym h_is)

@@ -411,7 +411,7 @@ bodies_stand fs (x ∷ xs) d h = bodies_stand (with_body fs x (slice_get fs x.nu
 
 -- each statement of a file's functions stands where it may
 pub file_stands : (ds : Externals) (xs : List Definition) (s : Scoped) (fs : List Procedure) (objects : List Static) → typed_externals (with_definitions first_scope ds) ds ≡ Ok (xs, s)
-    → fs ≡ with_bodies (map (procedure_of s.records.done) s.functions.all) xs → stands_file (record { functions = fs; objects = objects }) ≡ true
+    → fs ≡ with_bodies (map (procedure_of s.records.done) s.functions.all) xs → stands_file (record { functions = fs; objects = objects; literals = []; pointers = false }) ≡ true
 file_stands ds xs s fs objects e functions =
     subst (λ (gs : List Procedure). stand gs ≡ true) (sym functions)
     (bodies_stand (map (procedure_of s.records.done) s.functions.all) xs (externals_stand (with_definitions first_scope ds) ds (xs, s) e) (called_stand s.records.done s.functions.all))

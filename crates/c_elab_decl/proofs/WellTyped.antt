@@ -118,7 +118,7 @@ record Within (s t : Scoped) : Type 0 where
   sizes : Wider (own_sizes s) (own_sizes t)
 
 within_done : (counted : Bool) (s : Scoped) (name : List ℕ) (n : Named) → There s → IsObject s.records.done n.type → Within (within_initializer counted s name n) (with_variable s name n)
-within_done false s name n there o = record { there = (variable_follows s name n o.complete o.sized).there there; same = refl; sizes = wider_refl (own_sizes (with_variable s name n)) }
+within_done false s name n there o = record { there = (variable_follows s name n o.complete o.sized).there there; same = refl; sizes = wider_refl (own_sizes (with_variable s name n)) refl }
 within_done true s name n there o = record {
   there = (binding_settles s name Incomplete refl).follows.there there;
   same = refl;
@@ -245,9 +245,10 @@ flow_follows s f gives switch = record {
   variables = omega arith;
   objects = omega arith;
   sizes = λ g. record {
+    no_pointers = refl;
     variables = grows_refl (sizes s);
-    objects = (wider_refl (own_sizes s)).objects;
-    functions = (wider_refl (own_sizes s)).functions;
+    objects = (wider_refl (own_sizes s) refl).objects;
+    functions = (wider_refl (own_sizes s) refl).functions;
     gives = ap (given_by s.records.done) gives;
   };
   types = omega arith;
@@ -423,7 +424,7 @@ ended_follows s u t f = record {
   objects = f.objects;
   sizes = λ g.
       let wide = f.sizes (switch_there s t g) in
-      record { variables = wide.variables; objects = wide.objects; functions = wide.functions; gives = wide.gives };
+      record { no_pointers = refl; variables = wide.variables; objects = wide.objects; functions = wide.functions; gives = wide.gives };
   types = f.types;
   records = f.records;
   calls = record { named = f.calls.named; all = f.calls.all; gives = f.calls.gives; switch = refl; later = f.calls.later };
@@ -442,9 +443,9 @@ switch_done s line x r good names h =
       follows = ended_follows s y.1 t d.1.follows;
       good = λ there zs g.
           let inner = switch_there s t there in
-          let behind : Wider (own_sizes y.1) zs = record { variables = g.variables; objects = g.objects; functions = g.functions; gives = g.gives } in
+          let behind : Wider (own_sizes y.1) zs = record { no_pointers = refl; variables = g.variables; objects = g.objects; functions = g.functions; gives = g.gives } in
           let wide = d.1.follows.sizes inner in
-          let here : Wider (own_sizes s) (own_sizes y.1) = record { variables = wide.variables; objects = wide.objects; functions = wide.functions; gives = wide.gives } in
+          let here : Wider (own_sizes s) (own_sizes y.1) = record { no_pointers = refl; variables = wide.variables; objects = wide.objects; functions = wide.functions; gives = wide.gives } in
           and _ _ (and _ _ (and _ _ (ap is_promoted n.is ∙ switch_promoted x) (typed_grows (own_sizes s) zs v (wider_trans (own_sizes s) (own_sizes y.1) zs here behind) (n.good there)))
           (ap (λ (u : ValueType). are_cases u y.0) n.is ∙ d.1.cases t refl)) (d.1.good inner zs behind);
     })))
@@ -516,7 +517,7 @@ strays : (s : Scoped) (line : ℕ) (y : cores.Statement × Scoped) (c : Cases) �
 strays s line y c d e = record {
   names = d.names;
   follows = follows_trans s y.1 (with_cases y.1 c) d.follows (cases_follow y.1 c e);
-  good = λ there zs g. d.good there zs (record { variables = g.variables; objects = g.objects; functions = g.functions; gives = g.gives });
+  good = λ there zs g. d.good there zs (record { no_pointers = refl; variables = g.variables; objects = g.objects; functions = g.functions; gives = g.gives });
 }
 
 jump_done : (s : Scoped) (line : ℕ) (labels : List (List ℕ)) (name : List ℕ) → Holds (Returns s) (on_line line (jump_node line labels name))
@@ -555,7 +556,7 @@ front_case s line x r h =
     given (FrontDone s) _ (record {
       names = d.names;
       follows = follows_trans s y.1 (with_cases y.1 c.1) d.follows (cases_follow y.1 c.1 (ap Some k.same ∙ sym k.type));
-      good = λ there zs rest g typed. and _ _ k.low (d.good there zs rest (record { variables = g.variables; objects = g.objects; functions = g.functions; gives = g.gives }) typed);
+      good = λ there zs rest g typed. and _ _ k.low (d.good there zs rest (record { no_pointers = refl; variables = g.variables; objects = g.objects; functions = g.functions; gives = g.gives }) typed);
       cases = λ t e rest fits.
           let one : Some t ≡ Some c.0.0 = sym (d.follows.calls.switch ∙ e) ∙ k.type in
           let is : t ≡ c.0.0 = cc in
@@ -570,7 +571,7 @@ front_default s line r h =
     given (FrontDone s) _ (record {
       names = d.names;
       follows = follows_trans s y.1 (with_cases y.1 c) d.follows (cases_follow y.1 c (sym k));
-      good = λ there zs rest g typed. d.good there zs rest (record { variables = g.variables; objects = g.objects; functions = g.functions; gives = g.gives }) typed;
+      good = λ there zs rest g typed. d.good there zs rest (record { no_pointers = refl; variables = g.variables; objects = g.objects; functions = g.functions; gives = g.gives }) typed;
       cases = λ t e rest fits. d.cases t e rest fits;
     })))
 

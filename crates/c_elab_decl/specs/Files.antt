@@ -5,7 +5,7 @@ use Rattle.c_tree.specs.Statements.{Statement, block, Externals, no_more, declar
 use Rattle.core_tree.specs.Trees.{TypedFile}
 use Rattle.core_tree.specs.Trees as cores
 use Rattle.c_scope.specs.declared.meaning.Meaning.TheVariants.{Function}
-use Rattle.c_scope.specs.Scopes.{Environment, binding, Named, FunctionType, Scoped, first_scope, no_flow, with_defined, sizes, linked_to}
+use Rattle.c_scope.specs.Scopes.{Environment, binding, Named, FunctionType, Scoped, first_scope, no_flow, with_defined, variables_in, linked_to}
 use Rattle.c_scope.specs.Faults.{◌>>=◌, Fault, on_line}
 use Rattle.c_elab_base.specs.Regions.{earlier}
 use Rattle.c_elab_base.specs.Derivations.{Derived, called, Derivation, lengths, callable, derivation, full_line}
@@ -73,7 +73,7 @@ typed_definition s parts d body = do
   p ← own_suffixes x.1 d (own_parameters d)
   f ← on_line (full_line d) (definition_type x.1 x.0 d p.0 p.1)
   y ← typed_body_of (length x.1.bindings + 1) (within_body x.1 p.1.scope d f) body
-  Ok (record { number = own_number (linked_to y.1.functions.named (name_of d)); variables = sizes y.1; labels = length (labels_in body); body = y.0 }, outside x.1 y.1 (name_of d))
+  Ok (record { number = own_number (linked_to y.1.functions.named (name_of d)); variables = variables_in y.1; labels = length (labels_in body); body = y.0 }, outside x.1 y.1 (name_of d))
 
 -- ---- files
 
@@ -94,11 +94,13 @@ with_definitions s no_more = s
 with_definitions s (declared parts ds rest) = with_definitions s rest
 with_definitions s (defines parts d body rest) = with_definitions (record s { functions = with_defined s.functions (name_of d) }) rest
 
--- the functions and the objects of a file
+-- the functions and the objects of a file; no string literal is an object, and no form over pointers stands there
 abbrev pub elaborated : Externals → Result TypedFile Fault
 elaborated file = do
   x ← typed_externals (with_definitions first_scope file) file
   Ok (record {
     functions = with_bodies (map (procedure_of x.1.records.done) x.1.functions.all) x.0;
     objects = map (static_of x.1.records.done) x.1.objects;
+    literals = [];
+    pointers = false;
   })

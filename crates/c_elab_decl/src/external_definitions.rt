@@ -28,7 +28,7 @@ use c_scope::{FunctionType, Meaning, QualifiedType, Scope, TypingError};
 use c_tree::{
     DeclaratorSuffix, Definition as DefinitionTree, External, File, FullDeclarator, Stmt,
 };
-use core_tree::{Core, CoreStatement};
+use core_tree::{Core, CoreStatement, Literal};
 use std::alloc::{AllocError, Global};
 
 // More names, functions or objects than this have no memory.
@@ -254,6 +254,13 @@ fn note_definitions(
     Ok(())
 }
 
+// No string literal is an object.
+fn no_literals(alloc: Global) -> Vec<Literal>
+    ensures { result.items ≡ [] }
+{
+    Vec::new(alloc)
+}
+
 // The typed tree of a file, in the scope that each file begins in.
 fn typed_file(alloc: Global, file: &File, scope: &mut Scope) -> Result<Core, TypingError>
     requires { scope.old ≡ first_scope }
@@ -268,12 +275,12 @@ fn typed_file(alloc: Global, file: &File, scope: &mut Scope) -> Result<Core, Typ
     if functions.len() > MOST || objects.len() > MOST {
         return Err(TypingError::Memory);
     }
-    Ok(Core::new(functions, objects))
+    Ok(Core::new(functions, objects, no_literals(alloc), false))
 }
 
 /// The typed tree of a file (C11 6.9): its functions in the order of their first declarators, and its objects that live as long
 /// as the program, in the order of theirs. Names mean what their innermost declarations say, each
-/// variable is one of its function, by its size in bytes, and each conversion is a node. Otherwise the first rule that is broken, where parts come
+/// variable is one of its function, and each conversion is a node. Otherwise the first rule that is broken, where parts come
 /// before what they are parts of, from left to right.
 pub fn elaborate(alloc: Global, file: &File) -> Result<Core, TypingError>
     ensures { Gives (λ c. view_core c) result (elaborated (view_file file.now)) }

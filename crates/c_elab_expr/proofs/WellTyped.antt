@@ -22,16 +22,15 @@ use Rattle.core_tree.specs.declared.operators.Comparison.{Comparison}
 use Rattle.core_tree.specs.declared.operators.LogicalOperator.{LogicalOperator}
 use Rattle.core_tree.specs.declared.operators.SignOperator.{SignOperator}
 use Rattle.core_tree.specs.declared.operators.StepOperator.{StepOperator}
-use Rattle.core_tree.specs.declared.expression.Place.{Place}
 use Rattle.c_types.specs.Types.{CType, Completed}
 use Rattle.c_types.specs.Types as ctypes
 use Rattle.c_types.specs.Layouts.{IsBuilt, is_complete, is_sized, size_of}
 use Rattle.c_types.proofs.CellLists.{small_sized}
 use Rattle.core_tree.specs.declared.functions.PassedType.{PassedType}
 use Rattle.core_tree.specs.declared.functions.PassedType.TheVariants as passed
-use Rattle.core_tree.specs.Trees.{Expression, Structure, Arguments}
+use Rattle.core_tree.specs.Trees.{Place, Expression, Structure, Arguments}
 use Rattle.core_tree.specs.Trees as cores
-use Rattle.core_tree.specs.Typed.{Sizes, Signature, type_of, place_type, is_integer, is_promoted, are_operands, is_within, is_typed, is_structure, are_arguments, same_given, given_as, gives_this}
+use Rattle.core_tree.specs.Typed.{Sizes, Signature, type_of, is_integer, is_promoted, are_operands, is_within, is_place, is_typed, is_structure, are_arguments, same_given, given_as, gives_this}
 use Rattle.core_tree.specs.Typed as typed_trees
 use Rattle.c_scope.specs.declared.meaning.Meaning.{Meaning}
 use Rattle.c_scope.specs.declared.meaning.Meaning.TheVariants.{Variable, Object, Incomplete, Assert, Assume, Draw, Function, Typedef, Enumerator, Record, Enumeration}
@@ -41,7 +40,7 @@ use Rattle.c_scope.specs.Members.{found, members_in, part_at}
 use Rattle.c_scope.specs.Scopes.{Named, ObjectEntry, Callable, Scoped, meaning_of, sizes_of, object_at, is_incomplete, object_entry_size, passed_as, given_by, signature_of, all_sizes}
 use Rattle.c_scope.specs.Faults.{◌>>=◌, required, Fault, on_line}
 use Rattle.c_elab_expr.specs.Nodes.{Node, integer_of, integer, as_type, place_of, target_of, constant_type, constant_node, character_node, size_node, discarded, cast_node, sign_node, not_node, step_node, unary_node, postfix_node, left_type, right_type, arithmetic_node, compare_node, logical_node, binary_node, chosen, choice_node, assign_node, operator_of, update_node, assignment_node}
-use Rattle.c_elab_expr.specs.Operands.{Operand, value, object, structure, number_place, held_value, put_value, is_home, computed, valued, number, same_record, record_value, dropped, is_array, used, place_operand, variable_node, object_entry_node, function_node, name_node, part_operand, member_node, operand_bytes, cast_record, cast_operand, unary_operand, postfix_operand, binary_operand, choice_record, choice_value, choice_operand, assign_record, assign_value, assign_operand, comma_operand, one_integer, no_arguments, argument_in, arguments_in, extra_arguments, given_size, given_operand, behind_extra, function_call, drawn_or_called, callable_call, assertion_call, assumption_call, call_node, is_typed_operand}
+use Rattle.c_elab_expr.specs.Operands.{Operand, value, object, structure, home_place, held_value, put_value, is_home, computed, valued, number, same_record, record_value, dropped, is_array, used, place_operand, variable_node, object_entry_node, function_node, name_node, part_operand, member_node, operand_bytes, sized_operand, cast_record, cast_operand, unary_operand, postfix_operand, binary_operand, choice_record, choice_value, choice_operand, assign_record, assign_value, assign_operand, comma_operand, one_integer, no_arguments, argument_in, arguments_in, extra_arguments, given_size, given_operand, behind_extra, function_call, drawn_or_called, callable_call, assertion_call, assumption_call, call_node, is_typed_operand}
 use Rattle.c_scope.specs.Types.{type_size}
 use Rattle.c_elab_expr.specs.Strings.{strings_of, strings_length}
 use Rattle.c_elab_expr.specs.Typing.{bare_line, sized, used_on, callee, is_used, called, is_wanted, type_name, operand_size, typed, typed_arguments, operand_by, lengths}
@@ -76,36 +75,53 @@ integer_is_by rule (Integer t) = given (λ u. Integer t ≡ Integer u) t refl
 pub integer_is : (rule : ℕ) (e : Expression) → Holds (λ t. type_of e ≡ Integer t) (integer rule e)
 integer_is rule e = integer_is_by rule (type_of e)
 
-abbrev Is : Expression → Place → Type 0
-Is e p = e ≡ cores.read p
+abbrev Is : IntegerType → Expression → Place → Type 0
+Is t e p = e ≡ cores.read t p
 
-place_is : (e : Expression) → Holds (Is e) (required 9 (place_of e))
-place_is (cores.constant line t bits) = refused (Is _) 9
-place_is (cores.read p) = given (Is (cores.read p)) p refl
-place_is (cores.convert to e) = refused (Is _) 9
-place_is (cores.sign line op e) = refused (Is _) 9
-place_is (cores.is_zero line e) = refused (Is _) 9
-place_is (cores.arithmetic line op a b) = refused (Is _) 9
-place_is (cores.compare line op a b) = refused (Is _) 9
-place_is (cores.logical line op a b) = refused (Is _) 9
-place_is (cores.choice line test a b) = refused (Is _) 9
-place_is (cores.assign line p e) = refused (Is _) 9
-place_is (cores.update line p op t e) = refused (Is _) 9
-place_is (cores.step line p op before) = refused (Is _) 9
-place_is (cores.comma line a b) = refused (Is _) 9
-place_is (cores.assertion line e) = refused (Is _) 9
-place_is (cores.assumption line e) = refused (Is _) 9
-place_is (cores.draw line t) = refused (Is _) 9
-place_is (cores.part line t offset a) = refused (Is _) 9
-place_is (cores.discard line e) = refused (Is _) 9
-place_is (cores.discard_structure a) = refused (Is _) 9
-place_is (cores.call line f used t args) = refused (Is _) 9
-place_is (cores.function_name line f) = refused (Is _) 9
+read_is : (u t : IntegerType) (p : Place) → Integer u ≡ Integer t → cores.read u p ≡ cores.read t p
+read_is u t p e = let same : u ≡ t = cc in ap (λ (x : IntegerType). cores.read x p) same
+
+-- the place of a number of this type
+place_is : (t : IntegerType) (e : Expression) → type_of e ≡ Integer t → Holds (Is t e) (required 9 (place_of e))
+place_is t (cores.read u p) e = given (Is t (cores.read u p)) p (read_is u t p e)
+place_is t (cores.constant line u bits) e = refused (Is t _) 9
+place_is t (cores.convert to x) e = refused (Is t _) 9
+place_is t (cores.sign line op x) e = refused (Is t _) 9
+place_is t (cores.is_zero line x) e = refused (Is t _) 9
+place_is t (cores.arithmetic line op a b) e = refused (Is t _) 9
+place_is t (cores.compare line op a b) e = refused (Is t _) 9
+place_is t (cores.logical line op a b) e = refused (Is t _) 9
+place_is t (cores.choice line test a b) e = refused (Is t _) 9
+place_is t (cores.assign line u p x) e = refused (Is t _) 9
+place_is t (cores.update line u p op v x) e = refused (Is t _) 9
+place_is t (cores.step line u p op before) e = refused (Is t _) 9
+place_is t (cores.comma line a b) e = refused (Is t _) 9
+place_is t (cores.assertion line x) e = refused (Is t _) 9
+place_is t (cores.assumption line x) e = refused (Is t _) 9
+place_is t (cores.draw line u) e = refused (Is t _) 9
+place_is t (cores.part line u offset a) e = refused (Is t _) 9
+place_is t (cores.discard line x) e = refused (Is t _) 9
+place_is t (cores.discard_structure a) e = refused (Is t _) 9
+place_is t (cores.call line f used u args) e = refused (Is t _) 9
+place_is t (cores.function_name line) e = refused (Is t _) 9
+place_is t (cores.size_of_value line bits x) e = refused (Is t _) 9
+place_is t (cores.size_of_structure line bits a) e = refused (Is t _) 9
+place_is t (cores.address line p) e = refused (Is t _) 9
+place_is t (cores.sum line a x n swapped) e = refused (Is t _) 9
+place_is t (cores.distance line a b n) e = refused (Is t _) 9
+place_is t (cores.relation line op a b) e = refused (Is t _) 9
+place_is t (cores.pointer_update line p n x) e = refused (Is t _) 9
+place_is t (cores.pointer_step line p n before) e = refused (Is t _) 9
+place_is t (cores.allocate line x) e = refused (Is t _) 9
+place_is t (cores.allocate_zeroed line a b) e = refused (Is t _) 9
+place_is t (cores.release line x) e = refused (Is t _) 9
+place_is t (cores.exit line x) e = refused (Is t _) 9
+place_is t (cores.abort line) e = refused (Is t _) 9
 
 -- a place that may be changed is a place
-target_is : (is_const : Bool) (e : Expression) → Holds (Is e) (required 9 (target_of is_const e))
-target_is true e = refused (Is e) 9
-target_is false e = place_is e
+target_is : (is_const : Bool) (t : IntegerType) (e : Expression) → type_of e ≡ Integer t → Holds (Is t e) (required 9 (target_of is_const e))
+target_is true t e is = refused (Is t e) 9
+target_is false t e is = place_is t e is
 
 -- struct and union types are one where they have one place
 one_record : (t u : CType) → same_record t u ≡ true → t ≡ u
@@ -189,7 +205,7 @@ module _ (scope : Scoped) where
 
   step_good : (is_const : Bool) (line : ℕ) (op : StepOperator) (before : Bool) (e : Expression) → Good e → Holds Good (step_node is_const line op before e)
   step_good is_const line op before e h = bind (λ t. type_of e ≡ Integer t) Good (integer 7 e) _ (integer_is 7 e) (λ t is.
-      bind (Is e) Good (required 9 (target_of is_const e)) _ (target_is is_const e) (λ p place. given Good _ (ap (is_typed (all_sizes scope)) (sym place) ∙ h)))
+      bind (Is t e) Good (required 9 (target_of is_const e)) _ (target_is is_const t e is) (λ p place. given Good _ (ap (is_typed (all_sizes scope)) (sym place) ∙ h)))
 
   unary_good : (is_const : Bool) (line : ℕ) (op : UnaryOp) (e : Expression) → Good e → Holds Good (unary_node is_const line op e)
   unary_good is_const line unaries.Increment e h = step_good is_const line _ true e h
@@ -264,16 +280,16 @@ module _ (scope : Scoped) where
 
   assign_good : (is_const : Bool) (line : ℕ) (place v : Expression) → Good place → Good v → Holds Good (assign_node is_const line place v)
   assign_good is_const line place v h g = pair Good 8 place v _ (λ t u is is_b.
-      bind (Is place) Good (required 9 (target_of is_const place)) _ (target_is is_const place) (λ p read.
+      bind (Is t place) Good (required 9 (target_of is_const place)) _ (target_is is_const t place is) (λ p read.
       given Good _ (and _ _ (and _ _ (ap (is_typed (all_sizes scope)) (sym read) ∙ h)
-      (ap (λ (x : ValueType). same_type x (Integer (place_type p))) (type_as (place_type p) v) ∙ same_type_refl (Integer (place_type p))))
-      (typed_as (all_sizes scope) (place_type p) u v is_b g))))
+      (ap (λ (x : ValueType). same_type x (Integer t)) (type_as t v) ∙ same_type_refl (Integer t)))
+      (typed_as (all_sizes scope) t u v is_b g))))
 
   update_good : (is_const : Bool) (line : ℕ) (op : BinaryOp) (place v : Expression) → Good place → Good v → Holds Good (update_node is_const line op place v)
   update_good is_const line op place v h g =
       bind (λ (o : ArithmeticOperator). Unit {0}) Good (required 7 (operator_of op)) _ (λ o e. tt) (λ o _.
       pair Good 7 place v _ (λ t u is is_b.
-      bind (Is place) Good (required 9 (target_of is_const place)) _ (target_is is_const place) (λ p read.
+      bind (Is t place) Good (required 9 (target_of is_const place)) _ (target_is is_const t place is) (λ p read.
       given Good _ (and _ _ (and _ _ (ap (is_typed (all_sizes scope)) (sym read) ∙ h)
       (ap (are_operands o (Integer (left_type o t u))) (type_as (right_type o t u) v) ∙ operands_fit o t u))
       (typed_as (all_sizes scope) (right_type o t u) u v is_b g)))))
@@ -303,27 +319,14 @@ module _ (scope : Scoped) where
       bind (λ t. type_of e ≡ Integer t) GoodNumber (integer rule e) _ (integer_is rule e) (λ t is.
       given GoodNumber e (record { integral = ap is_integer is; good = good })))
 
-  -- the bytes of a home, and what takes their place
-  held_is : (v : Home) (line offset n : ℕ) → is_structure (all_sizes scope) (held_value v line offset n) ≡ is_home (all_sizes scope) v offset n
-  held_is (homes.Variable v) line offset n = refl
-  held_is (homes.Object k) line offset n = refl
+  -- so many bytes of a home are a place
+  home_is : (v : Home) (line offset n : ℕ) → is_place (all_sizes scope) n (home_place v line offset) ≡ is_home (all_sizes scope) v offset n
+  home_is (homes.Variable v) line offset n = refl
+  home_is (homes.Object k) line offset n = refl
 
-  held_size : (v : Home) (line offset n : ℕ) → typed_trees.size_of (held_value v line offset n) ≡ n
-  held_size (homes.Variable v) line offset n = refl
-  held_size (homes.Object k) line offset n = refl
-
-  put_good : (v : Home) (line offset : ℕ) (a : Structure) → is_home (all_sizes scope) v offset (typed_trees.size_of a) ≡ true → is_structure (all_sizes scope) a ≡ true
-      → is_structure (all_sizes scope) (put_value v line offset a) ≡ true
-  put_good (homes.Variable v) line offset a h g = and _ _ h g
-  put_good (homes.Object k) line offset a h g = and _ _ h g
-
-  put_size : (v : Home) (line offset : ℕ) (a : Structure) → typed_trees.size_of (put_value v line offset a) ≡ typed_trees.size_of a
-  put_size (homes.Variable v) line offset a = refl
-  put_size (homes.Object k) line offset a = refl
-
-  number_good_at : (v : Home) (line offset : ℕ) (t : IntegerType) → is_home (all_sizes scope) v offset (bytes t) ≡ true → Good (cores.read (number_place v line t offset))
-  number_good_at (homes.Variable v) line offset t h = h
-  number_good_at (homes.Object k) line offset t h = h
+  put_good : (line at : ℕ) (v : Home) (offset : ℕ) (a : Structure) → is_home (all_sizes scope) v offset (typed_trees.size_of a) ≡ true → is_structure (all_sizes scope) a ≡ true
+      → is_structure (all_sizes scope) (put_value line at v offset a) ≡ true
+  put_good line at v offset a h g = and _ _ (home_is v at offset (typed_trees.size_of a) ∙ h) g
 
   -- a value that has as many bytes as a type
   record GoodStructure (t : CType) (a : Structure) : Type 0 where
@@ -336,7 +339,7 @@ module _ (scope : Scoped) where
       record { good = parts.0; size = eqb-true (typed_trees.size_of a) (size_of scope.records.done t) parts.1 }
 
   held : (line : ℕ) (v : Home) (offset : ℕ) (t : CType) → is_home (all_sizes scope) v offset (size_of scope.records.done t) ≡ true → GoodStructure t (held_value v line offset (size_of scope.records.done t))
-  held line v offset t h = record { good = held_is v line offset (size_of scope.records.done t) ∙ h; size = held_size v line offset (size_of scope.records.done t) }
+  held line v offset t h = record { good = home_is v line offset (size_of scope.records.done t) ∙ h; size = refl }
 
   structure_fits : (t : CType) (a : Structure) → GoodStructure t a → Fits (structure t a)
   structure_fits t a g = and _ _ g.good (eq-eqb (typed_trees.size_of a) (size_of scope.records.done t) g.size)
@@ -372,7 +375,7 @@ module _ (scope : Scoped) where
 
   place_fits : (line : ℕ) (v : Home) (offset : ℕ) (t : CType) (k : Bool) → is_home (all_sizes scope) v offset (size_of scope.records.done t) ≡ true → Fits (place_operand line v offset t k)
   place_fits line v offset ctypes.void k h = h
-  place_fits line v offset (ctypes.integer t) k h = number_good_at v line offset t h
+  place_fits line v offset (ctypes.integer t) k h = home_is v line offset (bytes t) ∙ h
   place_fits line v offset (ctypes.aggregate p) k h = h
   place_fits line v offset (ctypes.array element n) k h = h
 
@@ -425,17 +428,9 @@ module _ (scope : Scoped) where
   object_entry_fits line k None e = refused Fits 1
   object_entry_fits line k (Some o) e = object_entry_by line k o (is_incomplete scope.records.done o) e refl
 
-  -- a function that is there
-  function_there : (fs : List Callable) (f : ℕ) (c : Callable) → slice_get fs f ≡ Some c → nat_lt f (length (map (signature_of scope.records.done) fs)) ≡ true
-  function_there [] f c e = let no : ⊥ = cc in absurd no
-  function_there (g ∷ gs) zero c e = lt-ltb 0 (suc (length (map (signature_of scope.records.done) gs))) (omega arith)
-  function_there (g ∷ gs) (suc f) c e =
-      let below = ltb-true f (length (map (signature_of scope.records.done) gs)) (function_there gs f c e) in
-      lt-ltb (suc f) (suc (length (map (signature_of scope.records.done) gs))) (omega (arith, below))
-
-  function_fits : (line f : ℕ) (o : Option Callable) → slice_get scope.functions.all f ≡ o → Holds Fits (function_node line f o)
-  function_fits line f None e = refused Fits 1
-  function_fits line f (Some c) e = given Fits _ (function_there scope.functions.all f c e)
+  function_fits : (line f : ℕ) (o : Option Callable) → Holds Fits (function_node line f o)
+  function_fits line f None = refused Fits 1
+  function_fits line f (Some c) = given Fits _ refl
 
   name_fits : (line : ℕ) (o : Option Meaning) → Holds Fits (name_node scope line o)
   name_fits line None = refused Fits 1
@@ -445,7 +440,7 @@ module _ (scope : Scoped) where
   name_fits line (Some Assert) = refused Fits 7
   name_fits line (Some Assume) = refused Fits 7
   name_fits line (Some (Draw t)) = refused Fits 7
-  name_fits line (Some (Function f)) = function_fits line f (slice_get scope.functions.all f) refl
+  name_fits line (Some (Function f)) = function_fits line f (slice_get scope.functions.all f)
   name_fits line (Some (Typedef n)) = refused Fits 7
   name_fits line (Some (Enumerator bits)) = given Fits _ (character_good line bits)
   name_fits line (Some (Record p)) = refused Fits 7
@@ -507,23 +502,23 @@ module _ (scope : Scoped) where
   value_fits k line (Some op) p (object at v offset t l) h g = refused Fits 7
   value_fits k line (Some op) p (structure t a) h g = refused Fits 7
 
-  put_by : (line : ℕ) (v : Home) (offset : ℕ) (t : CType) (a : Structure) (b : Bool) → is_home (all_sizes scope) v offset (size_of scope.records.done t) ≡ true → GoodStructure t a
-      → Holds {E = ℕ} Fits (if b then Err 9 else Ok (structure t (put_value v line offset a)))
-  put_by line v offset t a true h g = refused Fits 9
-  put_by line v offset t a false h g = given Fits _ (structure_fits t (put_value v line offset a) (record {
-    good = put_good v line offset a (ap (is_home (all_sizes scope) v offset) g.size ∙ h) g.good;
-    size = put_size v line offset a ∙ g.size;
+  put_by : (line at : ℕ) (v : Home) (offset : ℕ) (t : CType) (a : Structure) (b : Bool) → is_home (all_sizes scope) v offset (size_of scope.records.done t) ≡ true → GoodStructure t a
+      → Holds {E = ℕ} Fits (if b then Err 9 else Ok (structure t (put_value line at v offset a)))
+  put_by line at v offset t a true h g = refused Fits 9
+  put_by line at v offset t a false h g = given Fits _ (structure_fits t (put_value line at v offset a) (record {
+    good = put_good line at v offset a (ap (is_home (all_sizes scope) v offset) g.size ∙ h) g.good;
+    size = g.size;
   }))
 
-  assign_record_fits : (line : ℕ) (v : Home) (offset : ℕ) (t : CType) (k : Bool) (y : Operand) → is_home (all_sizes scope) v offset (size_of scope.records.done t) ≡ true → Fits y
-      → Holds Fits (assign_record scope line v offset t k y)
-  assign_record_fits line v offset t k y h f =
+  assign_record_fits : (line at : ℕ) (v : Home) (offset : ℕ) (t : CType) (k : Bool) (y : Operand) → is_home (all_sizes scope) v offset (size_of scope.records.done t) ≡ true → Fits y
+      → Holds Fits (assign_record scope line at v offset t k y)
+  assign_record_fits line at v offset t k y h f =
       bind (GoodStructure t) Fits (required 8 (record_value scope.records.done t y)) _ (record_good 8 t y f) (λ a g.
-      put_by line v offset t a (k || (members_in scope.members t).constant) h g)
+      put_by line at v offset t a (k || (members_in scope.members t).constant) h g)
 
   assign_fits : (line : ℕ) (op : Option BinaryOp) (x y : Operand) → Fits x → Fits y → Holds Fits (assign_operand scope line op x y)
   assign_fits line op (value p k) y h g = value_fits k line op p y h g
-  assign_fits line None (object at v offset t k) y h g = assign_record_fits line v offset t k y h g
+  assign_fits line None (object at v offset t k) y h g = assign_record_fits line at v offset t k y h g
   assign_fits line None (structure t a) y h g =
       bind (GoodStructure t) Fits (required 8 (record_value scope.records.done t y)) _ (record_good 8 t y g) (λ b _. refused Fits 9)
   assign_fits line (Some op) (object at v offset t k) y h g = refused Fits 7
@@ -637,10 +632,20 @@ module _ (scope : Scoped) where
   size_is_good line (Ok n) = given Fits _ (size_good line n)
   size_is_good line (Err f) = refused Fits f
 
-  operand_good : (line : ℕ) (done : List Completed) (o : Option (List (List ℕ))) (r : Result Operand Fault) → Holds Fits (operand_size line done o r)
-  operand_good line done None (Ok x) = size_is_good line (on_line line (operand_bytes done x))
-  operand_good line done None (Err f) = refused Fits f
-  operand_good line done (Some parts) r = given Fits _ (size_good line (strings_length parts + 1))
+  -- the operand stays
+  sized_fits : (line n : ℕ) (x : Operand) → Fits x → Fits (sized_operand scope.records.done line n x)
+  sized_fits line n (value e k) h = and _ _ (lt-ltb (n % 2 ^ 64) (2 ^ 64) (omega arith)) h
+  sized_fits line n (object at v offset t k) h = and _ _ (lt-ltb (n % 2 ^ 64) (2 ^ 64) (omega arith)) (held at v offset t h).good
+  sized_fits line n (structure t a) h = and _ _ (lt-ltb (n % 2 ^ 64) (2 ^ 64) (omega arith)) (good_structure t a h).good
+
+  sized_is_good : (line : ℕ) (x : Operand) (r : Result ℕ Fault) → Fits x → Holds Fits (r >>= λ n. Ok (sized_operand scope.records.done line n x))
+  sized_is_good line x (Ok n) h = given Fits _ (sized_fits line n x h)
+  sized_is_good line x (Err f) h = refused Fits f
+
+  operand_good : (line : ℕ) (o : Option (List (List ℕ))) (r : Result Operand Fault) → Holds Fits r → Holds Fits (operand_size line scope.records.done o r)
+  operand_good line None (Ok x) h = sized_is_good line x (on_line line (operand_bytes scope.records.done x)) (h x refl)
+  operand_good line None (Err f) h = refused Fits f
+  operand_good line (Some parts) r h = given Fits _ (size_good line (strings_length parts + 1))
 
   used_on_fits : (line : ℕ) (r : Result Operand Fault) → Holds Fits r → Holds Fits (used_on line r)
   used_on_fits line r h = bind Fits Fits r _ h (λ x fit. on_same_line Fits line _ (used_fits x fit))
@@ -762,7 +767,7 @@ module _ (scope : Scoped) where
       well_typed w (cast line parts d e) =
           bind (λ (t : CType). Unit {0}) Fits (type_name scope parts d (lengths scope d)) _ (λ t _. tt) (λ t _.
           bind Fits Fits (operand_by scope (is_wanted t) e) _ (used_on_fits (bare_line e) (typed scope (is_wanted t) e) (well_typed (is_wanted t) e)) (λ x good. on_same_line Fits line _ (cast_fits line t x good)))
-      well_typed w (sizeof_expr line e) = operand_good line scope.records.done (strings_of e) (typed scope true e)
+      well_typed w (sizeof_expr line e) = operand_good line (strings_of e) (typed scope true e) (well_typed true e)
       well_typed w (sizeof_type line parts d) =
           bind (λ (t : CType). Unit {0}) Fits (type_name scope parts d (lengths scope d)) _ (λ t _. tt) (λ t _. size_is_good line (on_line line (type_size scope.records.done t)))
       well_typed w (step line op e) =

@@ -26,9 +26,8 @@ use Rattle.core_tree.specs.declared.operators.SignOperator.{SignOperator}
 use Rattle.core_tree.specs.declared.operators.SignOperator.TheVariants as signs
 use Rattle.core_tree.specs.declared.operators.StepOperator.{StepOperator}
 use Rattle.core_tree.specs.declared.operators.StepOperator.TheVariants as steps
-use Rattle.core_tree.specs.declared.expression.Place.{Place}
-use Rattle.core_tree.specs.Trees.{Expression, constant, read, convert, sign, is_zero, arithmetic, compare, logical, choice, assign, update, step, comma, assertion, assumption, draw, part, discard, discard_structure, call, function_name}
-use Rattle.core_tree.specs.Typed.{type_of, place_type, is_shift}
+use Rattle.core_tree.specs.Trees.{Place, Expression, constant, read, convert, sign, is_zero, arithmetic, compare, logical, choice, assign, update, step, comma, assertion, assumption, draw, part, discard, discard_structure, call, function_name, size_of_value, size_of_structure, address, sum, distance, relation, pointer_update, pointer_step, allocate, allocate_zeroed, release, exit, abort}
+use Rattle.core_tree.specs.Typed.{type_of, is_shift}
 use Rattle.c_scope.specs.Faults.{◌>>=◌, required}
 
 -- a typed node, or the rule that is broken
@@ -50,7 +49,7 @@ as_type t e = if same_type (type_of e) (Integer t) then e else convert t e
 
 abbrev pub place_of : Expression → Option Place
 place_of (constant line t bits) = None
-place_of (read p) = Some p
+place_of (read t p) = Some p
 place_of (convert to e) = None
 place_of (sign line op e) = None
 place_of (is_zero line e) = None
@@ -58,9 +57,9 @@ place_of (arithmetic line op a b) = None
 place_of (compare line op a b) = None
 place_of (logical line op a b) = None
 place_of (choice line test a b) = None
-place_of (assign line p e) = None
-place_of (update line p op t e) = None
-place_of (step line p op before) = None
+place_of (assign line t p e) = None
+place_of (update line t p op u e) = None
+place_of (step line t p op before) = None
 place_of (comma line a b) = None
 place_of (assertion line e) = None
 place_of (assumption line e) = None
@@ -69,7 +68,20 @@ place_of (part line t offset a) = None
 place_of (discard line e) = None
 place_of (discard_structure a) = None
 place_of (call line f used t args) = None
-place_of (function_name line f) = None
+place_of (function_name line) = None
+place_of (size_of_value line bits e) = None
+place_of (size_of_structure line bits a) = None
+place_of (address line p) = None
+place_of (sum line a e n swapped) = None
+place_of (distance line a b n) = None
+place_of (relation line op a b) = None
+place_of (pointer_update line p n e) = None
+place_of (pointer_step line p n before) = None
+place_of (allocate line e) = None
+place_of (allocate_zeroed line a b) = None
+place_of (release line e) = None
+place_of (exit line e) = None
+place_of (abort line) = None
 
 -- the place that may be changed, which isn't const
 abbrev pub target_of : Bool → Expression → Option Place
@@ -137,7 +149,7 @@ abbrev pub step_node : Bool → ℕ → StepOperator → Bool → Expression →
 step_node is_const line op before e = do
   t ← integer 7 e
   p ← required 9 (target_of is_const e)
-  Ok (step line p op before)
+  Ok (step line t p op before)
 
 abbrev pub unary_node : Bool → ℕ → UnaryOp → Expression → Node
 unary_node is_const line unaries.Increment e = step_node is_const line steps.Increment true e
@@ -218,7 +230,7 @@ assign_node is_const line place value = do
   t ← integer 8 place
   u ← integer 8 value
   p ← required 9 (target_of is_const place)
-  Ok (assign line p (as_type (place_type p) value))
+  Ok (assign line t p (as_type t value))
 
 -- the operators that can stand before `=`
 abbrev pub operator_of : BinaryOp → Option ArithmeticOperator
@@ -247,7 +259,7 @@ update_node is_const line op place value = do
   t ← integer 7 place
   u ← integer 7 value
   p ← required 9 (target_of is_const place)
-  Ok (update line p operator (left_type operator t u) (as_type (right_type operator t u) value))
+  Ok (update line t p operator (left_type operator t u) (as_type (right_type operator t u) value))
 
 abbrev pub assignment_node : Bool → ℕ → Option BinaryOp → Expression → Expression → Node
 assignment_node is_const line None place value = assign_node is_const line place value

@@ -1,5 +1,5 @@
 -- What an operator makes of typed operands, or the lowest rule that they break (C11 6.3.2.1, 6.5).
-use Rattle.std.specs.Prelude.{ℕ, ◌==◌, Bool, true, false, ◌||◌, ◌&&◌, List, [], ◌∷◌, map, reverse, slice_get, Option, Some, None, Result, Ok, Err, if◌then◌else◌}
+use Rattle.std.specs.Prelude.{ℕ, ◌==◌, ◌%◌, ◌^◌, Bool, true, false, ◌||◌, ◌&&◌, List, [], ◌∷◌, map, reverse, slice_get, Option, Some, None, Result, Ok, Err, if◌then◌else◌}
 use Rattle.c_tree.specs.declared.expr.BinaryOp.{BinaryOp}
 use Rattle.c_tree.specs.declared.expr.UnaryOp.{UnaryOp}
 use Rattle.c_tree.specs.declared.expr.StepOp.{StepOp}
@@ -9,9 +9,7 @@ use Rattle.c_types.specs.Types.{CType, Completed}
 use Rattle.c_types.specs.Types as ctypes
 use Rattle.c_types.specs.Types.{view as view_type}
 use Rattle.c_types.specs.Layouts.{size_of}
-use Rattle.core_tree.specs.declared.expression.Place.{Place}
-use Rattle.core_tree.specs.declared.expression.Place.TheVariants as places
-use Rattle.core_tree.specs.Trees.{Expression, Structure, Arguments, no_argument, number_argument, structure_argument, view, view_structure}
+use Rattle.core_tree.specs.Trees.{Place, Expression, Structure, Arguments, no_argument, number_argument, structure_argument, view, view_structure}
 use Rattle.core_tree.specs.Trees as cores
 use Rattle.core_tree.specs.Typed.{type_of, is_typed, is_structure, is_within, is_in_object}
 use Rattle.core_tree.specs.Typed as typed_trees
@@ -44,19 +42,18 @@ view_operand (codes.Structure t a) = structure (view_type t) (view_structure a.v
 
 -- ---- places
 
-abbrev pub number_place : Home → ℕ → IntegerType → ℕ → Place
-number_place (homes.Variable v) line t offset = places.Variable line t v offset
-number_place (homes.Object k) line t offset = places.Object line t k offset
+-- the place at an offset of a variable or an object
+abbrev pub home_place : Home → (line offset : ℕ) → Place
+home_place (homes.Variable v) line offset = cores.variable_at line v offset
+home_place (homes.Object k) line offset = cores.object_at line k offset
 
 -- so many bytes from an offset on
 abbrev pub held_value : Home → (line offset size : ℕ) → Structure
-held_value (homes.Variable v) line offset size = cores.copy line v offset size
-held_value (homes.Object k) line offset size = cores.load line k offset size
+held_value v line offset size = cores.copy (home_place v line offset) size
 
--- bytes that take the place of those from an offset on
-abbrev pub put_value : Home → (line offset : ℕ) → Structure → Structure
-put_value (homes.Variable v) line offset a = cores.put line v offset a
-put_value (homes.Object k) line offset a = cores.store line k offset a
+-- an assignment on a line, of bytes that take the place of those from an offset on
+abbrev pub put_value : (line at : ℕ) → Home → (offset : ℕ) → Structure → Structure
+put_value line at v offset a = cores.put line (home_place v at offset) a
 
 -- so many bytes from an offset on lie in it
 abbrev pub is_home : typed_trees.Sizes → Home → ℕ → ℕ → Bool
@@ -125,7 +122,7 @@ used (structure t a) = if is_array t then Err 9 else Ok (structure t a)
 -- the place of this type at an offset in a variable or an object
 abbrev pub place_operand : ℕ → Home → ℕ → CType → Bool → Operand
 place_operand line v offset ctypes.void constant = object line v offset ctypes.void constant
-place_operand line v offset (ctypes.integer t) constant = value (cores.read (number_place v line t offset)) constant
+place_operand line v offset (ctypes.integer t) constant = value (cores.read t (home_place v line offset)) constant
 place_operand line v offset (ctypes.aggregate p) constant = object line v offset (ctypes.aggregate p) constant
 place_operand line v offset (ctypes.array element n) constant = object line v offset (ctypes.array element n) constant
 
@@ -141,7 +138,7 @@ object_entry_node done line k (Some o) = if is_incomplete done o then Err 3 else
 -- the name of a function, which has no value where it isn't called
 abbrev pub function_node : ℕ → ℕ → Option Callable → OperandNode
 function_node line f None = Err 1
-function_node line f (Some c) = computed (Ok (cores.function_name line f))
+function_node line f (Some c) = computed (Ok (cores.function_name line))
 
 -- A built-in function stands only where it is called, and a type's name where a type is named; rule 3: a variable whose length its
 -- initializer says is no operand in this. An enumerator is a constant of type int (C11 6.7.2.2p3).
@@ -185,6 +182,12 @@ abbrev pub operand_bytes : List Completed → Operand → Result ℕ ℕ
 operand_bytes done (value e constant) = value_size (type_of e)
 operand_bytes done (object line v offset t constant) = type_size done t
 operand_bytes done (structure t a) = type_size done t
+
+-- its size in a constant of type unsigned long: the operand isn't evaluated (C11 6.5.3.4p2)
+abbrev pub sized_operand : List Completed → ℕ → ℕ → Operand → Operand
+sized_operand done line n (value e constant) = value (cores.size_of_value line (n % 2 ^ 64) e) false
+sized_operand done line n (object at v offset t constant) = value (cores.size_of_structure line (n % 2 ^ 64) (held_value v at offset (size_of done t))) false
+sized_operand done line n (structure t a) = value (cores.size_of_structure line (n % 2 ^ 64) a) false
 
 -- its value, where it is an integer constant expression
 abbrev pub constant_in : Operand → Option TypedNumber
@@ -248,10 +251,10 @@ assign_value is_const line (Some op) p (object at v offset t constant) = Err 7
 assign_value is_const line (Some op) p (structure t a) = Err 7
 
 -- rules 8 and 9: the same struct or union, and no part of the place is const
-abbrev pub assign_record : Scoped → ℕ → Home → ℕ → CType → Bool → Operand → OperandNode
-assign_record s line v offset t is_const y = do
+abbrev pub assign_record : Scoped → (line at : ℕ) → Home → ℕ → CType → Bool → Operand → OperandNode
+assign_record s line at v offset t is_const y = do
   a ← required 8 (record_value s.records.done t y)
-  if is_const || (members_in s.members t).constant then Err 9 else Ok (structure t (put_value v line offset a))
+  if is_const || (members_in s.members t).constant then Err 9 else Ok (structure t (put_value line at v offset a))
 
 -- a value is no place
 abbrev pub assign_nothing : List Completed → CType → Operand → OperandNode
@@ -261,7 +264,7 @@ assign_nothing done t y = do
 
 abbrev pub assign_operand : Scoped → ℕ → Option BinaryOp → Operand → Operand → OperandNode
 assign_operand s line op (value p constant) y = assign_value constant line op p y
-assign_operand s line None (object at v offset t constant) y = assign_record s line v offset t constant y
+assign_operand s line None (object at v offset t constant) y = assign_record s line at v offset t constant y
 assign_operand s line None (structure t a) y = assign_nothing s.records.done t y
 assign_operand s line (Some op) (object at v offset t constant) y = Err 7
 assign_operand s line (Some op) (structure t a) y = Err 7

@@ -13,7 +13,7 @@ use Rattle.c_elab_expr.specs.Constants.{stated_length}
 use Rattle.c_elab_expr.specs.Strings.{strings_of, strings_length}
 use Rattle.c_scope.specs.Faults.{◌>>=◌, required, Fault, fault, on_line, Fails}
 use Rattle.c_elab_expr.specs.Nodes.{constant_node, character_node, size_node}
-use Rattle.c_elab_expr.specs.Operands.{Operand, value, OperandNode, used, name_node, member_node, operand_bytes, constant_in, cast_operand, unary_operand, postfix_operand, binary_operand, choice_operand, assign_operand, comma_operand, call_node}
+use Rattle.c_elab_expr.specs.Operands.{Operand, value, OperandNode, used, name_node, member_node, operand_bytes, sized_operand, constant_in, cast_operand, unary_operand, postfix_operand, binary_operand, choice_operand, assign_operand, comma_operand, call_node}
 
 -- the line of an expression's first token without the parentheses around it
 abbrev pub bare_line : Tree → ℕ
@@ -88,13 +88,13 @@ sized line n = value (size_node line n) false
 abbrev pub size_of_named : ℕ → List Completed → Result CType Fault → Result Operand Fault
 size_of_named line done typing = typing >>= λ t. on_line line (type_size done t) >>= λ n. Ok (sized line n)
 
--- The size of a string counts the zero behind it. Another operand has a typing, and is not evaluated.
+-- The size of a string counts the zero behind it. Another operand has a typing, and stays in the tree, but isn't evaluated.
 abbrev pub operand_size : ℕ → List Completed → Option (List (List ℕ)) → Result Operand Fault → Result Operand Fault
 operand_size line done (Some parts) typed_operand = Ok (sized line (strings_length parts + 1))
 operand_size line done None typed_operand = do
   x ← typed_operand
   n ← on_line line (operand_bytes done x)
-  Ok (sized line n)
+  Ok (sized_operand done line n x)
 
 -- rule 13: a bound is an integer constant expression, and says how many elements
 abbrev pub bound : ℕ → Result Operand Fault → Result ℕ Fault

@@ -1,9 +1,9 @@
 //! Integer constant expressions (C11 6.6p3, p6).
 
-ghost use Rattle.std.specs.Prelude.{◌≡◌, ◌==◌, option_map};
+ghost use Rattle.std.specs.Prelude.{◌≡◌, ◌==◌, ◌%◌, ◌^◌, option_map};
 ghost use Rattle.core_tree.specs.Trees.{view};
 ghost use Rattle.core_tree.specs.Typed.{is_shift};
-ghost use Rattle.c_values.specs.Numbers.{are_operands_of, same_width};
+ghost use Rattle.c_values.specs.Numbers.{typed, are_operands_of, same_width};
 ghost use Rattle.c_elab_expr.specs.Constants.{is_constant_form, truth, signed, operated, related, connected, value_of, constant_of, is_negative, stated_length};
 
 use crate::nodes::{is_shift, low_bits};
@@ -39,6 +39,19 @@ fn is_constant_form(expr: &CoreExpr) -> bool
         CoreExpr::DiscardStructure { .. } => false,
         CoreExpr::Call { .. } => false,
         CoreExpr::FunctionName { .. } => false,
+        CoreExpr::SizeOf { .. } => true,
+        CoreExpr::SizeOfStructure { .. } => true,
+        CoreExpr::Address { .. } => false,
+        CoreExpr::Sum { .. } => false,
+        CoreExpr::Distance { .. } => false,
+        CoreExpr::Relation { .. } => false,
+        CoreExpr::PointerUpdate { .. } => false,
+        CoreExpr::PointerStep { .. } => false,
+        CoreExpr::Allocate { .. } => false,
+        CoreExpr::AllocateZeroed { .. } => false,
+        CoreExpr::Release { .. } => false,
+        CoreExpr::Exit { .. } => false,
+        CoreExpr::Abort { .. } => false,
     }
 }
 
@@ -111,6 +124,13 @@ fn connected(operator: LogicalOperator, left: Number, right: Option<Number>) -> 
             }
         }
     }
+}
+
+// The number that `sizeof` gives.
+fn size_number(bits: u64) -> Number
+    ensures { result ≡ typed IntegerType.UnsignedLong (bits % 2 ^ 64) }
+{
+    Number::new(IntegerType::UnsignedLong, low_bits(bits, 64))
 }
 
 fn value_of(expr: &CoreExpr) -> Option<Number>
@@ -187,11 +207,24 @@ fn value_of(expr: &CoreExpr) -> Option<Number>
         CoreExpr::DiscardStructure { .. } => None,
         CoreExpr::Call { .. } => None,
         CoreExpr::FunctionName { .. } => None,
+        CoreExpr::SizeOf { bits, .. } => Some(size_number(*bits)),
+        CoreExpr::SizeOfStructure { bits, .. } => Some(size_number(*bits)),
+        CoreExpr::Address { .. } => None,
+        CoreExpr::Sum { .. } => None,
+        CoreExpr::Distance { .. } => None,
+        CoreExpr::Relation { .. } => None,
+        CoreExpr::PointerUpdate { .. } => None,
+        CoreExpr::PointerStep { .. } => None,
+        CoreExpr::Allocate { .. } => None,
+        CoreExpr::AllocateZeroed { .. } => None,
+        CoreExpr::Release { .. } => None,
+        CoreExpr::Exit { .. } => None,
+        CoreExpr::Abort { .. } => None,
     }
 }
 
-/// The value of an integer constant expression: no variable, assignment, call or comma stands in it, and where it is evaluated
-/// no check breaks.
+/// The value of an integer constant expression: outside of `sizeof` no variable, assignment, call or comma stands in it, and
+/// where it is evaluated no check breaks.
 pub fn constant_of(expr: &CoreExpr) -> Option<Number>
     ensures { result ≡ constant_of (view expr.now) }
 {

@@ -1,9 +1,9 @@
 //! What an operator makes of typed values, or the lowest rule that they break.
 
-ghost use Rattle.std.specs.Prelude.{◌≡◌, ◌≤◌, ◌%◌, ◌^◌, IfOk};
+ghost use Rattle.std.specs.Prelude.{◌≡◌, ◌≤◌, ◌%◌, ◌^◌, option_map, IfOk};
 ghost use Rattle.c_types.specs.Types.{view as type_view};
-ghost use Rattle.core_tree.specs.Trees.{view, boxed};
-ghost use Rattle.core_tree.specs.Typed.{type_of, place_type, is_shift};
+ghost use Rattle.core_tree.specs.Trees.{view, view_place, boxed};
+ghost use Rattle.core_tree.specs.Typed.{type_of, is_shift};
 ghost use Rattle.c_scope.specs.Faults.{required, GivesNode};
 ghost use Rattle.c_elab_expr.specs.Nodes.{integer, as_type, place_of, target_of, constant_type, constant_node, character_node, size_node, value_size, discarded, cast_node, sign_node, not_node, step_node, unary_node, postfix_node, left_type, right_type, arithmetic_node, compare_node, logical_node, binary_node, chosen, choice_node, assign_node, operator_of, update_node, assignment_node};
 
@@ -13,7 +13,7 @@ use c_tree::{BinaryOp, StepOp, UnaryOp};
 use c_types::{IntegerType, Ty, ValueType, common, promote};
 use core_tree::{
     ArithmeticOperator, Comparison, CoreExpr, CoreStructure, LogicalOperator, Place, SignOperator,
-    StepOperator, place_type, type_of,
+    StepOperator, type_of,
 };
 use std::alloc::{AllocError, Global};
 
@@ -27,18 +27,18 @@ pub fn integer(expr: &CoreExpr, rule: u32) -> Result<IntegerType, Broken>
     }
 }
 
-fn place_of(expr: &CoreExpr) -> Option<Place>
-    ensures { result ≡ place_of (view expr.now) }
+fn place_of(expr: Box<CoreExpr>) -> Option<Box<Place>>
+    ensures { option_map (λ p. view_place p.value) result ≡ place_of (view expr.value) }
 {
-    match expr {
-        CoreExpr::Read { place } => Some(*place),
+    match Box::into_inner(expr) {
+        CoreExpr::Read { place, .. } => Some(place),
         _ => None,
     }
 }
 
 // The place that may be changed, which isn't const.
-fn target(constant: bool, expr: &CoreExpr) -> Result<Place, Broken>
-    ensures { GivesNode (λ p. p) result (required 9 (target_of constant (view expr.now))) }
+fn target(constant: bool, expr: Box<CoreExpr>) -> Result<Box<Place>, Broken>
+    ensures { GivesNode (λ p. view_place p.value) result (required 9 (target_of constant (view expr.value))) }
 {
     if constant {
         return Err(Broken::Rule { rule: 9 });
@@ -64,6 +64,13 @@ pub fn structure_in_box(
     ensures { IfOk result (λ a. a.value ≡ node) }
 {
     Ok(Box::new(alloc, node)?)
+}
+
+/// The same of a place.
+pub fn place_in_box(alloc: Global, place: Place) -> Result<Box<Place>, AllocError>
+    ensures { IfOk result (λ p. p.value ≡ place) }
+{
+    Ok(Box::new(alloc, place)?)
 }
 
 /// The value in a type: a conversion stands only where it changes the type.
@@ -224,14 +231,15 @@ fn step_node(
     line: u32,
     operator: StepOperator,
     before: bool,
-    expr: &CoreExpr,
+    expr: Box<CoreExpr>,
 ) -> Result<Box<CoreExpr>, Broken>
-    ensures { GivesNode boxed result (step_node constant line operator before (view expr.now)) }
+    ensures { GivesNode boxed result (step_node constant line operator before (view expr.value)) }
 {
-    let _type = integer(expr, 7)?;
+    let type_ = integer(&expr, 7)?;
     let place = target(constant, expr)?;
     let step = CoreExpr::Step {
         line,
+        type_,
         place,
         operator,
         before,
@@ -250,22 +258,8 @@ pub fn unary_node(
     ensures { GivesNode boxed result (unary_node constant line operator (view expr.value)) }
 {
     match operator {
-        UnaryOp::Increment => step_node(
-            alloc,
-            constant,
-            line,
-            StepOperator::Increment,
-            true,
-            &expr,
-        ),
-        UnaryOp::Decrement => step_node(
-            alloc,
-            constant,
-            line,
-            StepOperator::Decrement,
-            true,
-            &expr,
-        ),
+        UnaryOp::Increment => step_node(alloc, constant, line, StepOperator::Increment, true, expr),
+        UnaryOp::Decrement => step_node(alloc, constant, line, StepOperator::Decrement, true, expr),
         UnaryOp::Plus => sign_node(alloc, line, SignOperator::Plus, expr),
         UnaryOp::Minus => sign_node(alloc, line, SignOperator::Minus, expr),
         UnaryOp::Complement => sign_node(alloc, line, SignOperator::Complement, expr),
@@ -279,9 +273,9 @@ pub fn postfix_node(
     constant: bool,
     line: u32,
     operator: StepOp,
-    expr: &CoreExpr,
+    expr: Box<CoreExpr>,
 ) -> Result<Box<CoreExpr>, Broken>
-    ensures { GivesNode boxed result (postfix_node constant line operator (view expr.now)) }
+    ensures { GivesNode boxed result (postfix_node constant line operator (view expr.value)) }
 {
     match operator {
         StepOp::Increment => step_node(alloc, constant, line, StepOperator::Increment, false, expr),
@@ -501,16 +495,22 @@ fn assign_node(
     alloc: Global,
     constant: bool,
     line: u32,
-    place: &CoreExpr,
+    place: Box<CoreExpr>,
     value: Box<CoreExpr>,
 ) -> Result<Box<CoreExpr>, Broken>
-    ensures { GivesNode boxed result (assign_node constant line (view place.now) (view value.value)) }
+    ensures { GivesNode boxed result (assign_node constant line (view place.value) (view value.value)) }
 {
-    let _t = integer(place, 8)?;
+    let type_ = integer(&place, 8)?;
     let _u = integer(&value, 8)?;
     let place = target(constant, place)?;
-    let value = as_type(alloc, place_type(&place), value)?;
-    Ok(in_box(alloc, CoreExpr::Assign { line, place, value })?)
+    let value = as_type(alloc, type_, value)?;
+    let assign = CoreExpr::Assign {
+        line,
+        type_,
+        place,
+        value,
+    };
+    Ok(in_box(alloc, assign)?)
 }
 
 // The operator that stands before `=`; rule 7 where none can.
@@ -544,21 +544,22 @@ fn update_node(
     constant: bool,
     line: u32,
     operator: BinaryOp,
-    place: &CoreExpr,
+    place: Box<CoreExpr>,
     value: Box<CoreExpr>,
 ) -> Result<Box<CoreExpr>, Broken>
-    ensures { GivesNode boxed result (update_node constant line operator (view place.now) (view value.value)) }
+    ensures { GivesNode boxed result (update_node constant line operator (view place.value) (view value.value)) }
 {
     let operator = operator_of(operator)?;
-    let t = integer(place, 7)?;
+    let t = integer(&place, 7)?;
     let u = integer(&value, 7)?;
     let place = target(constant, place)?;
     let value = as_type(alloc, right_type(operator, t, u), value)?;
     let update = CoreExpr::Update {
         line,
+        type_: t,
         place,
         operator,
-        type_: left_type(operator, t, u),
+        operand: left_type(operator, t, u),
         value,
     };
     Ok(in_box(alloc, update)?)
@@ -570,10 +571,10 @@ pub fn assignment_node(
     constant: bool,
     line: u32,
     operator: Option<BinaryOp>,
-    place: &CoreExpr,
+    place: Box<CoreExpr>,
     value: Box<CoreExpr>,
 ) -> Result<Box<CoreExpr>, Broken>
-    ensures { GivesNode boxed result (assignment_node constant line operator (view place.now) (view value.value)) }
+    ensures { GivesNode boxed result (assignment_node constant line operator (view place.value) (view value.value)) }
 {
     match operator {
         None => assign_node(alloc, constant, line, place, value),

@@ -1,17 +1,19 @@
 //! What an operator makes of typed operands, or the lowest rule that they break.
 
-ghost use Rattle.std.specs.Prelude.{◌≡◌, ℕ, true, false, slice_get, IfOk, IsErr, Result};
+ghost use Rattle.std.specs.Prelude.{◌≡◌, ◌%◌, ◌^◌, ℕ, true, false, slice_get, IfOk, IsErr, Result};
 ghost use Rattle.c_types.specs.Types.{view as type_view};
 ghost use Rattle.c_types.specs.Layouts.{is_complete, is_sized, size_of};
-ghost use Rattle.core_tree.specs.Trees.{Expression, view, boxed, view_structure};
+ghost use Rattle.core_tree.specs.Trees.{Expression, size_of_structure, view, view_place, boxed, view_structure};
 ghost use Rattle.c_scope.specs.Scopes.{object_at};
 ghost use Rattle.c_scope.specs.Faults.{required, GivesNode};
-ghost use Rattle.c_elab_expr.specs.Operands.{value as number_operand, view_operand, computed, valued, number, same_record, record_value, dropped, is_array, used, number_place, held_value, put_value, place_operand, variable_node, object_entry_node, function_node, name_node, part_operand, member_node, operand_bytes, constant_in};
+ghost use Rattle.c_elab_expr.specs.Operands.{value as number_operand, view_operand, computed, valued, number, same_record, record_value, dropped, is_array, used, home_place, held_value, put_value, place_operand, variable_node, object_entry_node, function_node, name_node, part_operand, member_node, operand_bytes, sized_operand, constant_in};
 
 use crate::constants::constant_of;
-use crate::nodes::{character_node, in_box, integer, structure_in_box, value_size};
+use crate::nodes::{
+    character_node, in_box, integer, low_bits, place_in_box, structure_in_box, value_size,
+};
 use c_scope::{Broken, Meaning, Scope, is_incomplete, part_at, type_size};
-use c_types::{IntegerType, Layouts, Ty, is_sized, size_of};
+use c_types::{Layouts, Ty, is_sized, size_of};
 use c_values::Number;
 use core_tree::{CoreExpr, CoreStructure, Place, type_of};
 use std::alloc::{AllocError, Global};
@@ -117,76 +119,44 @@ pub fn bytes_of(type_: &Ty, layouts: &Layouts) -> Result<u32, AllocError>
     }
 }
 
-fn number_place(home: Home, line: u32, type_: IntegerType, offset: u32) -> Place
-    ensures { result ≡ number_place home line type_ offset }
+// The place at an offset of a variable or an object.
+fn home_place(alloc: Global, home: Home, line: u32, offset: u32) -> Result<Box<Place>, AllocError>
+    ensures { IfOk result (λ p. view_place p.value ≡ home_place home line offset) }
 {
     match home {
-        Home::Variable { variable } => Place::Variable {
-            line,
-            type_,
-            variable,
-            offset,
-        },
-        Home::Object { object } => Place::Object {
-            line,
-            type_,
-            object,
-            offset,
-        },
-    }
-}
-
-// So many bytes from an offset on.
-fn held_value(home: Home, line: u32, offset: u32, size: u32) -> CoreStructure
-    ensures { view_structure result ≡ held_value home line offset size }
-{
-    match home {
-        Home::Variable { variable } => CoreStructure::Read {
-            line,
-            variable,
-            offset,
-            size,
-        },
-        Home::Object { object } => CoreStructure::Load {
-            line,
-            object,
-            offset,
-            size,
-        },
-    }
-}
-
-/// The structure value of an object behind a write: this value's bytes take the place of those of the
-/// variable or static object from an offset on (C11 6.5.16.1). The only error is want of memory.
-pub fn put_value(
-    alloc: Global,
-    home: Home,
-    line: u32,
-    offset: u32,
-    value: Box<CoreStructure>,
-) -> Result<Box<CoreStructure>, AllocError>
-    ensures { IfOk result (λ a. view_structure a.value ≡ put_value home line offset (view_structure value.value)) }
-{
-    match home {
-        Home::Variable { variable } => structure_in_box(
+        Home::Variable { variable } => place_in_box(
             alloc,
-            CoreStructure::Assign {
+            Place::Variable {
                 line,
                 variable,
                 offset,
-                value,
             },
         ),
-        Home::Object { object } => structure_in_box(
+        Home::Object { object } => place_in_box(
             alloc,
-            CoreStructure::Store {
+            Place::Object {
                 line,
                 object,
                 offset,
-                value,
             },
         ),
     }
+}
+
+/// The structure value of an assignment on a line to an object, whose place stands on its own line: this value's bytes take the
+/// place of those of the variable or static object from an offset on (C11 6.5.16.1). The only error is want of memory.
+pub fn put_value(
+    alloc: Global,
+    line: u32,
+    at: u32,
+    home: Home,
+    offset: u32,
+    value: Box<CoreStructure>,
+) -> Result<Box<CoreStructure>, AllocError>
+    ensures { IfOk result (λ a. view_structure a.value ≡ put_value line at home offset (view_structure value.value)) }
+{
+    let place = home_place(alloc, home, at, offset)?;
+    structure_in_box(alloc, CoreStructure::Assign { line, place, value })
 }
 
 /// The structure value that an object of this type holds, read at an offset of a variable or static object
@@ -202,7 +172,8 @@ pub fn read_object(
     ensures { IfOk result (λ a. view_structure a.value ≡ held_value home line offset (size_of layouts.now.done (type_view type_.now))) }
 {
     let size = bytes_of(type_, layouts)?;
-    structure_in_box(alloc, held_value(home, line, offset, size))
+    let place = home_place(alloc, home, line, offset)?;
+    structure_in_box(alloc, CoreStructure::Read { place, size })
 }
 
 /// The value of an operand of this struct or union type, or the broken rule.
@@ -328,8 +299,9 @@ fn place_operand(
 {
     match &type_ {
         Ty::Integer(integer) => {
-            let place = number_place(home, line, *integer, offset);
-            let value = in_box(alloc, CoreExpr::Read { place })?;
+            let type_ = *integer;
+            let place = home_place(alloc, home, line, offset)?;
+            let value = in_box(alloc, CoreExpr::Read { type_, place })?;
             Ok(CoreOperand::Value { value, constant })
         }
         _ => Ok(CoreOperand::Object {
@@ -392,7 +364,7 @@ fn function_node(
     ensures { GivesNode view_operand result (function_node line function (slice_get scope.now.functions.all function)) }
 {
     match scope.functions().function(function) {
-        Some(_) => Ok(made(alloc, CoreExpr::FunctionName { line, function })?),
+        Some(_) => Ok(made(alloc, CoreExpr::FunctionName { line })?),
         None => Err(Broken::Rule { rule: 1 }),
     }
 }
@@ -504,6 +476,59 @@ pub fn operand_bytes(operand: &CoreOperand, layouts: &Layouts) -> Result<u64, Br
         CoreOperand::Object { type_, .. } => type_size(type_, layouts),
         CoreOperand::Structure { type_, .. } => type_size(type_, layouts),
     }
+}
+
+/// The size of an operand, which isn't evaluated, as a constant of type unsigned long (C11 6.5.3.4). The only error is want of
+/// memory.
+pub fn sized_operand(
+    alloc: Global,
+    line: u32,
+    size: u64,
+    operand: CoreOperand,
+    layouts: &Layouts,
+) -> Result<CoreOperand, AllocError>
+    ensures { IfOk result (λ x. view_operand x ≡ sized_operand layouts.now.done line size (view_operand operand)) }
+{
+    match operand {
+        CoreOperand::Value { value, .. } => made(
+            alloc,
+            CoreExpr::SizeOf {
+                line,
+                bits: low_bits(size, 64),
+                operand: value,
+            },
+        ),
+        CoreOperand::Object {
+            line: at,
+            home,
+            offset,
+            type_,
+            ..
+        } => {
+            let value = read_object(alloc, at, home, offset, &type_, layouts)?;
+            sized_structure(alloc, line, size, value)
+        }
+        CoreOperand::Structure { value, .. } => sized_structure(alloc, line, size, value),
+    }
+}
+
+// The size of a structure value, which isn't evaluated.
+fn sized_structure(
+    alloc: Global,
+    line: u32,
+    size: u64,
+    operand: Box<CoreStructure>,
+) -> Result<CoreOperand, AllocError>
+    ensures { IfOk result (λ x. view_operand x ≡ number_operand (size_of_structure line (size % 2 ^ 64) (view_structure operand.value)) false) }
+{
+    made(
+        alloc,
+        CoreExpr::SizeOfStructure {
+            line,
+            bits: low_bits(size, 64),
+            operand,
+        },
+    )
 }
 
 /// The value of an operand that is an integer constant expression.

@@ -79,13 +79,13 @@ pub fn postfix_operand(
     alloc: Global,
     line: u32,
     operator: StepOp,
-    operand: &CoreOperand,
+    operand: CoreOperand,
 ) -> Result<CoreOperand, Broken>
-    ensures { GivesNode view_operand result (postfix_operand line operator (view_operand operand.now)) }
+    ensures { GivesNode view_operand result (postfix_operand line operator (view_operand operand)) }
 {
     match operand {
         CoreOperand::Value { value, constant } => {
-            computed(postfix_node(alloc, *constant, line, operator, value))
+            computed(postfix_node(alloc, constant, line, operator, value))
         }
         CoreOperand::Object { .. } => Err(Broken::Rule { rule: 7 }),
         CoreOperand::Structure { .. } => Err(Broken::Rule { rule: 7 }),
@@ -188,10 +188,10 @@ fn assign_value(
     constant: bool,
     line: u32,
     operator: Option<BinaryOp>,
-    place: &CoreExpr,
+    place: Box<CoreExpr>,
     value: CoreOperand,
 ) -> Result<CoreOperand, Broken>
-    ensures { GivesNode view_operand result (assign_value constant line operator (view place.now) (view_operand value)) }
+    ensures { GivesNode view_operand result (assign_value constant line operator (view place.value) (view_operand value)) }
 {
     match value {
         CoreOperand::Value { value, .. } => computed(assignment_node(
@@ -208,10 +208,11 @@ fn assign_value(
     }
 }
 
-// An assignment to an object of this type, which is const or not.
+// An assignment on a line to an object of this type, which is const or not, with the line of its place.
 fn assign_record(
     alloc: Global,
     line: u32,
+    at: u32,
     home: Home,
     offset: u32,
     type_: Ty,
@@ -219,7 +220,7 @@ fn assign_record(
     value: CoreOperand,
     scope: &Scope,
 ) -> Result<CoreOperand, Broken>
-    ensures { GivesNode view_operand result (assign_record scope.now line home offset (type_view type_) constant (view_operand value)) }
+    ensures { GivesNode view_operand result (assign_record scope.now line at home offset (type_view type_) constant (view_operand value)) }
 {
     let value = record_value(alloc, &type_, value, scope.layouts(), 8)?;
     if constant || scope.is_constant_within(&type_) {
@@ -227,7 +228,7 @@ fn assign_record(
     }
     Ok(CoreOperand::Structure {
         type_,
-        value: put_value(alloc, home, line, offset, value)?,
+        value: put_value(alloc, line, at, home, offset, value)?,
     })
 }
 
@@ -249,32 +250,29 @@ pub fn assign_operand(
     alloc: Global,
     line: u32,
     operator: Option<BinaryOp>,
-    place: &CoreOperand,
+    place: CoreOperand,
     value: CoreOperand,
     scope: &Scope,
 ) -> Result<CoreOperand, Broken>
-    ensures { GivesNode view_operand result (assign_operand scope.now line operator (view_operand place.now) (view_operand value)) }
+    ensures { GivesNode view_operand result (assign_operand scope.now line operator (view_operand place) (view_operand value)) }
 {
     match place {
         CoreOperand::Value {
             value: place,
             constant,
-        } => assign_value(alloc, *constant, line, operator, place, value),
+        } => assign_value(alloc, constant, line, operator, place, value),
         CoreOperand::Object {
+            line: at,
             home,
             offset,
             type_,
             constant,
-            ..
         } => match operator {
-            None => {
-                let type_ = type_.copied()?;
-                assign_record(alloc, line, *home, *offset, type_, *constant, value, scope)
-            }
+            None => assign_record(alloc, line, at, home, offset, type_, constant, value, scope),
             Some(_) => Err(Broken::Rule { rule: 7 }),
         },
         CoreOperand::Structure { type_, .. } => match operator {
-            None => assign_nothing(alloc, type_, value, scope.layouts()),
+            None => assign_nothing(alloc, &type_, value, scope.layouts()),
             Some(_) => Err(Broken::Rule { rule: 7 }),
         },
     }

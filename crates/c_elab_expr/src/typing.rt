@@ -16,7 +16,7 @@ use crate::calls::called;
 use crate::constants::stated_length;
 use crate::nodes::{character_node, constant_node, size_node};
 use crate::operands::{
-    CoreOperand, constant_in, made, member_node, name_node, operand_bytes, used,
+    CoreOperand, constant_in, made, member_node, name_node, operand_bytes, sized_operand, used,
 };
 use crate::operators::{
     assign_operand, binary_operand, cast_operand, choice_operand, comma_operand, postfix_operand,
@@ -144,7 +144,7 @@ fn size_of_operand(
 {
     let core = typed?;
     let size = number_at(operand_bytes(&core, layouts), line)?;
-    Ok(sized(alloc, line, size)?)
+    Ok(sized_operand(alloc, line, size, core, layouts)?)
 }
 
 // The size of a type.
@@ -217,7 +217,7 @@ fn postfix_at(
     ensures { (r : Result Operand Fault) → Gives view_operand typed r → Gives view_operand result (node_on (first_line (tree first.now)) (postfix_operand line operator) r) }
 {
     let core = typed?;
-    placed(postfix_operand(alloc, line, operator, &core), first)
+    placed(postfix_operand(alloc, line, operator, core), first)
 }
 
 fn member_at(
@@ -282,7 +282,7 @@ fn assign_at(
 {
     let (place, value) = typed?;
     placed(
-        assign_operand(alloc, line, operator, &place, value, scope),
+        assign_operand(alloc, line, operator, place, value, scope),
         first,
     )
 }

@@ -48,13 +48,13 @@ none_left older taken turned left made objects all turn none h =
     ∙ views_of older taken
     ∙ ap (map (static_of older)) all
 
-all_more : (xs : List Static) (y : Static) → list_all is_static xs ≡ true → is_static y ≡ true → list_all is_static (xs ++ y ∷ []) ≡ true
-all_more [] y h e = and (is_static y) true e refl
-all_more (x ∷ xs) y h e = let parts = both (is_static x) (list_all is_static xs) h in and (is_static x) (list_all is_static (xs ++ y ∷ [])) parts.0 (all_more xs y parts.1 e)
+all_more : (xs : List Static) (y : Static) → list_all (is_static 0 0) xs ≡ true → is_static 0 0 y ≡ true → list_all (is_static 0 0) (xs ++ y ∷ []) ≡ true
+all_more [] y h e = and (is_static 0 0 y) true e refl
+all_more (x ∷ xs) y h e = let parts = both (is_static 0 0 x) (list_all (is_static 0 0) xs) h in and (is_static 0 0 x) (list_all (is_static 0 0) (xs ++ y ∷ [])) parts.0 (all_more xs y parts.1 e)
 
-pub one_fits : (made now : List StaticObject) (x : StaticObject) → now ≡ made ++ x ∷ [] → list_all is_static (view_statics made) ≡ true → is_static (view_static x) ≡ true → list_all is_static (view_statics now) ≡ true
+pub one_fits : (made now : List StaticObject) (x : StaticObject) → now ≡ made ++ x ∷ [] → list_all (is_static 0 0) (view_statics made) ≡ true → is_static 0 0 (view_static x) ≡ true → list_all (is_static 0 0) (view_statics now) ≡ true
 one_fits made now x pushed h e =
-    ap (λ (xs : List StaticObject). list_all is_static (view_statics xs)) pushed ∙ ap (list_all is_static) (map-append view_static made (x ∷ [])) ∙ all_more (view_statics made) (view_static x) h e
+    ap (λ (xs : List StaticObject). list_all (is_static 0 0) (view_statics xs)) pushed ∙ ap (list_all (is_static 0 0)) (map-append view_static made (x ∷ [])) ∙ all_more (view_statics made) (view_static x) h e
 
 -- ---- their bytes
 

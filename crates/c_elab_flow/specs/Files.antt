@@ -3,6 +3,7 @@ use Rattle.std.specs.Prelude.{ℕ, ◌&&◌, Bool, true, false, List, [], ◌∷
 use Rattle.c_tree.specs.Declarations.{Full, full_unnamed, full_named, full_inside, FullSuffixes, full_end, full_bounded, full_open, full_empty, full_void, full_parameters, Parameters, no_parameter}
 use Rattle.c_tree.specs.Statements.{Statement}
 use Rattle.c_types.specs.Types.{Completed}
+use Rattle.core_tree.specs.declared.functions.Variable.{Variable}
 use Rattle.core_tree.specs.Trees.{Procedure, Static}
 use Rattle.core_tree.specs.Trees as cores
 use Rattle.c_scope.specs.Scopes.{ObjectEntry, Callable, object_entry_size, passed_as, given_by}
@@ -37,10 +38,10 @@ own_parameters (full_unnamed suffixes) = None
 own_parameters (full_named line n suffixes) = one_function suffixes
 own_parameters (full_inside line d suffixes) = if no_suffixes suffixes then own_parameters d else (if is_name_alone d then one_function suffixes else None)
 
--- a defined function: its number, the sizes of its variables, how many labels it has, and its body
+-- a defined function: its number, its variables, how many labels it has, and its body
 pub record Definition : Type 0 where
   pub number : ℕ
-  pub variables : List ℕ
+  pub variables : List Variable
   pub labels : ℕ
   pub body : cores.Statement
 
@@ -76,5 +77,6 @@ static_of done o = record {
   size = object_entry_size done o;
   readonly = o.named.constant;
   bytes = given_bytes o.bytes;
+  addresses = [];
   undefined = if o.defined then None else Some o.line;
 }

@@ -12,17 +12,17 @@ ghost use Rattle.c_elab_flow.specs.Held.{view_definitions};
 use c_elab_base::object_bytes;
 use c_scope::{Callable, ObjectEntry, Scope, is_incomplete};
 use c_types::{Layouts, MOST_BYTES, Ty};
-use core_tree::{CoreStatement, Function, Name, PassedType, StaticObject};
+use core_tree::{CoreStatement, Function, Name, PassedType, StaticObject, Variable};
 use std::alloc::{AllocError, Global};
 
 // More functions than this have no memory.
 const MOST: usize = 0x7fff_ffff;
 
-/// A defined function: its number, the sizes of its variables, and its body.
+/// A defined function: its number, its variables, how many labels it has, and its body.
 #[derive(Drop)]
 pub struct Definition {
     pub number: u32,
-    pub variables: Vec<u32>,
+    pub variables: Vec<Variable>,
     pub labels: usize,
     pub body: Box<CoreStatement>,
 }
@@ -34,13 +34,14 @@ fn prove_bytes(bytes: &[u8])
 
 // An object of that many bytes, of which these are the first.
 fn static_object(
+    alloc: Global,
     size: u32,
     readonly: bool,
     bytes: Vec<u8>,
     undefined: Option<u32>,
 ) -> Result<StaticObject, AllocError>
-    ensures is { IfOk result (λ o. view_static o ≡ record { size = size; readonly = readonly; bytes = bytes.items; undefined = undefined }) }
-    ensures fits { IfOk result (λ o. is_static (view_static o) ≡ true) }
+    ensures is { IfOk result (λ o. view_static o ≡ record { size = size; readonly = readonly; bytes = bytes.items; addresses = []; undefined = undefined }) }
+    ensures fits { IfOk result (λ o. is_static 0 0 (view_static o) ≡ true) }
     ensures cause { IsErr result → size ≤ most_bytes → size < length bytes.items }
 {
     prove_bytes(&bytes);
@@ -52,6 +53,7 @@ fn static_object(
         size,
         readonly,
         bytes,
+        addresses: Vec::new(alloc),
         undefined,
     })
 }
@@ -90,10 +92,11 @@ fn static_of(
     layouts: &Layouts,
 ) -> Result<StaticObject, AllocError>
     ensures is { IfOk result (λ o. view_static o ≡ static_of layouts.now.done (view_object_entry object)) }
-    ensures fits { IfOk result (λ o. is_static (view_static o) ≡ true) }
+    ensures fits { IfOk result (λ o. is_static 0 0 (view_static o) ≡ true) }
 {
     let size = object_entry_size(&object, layouts)?;
     static_object(
+        alloc,
         size,
         object.named.constant,
         given_bytes(alloc, object.bytes),
@@ -101,11 +104,11 @@ fn static_of(
     )
 }
 
-/// The objects of the file, where no name is in scope.
+/// The objects of the file, where no name is in scope. They hold no address.
 pub fn static_objects(alloc: Global, scope: &mut Scope) -> Result<Vec<StaticObject>, AllocError>
     requires { scope.old.bindings ≡ [] }
     ensures are { IfOk result (λ v. view_statics v.items ≡ map (static_of scope.old.records.done) scope.old.objects) }
-    ensures fit { IfOk result (λ v. list_all is_static (view_statics v.items) ≡ true) }
+    ensures fit { IfOk result (λ v. list_all (is_static 0 0) (view_statics v.items) ≡ true) }
 {
     let mut objects = Vec::new(alloc);
     let mut left = scope.take_objects(alloc);

@@ -42,6 +42,7 @@ function_changed s k f same = by (slice_get s.functions.all k) refl where
       variables = omega arith;
       objects = omega arith;
       sizes = λ g. record {
+        no_pointers = refl;
         variables = grows_refl (sizes s);
         objects = under_refl (own_sizes s).objects;
         functions = signed_changed s.records.done s.functions.all k c (f c) e (same c);

@@ -10,7 +10,7 @@ use Rattle.core_tree.specs.declared.expression.CorePart.{CorePart}
 use Rattle.c_types.specs.Integers.{bytes}
 use Rattle.c_values.specs.Numbers.{TypedNumber}
 use Rattle.c_values.specs.Variables.{low_bytes, put_at, zeros}
-use Rattle.core_tree.specs.Trees.{Expression, view, Structure, view_structure, copy, load, choose, put, store, follow, section, list, string, give, Parts, no_part, number_part, structure_part, parts_of}
+use Rattle.core_tree.specs.Trees.{Expression, view, Structure, view_structure, copy, choose, put, follow, section, list, string, give, Parts, no_part, number_part, structure_part, parts_of}
 use Rattle.c_scope.specs.Scopes.{Scoped}
 use Rattle.c_scope.specs.Faults.{◌>>=◌, required, Fault, fault, on_line}
 use Rattle.c_elab_expr.specs.Nodes.{as_type}
@@ -214,11 +214,9 @@ put_far at new old = put_at at new (old ++ zeros (at + length new - length old))
 
 abbrev mutual
   pub structure_bytes : Structure → List ℕ
-  structure_bytes (copy line v offset size) = []
-  structure_bytes (load line k offset size) = []
+  structure_bytes (copy p size) = []
   structure_bytes (choose line test a b) = []
-  structure_bytes (put line v offset a) = []
-  structure_bytes (store line k offset a) = []
+  structure_bytes (put line p a) = []
   structure_bytes (follow line e a) = []
   structure_bytes (section line offset size a) = []
   structure_bytes (list line size ps) = parts_bytes ps []

@@ -1,5 +1,5 @@
 -- What the arguments and the body of a call ask for is there.
-use Rattle.std.proofs.Common.{◌≡◌, ℕ, ◌+◌, ◌/◌, zero, suc, Bool, true, false, ◌&&◌, ◌||◌, not, ◌==◌, nat_lt, List, [], ◌∷◌, ◌++◌, length, map, take, drop, Option, Some, None, slice_get, refl, sym, ap, subst, ◌∙◌, rules, arith}
+use Rattle.std.proofs.Common.{◌≡◌, ◌≤◌, slice_index, nat_le, ℕ, ◌+◌, ◌/◌, zero, suc, Bool, true, false, ◌&&◌, ◌||◌, not, ◌==◌, nat_lt, List, [], ◌∷◌, ◌++◌, length, map, take, drop, Option, Some, None, slice_get, refl, sym, ap, subst, ◌∙◌, rules, arith}
 use Rattle.std.specs.Prelude.{is_some, option_map}
 use Rattle.std.specs.List.{list_all}
 use Rattle.std.proofs.lemmas.Bool.{false≢true, true≢false}
@@ -12,14 +12,18 @@ use Rattle.c_types.specs.declared.types.ValueType.TheVariants.{Void, Integer}
 use Rattle.c_types.specs.Integers.{width, bytes, number_of, same_integer}
 use Rattle.core_tree.specs.declared.functions.PassedType.{PassedType}
 use Rattle.core_tree.specs.declared.functions.PassedType.TheVariants as passed
-use Rattle.core_tree.specs.Trees.{Procedure, Statement, Static, TypedFile}
-use Rattle.core_tree.specs.Typed.{Sizes, Signature, signature, sizes_in, same_passed, same_given, given_as, gives_this, passed_size, parameters_of, have_parameters, is_typed_statement, is_typed_body, is_typed_function, is_static, are_typed}
+use Rattle.core_tree.specs.Trees.{Procedure, Statement, TypedFile}
+use Rattle.core_tree.specs.Typed.{Sizes, Signature, signature, sizes_in, sizes_with, same_passed, same_given, given_as, gives_this, passed_size, parameters_of, have_parameters, is_typed_statement, is_typed_body, is_typed_function, is_home, homes_of, sizes_of_variables, are_static, are_typed}
 use Rattle.c_values.specs.Variables.{zeros, first_variables}
-use Rattle.c_meaning.specs.Meaning.{integer_of}
-use Rattle.c_tasks.specs.Items.{sizes_at, blocks_on, Wanted, wants_number, wants_structure}
-use Rattle.c_tasks.specs.Fits.{sizes_of, sizes_on, passed_sizes, same_sizes, is_given, wanted_of, signature_of, gives_of, gives_at, objects_in, variables_at, parameters_at, sizes_for}
-use Rattle.c_meaning.proofs.Holding.{left_of, right_of, both}
+use Rattle.c_meaning.specs.Meaning.{integer_of, body_of, variables_of}
+use Rattle.c_tasks.specs.Items.{blocks_on, Wanted, wants_number, wants_structure}
+use Rattle.c_tasks.specs.Fits.{sizes_of, sizes_on, passed_sizes, same_sizes, is_given, wanted_of, signature_of, gives_of, gives_at, declared_at, variables_at, parameters_at, home_at, holds_address, sizes_for}
+use Rattle.std.specs.Option.{option_and_then}
+use Rattle.core_tree.specs.declared.functions.Variable.{Variable}
+use Rattle.c_meaning.proofs.Holding.{left_of, right_of, both, to_le}
 use Rattle.c_tasks.proofs.Sizes.{first_sizes}
+use Rattle.c_tasks.proofs.Homes.{home_there}
+use Rattle.std.proofs.lemmas.List.{length-map}
 use Rattle.c_meaning.proofs.TypeWidths.{type_widths}
 
 same_back : (a b : ℕ) → (a == b) ≡ true → (b == a) ≡ true
@@ -149,27 +153,80 @@ one_of : (a b : Bool) → (a || b) ≡ true → b ≡ false → a ≡ true
 one_of true b h e = refl
 one_of false b h e = absurd (true≢false (sym h ∙ e))
 
-module _ (file : TypedFile) (all_typed : are_typed file ≡ true) (f : ℕ) (p : Procedure) (k : slice_get file.functions f ≡ Some p) where
-  function_typed : is_typed_function file p ≡ true
-  function_typed = all_at (is_typed_function file) file.functions f p (right_of (list_all is_static file.objects) (list_all (is_typed_function file) file.functions) all_typed) k
+module _ (file : TypedFile) (all_typed : are_typed file ≡ true) (f : ℕ) where
+  module _ (p : Procedure) (k : slice_get file.functions f ≡ Some p) where
+    function_typed : is_typed_function file p ≡ true
+    function_typed = all_at (is_typed_function file) file.functions f p (right_of (are_static file) (list_all (is_typed_function file) file.functions) all_typed) k
 
-  pub same_sizes_for : sizes_for file f ≡ sizes_in file p
-  same_sizes_for =
-      let s = slice_get-map signature file.functions f ∙ ap (option_map signature) k in
-      λ i. record { variables = sizes_at (k i); objects = objects_in file; functions = map signature file.functions; gives = gives_of (s i) }
+    abbrev parameters_listed : Bool
+    parameters_listed = have_parameters (sizes_of_variables p.variables) p.parameters || not (is_some p.body)
 
-  pub body_typed : (s : Statement) → p.body ≡ Some s → is_typed_statement (sizes_for file f) s ≡ true
-  body_typed s e =
-      ap (λ z. is_typed_statement z s) same_sizes_for
-      ∙ ap (is_typed_body (sizes_in file p)) (sym e)
-      ∙ right_of (have_parameters p.variables p.parameters || not (is_some p.body)) (is_typed_body (sizes_in file p) p.body) function_typed
+    abbrev homes_listed : Bool
+    homes_listed = list_all (is_home (sizes_in file p)) (homes_of p.variables)
 
-  pub parameters_there : (s : Statement) → p.body ≡ Some s → have_parameters p.variables p.parameters ≡ true
-  parameters_there s e =
-      one_of (have_parameters p.variables p.parameters) (not (is_some p.body)) (left_of (have_parameters p.variables p.parameters || not (is_some p.body)) (is_typed_body (sizes_in file p) p.body) function_typed) (ap (λ o. not (is_some o)) e)
+    same_sizes_for : sizes_for file f ≡ sizes_in file p
+    same_sizes_for =
+        let s = slice_get-map signature file.functions f ∙ ap (option_map signature) k in
+        λ i. sizes_with file (variables_of (k i)) (gives_of (s i))
 
-  pub parameters_same : parameters_at file f ≡ p.parameters
-  parameters_same = ap parameters_of (slice_get-map signature file.functions f ∙ ap (option_map signature) k)
+    typed_at : (s : Statement) → p.body ≡ Some s → is_typed_statement (sizes_for file f) s ≡ true
+    typed_at s e =
+        ap (λ z. is_typed_statement z s) same_sizes_for
+        ∙ ap (is_typed_body (sizes_in file p)) (sym e)
+        ∙ right_of (parameters_listed && homes_listed) (is_typed_body (sizes_in file p) p.body) function_typed
+
+    parameters_at_start : (s : Statement) → p.body ≡ Some s → have_parameters (variables_at file f) (parameters_at file f) ≡ true
+    parameters_at_start s e =
+        let first = left_of parameters_listed homes_listed (left_of (parameters_listed && homes_listed) (is_typed_body (sizes_in file p) p.body) function_typed) in
+        let here : have_parameters (sizes_of_variables p.variables) p.parameters ≡ true = one_of (have_parameters (sizes_of_variables p.variables) p.parameters) (not (is_some p.body)) first (ap (λ o. not (is_some o)) e) in
+        let same : parameters_at file f ≡ p.parameters = ap parameters_of (slice_get-map signature file.functions f ∙ ap (option_map signature) k) in
+        ap (have_parameters (variables_at file f)) same ∙ ap (λ (o : Option Procedure). have_parameters (sizes_of_variables (variables_of o)) p.parameters) k ∙ here
+
+    homes_at : list_all (is_home (sizes_in file p)) (homes_of p.variables) ≡ true
+    homes_at = right_of parameters_listed homes_listed (left_of (parameters_listed && homes_listed) (is_typed_body (sizes_in file p) p.body) function_typed)
+
+  no_body : (s : Statement) → ◌≡◌ {A = Option Statement} None (Some s) → ⊥
+  no_body s e = false≢true (ap is_some e)
+
+  pub body_typed : (o : Option Procedure) → slice_get file.functions f ≡ o → (s : Statement) → body_of o ≡ Some s → is_typed_statement (sizes_for file f) s ≡ true
+  body_typed None k s e = absurd (no_body s e)
+  body_typed (Some p) k s e = typed_at p k s e
+
+  pub parameters_there : (o : Option Procedure) → slice_get file.functions f ≡ o → (s : Statement) → body_of o ≡ Some s → have_parameters (variables_at file f) (parameters_at file f) ≡ true
+  parameters_there None k s e = absurd (no_body s e)
+  parameters_there (Some p) k s e = parameters_at_start p k s e
+
+  holds_it : (z : Sizes) (home : Option ℕ) → is_home z home ≡ true → holds_address z.variables home ≡ true
+  holds_it z None h = refl
+  holds_it z (Some x) h =
+      let there = nat_lt x (length z.variables) in
+      let e = equal (slice_index z.variables x) 8 (right_of (z.pointers && there) (slice_index z.variables x == 8) h) in
+      both there (nat_le (0 + 8) (slice_index z.variables x)) (right_of z.pointers there (left_of (z.pointers && there) (slice_index z.variables x == 8) h)) (to_le (0 + 8) (slice_index z.variables x) (omega (arith, e)))
+
+  homes_there : (o : Option Procedure) → slice_get file.functions f ≡ o → (v : ℕ) → holds_address (variables_at file f) (home_at file f v) ≡ true
+  homes_there None k v = ap (λ (o : Option Procedure). holds_address (sizes_of_variables (variables_of o)) (option_and_then (λ (x : Variable). x.home) (slice_get (variables_of o) v))) k
+  homes_there (Some p) k v =
+      ap (λ (o : Option Procedure). holds_address (sizes_of_variables (variables_of o)) (option_and_then (λ (x : Variable). x.home) (slice_get (variables_of o) v))) k
+      ∙ home_there (sizes_of_variables p.variables) (is_home (sizes_in file p)) (holds_it (sizes_in file p)) p.variables v (homes_at p k)
+
+  -- the variable that holds an address is there
+  pub home_typed : (v : ℕ) → holds_address (variables_at file f) (home_at file f v) ≡ true
+  home_typed v = homes_there (slice_get file.functions f) refl v
+
+-- ---- how many arguments there are
+
+same_length : (ys zs : List ℕ) → same_sizes ys zs ≡ true → length ys ≡ length zs
+same_length ys zs h = ap (λ (xs : List ℕ). length xs) (same_lists ys zs h)
+
+taken_length : (count : ℕ) (ps : List PassedType) → length (take count ps) ≤ length ps
+taken_length zero ps = omega arith
+taken_length (suc n) [] = omega arith
+taken_length (suc n) (p ∷ ps) = let h = taken_length n ps in omega (arith, h)
+
+parameters_few : (vs : List ℕ) (ps : List PassedType) → have_parameters vs ps ≡ true → length ps ≤ length vs
+parameters_few vs [] h = omega arith
+parameters_few [] (p ∷ ps) h = absurd (false≢true h)
+parameters_few (v ∷ vs) (p ∷ ps) h = let e = parameters_few vs ps (right_of (v == passed_size p) (have_parameters vs ps) h) in omega (arith, e)
 
 -- ---- the variables of a function at its start
 
@@ -190,3 +247,17 @@ pub blocks_sizes : (count : ℕ) (bs : List (List ℕ)) → sizes_of (blocks_on 
 blocks_sizes zero bs = refl
 blocks_sizes (suc n) [] = refl
 blocks_sizes (suc n) (b ∷ bs) = sizes_append (blocks_on n bs) b ∙ ap (λ zs. zs ++ length b ∷ []) (blocks_sizes n bs)
+
+-- no more arguments than variables
+pub arguments_few : (file : TypedFile) (f count : ℕ) (bs : List (List ℕ)) → have_parameters (variables_at file f) (parameters_at file f) ≡ true → same_sizes (sizes_on count (sizes_of bs)) (passed_sizes (take count (parameters_at file f))) ≡ true →
+    nat_le (0 + length (blocks_on count bs)) (length (declared_at file f)) ≡ true
+arguments_few file f count bs h k =
+    let ps = parameters_at file f in
+    let args = blocks_on count bs in
+    let a : length (sizes_of args) ≡ length args = length-map args (λ (block : List ℕ). length block) in
+    let b : length (sizes_of args) ≡ length (passed_sizes (take count ps)) = ap (λ (xs : List ℕ). length xs) (blocks_sizes count bs) ∙ same_length (sizes_on count (sizes_of bs)) (passed_sizes (take count ps)) k in
+    let c : length (passed_sizes (take count ps)) ≡ length (take count ps) = length-map (take count ps) passed_size in
+    let d = taken_length count ps in
+    let e = parameters_few (variables_at file f) ps h in
+    let g : length (variables_at file f) ≡ length (declared_at file f) = length-map (declared_at file f) (λ (v : Variable). v.size) in
+    to_le (0 + length args) (length (declared_at file f)) (omega (arith, a, b, c, d, e, g))

@@ -11,9 +11,10 @@ use Rattle.core_tree.specs.declared.functions.PassedType.TheVariants as passed
 use Rattle.core_tree.specs.Trees.{Items, done, declares, initializes, initializes_structure, does, label, case_at, default_at, TypedFile}
 use Rattle.core_tree.specs.Typed.{Sizes, Signature, are_typed_items, same_passed}
 use Rattle.c_values.specs.Numbers.{TypedNumber, same_width}
-use Rattle.c_tasks.specs.Items.{rest, rest_bytes, Active, back, Wanted, wants_number, wants_structure, wants_end, Handed, by_nothing, by_number, by_structure, values_under, structures_under, Item, goes_on, loops, switches, resumes, State}
+use Rattle.c_values.specs.Variables.{Variables}
+use Rattle.c_tasks.specs.Items.{rest, rest_bytes, Active, back, Wanted, wants_number, wants_structure, wants_end, Handed, by_nothing, by_number, by_structure, Way, by_break, by_continue, by_jump, by_return, values_under, structures_under, Item, goes_on, goes_out, ends_block, ends_parameters, loops, switches, resumes, State, state}
 use Rattle.c_tasks.specs.Fits.{top_type, top_size, has_top, rest_types, rest_sizes, types_of, sizes_of, types_under, sizes_under, gives_number, gives_structure, handed_of, is_given, wanted_of, gets_this, got, same_sizes, signature_of, gives_of, gives_at, variables_at, sizes_for, fits, exits_fit, Fits}
-use Rattle.c_tasks.specs.Steps.{after_break, after_continue, behind_label, jumped, after_jump, behind_case, behind_default, returned}
+use Rattle.c_tasks.specs.Steps.{behind_label, jumped, out_of, behind_case, behind_default}
 use Rattle.c_meaning.proofs.Holding.{left_of, right_of, both}
 use Rattle.c_tasks.proofs.FitParts.{rest_of_types}
 use Rattle.c_tasks.proofs.Sizes.{rest_of_sizes}
@@ -28,8 +29,8 @@ module _ (sizes : Sizes) where
   pub case_typed : (x : ℕ) (items : Items) → are_typed_items sizes items ≡ true → are_typed_items sizes (behind_case x items) ≡ true
   case_typed x done h = h
   case_typed x (declares line v more) h = case_typed x more (right_of _ _ h)
-  case_typed x (initializes line v drawn e more) h = case_typed x more (right_of _ _ h)
-  case_typed x (initializes_structure line v drawn a more) h = case_typed x more (right_of _ _ h)
+  case_typed x (initializes line v is_drawn e more) h = case_typed x more (right_of _ _ h)
+  case_typed x (initializes_structure line v is_drawn a more) h = case_typed x more (right_of _ _ h)
   case_typed x (does s more) h = case_typed x more (right_of _ _ h)
   case_typed x (label m more) h = case_typed x more h
   case_typed x (case_at line t bits more) h = typed_here (bits == x) x more (right_of _ _ h) (case_typed x more (right_of _ _ h))
@@ -38,8 +39,8 @@ module _ (sizes : Sizes) where
   pub default_typed : (items : Items) → are_typed_items sizes items ≡ true → are_typed_items sizes (behind_default items) ≡ true
   default_typed done h = h
   default_typed (declares line v more) h = default_typed more (right_of _ _ h)
-  default_typed (initializes line v drawn e more) h = default_typed more (right_of _ _ h)
-  default_typed (initializes_structure line v drawn a more) h = default_typed more (right_of _ _ h)
+  default_typed (initializes line v is_drawn e more) h = default_typed more (right_of _ _ h)
+  default_typed (initializes_structure line v is_drawn a more) h = default_typed more (right_of _ _ h)
   default_typed (does s more) h = default_typed more (right_of _ _ h)
   default_typed (label m more) h = default_typed more h
   default_typed (case_at line t bits more) h = default_typed more (right_of _ _ h)
@@ -48,46 +49,58 @@ module _ (sizes : Sizes) where
 -- ---- exits
 
 module _ (file : TypedFile) where
-  pub break_fits : (is : List Item) (f : ℕ) (ts : List IntegerType) (zs : List ℕ) → exits_fit file is f ts zs ≡ true → fits file (after_break is) f ts zs ≡ true
-  break_fits [] f ts zs h = absurd (false≢true h)
-  break_fits (loops n loop ∷ is) f ts zs h = search (rules, left_of, right_of, both)
-  break_fits (switches ∷ is) f ts zs h = left_of _ _ h
-  break_fits (resumes want caller saved ∷ is) f ts zs h = refl
-  break_fits (goes_on items ∷ is) f ts zs h = break_fits is f ts zs (right_of _ _ (right_of _ _ h))
-  break_fits (_ ∷ is) f ts zs h = break_fits is f ts zs h
+  abbrev FitsOut : Way → List Item → Active → List TypedNumber → List (List ℕ) → Variables → Type 0
+  FitsOut way is r xs bs vs = Fits file (out_of way is r xs bs vs)
 
-  pub continue_fits : (is : List Item) (f : ℕ) (ts : List IntegerType) (zs : List ℕ) → exits_fit file is f ts zs ≡ true → fits file (after_continue is) f ts zs ≡ true
-  continue_fits [] f ts zs h = absurd (false≢true h)
-  continue_fits (loops n loop ∷ is) f ts zs h = h
-  continue_fits (switches ∷ is) f ts zs h = continue_fits is f ts zs (right_of _ _ h)
-  continue_fits (resumes want caller saved ∷ is) f ts zs h = refl
-  continue_fits (goes_on items ∷ is) f ts zs h = continue_fits is f ts zs (right_of _ _ (right_of _ _ h))
-  continue_fits (_ ∷ is) f ts zs h = continue_fits is f ts zs h
+  pub break_fits : (is : List Item) (r : Active) (xs : List TypedNumber) (bs : List (List ℕ)) (vs : Variables) → exits_fit file is r.function (types_of xs) (sizes_of bs) ≡ true → FitsOut by_break is r xs bs vs
+  break_fits [] r xs bs vs h = absurd (false≢true h)
+  break_fits (ends_block items ∷ is) r xs bs vs h = h
+  break_fits (ends_parameters count ∷ is) r xs bs vs h = h
+  break_fits (loops n loop ∷ is) r xs bs vs h = left_of _ _ (right_of _ _ h)
+  break_fits (switches items ∷ is) r xs bs vs h = left_of _ _ h
+  break_fits (resumes want caller saved ∷ is) r xs bs vs h = refl
+  break_fits (goes_on items ∷ is) r xs bs vs h = break_fits is r xs bs vs (right_of _ _ (right_of _ _ h))
+  break_fits (_ ∷ is) r xs bs vs h = break_fits is r xs bs vs h
 
-  module _ (n : ℕ) (is further : List Item) (f : ℕ) (ts : List IntegerType) (zs : List ℕ) (h : (fits file is f ts zs && exits_fit file is f ts zs) ≡ true) (k : fits file further f ts zs ≡ true) where
-    label_here : (b : Bool) (more : Items) → are_typed_items (sizes_for file f) more ≡ true → fits file (jumped (behind_label n more) is further) f ts zs ≡ true →
-        fits file (jumped (if b then Some more else behind_label n more) is further) f ts zs ≡ true
+  pub continue_fits : (is : List Item) (r : Active) (xs : List TypedNumber) (bs : List (List ℕ)) (vs : Variables) → exits_fit file is r.function (types_of xs) (sizes_of bs) ≡ true → FitsOut by_continue is r xs bs vs
+  continue_fits [] r xs bs vs h = absurd (false≢true h)
+  continue_fits (ends_block items ∷ is) r xs bs vs h = h
+  continue_fits (ends_parameters count ∷ is) r xs bs vs h = h
+  continue_fits (loops n loop ∷ is) r xs bs vs h = h
+  continue_fits (switches items ∷ is) r xs bs vs h = right_of _ _ h
+  continue_fits (resumes want caller saved ∷ is) r xs bs vs h = refl
+  continue_fits (goes_on items ∷ is) r xs bs vs h = continue_fits is r xs bs vs (right_of _ _ (right_of _ _ h))
+  continue_fits (_ ∷ is) r xs bs vs h = continue_fits is r xs bs vs h
+
+  module _ (n : ℕ) (is : List Item) (further : State) (r : Active) (xs : List TypedNumber) (bs : List (List ℕ)) (vs : Variables)
+      (h : (fits file is r.function (types_of xs) (sizes_of bs) && exits_fit file is r.function (types_of xs) (sizes_of bs)) ≡ true) (k : Fits file further) where
+    abbrev reached : Option Items → State
+    reached o = jumped o further (λ more. state (goes_on more ∷ is) r xs bs vs)
+
+    label_here : (b : Bool) (more : Items) → are_typed_items (sizes_for file r.function) more ≡ true → Fits file (reached (behind_label n more)) → Fits file (reached (if b then Some more else behind_label n more))
     label_here true more t l = both _ _ t h
     label_here false more t l = l
 
-    label_fits : (items : Items) → are_typed_items (sizes_for file f) items ≡ true → fits file (jumped (behind_label n items) is further) f ts zs ≡ true
+    label_fits : (items : Items) → are_typed_items (sizes_for file r.function) items ≡ true → Fits file (reached (behind_label n items))
     label_fits done t = k
     label_fits (declares line v more) t = label_fits more (right_of _ _ t)
-    label_fits (initializes line v drawn e more) t = label_fits more (right_of _ _ t)
-    label_fits (initializes_structure line v drawn a more) t = label_fits more (right_of _ _ t)
+    label_fits (initializes line v is_drawn e more) t = label_fits more (right_of _ _ t)
+    label_fits (initializes_structure line v is_drawn a more) t = label_fits more (right_of _ _ t)
     label_fits (does s more) t = label_fits more (right_of _ _ t)
     label_fits (label m more) t = label_here (m == n) more t (label_fits more t)
     label_fits (case_at line u bits more) t = label_fits more (right_of _ _ t)
     label_fits (default_at line more) t = label_fits more t
 
-  pub jump_fits : (n : ℕ) (is : List Item) (f : ℕ) (ts : List IntegerType) (zs : List ℕ) → exits_fit file is f ts zs ≡ true → fits file (after_jump n is) f ts zs ≡ true
-  jump_fits n [] f ts zs h = absurd (false≢true h)
-  jump_fits n (loops m loop ∷ is) f ts zs h = jump_fits n is f ts zs (right_of _ _ (right_of _ _ h))
-  jump_fits n (switches ∷ is) f ts zs h = jump_fits n is f ts zs (right_of _ _ h)
-  jump_fits n (resumes want caller saved ∷ is) f ts zs h = refl
-  jump_fits n (goes_on items ∷ is) f ts zs h =
-      label_fits n is (after_jump n is) f ts zs (right_of _ _ h) (jump_fits n is f ts zs (right_of _ _ (right_of _ _ h))) items (left_of _ _ h)
-  jump_fits n (_ ∷ is) f ts zs h = jump_fits n is f ts zs h
+  pub jump_fits : (n : ℕ) (is : List Item) (r : Active) (xs : List TypedNumber) (bs : List (List ℕ)) (vs : Variables) → exits_fit file is r.function (types_of xs) (sizes_of bs) ≡ true → FitsOut (by_jump n) is r xs bs vs
+  jump_fits n [] r xs bs vs h = absurd (false≢true h)
+  jump_fits n (ends_block items ∷ is) r xs bs vs h = h
+  jump_fits n (ends_parameters count ∷ is) r xs bs vs h = h
+  jump_fits n (loops m loop ∷ is) r xs bs vs h = jump_fits n is r xs bs vs (right_of _ _ (right_of _ _ h))
+  jump_fits n (switches items ∷ is) r xs bs vs h = right_of _ _ h
+  jump_fits n (resumes want caller saved ∷ is) r xs bs vs h = refl
+  jump_fits n (goes_on items ∷ is) r xs bs vs h =
+      label_fits n is (out_of (by_jump n) is r xs bs vs) r xs bs vs (right_of _ _ h) (jump_fits n is r xs bs vs (right_of _ _ (right_of _ _ h))) items (left_of _ _ h)
+  jump_fits n (_ ∷ is) r xs bs vs h = jump_fits n is r xs bs vs h
 
 -- ---- what a function hands over is what its caller wants
 
@@ -124,15 +137,23 @@ sizes_below by_number bs = refl
 sizes_below by_structure bs = rest_of_sizes bs
 
 module _ (file : TypedFile) where
-  pub return_fits : (how : Handed) (is : List Item) (r : Active) (xs : List TypedNumber) (bs : List (List ℕ)) →
+  pub return_fits : (how : Handed) (is : List Item) (r : Active) (xs : List TypedNumber) (bs : List (List ℕ)) (vs : Variables) →
       handed_of how (gives_at file r.function) (types_of xs) (sizes_of bs) ≡ true → exits_fit file is r.function (types_under how (types_of xs)) (sizes_under how (sizes_of bs)) ≡ true →
-      Fits file (returned how is r xs bs)
-  return_fits how [] r xs bs h k = absurd (false≢true k)
-  return_fits how (loops n loop ∷ is) r xs bs h k = return_fits how is r xs bs h (right_of _ _ (right_of _ _ k))
-  return_fits how (switches ∷ is) r xs bs h k = return_fits how is r xs bs h (right_of _ _ k)
-  return_fits how (goes_on items ∷ is) r xs bs h k = return_fits how is r xs bs h (right_of _ _ (right_of _ _ k))
-  return_fits how (resumes want caller saved ∷ is) r xs bs h k =
+      FitsOut file (by_return how) is r xs bs vs
+  return_fits how [] r xs bs vs h k = absurd (false≢true k)
+  return_fits how (ends_block items ∷ is) r xs bs vs h k = both _ _ h k
+  return_fits how (ends_parameters count ∷ is) r xs bs vs h k = both _ _ h k
+  return_fits how (loops n loop ∷ is) r xs bs vs h k = return_fits how is r xs bs vs h (right_of _ _ (right_of _ _ k))
+  return_fits how (switches items ∷ is) r xs bs vs h k = both _ _ h (right_of _ _ k)
+  return_fits how (goes_on items ∷ is) r xs bs vs h k = return_fits how is r xs bs vs h (right_of _ _ (right_of _ _ k))
+  return_fits how (resumes want caller saved ∷ is) r xs bs vs h k =
       let wanted = left_of (wanted_of want (signature_of file r.function)) _ (left_of (wanted_of want (signature_of file r.function) && same_sizes (sizes_of saved) (variables_at file caller)) _ k) in
       both _ _ (gives_wanted want how (gives_at file r.function) (types_of xs) (sizes_of bs) (wants_given want (signature_of file r.function) wanted) h)
       (right_of (wanted_of want (signature_of file r.function) && same_sizes (sizes_of saved) (variables_at file caller)) _ k)
-  return_fits how (_ ∷ is) r xs bs h k = return_fits how is r xs bs h k
+  return_fits how (_ ∷ is) r xs bs vs h k = return_fits how is r xs bs vs h k
+
+  pub out_fits : (way : Way) (is : List Item) (r : Active) (xs : List TypedNumber) (bs : List (List ℕ)) (vs : Variables) → fits file (goes_out way ∷ is) r.function (types_of xs) (sizes_of bs) ≡ true → FitsOut file way is r xs bs vs
+  out_fits by_break is r xs bs vs h = break_fits file is r xs bs vs h
+  out_fits by_continue is r xs bs vs h = continue_fits file is r xs bs vs h
+  out_fits (by_jump n) is r xs bs vs h = jump_fits file n is r xs bs vs h
+  out_fits (by_return how) is r xs bs vs h = return_fits how is r xs bs vs (left_of _ _ h) (right_of _ _ h)

@@ -1,3 +1,4 @@
+pub mod Parts
 pub mod FitsKept
 pub mod Threads
 pub mod SourceRuns
@@ -6,6 +7,5 @@ pub mod ExitsFit
 pub mod CountsKept
 pub mod SizesKept
 pub mod Sound
-pub mod Returns
 pub mod Starts
 pub mod Unlimited

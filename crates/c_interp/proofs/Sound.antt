@@ -24,13 +24,13 @@ pub sound_kept : (t : Thread) (s : State) → next_move t ≡ silent s → IsSou
 sound_kept t s e =
     let fewer = counts_kept (code_under t) t.first (state_of t) s e in
     let counted : activations s ≤ 2 ^ 42 = omega (arith, fewer, t.counted) in
-    (fits_kept (file_of t) t.bounds.now t.first t.all_typed (state_of t) s t.sized t.typed e, sizes_kept (file_of t) t.bounds.now t.first t.all_typed (state_of t) s t.sized t.typed e, counted)
+    (fits_kept (file_of t) t.bounds.now t.small t.first t.all_typed (state_of t) s t.sized t.typed e, sizes_kept (file_of t) t.bounds.now t.first t.all_typed (state_of t) s t.sized t.typed e, counted)
 
 abbrev IsAnswer : Thread → Answer → Change → Type 0
 IsAnswer t a c = Answers (behind (items_in t.tasks.items)) (active_of t) (values_in t.numbers.items) (structures_in t.structures.items) t.variables.items (next_move t) a c
 
 pub answer_fits : (t : Thread) (a : Answer) (c : Change) → Accepts (next_move t) a → IsAnswer t a c → Fits (file_of t) (after_change t c)
-answer_fits t a c h w = fits_answered (file_of t) t.bounds.now t.first t.all_typed (state_of t) a c t.sized t.typed h w
+answer_fits t a c h w = fits_answered (file_of t) t.bounds.now t.small t.first t.all_typed (state_of t) a c t.sized t.typed h w
 
 pub answer_counted : (t : Thread) (a : Answer) (c : Change) → Accepts (next_move t) a → IsAnswer t a c → activations (after_change t c) ≤ 2 ^ 42
 answer_counted t a c h w = let fewer = counts_answered (code_under t) t.first (state_of t) a c h w in omega (arith, fewer, t.counted)

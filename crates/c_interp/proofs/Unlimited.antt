@@ -5,16 +5,17 @@ use Rattle.std.specs.Ordering.{nat_cmp}
 use Rattle.std.specs.BTreeMap.{is_at}
 use Rattle.words.specs.declared.check.Check.{Check}
 use Rattle.words.specs.declared.check.Class.{Class}
-use Rattle.words.specs.declared.check.Class.TheVariants.{Assertion, Unwind, Recursion}
-use Rattle.c_types.specs.Integers.{promoted}
-use Rattle.core_tree.specs.declared.expression.Place.{Place}
-use Rattle.core_tree.specs.declared.expression.Place.TheVariants.{Variable, Object}
+use Rattle.words.specs.declared.check.Class.TheVariants.{Assertion, Unwind, Recursion, Pointer}
+use Rattle.c_types.specs.Integers.{bytes, promoted}
+use Rattle.c_types.specs.declared.integers.IntegerType.{IntegerType}
+use Rattle.c_types.specs.declared.integers.IntegerType.TheVariants.{UnsignedLong}
+use Rattle.core_tree.specs.declared.operators.ArithmeticOperator.{ArithmeticOperator}
 use Rattle.core_tree.specs.Operations.{is_true, converted, arithmetic_check, sign_check}
-use Rattle.core_tree.specs.Typed.{place_type}
-use Rattle.c_values.specs.Variables.{Variables}
+use Rattle.actions.specs.Pointer.{object_of, offset_of}
+use Rattle.c_values.specs.Variables.{Variables, low_bytes}
 use Rattle.c_values.specs.Numbers.{TypedNumber}
 use Rattle.core_tree.specs.Ranges.{Limits}
-use Rattle.core_tree.specs.Trees.{Expression, read, Structure, string, Parts, no_part, Arguments, no_argument, number_argument, structure_argument, Statement, block, Items, done, Procedure, TypedFile}
+use Rattle.core_tree.specs.Trees.{Place, element, subscript, Expression, sum, Structure, string, Parts, no_part, Arguments, no_argument, number_argument, structure_argument, Statement, block, Items, done, initializes, initializes_structure, Procedure, TypedFile}
 use Rattle.actions.specs.declared.action.Action.{Action}
 use Rattle.actions.specs.declared.action.Answer.{Answer}
 use Rattle.actions.specs.declared.action.Next.{Next}
@@ -35,15 +36,16 @@ use Rattle.interleave.specs.World.{World, Common, Member, member_at, may_move, m
 use Rattle.interleave.specs.Turn.{turn, settled as settled_turn, outcome, with_next, with_member, check_of}
 use Rattle.interleave.specs.Run.{run, unless_broken}
 use Rattle.interleave.specs.Replay.{IsSafe}
-use Rattle.c_meaning.specs.Meaning.{Given, nothing, number, structure, Code, final}
-use Rattle.c_tasks.specs.Items.{top, second, Item, evaluates, signs, operates, stores, combines, increments, asserts, evaluates_structure, lists, runs, enters, goes_on, fills, gathers, gets, turns, retests, State, state, Active, line_of, blocks_on, Wanted, wants_number, wants_structure, wants_end, given_by, values_under, structures_under, Loop}
+use Rattle.c_meaning.specs.Meaning as meaning
+use Rattle.c_meaning.specs.Meaning.{Given, nothing, number, structure, Code, place_line, home_of, variable_of, body_of, variables_of, final}
+use Rattle.c_tasks.specs.Items.{top, rest, second, top_bytes, running_of, Item, evaluates, signs, operates, locates, loads, stores, rewrites, updates, combines, steps, increments, shifts, paces, measures, orders, admits, draws, asserts, evaluates_structure, copies, stores_structure, lists, runs, enters, goes_on, leaves, fills, settles, initial, initial_structure, dies, enters_parameters, leaves_parameters, gathers, gets, turns, retests, State, state, Active, line_of, blocks_on, Wanted, wants_number, wants_structure, wants_end, given_by, values_under, structures_under, Loop}
 use Rattle.c_interp.specs.Work.{weight}
-use Rattle.c_tasks.specs.Steps.{Move, silent, asks, breaks, blocks, ends, unless_stopped, move_read, move_write, move_expression, move_structure, move_parts, move_statement, move_turn, move_test, move_body, move_function, move_call, move_arguments, move_given, move_fill, move_entry, move_items, move_item, move_from, move}
+use Rattle.c_tasks.specs.Steps.{Move, silent, asks, breaks, blocks, ends, unless_stopped, move_bytes, move_put, move_place, move_expression, move_structure, move_parts, move_statement, move_fill, move_entry, move_settle, move_initial, move_death, move_end, move_parameters, move_last, move_admission, move_draw, move_turn, move_test, move_body, move_call, move_arguments, move_given, move_items, move_item, move_from, move}
 use Rattle.c_interp.specs.Small.{stepped_on, settled, next_of, answered_by, next_small, answered_small, bounded, unbounded}
 use Rattle.c_interp.specs.inner.Adequate.{IsStill, settled_still}
 use Rattle.c_meaning.specs.Source.{code_of, main_number, runs_at, source_thread, source_world, first_objects}
-use Rattle.c_interp.specs.SourceThread.{IsQuiet, start_state, small_steps, function_quiet}
-use Rattle.c_interp.specs.Quiet.{Quietly}
+use Rattle.c_interp.specs.SourceThread.{StartsNone, start_state, small_steps, function_starts_none}
+use Rattle.c_interp.specs.Alone.{Quietly}
 use Rattle.c_interp.specs.Unlimited.{unlimited_at, unlimited_thread, unlimited_world, SafeAtAll}
 use Rattle.c_interp.proofs.SourceRuns.{IsPlain, plain}
 
@@ -82,21 +84,33 @@ module _ (code : Code) (first : Bool) (checked : code.assertions ≡ true) where
   passes_or true class line m other same = inl (stop_breaks code.assertions checked class line blocks)
   passes_or false class line m other same = inr same
 
+  same_checked : (c : Option Class) (line : ℕ) (s : State) → unless_stopped code first true c line s ≡ unless_stopped code first false c line s
+  same_checked None line s = refl
+  same_checked (Some class) line s = refl
+
+  same_bytes : (o : Option ℕ) (at count line : ℕ) (r : Active) (vs : Variables) (next : List ℕ → State) → move_bytes code first true o at count line r vs next ≡ move_bytes code first false o at count line r vs next
+  same_bytes (Some v) at count line r vs next = refl
+  same_bytes None at count line r vs next = refl
+
+  same_put : (o : Option ℕ) (at : ℕ) (new : List ℕ) (line : ℕ) (r : Active) (vs : Variables) (next : Variables → State) → move_put code first true o at new line r vs next ≡ move_put code first false o at new line r vs next
+  same_put (Some v) at new line r vs next = refl
+  same_put None at new line r vs next = refl
+
+  same_initial : (home : Option ℕ) (v : ℕ) (new : List ℕ) (line : ℕ) (r : Active) (vs : Variables) (next : Variables → State) → move_initial code first true home v new line r vs next ≡ move_initial code first false home v new line r vs next
+  same_initial None v new line r vs next = refl
+  same_initial (Some h) v new line r vs next = refl
+
   module _ (is : List Item) (r : Active) (xs : List TypedNumber) (bs : List (List ℕ)) (vs : Variables) where
-    same_checked : (c : Option Class) (line : ℕ) (s : State) → unless_stopped code first true c line s ≡ unless_stopped code first false c line s
-    same_checked None line s = refl
-    same_checked (Some class) line s = refl
-
-    same_read : (p : Place) → move_read code first true p is r xs bs vs ≡ move_read code first false p is r xs bs vs
-    same_read (Variable line t v offset) = refl
-    same_read (Object line t k offset) = refl
-
-    same_write : (p : Place) (line : ℕ) → move_write code first true p line is r xs bs vs ≡ move_write code first false p line is r xs bs vs
-    same_write (Variable at t v offset) line = refl
-    same_write (Object at t k offset) line = refl
+    same_place : (p : Place) → move_place code first true p is r xs bs vs ≡ move_place code first false p is r xs bs vs
+    same_place (element line p e size whole true) = refl
+    same_place (element line p e size whole false) = refl
+    same_place (subscript line a e size true) = refl
+    same_place (subscript line a e size false) = refl
+    same_place _ = refl
 
     same_expression : (e : Expression) → move_expression code first true e is r xs bs vs ≡ move_expression code first false e is r xs bs vs
-    same_expression (read p) = same_read p
+    same_expression (sum line a e n true) = refl
+    same_expression (sum line a e n false) = refl
     same_expression _ = refl
 
     same_structure : (a : Structure) → move_structure code first true a is r xs bs vs ≡ move_structure code first false a is r xs bs vs
@@ -112,8 +126,15 @@ module _ (code : Code) (first : Bool) (checked : code.assertions ≡ true) where
     same_statement _ = refl
 
     same_entry : (items : Items) → move_entry code first true items is r xs bs vs ≡ move_entry code first false items is r xs bs vs
-    same_entry done = refl
+    same_entry (initializes line v true e more) = refl
+    same_entry (initializes line v false e more) = refl
+    same_entry (initializes_structure line v true a more) = refl
+    same_entry (initializes_structure line v false a more) = refl
     same_entry _ = refl
+
+    same_end : (items : Items) → move_end code first true items is r xs bs vs ≡ move_end code first false items is r xs bs vs
+    same_end done = refl
+    same_end _ = refl
 
     same_items : (items : Items) → move_items code first true items is r xs bs vs ≡ move_items code first false items is r xs bs vs
     same_items done = refl
@@ -122,6 +143,30 @@ module _ (code : Code) (first : Bool) (checked : code.assertions ≡ true) where
     same_fill : (words line v offset : ℕ) → move_fill code first true words line v offset is r xs bs vs ≡ move_fill code first false words line v offset is r xs bs vs
     same_fill zero line v offset = refl
     same_fill (suc k) line v offset = refl
+
+    same_settle : (home : Option ℕ) (line v : ℕ) → move_settle code first true home line v is r xs bs vs ≡ move_settle code first false home line v is r xs bs vs
+    same_settle None line v = refl
+    same_settle (Some h) line v = refl
+
+    same_death : (home : Option ℕ) (line : ℕ) → move_death code first true home line is r xs bs vs ≡ move_death code first false home line is r xs bs vs
+    same_death None line = refl
+    same_death (Some h) line = refl
+
+    same_parameters : (count v : ℕ) → move_parameters code first true count v is r xs bs vs ≡ move_parameters code first false count v is r xs bs vs
+    same_parameters zero v = refl
+    same_parameters (suc count) v = refl
+
+    same_last : (count v : ℕ) → move_last code first true count v is r xs bs vs ≡ move_last code first false count v is r xs bs vs
+    same_last zero v = refl
+    same_last (suc count) v = refl
+
+    same_admission : (line : ℕ) (zeroed : Bool) → move_admission code first true line zeroed is r xs bs vs ≡ move_admission code first false line zeroed is r xs bs vs
+    same_admission line false = refl
+    same_admission line true = refl
+
+    same_draw : (words size line : ℕ) → move_draw code first true words size line is r xs bs vs ≡ move_draw code first false words size line is r xs bs vs
+    same_draw zero size line = refl
+    same_draw (suc k) size line = refl
 
     same_test : (test : Option Expression) (n : ℕ) (loop : Loop) → move_test code first true test n loop is r xs bs vs ≡ move_test code first false test n loop is r xs bs vs
     same_test None n loop = refl
@@ -136,20 +181,16 @@ module _ (code : Code) (first : Bool) (checked : code.assertions ≡ true) where
     same_given (wants_structure line used size) (structure value) = refl
     same_given (wants_end line) given = refl
 
-    module _ (count : ℕ) where
-      same_body_under : (want : Wanted) (f : ℕ) (args : List (List ℕ)) (sizes : List ℕ) (body : Option Statement)
-          → move_body code first true want f args sizes body is r xs (drop count bs) vs ≡ move_body code first false want f args sizes body is r xs (drop count bs) vs
-      same_body_under want f args sizes None = refl
-      same_body_under want f args sizes (Some s) = refl
-
-      same_later : (want : Wanted) (f : ℕ) (args : List (List ℕ)) (p : Option Procedure) → move_function code first true want f args p is r xs (drop count bs) vs ≡ move_function code first false want f args p is r xs (drop count bs) vs
-      same_later want f args None = refl
-      same_later want f args (Some p) = same_body_under want f args p.variables p.body
+    same_body : (want : Wanted) (f count : ℕ) (args : List (List ℕ)) (sizes : List ℕ) (body : Option Statement)
+        → move_body code first true want f args sizes body is r xs (drop count bs) vs ≡ move_body code first false want f args sizes body is r xs (drop count bs) vs
+    same_body want f count args sizes None = refl
+    same_body want f count args sizes (Some s) = refl
 
     -- a call and a loop's round may pass a bound
     arguments_or : (want : Wanted) (f count : ℕ) (args : Arguments) →
         Passes (move_arguments code first true want f count args is r xs bs vs) ⊎ (move_arguments code first true want f count args is r xs bs vs ≡ move_arguments code first false want f count args is r xs bs vs)
-    arguments_or want f count no_argument = passes_or (slice_index r.left f == 0) Recursion (line_of want) _ _ (same_later count want f (blocks_on count bs) (slice_get code.functions f))
+    arguments_or want f count no_argument =
+        passes_or (slice_index r.left f == 0) Recursion (line_of want) _ _ (same_body want f count (blocks_on count bs) (meaning.sizes_of (variables_of (slice_get code.functions f))) (body_of (slice_get code.functions f)))
     arguments_or want f count (number_argument e more) = inr refl
     arguments_or want f count (structure_argument a more) = inr refl
 
@@ -160,18 +201,38 @@ module _ (code : Code) (first : Bool) (checked : code.assertions ≡ true) where
   item_or : (i : Item) (is : List Item) (r : Active) (xs : List TypedNumber) (bs : List (List ℕ)) (vs : Variables)
       → Passes (move_item code first true i is r xs bs vs) ⊎ (move_item code first true i is r xs bs vs ≡ move_item code first false i is r xs bs vs)
   item_or (evaluates e) is r xs bs vs = inr (same_expression is r xs bs vs e)
-  item_or (signs line op) is r xs bs vs = inr (same_checked is r xs bs vs (sign_check op (top xs).type (top xs).bits) line _)
-  item_or (operates line op) is r xs bs vs = inr (same_checked is r xs bs vs (arithmetic_check op (second xs).type (top xs).type (second xs).bits (top xs).bits) line _)
-  item_or (stores line p) is r xs bs vs = inr (same_write is r xs bs vs p line)
-  item_or (combines line p op t) is r xs bs vs = inr (same_checked is r xs bs vs (arithmetic_check op t (second xs).type (converted (place_type p) t (top xs).bits) (second xs).bits) line _)
-  item_or (increments line p op before) is r xs bs vs = let u = promoted (place_type p) in inr (same_checked is r xs bs vs (arithmetic_check op u u (converted (place_type p) u (top xs).bits) 1) line _)
-  item_or (asserts line) is r xs bs vs = inr (same_checked is r xs bs vs (if is_true (top xs).bits then None else Some Assertion) line _)
+  item_or (signs line op) is r xs bs vs = inr (same_checked (sign_check op (top xs).type (top xs).bits) line _)
+  item_or (operates line op) is r xs bs vs = inr (same_checked (arithmetic_check op (second xs).type (top xs).type (second xs).bits (top xs).bits) line _)
+  item_or (locates p) is r xs bs vs = inr (same_place is r xs bs vs p)
+  item_or (loads t p) is r xs bs vs = inr (same_bytes (variable_of (running_of code r) p) (top xs).bits (bytes t) (place_line p) r vs _)
+  item_or (stores line t p) is r xs bs vs = inr (same_put (variable_of (running_of code r) p) (second xs).bits (low_bytes (bytes t) (top xs).bits) line r vs _)
+  item_or (rewrites line t p at) is r xs bs vs = inr (same_put (variable_of (running_of code r) p) at (low_bytes (bytes t) (top xs).bits) line r vs _)
+  item_or (updates line t p op u) is r xs bs vs = inr (same_bytes (variable_of (running_of code r) p) (second xs).bits (bytes t) (place_line p) r vs _)
+  item_or (combines line t p op u) is r xs bs vs = inr (same_checked (arithmetic_check op u (second xs).type (converted t u (top xs).bits) (second xs).bits) line _)
+  item_or (steps line t p op before) is r xs bs vs = inr (same_bytes (variable_of (running_of code r) p) (top xs).bits (bytes t) (place_line p) r vs _)
+  item_or (increments line t p op before at) is r xs bs vs = let u = promoted t in inr (same_checked (arithmetic_check op u u (converted t u (top xs).bits) 1) line _)
+  item_or (shifts line p n) is r xs bs vs = inr (same_bytes (variable_of (running_of code r) p) (second xs).bits (bytes UnsignedLong) (place_line p) r vs _)
+  item_or (paces line p n before) is r xs bs vs = inr (same_bytes (variable_of (running_of code r) p) (top xs).bits (bytes UnsignedLong) (place_line p) r vs _)
+  item_or (measures line n) is r xs bs vs = inr (same_checked (if object_of (second xs).bits == object_of (top xs).bits then None else Some Pointer) line _)
+  item_or (orders line op) is r xs bs vs = inr (same_checked (if object_of (second xs).bits == object_of (top xs).bits then None else Some Pointer) line _)
+  item_or (admits line zeroed) is r xs bs vs = inr (same_admission is r xs bs vs line zeroed)
+  item_or (draws words size line) is r xs bs vs = inr (same_draw is r xs bs vs words size line)
+  item_or (asserts line) is r xs bs vs = inr (same_checked (if is_true (top xs).bits then None else Some Assertion) line _)
   item_or (evaluates_structure a) is r xs bs vs = inr (same_structure is r xs bs vs a)
+  item_or (copies p size) is r xs bs vs = inr (same_bytes (variable_of (running_of code r) p) (top xs).bits size (place_line p) r vs _)
+  item_or (stores_structure line p) is r xs bs vs = inr (same_put (variable_of (running_of code r) p) (top xs).bits (top_bytes bs) line r vs _)
   item_or (lists parts) is r xs bs vs = inr (same_parts is r xs bs vs parts)
   item_or (runs s) is r xs bs vs = inr (same_statement is r xs bs vs s)
   item_or (enters items) is r xs bs vs = inr (same_entry is r xs bs vs items)
   item_or (goes_on items) is r xs bs vs = inr (same_items is r xs bs vs items)
+  item_or (leaves items) is r xs bs vs = inr (same_end is r xs bs vs items)
   item_or (fills words line v offset) is r xs bs vs = inr (same_fill is r xs bs vs words line v offset)
+  item_or (settles line v) is r xs bs vs = inr (same_settle is r xs bs vs (home_of (running_of code r) v) line v)
+  item_or (initial line v t) is r xs bs vs = inr (same_initial (home_of (running_of code r) v) v (low_bytes (bytes t) (top xs).bits) line r vs _)
+  item_or (initial_structure line v) is r xs bs vs = inr (same_initial (home_of (running_of code r) v) v (top_bytes bs) line r vs _)
+  item_or (dies line v) is r xs bs vs = inr (same_death is r xs bs vs (home_of (running_of code r) v) line)
+  item_or (enters_parameters count v) is r xs bs vs = inr (same_parameters is r xs bs vs count v)
+  item_or (leaves_parameters count v) is r xs bs vs = inr (same_last is r xs bs vs count v)
   item_or (gathers want f count args) is r xs bs vs = arguments_or is r xs bs vs want f count args
   item_or (gets want how) is r xs bs vs = inr (same_given is r (values_under how xs) (structures_under how bs) vs want (given_by how xs bs))
   item_or (turns n loop) is r xs bs vs = turn_or is r xs bs vs n loop
@@ -345,7 +406,7 @@ module _ (inputs : InputLists) where
       quiet = λ answers. quiet (a ∷ answers);
     }))
 
-    next_turn : (n : Next) → b.behaves [] ≡ n → IsQuiet n → Turned (one c k u) (with_next (one c k b) t words mb n) (with_next (one c k u) t words mu n)
+    next_turn : (n : Next) → b.behaves [] ≡ n → StartsNone n → Turned (one c k u) (with_next (one c k b) t words mb n) (with_next (one c k u) t words mu n)
     next_turn (Act action line f) is h =
         settles_turn action line f (outcome c t words k action) (plain c t line f words k action h) (λ broken. subst IsBroken is broken)
     next_turn (Ended v) is h = inr (inl refl)
@@ -411,14 +472,14 @@ same_cuts : (b : Behaviour) (answers : List Answer) → Cut b b answers
 same_cuts b [] = inr (inl refl)
 same_cuts b (a ∷ answers) = inr (same_cuts (after b a) answers)
 
-thread_cuts : (functions : List Procedure) (limits : Limits) → limits.assertions ≡ true → (q n : ℕ) (p : Option Procedure) → Cuts (runs_at functions limits true n p) (unlimited_at functions limits q n p)
-thread_cuts functions limits checked q n None answers = same_cuts (final Blocked) answers
-thread_cuts functions limits checked q n (Some f) answers =
-    subst (λ (b : Behaviour). Cut b (unlimited_at functions limits q n (Some f)) answers) (small_steps functions limits true n f)
-    (cuts (code_of functions limits) true checked q (start_state functions limits n f.line) answers)
+thread_cuts : (file : TypedFile) (limits : Limits) → limits.assertions ≡ true → (q n : ℕ) (p : Option Procedure) → Cuts (runs_at file limits true n p) (unlimited_at file limits q n p)
+thread_cuts file limits checked q n None answers = same_cuts (final (Broken Assertion 1 n)) answers
+thread_cuts file limits checked q n (Some f) answers =
+    subst (λ (b : Behaviour). Cut b (unlimited_at file limits q n (Some f)) answers) (small_steps file limits true n f)
+    (cuts (code_of file limits) true checked q (start_state file limits n f.line) answers)
 
 pub safe_at_all : SafeAtAll
 safe_at_all file limits checked safe q inputs schedule =
     let main = main_number file.functions in
-    safe_run inputs schedule _ _ (source_thread file limits) (unlimited_thread file limits q) (thread_cuts file.functions limits checked q main (slice_get file.functions main))
-    (function_quiet file.functions limits true main) (safe inputs)
+    safe_run inputs schedule _ _ (source_thread file limits) (unlimited_thread file limits q) (thread_cuts file limits checked q main (slice_get file.functions main))
+    (function_starts_none file limits true main) (safe inputs)

@@ -13,7 +13,7 @@ use Rattle.c_tasks.specs.declared.task.Halt.{Halt}
 use Rattle.c_tasks.specs.declared.task.Halt.TheVariants as halt
 use Rattle.c_meaning.specs.Meaning.{Code, ask_in}
 use Rattle.c_interp.specs.Work.{weight}
-use Rattle.c_tasks.specs.Items.{State, state, behaves}
+use Rattle.c_tasks.specs.Items.{State, state, running_of, behaves}
 use Rattle.c_tasks.specs.Steps.{Move, silent, asks, breaks, blocks, ends, move}
 use Rattle.c_interp.specs.inner.Adequate.{Meets, meets}
 use Rattle.c_tasks.specs.Tasks.{behind, changed, action_of, IsAsked, IsHalt, next_by, Answers, Accepts}
@@ -37,8 +37,8 @@ module _ (code : Code) (first : Bool) (s : State) where
   asked_next blocks asked l e d = absurd d
   asked_next (ends v) asked l e d = absurd d
 
-  pub halt_next : (p : Halt) → IsHalt s.values s.structures (move code first true s) p → next_by s.active.function s.values s.structures p ≡ behaves code first s []
-  halt_next (halt.Asks q l) h = asked_next (move code first true s) (action_of s.values s.structures q) l (meets code first s) h
+  pub halt_next : (p : Halt) → IsHalt (running_of code s.active) s.values s.structures s.variables (move code first true s) p → next_by (running_of code s.active) s.values s.structures s.variables p ≡ behaves code first s []
+  halt_next (halt.Asks q l) h = asked_next (move code first true s) (action_of (running_of code s.active) s.values s.structures s.variables q) l (meets code first s) h
   halt_next (halt.Breaks class line) h = λ i. sym (met (breaks class line) h) i []
   halt_next halt.Blocks h = λ i. sym (met blocks h) i []
   halt_next (halt.Ends v) h = λ i. sym (met (ends v) h) i []
@@ -83,5 +83,5 @@ module _ (code : Code) (first : Bool) (s : State) where
   asked_accepts a asked l h d = accepts_by a asked l (move code first true s) (meets code first s) h d
 
   -- an answer comes only to an action
-  pub end_accepts : (a : Answer) (p : Halt) → IsHalt s.values s.structures (move code first true s) p → accepts (next_by s.active.function s.values s.structures p) a ≡ false → accepts (behaves code first s []) a ≡ false
+  pub end_accepts : (a : Answer) (p : Halt) → IsHalt (running_of code s.active) s.values s.structures s.variables (move code first true s) p → accepts (next_by (running_of code s.active) s.values s.structures s.variables p) a ≡ false → accepts (behaves code first s []) a ≡ false
   end_accepts a p h k = ap (λ n. accepts n a) (sym (halt_next p h)) ∙ k

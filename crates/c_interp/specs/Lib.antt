@@ -4,5 +4,6 @@ pub mod inner
 pub mod SourceThread
 pub mod Halts
 pub mod View
-pub mod Quiet
+pub mod Alone
 pub mod Unlimited
+pub mod Planned

@@ -1,86 +1,85 @@
 -- What a function does is what its small steps do from its start; and that is what a thread may do.
-use Rattle.std.specs.Prelude.{◌≡◌, ◌≤◌, ◌==◌, ℕ, zero, suc, drop, slice_index, Bool, true, false, List, [], ◌∷◌, Option, Some, None, slice_get, if◌then◌else◌}
+use Rattle.std.specs.Prelude.{◌≡◌, ◌≤◌, ◌+◌, ◌*◌, ◌==◌, ℕ, zero, suc, ℤ, pos, drop, length, nat_le, slice_index, Bool, true, false, List, [], ◌∷◌, Option, Some, None, slice_get, if◌then◌else◌}
 use Rattle.std.proofs.Common.{refl, ap, subst, ◌∙◌}
 use Rattle.words.specs.declared.check.Class.{Class}
-use Rattle.words.specs.declared.check.Class.TheVariants.{Assertion, Return, Unwind, Recursion}
-use Rattle.c_types.specs.Integers.{promoted}
-use Rattle.core_tree.specs.declared.expression.Place.{Place}
-use Rattle.core_tree.specs.declared.expression.Place.TheVariants.{Variable, Object}
+use Rattle.words.specs.declared.check.Class.TheVariants.{Assertion, Return, Unwind, Recursion, Pointer}
+use Rattle.c_types.specs.declared.integers.IntegerType.{IntegerType}
+use Rattle.c_types.specs.declared.integers.IntegerType.TheVariants.{UnsignedLong}
+use Rattle.c_types.specs.Integers.{bytes, promoted}
 use Rattle.core_tree.specs.Ranges.{Limits}
-use Rattle.core_tree.specs.Trees.{Expression, read, Structure, string, Parts, no_part, Arguments, no_argument, number_argument, structure_argument, Statement, block, Items, done, initializes, initializes_structure, Procedure}
-use Rattle.core_tree.specs.Typed.{place_type}
+use Rattle.core_tree.specs.Trees.{Place, object_at, element, subscript, Expression, draw, sum, Structure, string, Parts, no_part, Arguments, no_argument, number_argument, structure_argument, Statement, block, Items, done, initializes, initializes_structure, Procedure, TypedFile}
 use Rattle.core_tree.specs.Operations.{is_true, converted, arithmetic_check, sign_check}
 use Rattle.actions.specs.declared.action.Answer.{Answer}
-use Rattle.actions.specs.declared.action.Action.TheVariants.{Read, Write, Draw, End, Exit}
+use Rattle.actions.specs.declared.action.Action.TheVariants.{Create, End, Exit}
 use Rattle.actions.specs.declared.action.Next.{Next}
 use Rattle.actions.specs.declared.action.Next.TheVariants.{Act, Ended, Blocked}
 use Rattle.actions.specs.Behaviour.{Behaviour, accepts, Program, Thread, CanStart, EndsAfter, IsBehaviour, IsThread, word_64}
 use Rattle.actions.specs.ByStates.{behaves_by_states}
-use Rattle.c_values.specs.Variables.{Variables, first_variables}
+use Rattle.actions.specs.Pointer.{object_of, offset_of}
+use Rattle.c_values.specs.Pointers.{in_range, offset_by}
+use Rattle.c_values.specs.Variables.{Variables, low_bytes, first_variables}
 use Rattle.c_meaning.specs.Meaning as meaning
-use Rattle.c_meaning.specs.Meaning.{Given, Code, total, activation}
+use Rattle.c_meaning.specs.Meaning.{Given, Code, place_line, home_of, variable_of, size_of, sizes_of, body_of, variables_of, total, activation}
 use Rattle.c_meaning.specs.Source.{code_of, first_left, function_behaviour, runs_at, source_program}
 use Rattle.c_values.specs.Numbers.{TypedNumber}
-use Rattle.c_tasks.specs.Items.{top, second, Active, active, sizes_at, Wanted, wants_number, wants_structure, wants_end, line_of, given_by, values_under, structures_under, blocks_on, Loop, Item, evaluates, signs, operates, stores, combines, increments, asserts, assumes, evaluates_structure, lists, runs, enters, goes_on, fills, gathers, gets, turns, retests, ending, ended, State, state, behaves}
+use Rattle.c_tasks.specs.Items.{top, rest, second, third, top_bytes, Active, active, running_of, base, index_number, Wanted, wants_number, wants_structure, wants_end, line_of, given_by, values_under, structures_under, blocks_on, Loop, Item, evaluates, signs, operates, locates, elements, loads, stores, rewrites, updates, combines, steps, increments, lands, shifts, paces, arrives, measures, orders, claims, admits, draws, releases, quits, asserts, assumes, evaluates_structure, copies, stores_structure, lists, runs, enters, goes_on, leaves, fills, settles, initial, initial_structure, dies, enters_parameters, leaves_parameters, gathers, gets, turns, retests, ending, ended, State, state, behaves}
+use Rattle.c_tasks.specs.Steps.{Move, silent, asks, breaks, blocks, unless_stopped, move_bytes, move_put, move_combined, move_pointer, move_place, move_expression, move_structure, move_parts, move_statement, move_fill, move_entry, move_settle, move_initial, move_death, move_end, move_parameters, move_last, move_claim, move_admission, move_draw, move_items, move_turn, move_test, move_body, move_arguments, move_given, move_item, move}
 use Rattle.c_interp.specs.Work.{weight}
-use Rattle.c_interp.specs.inner.Cuts.{fuel_enough}
-use Rattle.c_tasks.specs.Steps.{Move, silent, asks, breaks, blocks, unless_stopped, move_read, move_write, move_expression, move_structure, move_parts, move_statement, move_fill, move_entry, move_items, move_turn, move_test, move_body, move_function, move_arguments, move_given, move_item, move}
 use Rattle.c_interp.specs.Small.{settled, settle, next_of, answered_by, next_small, answered_small, bounded}
+use Rattle.c_interp.specs.inner.Cuts.{fuel_enough}
 use Rattle.c_interp.specs.inner.Adequate.{adequate}
 
 -- ---- the start of a thread: the first call of a function, whose name stands on this line. Its caller is the function itself, before its start
 
-abbrev pub start_state : List Procedure → Limits → (f line : ℕ) → State
-start_state functions limits f line = state (gathers (wants_end line) f 0 no_argument ∷ []) (active f (first_left functions limits)) [] [] (first_variables (sizes_at (slice_get functions f)))
+abbrev pub start_state : TypedFile → Limits → (f line : ℕ) → State
+start_state file limits f line = state (gathers (wants_end line) f 0 no_argument ∷ []) (active f (first_left file.functions limits)) [] [] (first_variables (sizes_of (variables_of (slice_get file.functions f))))
 
 -- a thread in a state, of a program that can start threads in the functions with numbers below `startable`
-abbrev pub thread_in : List Procedure → Limits → ℕ → Bool → State → Thread
-thread_in functions limits startable first s = record { behaves = behaves (code_of functions limits) first s; program = source_program functions limits startable }
+abbrev pub thread_in : TypedFile → Limits → ℕ → Bool → State → Thread
+thread_in file limits startable first s = record { behaves = behaves (code_of file limits) first s; program = source_program file limits startable }
 
 -- a thread at the start of a function
-abbrev pub function_thread : List Procedure → Limits → ℕ → Bool → ℕ → Thread
-function_thread functions limits startable first number = record { behaves = function_behaviour functions limits first number; program = source_program functions limits startable }
+abbrev pub function_thread : TypedFile → Limits → ℕ → Bool → ℕ → Thread
+function_thread file limits startable first number = record { behaves = function_behaviour file limits first number; program = source_program file limits startable }
 
--- ---- no action starts a thread or makes an object, and an action that ends the thread or the process is the last
+-- ---- no action starts a thread, and an action that ends the thread or the process is the last
 
-abbrev pub IsQuiet : Next → Type 0
-IsQuiet (Act (Read p n) line function) = Unit {0}
-IsQuiet (Act (Write p new first) line function) = Unit {0}
-IsQuiet (Act (Draw n) line function) = Unit {0}
-IsQuiet (Act (End v) line function) = Unit {0}
-IsQuiet (Act Exit line function) = Unit {0}
-IsQuiet (Act _ line function) = ⊥
-IsQuiet _ = Unit {0}
+abbrev pub StartsNone : Next → Type 0
+StartsNone (Act (Create f v) line function) = ⊥
+StartsNone _ = Unit {0}
 
-quiet_starts : (program : Program) (n : Next) → IsQuiet n → CanStart program n
-quiet_starts program (Act (Read p n) line function) h = tt
-quiet_starts program (Act (Write p new first) line function) h = tt
-quiet_starts program (Act (Draw n) line function) h = tt
-quiet_starts program (Act (End v) line function) h = tt
-quiet_starts program (Act Exit line function) h = tt
-quiet_starts program (Act _ line function) h = absurd h
-quiet_starts program _ h = tt
+none_starts : (program : Program) (n : Next) → StartsNone n → CanStart program n
+none_starts program (Act (Create f v) line function) h = absurd h
+none_starts program _ h = tt
 
-module _ (code : Code) (first : Bool) (program : Program) where
-  -- what a move asks for is quiet, and the end is the last
+same_zero : (b : Bool) → Ended (word_64 (if b then 0 else 0)) ≡ Ended (word_64 0)
+same_zero true = refl
+same_zero false = refl
+
+module _ (code : Code) (first : Bool) where
+  -- what a move asks for starts no thread, and the end is the last
   abbrev IsFine : Active → Move → Type 0
-  IsFine r m = IsQuiet (next_of r m) × ((s : State) (a : Answer) → EndsAfter (next_of r m) a (next_small code first true (weight code) (answered_by m a s)))
+  IsFine r m = StartsNone (next_of r m) × ((s : State) (a : Answer) → EndsAfter (next_of r m) a (next_small code first true (weight code) (answered_by m a s)))
+
+  either_fine : (r : Active) (b : Bool) (m n : Move) → IsFine r m → IsFine r n → IsFine r (if b then m else n)
+  either_fine r true m n h k = h
+  either_fine r false m n h k = k
+
+  silent_fine : (r : Active) (s : State) → IsFine r (silent s)
+  silent_fine r t = (tt, λ s a. tt)
+
+  broken_fine : (r : Active) (class : Class) (line : ℕ) → IsFine r (breaks class line)
+  broken_fine r class line = (tt, λ s a. tt)
+
+  blocked_fine : (r : Active) → IsFine r blocks
+  blocked_fine r = (tt, λ s a. tt)
 
   checked_fine : (r : Active) (c : Option Class) (line : ℕ) (s : State) → IsFine r (unless_stopped code first true c line s)
   checked_fine r None line s = (tt, λ s a. tt)
   checked_fine r (Some class) line s = (tt, λ s a. tt)
 
-  -- a silent step, or none
-  silent_fine : (r : Active) (b : Bool) (s : State) (m : Move) → IsFine r m → IsFine r (if b then silent s else m)
-  silent_fine r true s m h = (tt, λ s a. tt)
-  silent_fine r false s m h = h
-
-  broken_fine : (r : Active) (b : Bool) (class : Class) (line : ℕ) (m : Move) → IsFine r m → IsFine r (if b then breaks class line else m)
-  broken_fine r true class line m h = (tt, λ s a. tt)
-  broken_fine r false class line m h = h
-
-  blocked_fine : (r : Active) → IsFine r blocks
-  blocked_fine r = (tt, λ s a. tt)
+  stopped_fine : (r : Active) (class : Class) (line : ℕ) → IsFine r (if code.assertions then breaks class line else blocks)
+  stopped_fine r class line = either_fine r code.assertions (breaks class line) blocks (broken_fine r class line) (blocked_fine r)
 
   -- nothing follows an end
   ended_stays : (n x : ℕ) (is : List Item) (r : Active) (xs : List TypedNumber) (bs : List (List ℕ)) (vs : Variables) → settled code first true n (state (ended x ∷ is) r xs bs vs) ≡ state (ended x ∷ is) r xs bs vs
@@ -98,17 +97,30 @@ module _ (code : Code) (first : Bool) (program : Program) where
   ending_fine true r line x is xs bs vs h = (tt, λ s a ok. next_ended x is r xs bs vs ∙ (λ i. Ended (word_64 (if h i then 0 else x))))
   ending_fine false r line x is xs bs vs h = (tt, λ s a ok. next_ended x is r xs bs vs ∙ (λ i. Ended (word_64 (if h i then 0 else x))))
 
-  module _ (is : List Item) (r : Active) (xs : List TypedNumber) (bs : List (List ℕ)) (vs : Variables) where
-    read_fine : (p : Place) → IsFine r (move_read code first true p is r xs bs vs)
-    read_fine (Variable line t v offset) = (tt, λ s a. tt)
-    read_fine (Object line t k offset) = (tt, λ s a. tt)
+  quitting_fine : (r : Active) (line : ℕ) (is : List Item) (xs : List TypedNumber) (bs : List (List ℕ)) (vs : Variables) → IsFine r (asks Exit line (λ a. state (ended 0 ∷ is) r xs bs vs))
+  quitting_fine r line is xs bs vs = (tt, λ s a ok. next_ended 0 is r xs bs vs ∙ same_zero first)
 
-    write_fine : (p : Place) (line : ℕ) → IsFine r (move_write code first true p line is r xs bs vs)
-    write_fine (Variable at t v offset) line = (tt, λ s a. tt)
-    write_fine (Object at t k offset) line = (tt, λ s a. tt)
+  -- ---- places
+
+  bytes_fine : (o : Option ℕ) (at count line : ℕ) (r : Active) (vs : Variables) (next : List ℕ → State) → IsFine r (move_bytes code first true o at count line r vs next)
+  bytes_fine (Some v) at count line r vs next = either_fine r (nat_le (offset_of at + count) (size_of (running_of code r) v)) _ _ (tt, λ s a. tt) (tt, λ s a. tt)
+  bytes_fine None at count line r vs next = (tt, λ s a. tt)
+
+  put_fine : (o : Option ℕ) (at : ℕ) (new : List ℕ) (line : ℕ) (r : Active) (vs : Variables) (next : Variables → State) → IsFine r (move_put code first true o at new line r vs next)
+  put_fine (Some v) at new line r vs next = either_fine r (nat_le (offset_of at + length new) (size_of (running_of code r) v)) _ _ (tt, λ s a. tt) (tt, λ s a. tt)
+  put_fine None at new line r vs next = (tt, λ s a. tt)
+
+  module _ (is : List Item) (r : Active) (xs : List TypedNumber) (bs : List (List ℕ)) (vs : Variables) where
+    place_fine : (p : Place) → IsFine r (move_place code first true p is r xs bs vs)
+    place_fine (element line p e size whole true) = (tt, λ s a. tt)
+    place_fine (element line p e size whole false) = (tt, λ s a. tt)
+    place_fine (subscript line a e size true) = (tt, λ s a. tt)
+    place_fine (subscript line a e size false) = (tt, λ s a. tt)
+    place_fine _ = (tt, λ s a. tt)
 
     expression_fine : (e : Expression) → IsFine r (move_expression code first true e is r xs bs vs)
-    expression_fine (read p) = read_fine p
+    expression_fine (sum line a e n true) = (tt, λ s a. tt)
+    expression_fine (sum line a e n false) = (tt, λ s a. tt)
     expression_fine _ = (tt, λ s a. tt)
 
     structure_fine : (a : Structure) → IsFine r (move_structure code first true a is r xs bs vs)
@@ -123,6 +135,8 @@ module _ (code : Code) (first : Bool) (program : Program) where
     statement_fine (block items) = (tt, λ s a. tt)
     statement_fine _ = (tt, λ s a. tt)
 
+    -- ---- variables
+
     entry_fine : (items : Items) → IsFine r (move_entry code first true items is r xs bs vs)
     entry_fine (initializes line v true e more) = (tt, λ s a. tt)
     entry_fine (initializes line v false e more) = (tt, λ s a. tt)
@@ -134,12 +148,47 @@ module _ (code : Code) (first : Bool) (program : Program) where
     fill_fine zero line v offset = (tt, λ s a. tt)
     fill_fine (suc k) line v offset = (tt, λ s a. tt)
 
+    settle_fine : (home : Option ℕ) (line v : ℕ) → IsFine r (move_settle code first true home line v is r xs bs vs)
+    settle_fine None line v = (tt, λ s a. tt)
+    settle_fine (Some h) line v = (tt, λ s a. tt)
+
+    death_fine : (home : Option ℕ) (line : ℕ) → IsFine r (move_death code first true home line is r xs bs vs)
+    death_fine None line = (tt, λ s a. tt)
+    death_fine (Some h) line = (tt, λ s a. tt)
+
+    end_fine : (items : Items) → IsFine r (move_end code first true items is r xs bs vs)
+    end_fine done = (tt, λ s a. tt)
+    end_fine _ = (tt, λ s a. tt)
+
+    parameters_fine : (count v : ℕ) → IsFine r (move_parameters code first true count v is r xs bs vs)
+    parameters_fine zero v = (tt, λ s a. tt)
+    parameters_fine (suc count) v = (tt, λ s a. tt)
+
+    last_fine : (count v : ℕ) → IsFine r (move_last code first true count v is r xs bs vs)
+    last_fine zero v = (tt, λ s a. tt)
+    last_fine (suc count) v = (tt, λ s a. tt)
+
     items_fine : (items : Items) → IsFine r (move_items code first true items is r xs bs vs)
     items_fine done = (tt, λ s a. tt)
     items_fine _ = (tt, λ s a. tt)
 
+    -- ---- allocations
+
+    claim_fine : (line : ℕ) (zeroed : Bool) → IsFine r (move_claim code first true line zeroed is r xs bs vs)
+    claim_fine line zeroed = either_fine r code.malloc_may_fail _ _ (tt, λ s a. tt) (tt, λ s a. tt)
+
+    admission_fine : (line : ℕ) (zeroed : Bool) → IsFine r (move_admission code first true line zeroed is r xs bs vs)
+    admission_fine line false = either_fine r (nat_le (top xs).bits code.malloc_limit) _ _ (tt, λ s a. tt) (tt, λ s a. tt)
+    admission_fine line true = either_fine r (nat_le ((second xs).bits * (top xs).bits) code.malloc_limit) _ _ (tt, λ s a. tt) (tt, λ s a. tt)
+
+    draw_fine : (words size line : ℕ) → IsFine r (move_draw code first true words size line is r xs bs vs)
+    draw_fine zero size line = (tt, λ s a. tt)
+    draw_fine (suc k) size line = (tt, λ s a. tt)
+
+    -- ---- loops and calls
+
     turn_fine : (n : ℕ) (loop : Loop) → IsFine r (move_turn code first true n loop is r xs bs vs)
-    turn_fine zero loop = broken_fine r code.assertions Unwind loop.line blocks (blocked_fine r)
+    turn_fine zero loop = stopped_fine r Unwind loop.line
     turn_fine (suc n) loop = (tt, λ s a. tt)
 
     test_fine : (test : Option Expression) (n : ℕ) (loop : Loop) → IsFine r (move_test code first true test n loop is r xs bs vs)
@@ -150,26 +199,25 @@ module _ (code : Code) (first : Bool) (program : Program) where
     body_fine want f args sizes None = (tt, λ s a. tt)
     body_fine want f args sizes (Some b) = (tt, λ s a. tt)
 
-    function_fine : (want : Wanted) (f : ℕ) (args : List (List ℕ)) (o : Option Procedure) → IsFine r (move_function code first true want f args o is r xs bs vs)
-    function_fine want f args None = (tt, λ s a. tt)
-    function_fine want f args (Some p) = body_fine want f args p.variables p.body
-
-    call_fine : (b : Bool) (want : Wanted) (f : ℕ) (args : List (List ℕ)) →
-        IsFine r (if b then (if code.assertions then breaks Recursion (line_of want) else blocks) else move_function code first true want f args (slice_get code.functions f) is r xs bs vs)
-    call_fine true want f args = broken_fine r code.assertions Recursion (line_of want) blocks (blocked_fine r)
-    call_fine false want f args = function_fine want f args (slice_get code.functions f)
+    call_fine : (want : Wanted) (f : ℕ) (args : List (List ℕ)) (sizes : List ℕ) (body : Option Statement) →
+        IsFine r (if slice_index r.left f == 0 then (if code.assertions then breaks Recursion (line_of want) else blocks) else move_body code first true want f args sizes body is r xs bs vs)
+    call_fine want f args sizes body = either_fine r (slice_index r.left f == 0) _ _ (stopped_fine r Recursion (line_of want)) (body_fine want f args sizes body)
 
     given_fine : (want : Wanted) (given : Given) → IsFine r (move_given code first true want given is r xs bs vs)
-    given_fine (wants_number line used t) meaning.nothing = broken_fine r used Return line _ (tt, λ s a. tt)
+    given_fine (wants_number line used t) meaning.nothing = either_fine r used _ _ (broken_fine r Return line) (tt, λ s a. tt)
     given_fine (wants_number line used t) (meaning.number x) = (tt, λ s a. tt)
     given_fine (wants_number line used t) (meaning.structure value) = (tt, λ s a. tt)
-    given_fine (wants_structure line used size) meaning.nothing = broken_fine r used Return line _ (tt, λ s a. tt)
+    given_fine (wants_structure line used size) meaning.nothing = either_fine r used _ _ (broken_fine r Return line) (tt, λ s a. tt)
     given_fine (wants_structure line used size) (meaning.number x) = (tt, λ s a. tt)
     given_fine (wants_structure line used size) (meaning.structure value) = (tt, λ s a. tt)
     given_fine (wants_end line) given = (tt, λ s a. tt)
 
+  initial_fine : (home : Option ℕ) (v : ℕ) (new : List ℕ) (line : ℕ) (r : Active) (vs : Variables) (next : Variables → State) → IsFine r (move_initial code first true home v new line r vs next)
+  initial_fine None v new line r vs next = (tt, λ s a. tt)
+  initial_fine (Some h) v new line r vs next = (tt, λ s a. tt)
+
   arguments_fine : (want : Wanted) (f count : ℕ) (args : Arguments) (is : List Item) (r : Active) (xs : List TypedNumber) (bs : List (List ℕ)) (vs : Variables) → IsFine r (move_arguments code first true want f count args is r xs bs vs)
-  arguments_fine want f count no_argument is r xs bs vs = call_fine is r xs (drop count bs) vs (slice_index r.left f == 0) want f (blocks_on count bs)
+  arguments_fine want f count no_argument is r xs bs vs = call_fine is r xs (drop count bs) vs want f (blocks_on count bs) (sizes_of (variables_of (slice_get code.functions f))) (body_of (slice_get code.functions f))
   arguments_fine want f count (number_argument e more) is r xs bs vs = (tt, λ s a. tt)
   arguments_fine want f count (structure_argument a more) is r xs bs vs = (tt, λ s a. tt)
 
@@ -177,19 +225,43 @@ module _ (code : Code) (first : Bool) (program : Program) where
   item_fine (evaluates e) is r xs bs vs = expression_fine is r xs bs vs e
   item_fine (signs line op) is r xs bs vs = checked_fine r (sign_check op (top xs).type (top xs).bits) line _
   item_fine (operates line op) is r xs bs vs = checked_fine r (arithmetic_check op (second xs).type (top xs).type (second xs).bits (top xs).bits) line _
-  item_fine (stores line p) is r xs bs vs = write_fine is r xs bs vs p line
-  item_fine (combines line p op t) is r xs bs vs = checked_fine r (arithmetic_check op t (second xs).type (converted (place_type p) t (top xs).bits) (second xs).bits) line _
-  item_fine (increments line p op before) is r xs bs vs =
-      let u = promoted (place_type p) in
-      checked_fine r (arithmetic_check op u u (converted (place_type p) u (top xs).bits) 1) line _
+  item_fine (locates p) is r xs bs vs = place_fine is r xs bs vs p
+  item_fine (elements line size whole swapped) is r xs bs vs = either_fine r (in_range (offset_by (offset_of (base swapped xs).bits) (index_number swapped xs) (pos size)) whole) _ _ (tt, λ s a. tt) (tt, λ s a. tt)
+  item_fine (loads t p) is r xs bs vs = bytes_fine (variable_of (running_of code r) p) (top xs).bits (bytes t) (place_line p) r vs _
+  item_fine (stores line t p) is r xs bs vs = put_fine (variable_of (running_of code r) p) (second xs).bits (low_bytes (bytes t) (top xs).bits) line r vs _
+  item_fine (rewrites line t p at) is r xs bs vs = put_fine (variable_of (running_of code r) p) at (low_bytes (bytes t) (top xs).bits) line r vs _
+  item_fine (updates line t p op u) is r xs bs vs = bytes_fine (variable_of (running_of code r) p) (second xs).bits (bytes t) (place_line p) r vs _
+  item_fine (combines line t p op u) is r xs bs vs = checked_fine r (arithmetic_check op u (second xs).type (converted t u (top xs).bits) (second xs).bits) line _
+  item_fine (steps line t p op before) is r xs bs vs = bytes_fine (variable_of (running_of code r) p) (top xs).bits (bytes t) (place_line p) r vs _
+  item_fine (increments line t p op before at) is r xs bs vs = let u = promoted t in checked_fine r (arithmetic_check op u u (converted t u (top xs).bits) 1) line _
+  item_fine (lands line n is_element swapped) is r xs bs vs = either_fine r (in_range (offset_by (offset_of (base swapped (rest xs)).bits) (index_number swapped (rest xs)) n) (top xs).bits) _ _ (tt, λ s a. tt) (tt, λ s a. tt)
+  item_fine (shifts line p n) is r xs bs vs = bytes_fine (variable_of (running_of code r) p) (second xs).bits (bytes UnsignedLong) (place_line p) r vs _
+  item_fine (paces line p n before) is r xs bs vs = bytes_fine (variable_of (running_of code r) p) (top xs).bits (bytes UnsignedLong) (place_line p) r vs _
+  item_fine (arrives line p n before at) is r xs bs vs = either_fine r (in_range (offset_by (offset_of (second xs).bits) (pos 1) n) (top xs).bits) _ _ (tt, λ s a. tt) (tt, λ s a. tt)
+  item_fine (measures line n) is r xs bs vs = checked_fine r (if object_of (second xs).bits == object_of (top xs).bits then None else Some Pointer) line _
+  item_fine (orders line op) is r xs bs vs = checked_fine r (if object_of (second xs).bits == object_of (top xs).bits then None else Some Pointer) line _
+  item_fine (claims line zeroed) is r xs bs vs = claim_fine is r xs bs vs line zeroed
+  item_fine (admits line zeroed) is r xs bs vs = admission_fine is r xs bs vs line zeroed
+  item_fine (draws words size line) is r xs bs vs = draw_fine is r xs bs vs words size line
+  item_fine (releases line) is r xs bs vs = either_fine r ((top xs).bits == 0) _ _ (tt, λ s a. tt) (tt, λ s a. tt)
+  item_fine (quits line) is r xs bs vs = quitting_fine r line is xs bs vs
   item_fine (asserts line) is r xs bs vs = checked_fine r (if is_true (top xs).bits then None else Some Assertion) line _
-  item_fine assumes is r xs bs vs = silent_fine r (is_true (top xs).bits) _ blocks (blocked_fine r)
+  item_fine assumes is r xs bs vs = either_fine r (is_true (top xs).bits) _ _ (tt, λ s a. tt) (blocked_fine r)
   item_fine (evaluates_structure a) is r xs bs vs = structure_fine is r xs bs vs a
+  item_fine (copies p size) is r xs bs vs = bytes_fine (variable_of (running_of code r) p) (top xs).bits size (place_line p) r vs _
+  item_fine (stores_structure line p) is r xs bs vs = put_fine (variable_of (running_of code r) p) (top xs).bits (top_bytes bs) line r vs _
   item_fine (lists parts) is r xs bs vs = parts_fine is r xs bs vs parts
   item_fine (runs s) is r xs bs vs = statement_fine is r xs bs vs s
   item_fine (enters items) is r xs bs vs = entry_fine is r xs bs vs items
   item_fine (goes_on items) is r xs bs vs = items_fine is r xs bs vs items
+  item_fine (leaves items) is r xs bs vs = end_fine is r xs bs vs items
   item_fine (fills words line v offset) is r xs bs vs = fill_fine is r xs bs vs words line v offset
+  item_fine (settles line v) is r xs bs vs = settle_fine is r xs bs vs (home_of (running_of code r) v) line v
+  item_fine (initial line v t) is r xs bs vs = initial_fine (home_of (running_of code r) v) v (low_bytes (bytes t) (top xs).bits) line r vs _
+  item_fine (initial_structure line v) is r xs bs vs = initial_fine (home_of (running_of code r) v) v (top_bytes bs) line r vs _
+  item_fine (dies line v) is r xs bs vs = death_fine is r xs bs vs (home_of (running_of code r) v) line
+  item_fine (enters_parameters count v) is r xs bs vs = parameters_fine is r xs bs vs count v
+  item_fine (leaves_parameters count v) is r xs bs vs = last_fine is r xs bs vs count v
   item_fine (gathers want f count args) is r xs bs vs = arguments_fine want f count args is r xs bs vs
   item_fine (gets want how) is r xs bs vs = given_fine is r (values_under how xs) (structures_under how bs) vs want (given_by how xs bs)
   item_fine (turns n loop) is r xs bs vs = turn_fine is r xs bs vs n loop
@@ -204,58 +276,62 @@ module _ (code : Code) (first : Bool) (program : Program) where
   fine : (s : State) → IsFine s.active (move code first true s)
   fine s = fine_from s.items s.active s.values s.structures s.variables
 
-  quiet_small : (s : State) → IsQuiet (next_small code first true (weight code) s)
-  quiet_small s = (fine (settle code first s)).0
+  none_small : (s : State) → StartsNone (next_small code first true (weight code) s)
+  none_small s = (fine (settle code first s)).0
 
-  quiet_choice : (b : Bool) (n : Next) → IsQuiet n → IsQuiet (if b then n else Blocked)
-  quiet_choice true n h = h
-  quiet_choice false n h = tt
+  none_choice : (b : Bool) (n : Next) → StartsNone n → StartsNone (if b then n else Blocked)
+  none_choice true n h = h
+  none_choice false n h = tt
 
-  quiet_after : (answers : List Answer) (s : State) → IsQuiet (bounded code first s answers)
-  quiet_after [] s = quiet_small s
-  quiet_after (a ∷ answers) s =
+  none_after : (answers : List Answer) (s : State) → StartsNone (bounded code first s answers)
+  none_after [] s = none_small s
+  none_after (a ∷ answers) s =
       let next = answered_small code first true (weight code) s a in
-      quiet_choice (accepts (next_small code first true (weight code) s) a) (bounded code first next answers) (quiet_after answers next)
+      none_choice (accepts (next_small code first true (weight code) s) a) (bounded code first next answers) (none_after answers next)
 
-  state_quiet : (s : State) (answers : List Answer) → IsQuiet (behaves code first s answers)
-  state_quiet s answers = let P : Behaviour → Type 0 = λ b. IsQuiet (b answers) in subst P (adequate code first s) (quiet_after answers s)
+  state_starts_none : (s : State) (answers : List Answer) → StartsNone (behaves code first s answers)
+  state_starts_none s answers = let P : Behaviour → Type 0 = λ b. StartsNone (b answers) in subst P (adequate code first s) (none_after answers s)
 
-  small_thread : (s : State) → IsBehaviour program (bounded code first s)
-  small_thread s =
+  small_thread : (program : Program) (s : State) → IsBehaviour program (bounded code first s)
+  small_thread program s =
       behaves_by_states (next_small code first true (weight code)) (answered_small code first true (weight code)) program
-      (λ s. quiet_starts program (next_small code first true (weight code) s) (quiet_small s))
+      (λ s. none_starts program (next_small code first true (weight code) s) (none_small s))
       (λ s. let t = settle code first s in (fine t).1 t) s
 
-  pub state_behaves : (s : State) → IsBehaviour program (behaves code first s)
-  state_behaves s = let P : Behaviour → Type 0 = IsBehaviour program in subst P (adequate code first s) (small_thread s)
+  pub state_behaves : (program : Program) (s : State) → IsBehaviour program (behaves code first s)
+  state_behaves program s = let P : Behaviour → Type 0 = IsBehaviour program in subst P (adequate code first s) (small_thread program s)
 
 -- ---- threads of a file
 
-module _ (functions : List Procedure) (limits : Limits) where
-  function_at : (program : Program) (first : Bool) (f : ℕ) (p : Option Procedure) → IsBehaviour program (runs_at functions limits first f p)
-  function_at program first f None = state_behaves (code_of functions limits) first program (state [] (active f []) [] [] [])
-  function_at program first f (Some p) = state_behaves (code_of functions limits) first program (start_state functions limits f p.line)
+-- a function that isn't there breaks a check at line 1
+abbrev nowhere_state : ℕ → State
+nowhere_state f = state (asserts 1 ∷ []) (active f []) [] [] []
 
-  quiet_at : (first : Bool) (f : ℕ) (p : Option Procedure) (answers : List Answer) → IsQuiet (runs_at functions limits first f p answers)
-  quiet_at first f None answers = state_quiet (code_of functions limits) first (source_program [] limits 0) (state [] (active f []) [] [] []) answers
-  quiet_at first f (Some p) answers = state_quiet (code_of functions limits) first (source_program [] limits 0) (start_state functions limits f p.line) answers
+module _ (file : TypedFile) (limits : Limits) where
+  function_at : (program : Program) (first : Bool) (f : ℕ) (p : Option Procedure) → IsBehaviour program (runs_at file limits first f p)
+  function_at program first f None = state_behaves (code_of file limits) first program (nowhere_state f)
+  function_at program first f (Some p) = state_behaves (code_of file limits) first program (start_state file limits f p.line)
 
-  pub function_quiet : (first : Bool) (f : ℕ) (answers : List Answer) → IsQuiet (function_behaviour functions limits first f answers)
-  function_quiet first f answers = quiet_at first f (slice_get functions f) answers
+  starts_none_at : (first : Bool) (f : ℕ) (p : Option Procedure) (answers : List Answer) → StartsNone (runs_at file limits first f p answers)
+  starts_none_at first f None answers = state_starts_none (code_of file limits) first (nowhere_state f) answers
+  starts_none_at first f (Some p) answers = state_starts_none (code_of file limits) first (start_state file limits f p.line) answers
 
-  pub is_thread : (startable : ℕ) (first : Bool) (s : State) → IsThread (thread_in functions limits startable first s)
+  pub function_starts_none : (first : Bool) (f : ℕ) (answers : List Answer) → StartsNone (function_behaviour file limits first f answers)
+  function_starts_none first f answers = starts_none_at first f (slice_get file.functions f) answers
+
+  pub is_thread : (startable : ℕ) (first : Bool) (s : State) → IsThread (thread_in file limits startable first s)
   is_thread startable first s = record {
-    itself = state_behaves (code_of functions limits) first (source_program functions limits startable) s;
-    others = λ f v h k. function_at (source_program functions limits startable) false f (slice_get functions f);
+    itself = state_behaves (code_of file limits) first (source_program file limits startable) s;
+    others = λ f v h k. function_at (source_program file limits startable) false f (slice_get file.functions f);
   }
 
 -- small steps from the start of a function do what the function means, and no fuel of its calls is used up
 abbrev pub SmallSteps : Type 0
-SmallSteps = (functions : List Procedure) (limits : Limits) (first : Bool) (number : ℕ) (f : Procedure) →
-    bounded (code_of functions limits) first (start_state functions limits number f.line) ≡ runs_at functions limits first number (Some f)
+SmallSteps = (file : TypedFile) (limits : Limits) (first : Bool) (number : ℕ) (f : Procedure) →
+    bounded (code_of file limits) first (start_state file limits number f.line) ≡ runs_at file limits first number (Some f)
 
 pub small_steps : SmallSteps
-small_steps functions limits first number f = adequate (code_of functions limits) first (start_state functions limits number f.line)
+small_steps file limits first number f = adequate (code_of file limits) first (start_state file limits number f.line)
 
 -- more fuel than is said of the calls of a thread changes nothing
 abbrev pub EnoughFuel : Type 0

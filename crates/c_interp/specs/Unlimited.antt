@@ -2,7 +2,8 @@
 use Rattle.std.specs.Prelude.{◌≡◌, ℕ, true, List, [], ◌∷◌, Option, Some, None, slice_get}
 use Rattle.core_tree.specs.Ranges.{Limits}
 use Rattle.core_tree.specs.Trees.{Procedure, TypedFile}
-use Rattle.actions.specs.declared.action.Next.TheVariants.{Blocked}
+use Rattle.words.specs.declared.check.Class.TheVariants.{Assertion}
+use Rattle.actions.specs.declared.action.Next.TheVariants.{Broken}
 use Rattle.actions.specs.Behaviour.{Behaviour, Thread}
 use Rattle.interleave.specs.World.{World, first_world}
 use Rattle.interleave.specs.Replay.{IsSafe}
@@ -12,19 +13,19 @@ use Rattle.c_interp.specs.Small.{unbounded}
 use Rattle.c_interp.specs.SourceThread.{start_state}
 
 -- a thread that calls a function without arguments, where a turn may make so many silent steps: one that needs more changes nothing
-abbrev pub unlimited_at : List Procedure → Limits → (silent_steps number : ℕ) → Option Procedure → Behaviour
-unlimited_at functions limits q number None = final Blocked
-unlimited_at functions limits q number (Some f) = unbounded q (code_of functions limits) true (start_state functions limits number f.line)
+abbrev pub unlimited_at : TypedFile → Limits → (silent_steps number : ℕ) → Option Procedure → Behaviour
+unlimited_at file limits q number None = final (Broken Assertion 1 number)
+unlimited_at file limits q number (Some f) = unbounded q (code_of file limits) true (start_state file limits number f.line)
 
 -- thread 0 without bounds; nothing starts a thread yet
 abbrev pub unlimited_thread : TypedFile → Limits → ℕ → Thread
 unlimited_thread file limits q = record {
-  behaves = unlimited_at file.functions limits q (main_number file.functions) (slice_get file.functions (main_number file.functions));
-  program = source_program file.functions limits 0;
+  behaves = unlimited_at file limits q (main_number file.functions) (slice_get file.functions (main_number file.functions));
+  program = source_program file limits 0;
 }
 
 abbrev pub unlimited_world : TypedFile → Limits → ℕ → World
-unlimited_world file limits q = first_world (unlimited_thread file limits q) (first_objects file.objects)
+unlimited_world file limits q = first_world (unlimited_thread file limits q) (first_objects file)
 
 -- where passing a bound breaks a check and no run within the bounds breaks one, no run without them does, however many silent steps its turns may make
 abbrev pub SafeAtAll : Type 0

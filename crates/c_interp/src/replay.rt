@@ -1,6 +1,6 @@
 //! A file run on the inputs and the schedule of a script.
 
-ghost use Rattle.std.specs.Prelude.{◌≡◌, true, IfOk, OnOk, OnErr};
+ghost use Rattle.std.specs.Prelude.{◌≡◌, ◌≤◌, ◌<◌, ◌+◌, ◌^◌, true, length, IfOk, OnOk, OnErr};
 ghost use Rattle.core_tree.specs.Trees.{view_core};
 ghost use Rattle.c_meaning.specs.Source.{source_run, are_storable};
 ghost use Rattle.c_interp.specs.SourceThread.{SmallSteps, EnoughFuel};
@@ -9,7 +9,7 @@ ghost use Rattle.interleave.specs.View.{world_of, is_dead};
 ghost use Rattle.interleave.specs.Turn.{turn};
 ghost use Rattle.interleave.specs.Run as definition;
 ghost use Rattle.c_interp.specs.View.{thread_of};
-ghost use Rattle.c_interp.specs.Quiet.{OneQuiet, IsTurn};
+ghost use Rattle.c_interp.specs.Alone.{AreFewTurns, IsAlone, made_in, IsTurn};
 
 use crate::thread::Thread;
 use c_meaning::first_store;
@@ -19,16 +19,18 @@ use interleave::{Inputs, Outcome, Schedule, System, Turn};
 use std::alloc::{AllocError, Global};
 use words::Check;
 
-// A turn of thread t, and the check that it breaks. There is thread 0 alone, and no action asks for a
-// number. Fails only where the system's turn did.
+// A turn of thread t, and the check that it breaks. There is thread 0 alone, and a number for the object that
+// it may make. Fails only where the system's turn did.
 fn take_turn(
     system: &mut System<Thread>,
     t: u32,
     inputs: &Inputs,
 ) -> Result<Option<Check>, AllocError>
-    requires { OneQuiet (world_of thread_of system.old).members }
+    requires alone { IsAlone (world_of thread_of system.old) }
+    requires few { made_in (world_of thread_of system.old) + 1 < 2 ^ 32 }
     ensures turn { IfOk result (λ c. IsTurn (turn (world_of thread_of system.old) t inputs.now) (world_of thread_of system.new) c) }
-    ensures quiet { OnOk result (OneQuiet (world_of thread_of system.new).members) }
+    ensures alone { OnOk result (IsAlone (world_of thread_of system.new)) }
+    ensures made { OnOk result (made_in (world_of thread_of system.new) ≤ made_in (world_of thread_of system.old) + 1) }
     ensures dead { OnErr result (is_dead system.new ≡ true) }
 {
     match system.turn(t, inputs)? {
@@ -44,7 +46,8 @@ fn take_turns(
     inputs: &Inputs,
     schedule: &[u32],
 ) -> Result<Outcome, AllocError>
-    requires { OneQuiet (world_of thread_of system.old).members }
+    requires alone { IsAlone (world_of thread_of system.old) }
+    requires few { made_in (world_of thread_of system.old) + length schedule.now < 2 ^ 32 }
     ensures outcome { IfOk result (λ o. o ≡ (definition.run (world_of thread_of system.old) inputs.now schedule.now).0) }
     ensures dead { OnErr result (is_dead system.new ≡ true) }
 {
@@ -57,8 +60,9 @@ fn take_turns(
     Ok(Outcome::Fine)
 }
 
-/// How the run of a file ends that draws these inputs and moves by this schedule. Its static objects are
-/// not too many and not too large. Fails only for want of memory.
+/// How the run of a file ends that draws these inputs and moves by this schedule. Its static objects and
+/// literals are not too many and not too large, and there are numbers for an object of each turn. Fails only
+/// for want of memory.
 pub fn run(
     alloc: Global,
     file: &Admitted,
@@ -66,7 +70,8 @@ pub fn run(
     inputs: &Inputs,
     schedule: &Schedule,
 ) -> Result<Outcome, AllocError>
-    requires { are_storable (view_core file.now).objects ≡ true }
+    requires storable { are_storable (view_core file.now) ≡ true }
+    requires few { AreFewTurns schedule.now }
     ensures { IfOk result (λ o. o ≡ source_run (view_core file.now) bounds.now inputs.now schedule.now) }
 {
     let first = Thread::new(alloc, file, bounds)?;

@@ -1,39 +1,45 @@
 //! The thread of the typed source.
 
-ghost use Rattle.std.specs.Prelude.{◌≡◌, ◌≤◌, ◌<◌, ◌+◌, ◌^◌, true, length};
-ghost use Rattle.core_tree.specs.Trees.{core_file, view_core};
+ghost use Rattle.std.specs.Prelude.{◌≡◌, ◌≤◌, ◌<◌, ◌+◌, ◌^◌, true, min, length, slice_get, IfOk};
+ghost use Rattle.core_tree.specs.Trees.{core_file, view_core, view_functions};
 ghost use Rattle.core_tree.specs.Typed.{are_typed};
-ghost use Rattle.c_meaning.specs.Meaning.{total};
+ghost use Rattle.c_values.specs.Variables.{block_of};
+ghost use Rattle.c_meaning.specs.Meaning.{size_in_list, is_readonly, variables_of, total};
 ghost use Rattle.c_tasks.specs.Fits.{fits, variables_at, types_of, sizes_of};
 ghost use Rattle.c_tasks.specs.Tasks.{items_in, values_in, structures_in, open_in};
 
 use crate::plan::plan_task;
-use actions::{Action, Answer, Bytes, Machine, Next};
+use actions::{Action, Answer, Bytes, Cells, Machine, Next, Object};
 use c_changes::{
     answer_task, change_numbers, change_structures, change_tasks, change_variables,
-    close_activation, cut_items, first_left, open_activation, push_back, take_caller,
+    close_activation, cut_items, first_left, open_activation, push_back,
 };
 use c_meaning::number_of_main;
 use c_plan_flow::running;
 use c_profile::Admitted;
 use c_tasks::{
-    Block, Call, Caller, Change, Cut, Halt, Handed, Look, Plan, Request, Task, Tasks,
-    add_variables, body_of, defined, take_frame, top_of,
+    Block, Call, Caller, Change, Cut, Halt, Look, Plan, Request, Task, Tasks, add_variables,
+    body_of, defined, take_frame, top_of,
 };
 use c_values::{Number, low_bytes};
-use core_tree::{Bounds, Function, StaticObject};
+use core_tree::{Bounds, Function, Literal, StaticObject, Variable};
 use std::alloc::{AllocError, Global};
 use words::Word;
 
-/// A thread of the typed source: the functions and the static objects of the file, the bounds of a command,
-/// the function that it runs, how many more activations of each function may be opened, the tasks that are
-/// still to be done, the numbers and the structure values that wait, in each list the first one last, and
-/// the function's variables.
+/// The greatest size of an object.
+const MOST_BYTES: usize = 4_294_967_295;
+
+/// A thread of the typed source: the functions, the static objects and the literals of the file, whether
+/// forms over pointers may stand in it, the bounds of a command, the function that it runs, how many more
+/// activations of each function may be opened, the tasks that are still to be done, the numbers and the
+/// structure values that wait, in each list the first one last, and the function's variables.
 #[derive(Drop)]
 pub struct Thread<'a> {
     alloc: Global,
     functions: &'a [Function],
     objects: &'a [StaticObject],
+    literals: &'a [Literal],
+    pointers: bool,
     bounds: &'a Bounds,
     startable: u32,
     first: bool,
@@ -44,32 +50,35 @@ pub struct Thread<'a> {
     structures: Vec<Block>,
     variables: Vec<Block>,
     ghost few: { length functions.now < 2 ^ 31 },
-    ghost all_typed: { are_typed (view_core (core_file functions.now objects.now)) ≡ true },
-    ghost typed: { fits (view_core (core_file functions.now objects.now)) (items_in tasks.items) function (types_of (values_in numbers.items)) (sizes_of (structures_in structures.items)) ≡ true },
-    ghost sized: { sizes_of variables.items ≡ variables_at (view_core (core_file functions.now objects.now)) function },
+    ghost few_objects: { length objects.now + length literals.now < 4294967295 },
+    ghost all_typed: { are_typed (view_core (core_file functions.now objects.now literals.now pointers)) ≡ true },
+    ghost known: { startable ≤ length functions.now },
+    ghost small: { (bounds.now).malloc_limit ≤ 4096 },
+    ghost typed: { fits (view_core (core_file functions.now objects.now literals.now pointers)) (items_in tasks.items) function (types_of (values_in numbers.items)) (sizes_of (structures_in structures.items)) ≡ true },
+    ghost sized: { sizes_of variables.items ≡ variables_at (view_core (core_file functions.now objects.now literals.now pointers)) function },
     ghost counted: { total left.items + open_in (items_in tasks.items) ≤ 2 ^ 42 },
 }
 
 impl<'a> Thread<'a> {
-    ghost use Rattle.std.specs.Prelude.{◌≡◌, ◌<◌, ◌≤◌, ◌+◌, ◌^◌, true, [], Some, None, length, slice_get, IfOk, OnOk, OnErr, MatchOption, vec_len, vec_capacity};
+    ghost use Rattle.std.specs.Prelude.{◌≡◌, ◌<◌, ◌≤◌, ◌+◌, ◌^◌, true, false, [], Some, length, slice_get, IfOk, OnOk, OnErr, MatchOption, vec_len, vec_capacity};
     ghost use Rattle.actions.specs.Behaviour.{accepts, answered};
-    ghost use Rattle.actions.specs.declared.action.Next.TheVariants.{Blocked};
+    ghost use Rattle.actions.specs.StoredObject.{stored};
     ghost use Rattle.core_tree.specs.Typed.{are_typed};
     ghost use Rattle.core_tree.specs.Trees.{core_file, view_function, view_functions, view_core};
-    ghost use Rattle.c_tasks.specs.declared.task.Cut.TheVariants as Cut;
-    ghost use Rattle.c_meaning.specs.Meaning.{final};
-    ghost use Rattle.c_meaning.specs.Source.{source_program, source_thread};
+    ghost use Rattle.c_values.specs.Variables.{block_of};
+    ghost use Rattle.c_meaning.specs.Meaning.{readonly_of};
+    ghost use Rattle.c_meaning.specs.Source.{source_thread};
     ghost use Rattle.c_interp.specs.SourceThread.{start_state, thread_in, function_thread};
     ghost use Rattle.c_interp.specs.Work.{weight};
     ghost use Rattle.c_tasks.specs.Steps.{silent};
     ghost use Rattle.c_tasks.specs.Items.{top_bytes};
     ghost use Rattle.c_tasks.specs.Fits.{Fits, variables_at};
     ghost use Rattle.c_tasks.specs.Tasks.{items_in, values_in, structures_in, behind, activations, action_of, IsAsked, IsCall, next_by, IsAnswered, Accepts, ChangesWithin};
-    ghost use Rattle.c_interp.specs.View.{file_of, code_under, active_of, state_of, thread_of, next_move, after_change, after_cut, SameProgram, Halts, IsPlanned, IsSound};
+    ghost use Rattle.c_interp.specs.View.{file_of, code_under, active_of, running_under, state_of, thread_of, next_move, after_change, after_cut, SameProgram, Halts, IsPlanned, IsSound};
 
     /// Thread 0 of a file at its start: it calls the function named `main`. The bounds tell how many times
-    /// the test of a loop may be evaluated at an arrival, and how many activations of a function may be
-    /// open. Fails only for want of memory.
+    /// the test of a loop may be evaluated at an arrival, how many activations of a function may be open,
+    /// how much may be allocated and whether that may fail. Fails only for want of memory.
     pub fn new(
         alloc: Global,
         file: &'a Admitted,
@@ -77,10 +86,24 @@ impl<'a> Thread<'a> {
     ) -> Result<Thread<'a>, AllocError>
         ensures { IfOk result (λ t. thread_of t ≡ source_thread (view_core file.now) bounds.now) }
     {
-        let functions = file.core().functions();
-        let objects = file.core().objects();
+        let core = file.core();
+        let functions = core.functions();
+        let objects = core.objects();
+        let literals = core.literals();
+        let pointers = core.pointers();
         let number = number_of_main(functions);
-        Thread::at_function(alloc, functions, objects, bounds, 0, number as u32, true)
+        let _ = bounds.malloc_limit();
+        Thread::at_function(
+            alloc,
+            functions,
+            objects,
+            literals,
+            pointers,
+            bounds,
+            0,
+            number as u32,
+            true,
+        )
     }
 
     // A thread that calls a function, whose name stands on this line.
@@ -88,6 +111,8 @@ impl<'a> Thread<'a> {
         alloc: Global,
         functions: &'a [Function],
         objects: &'a [StaticObject],
+        literals: &'a [Literal],
+        pointers: bool,
         bounds: &'a Bounds,
         startable: u32,
         function: u32,
@@ -95,9 +120,12 @@ impl<'a> Thread<'a> {
         body: &'a Function,
     ) -> Result<Thread<'a>, AllocError>
         requires few { length functions.now < 2 ^ 31 }
-        requires all { are_typed (view_core (core_file functions.now objects.now)) ≡ true }
+        requires few_objects { length objects.now + length literals.now < 4294967295 }
+        requires all { are_typed (view_core (core_file functions.now objects.now literals.now pointers)) ≡ true }
+        requires known { startable ≤ length functions.now }
+        requires small { (bounds.now).malloc_limit ≤ 4096 }
         requires body { slice_get (view_functions functions.now) function ≡ Some (view_function body.now) }
-        ensures { IfOk result (λ t. thread_of t ≡ thread_in (view_functions functions.now) bounds.now startable first (start_state (view_functions functions.now) bounds.now function body.now.line)) }
+        ensures { IfOk result (λ t. thread_of t ≡ thread_in (view_core (core_file functions.now objects.now literals.now pointers)) bounds.now startable first (start_state (view_core (core_file functions.now objects.now literals.now pointers)) bounds.now function body.now.line)) }
     {
         let mut tasks = Vec::with_capacity(alloc, 1)?;
         tasks.push(Task::Begin {
@@ -111,6 +139,8 @@ impl<'a> Thread<'a> {
             alloc,
             functions,
             objects,
+            literals,
+            pointers,
             bounds,
             startable,
             first,
@@ -123,55 +153,32 @@ impl<'a> Thread<'a> {
         })
     }
 
-    // A thread that can do nothing.
-    fn nowhere(
-        alloc: Global,
-        functions: &'a [Function],
-        objects: &'a [StaticObject],
-        bounds: &'a Bounds,
-        startable: u32,
-        function: u32,
-    ) -> Result<Thread<'a>, AllocError>
-        requires few { length functions.now < 2 ^ 31 }
-        requires all { are_typed (view_core (core_file functions.now objects.now)) ≡ true }
-        requires nothing { slice_get (view_functions functions.now) function ≡ None }
-        ensures { IfOk result (λ t. thread_of t ≡ record { behaves = final Blocked; program = source_program (view_functions functions.now) bounds.now startable }) }
-    {
-        Ok(Thread {
-            alloc,
-            functions,
-            objects,
-            bounds,
-            startable,
-            first: false,
-            function,
-            left: Vec::new(alloc),
-            tasks: Vec::new(alloc),
-            numbers: Vec::new(alloc),
-            structures: Vec::new(alloc),
-            variables: Vec::new(alloc),
-        })
-    }
-
-    /// A thread at the start of the function with this number.
+    /// A thread at the start of the function with this number, which is there.
     pub(crate) fn at_function(
         alloc: Global,
         functions: &'a [Function],
         objects: &'a [StaticObject],
+        literals: &'a [Literal],
+        pointers: bool,
         bounds: &'a Bounds,
         startable: u32,
         function: u32,
         first: bool,
     ) -> Result<Thread<'a>, AllocError>
         requires few { length functions.now < 2 ^ 31 }
-        requires all { are_typed (view_core (core_file functions.now objects.now)) ≡ true }
-        ensures { IfOk result (λ t. thread_of t ≡ function_thread (view_functions functions.now) bounds.now startable first function) }
+        requires few_objects { length objects.now + length literals.now < 4294967295 }
+        requires all { are_typed (view_core (core_file functions.now objects.now literals.now pointers)) ≡ true }
+        requires known { startable ≤ length functions.now }
+        requires small { (bounds.now).malloc_limit ≤ 4096 }
+        requires there { function < length functions.now }
+        ensures { IfOk result (λ t. thread_of t ≡ function_thread (view_core (core_file functions.now objects.now literals.now pointers)) bounds.now startable first function) }
     {
         match body_of(functions, function) {
             Some(body) => Thread::at_start(
-                alloc, functions, objects, bounds, startable, function, first, body,
+                alloc, functions, objects, literals, pointers, bounds, startable, function, first,
+                body,
             ),
-            None => Thread::nowhere(alloc, functions, objects, bounds, startable, function),
+            None => unreachable!(),
         }
     }
 
@@ -179,11 +186,11 @@ impl<'a> Thread<'a> {
     fn make_room(&mut self) -> Result<(), AllocError>
         ensures state { state_of self.new ≡ state_of self.old }
         ensures program { SameProgram self.old self.new }
-        ensures tasks { OnOk result (vec_len (self.new).tasks + 3 ≤ vec_capacity (self.new).tasks) }
+        ensures tasks { OnOk result (vec_len (self.new).tasks + 4 ≤ vec_capacity (self.new).tasks) }
         ensures numbers { OnOk result (vec_len (self.new).numbers < vec_capacity (self.new).numbers) }
         ensures structures { OnOk result (vec_len (self.new).structures < vec_capacity (self.new).structures) }
     {
-        self.tasks.reserve(3)?;
+        self.tasks.reserve(4)?;
         self.numbers.reserve(1)?;
         self.structures.reserve(1)?;
         Ok(())
@@ -201,6 +208,8 @@ impl<'a> Thread<'a> {
                     first: self.first,
                     functions: self.functions,
                     objects: self.objects,
+                    literals: self.literals,
+                    pointers: self.pointers,
                     bounds: self.bounds,
                     function: self.function,
                     left: self.left.as_slice(),
@@ -238,44 +247,28 @@ impl<'a> Thread<'a> {
         change_structures(&mut self.structures, stacked);
     }
 
-    // Goes on elsewhere.
+    // Goes on elsewhere, where the caller runs again in that.
     fn cut(&mut self, cut: Cut)
-        requires { IsSound (file_of self.old) (after_cut self.old cut) }
+        requires sound { IsSound (file_of self.old) (after_cut self.old cut) }
+        requires tasks { vec_len (self.old).tasks < vec_capacity (self.old).tasks }
         ensures state { state_of self.new ≡ after_cut self.old cut }
         ensures program { SameProgram self.old self.new }
     {
-        match cut {
-            Cut::Return(how) => self.return_(how),
-            Cut::Break | Cut::Continue | Cut::Jump(_) => cut_items(&mut self.tasks, cut),
-        }
-    }
-
-    // The caller goes on, where there is one.
-    fn return_(&mut self, how: Handed)
-        requires { IsSound (file_of self.old) (after_cut self.old (Cut.Return how)) }
-        ensures state { state_of self.new ≡ after_cut self.old (Cut.Return how) }
-        ensures program { SameProgram self.old self.new }
-    {
-        match take_caller(&mut self.tasks) {
-            Some(caller) => {
-                let Caller {
-                    want,
-                    function,
-                    variables,
-                } = caller;
-                push_back(&mut self.tasks, Task::Get(want, how));
-                close_activation(&mut self.left, self.function);
-                self.function = function;
-                self.variables = variables;
-            }
-            None => self.variables.clear(),
+        if let Some(caller) = cut_items(&mut self.tasks, cut) {
+            let Caller {
+                function,
+                variables,
+            } = caller;
+            close_activation(&mut self.left, self.function);
+            self.function = function;
+            self.variables = variables;
         }
     }
 
     // Begins the body of a function, where there is room for that. On an error the thread is unchanged.
     fn call(&mut self, call: Call) -> Result<(), AllocError>
         requires planned { IsCall (file_of self.old) call (active_of self.old) (next_move self.old) (items_in (self.old).tasks.items) (values_in (self.old).numbers.items) (structures_in (self.old).structures.items) (self.old).variables.items }
-        requires tasks { vec_len (self.old).tasks + 3 ≤ vec_capacity (self.old).tasks }
+        requires tasks { vec_len (self.old).tasks + 4 ≤ vec_capacity (self.old).tasks }
         ensures ok { OnOk result (next_move self.old ≡ silent (state_of self.new)) }
         ensures err { OnErr result (state_of self.new ≡ state_of self.old) }
         ensures program { SameProgram self.old self.new }
@@ -283,18 +276,20 @@ impl<'a> Thread<'a> {
         let Some(body) = defined(self.functions, call.function) else {
             unreachable!();
         };
-        let variables = take_frame(self.alloc, &mut self.structures, call.count, body.sizes)?;
+        let count = least(call.count, self.structures.len());
+        let variables = take_frame(self.alloc, &mut self.structures, call.count, body.variables)?;
         let saved = std::mem::replace(&mut self.variables, variables);
         let tasks = Tasks {
             first: Some(running(body.statement)),
-            second: Some(Task::Resume {
+            second: Some(Task::EndParameters(count)),
+            third: Some(Task::Resume {
                 want: call.want,
                 caller: self.function,
                 saved,
             }),
-            third: None,
         };
         change_tasks(&mut self.tasks, tasks);
+        push_back(&mut self.tasks, Task::EnterParameters(0, count));
         open_activation(&mut self.left, call.function);
         self.function = call.function;
         Ok(())
@@ -303,7 +298,7 @@ impl<'a> Thread<'a> {
     // Makes a silent step that is planned, where there is room for it, or says what is next instead.
     fn follow(&mut self, plan: Plan<'a>) -> Result<Option<Halt>, AllocError>
         requires planned { IsPlanned self.old plan }
-        requires tasks { vec_len (self.old).tasks + 3 ≤ vec_capacity (self.old).tasks }
+        requires tasks { vec_len (self.old).tasks + 4 ≤ vec_capacity (self.old).tasks }
         requires numbers { vec_len (self.old).numbers < vec_capacity (self.old).numbers }
         requires structures { vec_len (self.old).structures < vec_capacity (self.old).structures }
         ensures same { thread_of self.new ≡ thread_of self.old }
@@ -359,21 +354,62 @@ impl<'a> Thread<'a> {
         }
     }
 
+    // An object with these bytes, so many as the size says.
+    fn object(&self, size: u32, readonly: bool, heap: bool, bytes: Bytes) -> Object
+        requires { length bytes ≡ size }
+        ensures { result ≡ stored size [] true readonly heap bytes }
+    {
+        Object {
+            size,
+            cells: Cells::new(Vec::new(self.alloc)),
+            live: true,
+            readonly,
+            heap,
+            bytes,
+        }
+    }
+
+    // The object that a variable becomes.
+    fn placed(&self, variable: usize) -> Result<Object, AllocError>
+        ensures { IfOk result (λ o. o ≡ stored (length (block_of (self.now).variables.items variable)) [] true (readonly_of (running_under self.now) variable) false (block_of (self.now).variables.items variable)) }
+    {
+        let bytes = copied_block(self.alloc, self.variables.as_slice(), variable)?;
+        let found = variable_of(self.functions, self.function, variable);
+        Ok(self.object(found.size, found.readonly, false, bytes))
+    }
+
+    // The object that an allocation makes of the structure value on top, which has fewer than 2 ^ 32 bytes.
+    fn allocated(&self) -> Result<Object, AllocError>
+        ensures { IfOk result (λ o. o ≡ stored (length (top_bytes (structures_in (self.now).structures.items))) [] true false true (top_bytes (structures_in (self.now).structures.items))) }
+    {
+        let bytes = self.top_bytes()?;
+        let size = bytes.as_slice().len();
+        if size > MOST_BYTES {
+            return Err(AllocError);
+        }
+        Ok(self.object(size as u32, false, true, bytes))
+    }
+
     // The action that is asked for.
     fn action_of(&self, request: Request) -> Result<Action, AllocError>
-        ensures { IfOk result (λ action. action ≡ action_of (values_in (self.now).numbers.items) (structures_in (self.now).structures.items) request) }
+        ensures { IfOk result (λ action. action ≡ action_of (running_under self.now) (values_in (self.now).numbers.items) (structures_in (self.now).structures.items) (self.now).variables.items request) }
     {
         match request {
             Request::Draw(bits) => Ok(Action::Draw(bits)),
             Request::Read(pointer, count) => Ok(Action::Read(pointer, count)),
-            Request::WriteNumber(pointer, type_) => {
+            Request::WriteNumber(pointer, type_, first) => {
                 let bits = top_of(self.numbers.as_slice()).bits();
                 let bytes = low_bytes(self.alloc, type_.size() as usize, bits)?;
-                Ok(Action::Write(pointer, Bytes::new(bytes), false))
+                Ok(Action::Write(pointer, Bytes::new(bytes), first))
             }
-            Request::WriteStructure(pointer) => {
-                Ok(Action::Write(pointer, self.top_bytes()?, false))
+            Request::WriteStructure(pointer, first) => {
+                Ok(Action::Write(pointer, self.top_bytes()?, first))
             }
+            Request::Look(pointer, element) => Ok(Action::Look(pointer, element)),
+            Request::Place(variable) => Ok(Action::Alloc(self.placed(variable)?)),
+            Request::Allocate => Ok(Action::Alloc(self.allocated()?)),
+            Request::Die(number) => Ok(Action::Die(number)),
+            Request::Free(pointer) => Ok(Action::Free(pointer)),
             Request::End(value) => Ok(Action::End(value)),
             Request::Exit => Ok(Action::Exit),
         }
@@ -382,7 +418,7 @@ impl<'a> Thread<'a> {
     // What is next, by what comes next in the state.
     fn next_of(&self, halt: Halt) -> Result<Next, AllocError>
         requires { Halts self.now halt }
-        ensures { IfOk result (λ n. n ≡ next_by (self.now).function (values_in (self.now).numbers.items) (structures_in (self.now).structures.items) halt) }
+        ensures { IfOk result (λ n. n ≡ next_by (running_under self.now) (values_in (self.now).numbers.items) (structures_in (self.now).structures.items) (self.now).variables.items halt) }
     {
         match halt {
             Halt::Asks(request, line) => {
@@ -415,6 +451,8 @@ impl<'a> Thread<'a> {
                     first: self.first,
                     functions: self.functions,
                     objects: self.objects,
+                    literals: self.literals,
+                    pointers: self.pointers,
                     bounds: self.bounds,
                     function: self.function,
                     left: self.left.as_slice(),
@@ -435,7 +473,7 @@ impl<'a> Thread<'a> {
         line: u32,
         answer: &Answer,
     ) -> Result<(), AllocError>
-        requires asked { IsAsked (next_move self.old) (action_of (values_in (self.old).numbers.items) (structures_in (self.old).structures.items) request) line }
+        requires asked { IsAsked (next_move self.old) (action_of (running_under self.old) (values_in (self.old).numbers.items) (structures_in (self.old).structures.items) (self.old).variables.items request) line }
         requires accepts { accepts ((thread_of self.old).behaves []) answer.now ≡ true }
         ensures ok { OnOk result (thread_of self.new ≡ answered (thread_of self.old) answer.now) }
         ensures err { OnErr result (thread_of self.new ≡ thread_of self.old) }
@@ -452,7 +490,7 @@ impl<'a> Thread<'a> {
     fn take(&mut self, halt: Halt, answer: &Answer) -> Result<(), AllocError>
         requires halts { Halts self.old halt }
         requires accepts { accepts ((thread_of self.old).behaves []) answer.now ≡ true }
-        requires next { accepts (next_by (self.old).function (values_in (self.old).numbers.items) (structures_in (self.old).structures.items) halt) answer.now ≡ true }
+        requires next { accepts (next_by (running_under self.old) (values_in (self.old).numbers.items) (structures_in (self.old).structures.items) (self.old).variables.items halt) answer.now ≡ true }
         ensures ok { OnOk result (thread_of self.new ≡ answered (thread_of self.old) answer.now) }
         ensures err { OnErr result (thread_of self.new ≡ thread_of self.old) }
     {
@@ -463,10 +501,42 @@ impl<'a> Thread<'a> {
     }
 }
 
+// The smaller of two counts.
+fn least(m: usize, n: usize) -> usize
+    ensures { result ≡ min m n }
+{
+    if m <= n { m } else { n }
+}
+
+// What a function says of a variable; of one that isn't there that it has no bytes.
+fn variable_of(functions: &[Function], function: u32, variable: usize) -> Variable
+    ensures size { result.size ≡ size_in_list (slice_get (variables_of (slice_get (view_functions functions.now) function)) variable) }
+    ensures readonly { result.readonly ≡ is_readonly (slice_get (variables_of (slice_get (view_functions functions.now) function)) variable) }
+{
+    if let Some(body) = body_of(functions, function) {
+        if let Some(found) = body.variables.get(variable) {
+            return *found;
+        }
+    }
+    Variable {
+        size: 0,
+        readonly: false,
+        home: None,
+    }
+}
+
+// A copy of the bytes of a variable.
+fn copied_block(alloc: Global, variables: &[Block], variable: usize) -> Result<Bytes, AllocError>
+    ensures { IfOk result (λ bytes. bytes ≡ block_of variables.now variable) }
+{
+    match variables.get(variable) {
+        Some(block) => Ok(Bytes::new(block.to_vec(alloc)?)),
+        None => Ok(Bytes::new(Vec::new(alloc))),
+    }
+}
+
 impl<'a> Machine for Thread<'a> {
-    ghost use Rattle.c_interp.specs.View.{thread_of, state_of};
-    ghost use Rattle.core_tree.specs.Trees.{view_functions};
-    ghost use Rattle.c_interp.specs.SourceThread.{is_thread};
+    ghost use Rattle.c_interp.specs.View.{thread_of, thread_is};
 
     ghost thread = { λ t. thread_of t };
 
@@ -475,6 +545,8 @@ impl<'a> Machine for Thread<'a> {
             self.alloc,
             self.functions,
             self.objects,
+            self.literals,
+            self.pointers,
             self.bounds,
             self.startable,
             function,
@@ -496,5 +568,5 @@ impl<'a> Machine for Thread<'a> {
         }
     }
 
-    ghost valid = { λ t. is_thread (view_functions t.functions.now) t.bounds.now t.startable t.first (state_of t) };
+    ghost valid = { thread_is };
 }

@@ -1,27 +1,31 @@
 -- What a thread of the typed source does, by what follows each expression and statement (C11 5.1.2.3, 6.5, 6.8). Operands and arguments are evaluated from left to right.
-use Rattle.std.specs.Prelude.{ℕ, zero, suc, ◌+◌, ◌*◌, Bool, true, false, not, ◌||◌, List, [], ◌∷◌, take, drop, Option, Some, None, ◌-◌, ◌==◌, ◌++◌, length, slice_index, slice_set, slice_get, if◌then◌else◌}
+use Rattle.std.specs.Prelude.{ℕ, zero, suc, ◌+◌, ◌*◌, ℤ, pos, ◌+ℤ◌, ◌-ℤ◌, ◌*ℤ◌, int_le, int_div, Bool, true, false, not, ◌&&◌, ◌||◌, List, [], ◌∷◌, take, drop, Option, Some, None, ◌-◌, ◌==◌, ◌++◌, length, map, nat_le, slice_index, slice_set, slice_get, if◌then◌else◌}
+use Rattle.std.specs.Option.{option_and_then}
 use Rattle.words.specs.declared.check.Class.{Class}
-use Rattle.words.specs.declared.check.Class.TheVariants.{Assertion, Return, Unwind, Recursion}
+use Rattle.words.specs.Operators.{wrapped}
+use Rattle.words.specs.declared.check.Class.TheVariants.{Assertion, Return, Unwind, Recursion, Bounds, Pointer, MallocLimit}
 use Rattle.c_types.specs.declared.integers.IntegerType.{IntegerType}
-use Rattle.c_types.specs.declared.integers.IntegerType.TheVariants.{Int}
+use Rattle.c_types.specs.declared.integers.IntegerType.TheVariants.{Int, Long, UnsignedLong}
 use Rattle.c_types.specs.declared.types.ValueType.{ValueType}
 use Rattle.c_types.specs.declared.types.ValueType.TheVariants.{Void, Integer}
 use Rattle.c_types.specs.Integers.{bytes, promoted}
 use Rattle.core_tree.specs.declared.operators.ArithmeticOperator.{ArithmeticOperator}
 use Rattle.core_tree.specs.declared.operators.LogicalOperator.{LogicalOperator}
 use Rattle.core_tree.specs.declared.operators.LogicalOperator.TheVariants as logicals
-use Rattle.core_tree.specs.declared.expression.Place.{Place}
-use Rattle.core_tree.specs.declared.expression.Place.TheVariants.{Variable, Object}
-use Rattle.core_tree.specs.Trees.{Expression, constant, read, convert, sign, is_zero, arithmetic, compare, logical, choice, assign, update, step, comma, assertion, assumption, draw, part, discard, discard_structure, call, function_name, Structure, copy, load, choose, put, store, follow, section, list, string, give, Parts, no_part, number_part, structure_part, Arguments, no_argument, number_argument, structure_argument, Statement, block, if_then, if_else, evaluate, returns, returns_structure, returns_nothing, for_loop, do_loop, switch, breaks, continues, jumps, stray, Items, done, declares, initializes, initializes_structure, does, label, case_at, default_at, Procedure}
-use Rattle.core_tree.specs.Typed.{place_type, type_of}
-use Rattle.core_tree.specs.Operations.{is_true, truth_bits, converted, drawn_width, arithmetic_check, arithmetic_value, sign_check, sign_value, step_operation, compared}
+use Rattle.core_tree.specs.declared.functions.Variable.{Variable}
+use Rattle.core_tree.specs.Trees.{Place, variable_at, object_at, literal_at, pointed, arrow, member, element, subscript, Expression, constant, read, convert, sign, is_zero, arithmetic, compare, logical, choice, assign, update, step, comma, assertion, assumption, draw, part, discard, discard_structure, call, function_name, size_of_value, size_of_structure, address, sum, distance, relation, pointer_update, pointer_step, allocate, allocate_zeroed, release, exit, abort, Structure, copy, choose, put, follow, section, list, string, give, Parts, no_part, number_part, structure_part, Arguments, no_argument, number_argument, structure_argument, Statement, block, if_then, if_else, evaluate, returns, returns_structure, returns_nothing, for_loop, do_loop, switch, breaks, continues, jumps, stray, Items, done, declares, initializes, initializes_structure, does, label, case_at, default_at, Procedure}
+use Rattle.core_tree.specs.Typed.{type_of}
+use Rattle.core_tree.specs.Operations.{number as integer, is_true, truth_bits, converted, drawn_width, arithmetic_check, arithmetic_value, sign_check, sign_value, step_operation, compared}
 use Rattle.actions.specs.declared.action.Action.{Action}
-use Rattle.actions.specs.declared.action.Action.TheVariants.{Read, Write, Draw}
+use Rattle.actions.specs.declared.action.Action.TheVariants.{Read, Write, Look, Draw, Alloc, Die, Free, Exit}
 use Rattle.actions.specs.declared.action.Answer.{Answer}
 use Rattle.actions.specs.declared.action.Answer.TheVariants as answer
 use Rattle.actions.specs.declared.action.Next.{Next}
-use Rattle.actions.specs.declared.action.Next.TheVariants.{Act, Blocked, Broken}
-use Rattle.actions.specs.Behaviour.{Behaviour, shape_of, has_shape}
+use Rattle.actions.specs.declared.action.Next.TheVariants.{Act, Ended, Blocked, Broken}
+use Rattle.actions.specs.Behaviour.{Behaviour, shape_of, has_shape, word_64}
+use Rattle.actions.specs.Pointer.{object_of, offset_of}
+use Rattle.actions.specs.StoredObject.{stored}
+use Rattle.c_values.specs.Pointers.{pointer_at, further, in_range, offset_by, elements_between}
 use Rattle.c_values.specs.Variables.{Variables, low_bytes, put_at, zeros, number_of, number_at, pointer_to, word_count, drawn_count, block_of, put_bytes, cleared, read_variable, write_variable, first_variables}
 
 -- what a function hands over at its end: nothing, the bits of a number, or the bytes of a structure value
@@ -36,18 +40,22 @@ value_of nothing = 0
 value_of (number x) = x
 value_of (structure value) = 0
 
--- what a thread runs: a function by its number, with the sizes of its variables; how many times the test of each of its loops, by the loop's number, may be evaluated at an arrival; and whether passing a bound breaks a check
+-- what a thread runs: a function by its number, with the line of its name and its variables; how many times the test of each of its loops, by the loop's number, may be evaluated at an arrival, and whether passing a bound breaks a check; the number of the first string literal's object; the greatest size that may be allocated, and whether an allocation may fail
 pub record Running : Type 0 where
   pub function : ℕ
-  pub sizes : List ℕ
+  pub line : ℕ
+  pub variables : List Variable
   pub tests : ℕ → ℕ
   pub assertions : Bool
+  pub literals : ℕ
+  pub malloc_limit : ℕ
+  pub malloc_may_fail : Bool
 
 -- where else than behind it a statement goes on: at `break`, at `continue`, at `return` with what it hands over, and at `goto` by the label's number (C11 6.8.6)
 pub record Exits : Type 0 where
   pub breaks : Variables → Behaviour
   pub continues : Variables → Behaviour
-  pub returns : Given → Behaviour
+  pub returns : Given → Variables → Behaviour
   pub labels : ℕ → Variables → Behaviour
 
 -- the integer type of an expression; one of type void has no number, which is written 0
@@ -67,6 +75,15 @@ drawn _ = 0
 abbrev pub bytes_in : Answer → List ℕ
 bytes_in (answer.Bytes bs) = bs
 bytes_in _ = []
+
+-- the number that an Alloc gives, and the size that a Look gives
+abbrev pub number_in : Answer → ℕ
+number_in (answer.Number n) = n
+number_in _ = 0
+
+abbrev pub size_in : Answer → ℕ
+size_in (answer.Size n) = n
+size_in _ = 0
 
 -- the left operand alone decides (C11 6.5.13p4, 6.5.14p4)
 abbrev pub decides : LogicalOperator → ℕ → Bool
@@ -110,9 +127,14 @@ has_default (label n rest) = has_default rest
 has_default (case_at line t bits rest) = has_default rest
 has_default (default_at line rest) = true
 
--- out of a function leads only `return`
-abbrev pub in_function : (Given → Behaviour) → Exits
-in_function follows = record { breaks = λ vs. final Blocked; continues = λ vs. final Blocked; returns = follows; labels = λ n vs. final Blocked }
+-- out of a function leads only `return`: a `break`, `continue` or label that stands in no statement of its own breaks a check, and no file has one
+abbrev pub in_function : (line function : ℕ) → (Given → Behaviour) → Exits
+in_function line function follows = record {
+  breaks = λ vs. final (Broken Assertion line function);
+  continues = λ vs. final (Broken Assertion line function);
+  returns = λ given vs. follows given;
+  labels = λ n vs. final (Broken Assertion line function);
+}
 
 -- an action in a function, at a line, and what follows its answer
 abbrev pub ask_in : (function : ℕ) → Action → (line : ℕ) → (Answer → Behaviour) → Behaviour
@@ -122,6 +144,42 @@ ask_in function action line follows (a ∷ answers) = if has_shape (shape_of act
 -- passing a bound breaks a check of this class, or blocks the thread for good
 abbrev pub passed : Bool → Class → (line function : ℕ) → Behaviour
 passed assertions class line function = if assertions then final (Broken class line function) else final Blocked
+
+-- the line of a place's own token
+abbrev pub place_line : Place → ℕ
+place_line (variable_at line v offset) = line
+place_line (object_at line k offset) = line
+place_line (literal_at line k) = line
+place_line (pointed line e) = line
+place_line (arrow line e offset) = line
+place_line (member line x offset) = line
+place_line (element line x e size whole swapped) = line
+place_line (subscript line a e size swapped) = line
+
+abbrev pub size_in_list : Option Variable → ℕ
+size_in_list None = 0
+size_in_list (Some v) = v.size
+
+abbrev pub is_readonly : Option Variable → Bool
+is_readonly None = false
+is_readonly (Some v) = v.readonly
+
+abbrev pub sizes_of : List Variable → List ℕ
+sizes_of variables = map (λ (v : Variable). v.size) variables
+
+-- the class that a sum breaks, or an element's place
+abbrev pub range_class : (is_element : Bool) → Class
+range_class true = Bounds
+range_class false = Pointer
+
+-- so on each way out of it
+abbrev pub leaving : (Variables → Behaviour → Behaviour) → Exits → Exits
+leaving out exits = record {
+  breaks = λ vs. out vs (exits.breaks vs);
+  continues = λ vs. out vs (exits.continues vs);
+  returns = λ given vs. out vs (exits.returns given vs);
+  labels = λ n vs. out vs (exits.labels n vs);
+}
 
 module _ (running : Running) where
   abbrev pub ask : Action → ℕ → (Answer → Behaviour) → Behaviour
@@ -136,44 +194,90 @@ module _ (running : Running) where
   abbrev pub operated : ArithmeticOperator → IntegerType → IntegerType → ℕ → ℕ → ℕ → (ℕ → Behaviour) → Behaviour
   operated op t u x y line follows = unless_broken (arithmetic_check op t u x y) line (follows (arithmetic_value op t x y))
 
-  -- ---- static objects: each access is one action, of all bytes at once
+  -- ---- places: where one is, is told by a number: an offset, where it lies within a variable without an address, else a pointer. Each access to an object with an address is one action, of all bytes at once
 
-  -- so many bytes of an object, from an offset on
-  abbrev pub asks_bytes : (object offset count line : ℕ) → (List ℕ → Behaviour) → Behaviour
-  asks_bytes k offset count line follows = ask (Read (pointer_to k offset) count) line (λ a. follows (bytes_in a))
+  abbrev pub size_of : ℕ → ℕ
+  size_of v = size_in_list (slice_get running.variables v)
 
-  -- these bytes take the place of as many of an object, from an offset on
-  abbrev pub tells_bytes : (object offset : ℕ) → List ℕ → (line : ℕ) → Behaviour → Behaviour
-  tells_bytes k offset new line follows = ask (Write (pointer_to k offset) new false) line (λ a. follows)
+  abbrev pub readonly_of : ℕ → Bool
+  readonly_of v = is_readonly (slice_get running.variables v)
 
-  -- ---- expressions
+  -- the variable that holds the address of a variable, if it has one
+  abbrev pub home_of : ℕ → Option ℕ
+  home_of v = option_and_then (λ (x : Variable). x.home) (slice_get running.variables v)
 
-  -- the number at a place then goes to what follows; a static object is read at the line of the place
-  abbrev pub reads : Place → Variables → (ℕ → Variables → Behaviour) → Behaviour
-  reads (Variable line t v offset) vs follows = follows (read_variable vs v offset t) vs
-  reads (Object line t k offset) vs follows = asks_bytes k offset (bytes t) line (λ found. follows (number_of t found) vs)
+  -- the pointer that such a variable holds
+  abbrev pub held_pointer : Variables → ℕ → ℕ
+  held_pointer vs h = read_variable vs h 0 UnsignedLong
 
-  -- a place takes the low bytes of these bits; a static object is written at this line
-  abbrev pub writes : Place → (line bits : ℕ) → Variables → (Variables → Behaviour) → Behaviour
-  writes (Variable at t v offset) line bits vs follows = follows (write_variable vs v offset t bits)
-  writes (Object at t k offset) line bits vs follows = tells_bytes k offset (low_bytes (bytes t) bits) line (follows vs)
+  -- the variable without an address within which a place lies; none where a pointer tells where it is
+  abbrev pub own_variable : Option ℕ → ℕ → Option ℕ
+  own_variable None v = Some v
+  own_variable (Some h) v = None
 
-  -- an operation of type t on a place's number, which is given, and y of type u; the place takes the result, which then goes to what follows
-  abbrev pub combined : Place → ArithmeticOperator → IntegerType → IntegerType → (old y line : ℕ) → Variables → (ℕ → Variables → Behaviour) → Behaviour
-  combined p op t u old y line vs follows =
-      operated op t u (converted (place_type p) t old) y line (λ z.
-      let new = converted t (place_type p) z in
-      writes p line new vs (follows new))
+  abbrev pub variable_of : Place → Option ℕ
+  variable_of (variable_at line v offset) = own_variable (home_of v) v
+  variable_of (object_at line k offset) = None
+  variable_of (literal_at line k) = None
+  variable_of (pointed line e) = None
+  variable_of (arrow line e offset) = None
+  variable_of (member line x offset) = variable_of x
+  variable_of (element line x e size whole swapped) = variable_of x
+  variable_of (subscript line a e size swapped) = None
 
-  -- `=` with an operator: it reads the place, operates on its number and y of type u, and writes the place (C11 6.5.16.2)
-  abbrev pub updated : Place → ArithmeticOperator → IntegerType → IntegerType → (y line : ℕ) → Variables → (ℕ → Variables → Behaviour) → Behaviour
-  updated p op t u y line vs follows = reads p vs (λ old after. combined p op t u old y line after follows)
+  -- where an offset of a variable is
+  abbrev pub in_variable : Option ℕ → Variables → (offset : ℕ) → ℕ
+  in_variable None vs offset = offset
+  in_variable (Some h) vs offset = further (held_pointer vs h) offset
 
-  -- `++` and `--`: an operation with 1 at the promoted type; the value is the new one, or behind its operand the old one (C11 6.5.2.4, 6.5.3.1)
-  abbrev pub stepped : Place → ArithmeticOperator → Bool → (line : ℕ) → Variables → (ℕ → Variables → Behaviour) → Behaviour
-  stepped p op before line vs follows =
-      let u = promoted (place_type p) in
-      reads p vs (λ old after. combined p op u u old 1 line after (λ new. follows (if before then new else old)))
+  -- so many bytes of a variable from an offset on are there, or bounds are broken
+  abbrev pub unless_outside : (v offset count line : ℕ) → Behaviour → Behaviour
+  unless_outside v offset count line follows = if nat_le (offset + count) (size_of v) then follows else final (Broken Bounds line running.function)
+
+  -- so many bytes where `at` tells then go to what follows
+  abbrev pub reads : Option ℕ → (at count line : ℕ) → Variables → (List ℕ → Behaviour) → Behaviour
+  reads (Some v) at count line vs follows = unless_outside v (offset_of at) count line (follows (take count (drop (offset_of at) (block_of vs v))))
+  reads None at count line vs follows = ask (Read at count) line (λ a. follows (bytes_in a))
+
+  -- these bytes take the place of as many there
+  abbrev pub writes : Option ℕ → (at : ℕ) → List ℕ → (line : ℕ) → Variables → (Variables → Behaviour) → Behaviour
+  writes (Some v) at new line vs follows = unless_outside v (offset_of at) (length new) line (follows (put_bytes vs v (offset_of at) new))
+  writes None at new line vs follows = ask (Write at new false) line (λ a. follows vs)
+
+  -- a number at a place, as an object of that type holds it, is read and written
+  abbrev pub reads_number : IntegerType → Place → (at : ℕ) → Variables → (ℕ → Behaviour) → Behaviour
+  reads_number t x at vs follows = reads (variable_of x) at (bytes t) (place_line x) vs (λ found. follows (number_of t found))
+
+  abbrev pub writes_number : IntegerType → Place → (at line bits : ℕ) → Variables → (Variables → Behaviour) → Behaviour
+  writes_number t x at line bits vs follows = writes (variable_of x) at (low_bytes (bytes t) bits) line vs follows
+
+  -- an operation at type u on the number of type t that a place had, and y of type w; the place takes the result, which then goes to what follows
+  abbrev pub combined : IntegerType → Place → (at : ℕ) → ArithmeticOperator → (u w : IntegerType) → (old y line : ℕ) → Variables → (ℕ → Variables → Behaviour) → Behaviour
+  combined t x at op u w old y line vs follows =
+      operated op u w (converted t u old) y line (λ z.
+      let new = converted u t z in
+      writes_number t x at line new vs (follows new))
+
+  -- ---- sums of pointers (C11 6.5.6p8, p9): the object is looked at, and then the new offset has to be from 0 to its size
+
+  -- the pointer so many steps further on, where the object has so many bytes
+  abbrev pub lands : (is_element : Bool) → (p size : ℕ) → (index stride : ℤ) → (line : ℕ) → (ℕ → Behaviour) → Behaviour
+  lands is_element p size index stride line follows =
+      let offset = offset_by (offset_of p) index stride in
+      if in_range offset size then follows (pointer_at p offset) else final (Broken (range_class is_element) line running.function)
+
+  abbrev pub moves : (is_element : Bool) → (p : ℕ) → (index stride : ℤ) → (line : ℕ) → (ℕ → Behaviour) → Behaviour
+  moves is_element p index stride line follows = ask (Look p is_element) line (λ a. lands is_element p (size_in a) index stride line follows)
+
+  -- the element of an array within a named object, whose size is known
+  abbrev pub steps_to : (at whole : ℕ) → (index stride : ℤ) → (line : ℕ) → (ℕ → Behaviour) → Behaviour
+  steps_to at whole index stride line follows =
+      let offset = offset_by (offset_of at) index stride in
+      if in_range offset whole then follows (pointer_at at offset) else final (Broken Bounds line running.function)
+
+  -- two pointers to one object, as far as their numbers tell
+  abbrev pub unless_apart : (p q line : ℕ) → Behaviour → Behaviour
+  unless_apart p q line follows = if object_of p == object_of q then follows else final (Broken Pointer line running.function)
 
   -- a call's value was not handed over: where it is used, a check breaks (C11 6.9.1p12)
   abbrev pub unless_used : Bool → (line : ℕ) → Behaviour → Behaviour
@@ -193,9 +297,6 @@ module _ (running : Running) where
 
   -- ---- variables
 
-  abbrev pub size_of : ℕ → ℕ
-  size_of v = slice_index running.sizes v
-
   -- so many words are drawn, from an offset of a variable on
   abbrev pub draws_words : (words line v offset : ℕ) → Variables → (Variables → Behaviour) → Behaviour
   draws_words zero line v offset vs follows = follows vs
@@ -207,18 +308,99 @@ module _ (running : Running) where
   abbrev pub draws : ℕ → ℕ → Variables → (Variables → Behaviour) → Behaviour
   draws line v vs follows = draws_words (word_count (size_of v)) line v 0 vs follows
 
-  -- on entry to a block its own variables get their first values, in order; one that an initializer will write starts with bytes that are 0
+  -- a variable with an address becomes an object with its first bytes, and its pointer is kept (C11 6.2.4p5)
+  abbrev pub places : Option ℕ → (line v : ℕ) → Variables → (Variables → Behaviour) → Behaviour
+  places None line v vs follows = follows vs
+  places (Some h) line v vs follows =
+      ask (Alloc (stored (length (block_of vs v)) [] true (readonly_of v) false (block_of vs v))) line (λ a. follows (write_variable vs h 0 UnsignedLong (pointer_to (number_in a) 0)))
+
+  -- its first bytes are drawn, or 0, and then it is placed
+  abbrev pub makes : (is_drawn : Bool) → (line v : ℕ) → Variables → (Variables → Behaviour) → Behaviour
+  makes true line v vs follows = draws line v vs (λ after. places (home_of v) line v after follows)
+  makes false line v vs follows = places (home_of v) line v (cleared vs v (size_of v)) follows
+
+  -- on entry to a block its own variables are made, in order; one that an initializer will write starts with bytes that are 0
   abbrev pub enter : Items → Variables → (Variables → Behaviour) → Behaviour
   enter done vs follows = follows vs
-  enter (declares line v rest) vs follows = draws line v vs (λ after. enter rest after follows)
-  enter (initializes line v is_drawn e rest) vs follows =
-      if is_drawn then draws line v vs (λ after. enter rest after follows) else enter rest (cleared vs v (size_of v)) follows
-  enter (initializes_structure line v is_drawn a rest) vs follows =
-      if is_drawn then draws line v vs (λ after. enter rest after follows) else enter rest (cleared vs v (size_of v)) follows
+  enter (declares line v rest) vs follows = makes true line v vs (λ after. enter rest after follows)
+  enter (initializes line v is_drawn e rest) vs follows = makes is_drawn line v vs (λ after. enter rest after follows)
+  enter (initializes_structure line v is_drawn a rest) vs follows = makes is_drawn line v vs (λ after. enter rest after follows)
   enter (does s rest) vs follows = enter rest vs follows
   enter (label n rest) vs follows = enter rest vs follows
   enter (case_at line t bits rest) vs follows = enter rest vs follows
   enter (default_at line rest) vs follows = enter rest vs follows
+
+  -- an initializer's bytes are the first ones that are written, so also where the object is const (C11 6.7.9)
+  abbrev pub initial : Option ℕ → (v : ℕ) → List ℕ → (line : ℕ) → Variables → (Variables → Behaviour) → Behaviour
+  initial None v new line vs follows = follows (put_bytes vs v 0 new)
+  initial (Some h) v new line vs follows = ask (Write (held_pointer vs h) new true) line (λ a. follows vs)
+
+  -- the object of a variable dies (C11 6.2.4p6)
+  abbrev pub dies : Option ℕ → (line : ℕ) → Variables → Behaviour → Behaviour
+  dies None line vs follows = follows
+  dies (Some h) line vs follows = ask (Die (object_of (held_pointer vs h))) line (λ a. follows)
+
+  -- on the way out of a block the objects of its variables die, the last one first
+  abbrev pub leave : Items → Variables → Behaviour → Behaviour
+  leave done vs follows = follows
+  leave (declares line v rest) vs follows = leave rest vs (dies (home_of v) line vs follows)
+  leave (initializes line v is_drawn e rest) vs follows = leave rest vs (dies (home_of v) line vs follows)
+  leave (initializes_structure line v is_drawn a rest) vs follows = leave rest vs (dies (home_of v) line vs follows)
+  leave (does s rest) vs follows = leave rest vs follows
+  leave (label n rest) vs follows = leave rest vs follows
+  leave (case_at line t bits rest) vs follows = leave rest vs follows
+  leave (default_at line rest) vs follows = leave rest vs follows
+
+  -- the parameters, of which these many are left from a number on, are placed, and die: a block around the body of the function, at the line of its name
+  abbrev pub enter_parameters : (count v : ℕ) → Variables → (Variables → Behaviour) → Behaviour
+  enter_parameters zero v vs follows = follows vs
+  enter_parameters (suc count) v vs follows = places (home_of v) running.line v vs (λ after. enter_parameters count (suc v) after follows)
+
+  abbrev pub leave_parameters : (count v : ℕ) → Variables → Behaviour → Behaviour
+  leave_parameters zero v vs follows = follows
+  leave_parameters (suc count) v vs follows = leave_parameters count (suc v) vs (dies (home_of v) running.line vs follows)
+
+  -- ---- objects that are allocated (C11 7.22.3)
+
+  -- so many bytes are drawn, in words, behind those so far
+  abbrev pub draws_bytes : (words line size : ℕ) → List ℕ → (List ℕ → Behaviour) → Behaviour
+  draws_bytes zero line size found follows = follows found
+  draws_bytes (suc k) line size found follows =
+      let count = drawn_count size (length found) in
+      ask (Draw (8 * count)) line (λ a. draws_bytes k line size (found ++ low_bytes count (drawn a)) follows)
+
+  -- an object with these bytes; its pointer goes to what follows
+  abbrev pub allocates : (line : ℕ) → List ℕ → (ℕ → Behaviour) → Behaviour
+  allocates line new follows = ask (Alloc (stored (length new) [] true false true new)) line (λ a. follows (pointer_to (number_in a) 0))
+
+  -- a size above the limit breaks a check
+  abbrev pub unless_large : (size line : ℕ) → Behaviour → Behaviour
+  unless_large size line follows = if nat_le size running.malloc_limit then follows else final (Broken MallocLimit line running.function)
+
+  -- where an allocation may fail one bit is drawn: 1 gives the null pointer, and nothing more is tested
+  abbrev pub may_fail : (line : ℕ) → (fails goes_on : Behaviour) → Behaviour
+  may_fail line fails goes_on = if running.malloc_may_fail then ask (Draw 1) line (λ a. if is_true (drawn a) then fails else goes_on) else goes_on
+
+  -- an object of drawn bytes, and one of bytes that are 0, as large as the product is as a whole number
+  abbrev pub grants : (size line : ℕ) → (ℕ → Behaviour) → Behaviour
+  grants size line follows = unless_large size line (draws_bytes (word_count size) line size [] (λ found. allocates line found follows))
+
+  abbrev pub grants_zeroed : (count size line : ℕ) → (ℕ → Behaviour) → Behaviour
+  grants_zeroed count size line follows = unless_large (count * size) line (allocates line (zeros (count * size)) follows)
+
+  abbrev pub mallocs : (size line : ℕ) → (ℕ → Behaviour) → Behaviour
+  mallocs size line follows = may_fail line (follows 0) (grants size line follows)
+
+  abbrev pub callocs : (count size line : ℕ) → (ℕ → Behaviour) → Behaviour
+  callocs count size line follows = may_fail line (follows 0) (grants_zeroed count size line follows)
+
+  -- the null pointer is freed without an action
+  abbrev pub frees : (p line : ℕ) → Behaviour → Behaviour
+  frees p line follows = if p == 0 then follows else ask (Free p) line (λ a. follows)
+
+  -- the process ends
+  abbrev pub ends_process : (line : ℕ) → Behaviour
+  ends_process line = ask Exit line (λ a. final (Ended (word_64 0)))
 
   -- a loop of at most so many rounds: `round again` does one, and where the loop goes on, it goes on with `again`; a further round passes the loop's bound
   abbrev pub rounds : (line : ℕ) → ((Variables → Behaviour) → Variables → Behaviour) → ℕ → Variables → Behaviour
@@ -227,15 +409,32 @@ module _ (running : Running) where
 
   -- its variables at its start: the arguments, and bytes that are 0 for the others
   abbrev pub frame : List (List ℕ) → Variables
-  frame blocks = blocks ++ first_variables (drop (length blocks) running.sizes)
+  frame blocks = blocks ++ first_variables (drop (length blocks) (sizes_of running.variables))
 
   -- `calls function line blocks` is what a call at that line of a function by its number does with these argument values, each as its bytes: what it hands over then goes to what follows
   module _ (calls : (function line : ℕ) → List (List ℕ) → (Given → Behaviour) → Behaviour) where
     abbrev mutual
+      -- a place is evaluated, and where it is then goes to what follows; operands from left to right (C11 6.5.2.1, 6.5.2.3, 6.5.3.2)
+      pub locate : Place → Variables → (ℕ → Variables → Behaviour) → Behaviour
+      locate (variable_at line v offset) vs follows = follows (in_variable (home_of v) vs offset) vs
+      locate (object_at line k offset) vs follows = follows (pointer_to k offset) vs
+      locate (literal_at line k) vs follows = follows (pointer_to (running.literals + k) 0) vs
+      locate (pointed line e) vs follows = eval e vs follows
+      locate (arrow line e offset) vs follows = eval e vs (λ p. follows (further p offset))
+      locate (member line x offset) vs follows = locate x vs (λ at. follows (further at offset))
+      locate (element line x e size whole false) vs follows =
+          locate x vs (λ at after. eval e after (λ i last. steps_to at whole (integer (number_type e) i) (pos size) line (λ found. follows found last)))
+      locate (element line x e size whole true) vs follows =
+          eval e vs (λ i after. locate x after (λ at last. steps_to at whole (integer (number_type e) i) (pos size) line (λ found. follows found last)))
+      locate (subscript line a e size false) vs follows =
+          eval a vs (λ p after. eval e after (λ i last. moves true p (integer (number_type e) i) (pos size) line (λ found. follows found last)))
+      locate (subscript line a e size true) vs follows =
+          eval e vs (λ i after. eval a after (λ p last. moves true p (integer (number_type e) i) (pos size) line (λ found. follows found last)))
+
       -- its value and the variables then go to what follows
       pub eval : Expression → Variables → (ℕ → Variables → Behaviour) → Behaviour
       eval (constant line t bits) vs follows = follows bits vs
-      eval (read p) vs follows = reads p vs follows
+      eval (read t x) vs follows = locate x vs (λ at after. reads_number t x at after (λ found. follows found after))
       eval (convert to e) vs follows = eval e vs (λ x. follows (converted (number_type e) to x))
       eval (sign line op e) vs follows = eval e vs (λ x after. unless_broken (sign_check op (number_type e) x) line (follows (sign_value op (number_type e) x) after))
       eval (is_zero line e) vs follows = eval e vs (λ x. follows (truth_bits (not (is_true x))))
@@ -244,9 +443,14 @@ module _ (running : Running) where
       eval (logical line op a b) vs follows =
           eval a vs (λ x after. if decides op x then follows (truth_bits (is_true x)) after else eval b after (λ y. follows (truth_bits (is_true y))))
       eval (choice line test a b) vs follows = eval test vs (λ x after. if is_true x then eval a after follows else eval b after follows)
-      eval (assign line p e) vs follows = eval e vs (λ x after. writes p line x after (follows x))
-      eval (update line p op t e) vs follows = eval e vs (λ y after. updated p op t (number_type e) y line after follows)
-      eval (step line p op before) vs follows = stepped p (step_operation op) before line vs follows
+      -- the place, the value, and the write (C11 6.5.16p3)
+      eval (assign line t x e) vs follows = locate x vs (λ at after. eval e after (λ y last. writes_number t x at line y last (follows y)))
+      -- the place, the value beside it, the place's number, the operation, and the write (C11 6.5.16.2)
+      eval (update line t x op u e) vs follows =
+          locate x vs (λ at after. eval e after (λ y last. reads_number t x at last (λ old. combined t x at op u (number_type e) old y line last follows)))
+      -- an operation with 1 at the promoted type; the value is the new one, or behind its operand the old one (C11 6.5.2.4, 6.5.3.1)
+      eval (step line t x op before) vs follows =
+          locate x vs (λ at after. reads_number t x at after (λ old. combined t x at (step_operation op) (promoted t) (promoted t) old 1 line after (λ new. follows (if before then new else old))))
       eval (comma line a b) vs follows = eval a vs (λ x after. eval b after follows)
       eval (assertion line e) vs follows = eval e vs (λ x after. if is_true x then follows 0 after else final (Broken Assertion line running.function))
       eval (assumption line e) vs follows = eval e vs (λ x after. if is_true x then follows 0 after else final Blocked)
@@ -255,15 +459,32 @@ module _ (running : Running) where
       eval (discard line e) vs follows = eval e vs (λ x. follows 0)
       eval (discard_structure a) vs follows = eval_structure a vs (λ value. follows 0)
       eval (call line f used t args) vs follows = eval_arguments args [] vs (λ blocks after. calls f line blocks (received used line (integer_of t) (λ x. follows x after)))
-      eval (function_name line f) vs follows = follows 0 vs
+      eval (function_name line) vs follows = follows 0 vs
+      -- the operand of `sizeof` isn't evaluated (C11 6.5.3.4p2)
+      eval (size_of_value line bits e) vs follows = follows bits vs
+      eval (size_of_structure line bits a) vs follows = follows bits vs
+      -- the pointer to a place is no access to it
+      eval (address line x) vs follows = locate x vs follows
+      eval (sum line a e n false) vs follows = eval a vs (λ p after. eval e after (λ i last. moves false p (integer (number_type e) i) n line (λ q. follows q last)))
+      eval (sum line a e n true) vs follows = eval e vs (λ i after. eval a after (λ p last. moves false p (integer (number_type e) i) n line (λ q. follows q last)))
+      eval (distance line a b n) vs follows = eval a vs (λ p after. eval b after (λ q last. unless_apart p q line (follows (elements_between p q n) last)))
+      eval (relation line op a b) vs follows = eval a vs (λ p after. eval b after (λ q last. unless_apart p q line (follows (truth_bits (compared op UnsignedLong (offset_of p) (offset_of q))) last)))
+      -- so the sums that change the place of a pointer
+      eval (pointer_update line x n e) vs follows =
+          locate x vs (λ at after. eval e after (λ i last. reads_number UnsignedLong x at last (λ p. moves false p (integer (number_type e) i) n line (λ q. writes_number UnsignedLong x at line q last (follows q)))))
+      eval (pointer_step line x n before) vs follows =
+          locate x vs (λ at after. reads_number UnsignedLong x at after (λ p. moves false p (pos 1) n line (λ q. writes_number UnsignedLong x at line q after (follows (if before then q else p)))))
+      eval (allocate line e) vs follows = eval e vs (λ n after. mallocs n line (λ p. follows p after))
+      eval (allocate_zeroed line a b) vs follows = eval a vs (λ m after. eval b after (λ n last. callocs m n line (λ p. follows p last)))
+      eval (release line e) vs follows = eval e vs (λ p after. frees p line (follows 0 after))
+      eval (exit line e) vs follows = eval e vs (λ x after. ends_process line)
+      eval (abort line) vs follows = ends_process line
 
       -- a structure value is its bytes
       pub eval_structure : Structure → Variables → (List ℕ → Variables → Behaviour) → Behaviour
-      eval_structure (copy line v offset size) vs follows = follows (take size (drop offset (block_of vs v))) vs
-      eval_structure (load line k offset size) vs follows = asks_bytes k offset size line (λ value. follows value vs)
+      eval_structure (copy x size) vs follows = locate x vs (λ at after. reads (variable_of x) at size (place_line x) after (λ value. follows value after))
       eval_structure (choose line test a b) vs follows = eval test vs (λ x after. if is_true x then eval_structure a after follows else eval_structure b after follows)
-      eval_structure (put line v offset a) vs follows = eval_structure a vs (λ value after. follows value (put_bytes after v offset value))
-      eval_structure (store line k offset a) vs follows = eval_structure a vs (λ value after. tells_bytes k offset value line (follows value after))
+      eval_structure (put line x a) vs follows = locate x vs (λ at after. eval_structure a after (λ value last. writes (variable_of x) at value line last (follows value)))
       eval_structure (follow line e a) vs follows = eval e vs (λ x after. eval_structure a after follows)
       eval_structure (section line offset size a) vs follows = eval_structure a vs (λ value. follows (take size (drop offset value)))
       eval_structure (list line size parts) vs follows = eval_parts parts (zeros size) vs follows
@@ -302,13 +523,13 @@ module _ (running : Running) where
     abbrev mutual
       -- a statement, what follows behind it, and where else it may go on (C11 6.8)
       pub exec : Statement → Exits → Variables → (Variables → Behaviour) → Behaviour
-      exec (block items) exits vs follows = enter items vs (λ after. exec_items items exits after follows)
+      exec (block items) exits vs follows = enter items vs (λ after. exec_items items (leaving (leave items) exits) after (λ last. leave items last (follows last)))
       exec (if_then line test s) exits vs follows = eval test vs (λ x after. if is_true x then exec s exits after follows else follows after)
       exec (if_else line test s t) exits vs follows = eval test vs (λ x after. if is_true x then exec s exits after follows else exec t exits after follows)
       exec (evaluate e) exits vs follows = eval e vs (λ x. follows)
-      exec (returns line e) exits vs follows = eval e vs (λ x after. exits.returns (number x))
-      exec (returns_structure line a) exits vs follows = eval_structure a vs (λ value after. exits.returns (structure value))
-      exec (returns_nothing line) exits vs follows = exits.returns nothing
+      exec (returns line e) exits vs follows = eval e vs (λ x. exits.returns (number x))
+      exec (returns_structure line a) exits vs follows = eval_structure a vs (λ value. exits.returns (structure value))
+      exec (returns_nothing line) exits vs follows = exits.returns nothing vs
       exec (for_loop line n first test last s) exits vs follows =
           eval_part first vs (λ start.
           tested test start
@@ -318,8 +539,9 @@ module _ (running : Running) where
           rounds line (λ again now. exec s (in_loop exits follows (at_end None (Some test) again follows)) now (at_end None (Some test) again follows)) (running.tests n) vs
       exec (switch line e items) exits vs follows =
           eval e vs (λ x after.
-          if has_case items x then enter items after (λ now. at_case items x (in_switch exits follows) now follows)
-          else (if has_default items then enter items after (λ now. at_default items (in_switch exits follows) now follows) else follows after))
+          let out : (Variables → Behaviour) = λ last. leave items last (follows last) in
+          if has_case items x then enter items after (λ now. at_case items x (leaving (leave items) (in_switch exits follows)) now out)
+          else (if has_default items then enter items after (λ now. at_default items (leaving (leave items) (in_switch exits follows)) now out) else follows after))
       exec (breaks line) exits vs follows = exits.breaks vs
       exec (continues line) exits vs follows = exits.continues vs
       exec (jumps line n) exits vs follows = exits.labels n vs
@@ -329,8 +551,8 @@ module _ (running : Running) where
       pub exec_items : Items → Exits → Variables → (Variables → Behaviour) → Behaviour
       exec_items done exits vs follows = follows vs
       exec_items (declares line v rest) exits vs follows = exec_items rest exits vs follows
-      exec_items (initializes line v is_drawn e rest) exits vs follows = eval e vs (λ x after. exec_items rest exits (write_variable after v 0 (number_type e) x) follows)
-      exec_items (initializes_structure line v is_drawn a rest) exits vs follows = eval_structure a vs (λ value after. exec_items rest exits (put_bytes after v 0 value) follows)
+      exec_items (initializes line v is_drawn e rest) exits vs follows = eval e vs (λ x after. initial (home_of v) v (low_bytes (bytes (number_type e)) x) line after (λ now. exec_items rest exits now follows))
+      exec_items (initializes_structure line v is_drawn a rest) exits vs follows = eval_structure a vs (λ value after. initial (home_of v) v value line after (λ now. exec_items rest exits now follows))
       exec_items (does s rest) exits vs follows = exec s (with_labels exits (λ n now. at_label rest n exits now follows)) vs (λ after. exec_items rest exits after follows)
       exec_items (label n rest) exits vs follows = exec_items rest exits vs follows
       exec_items (case_at line t bits rest) exits vs follows = exec_items rest exits vs follows
@@ -370,25 +592,52 @@ module _ (running : Running) where
       at_default (default_at line rest) exits vs follows = exec_items rest exits vs follows
 
     -- a function's body with these arguments; what it hands over at its end goes to what follows
-    abbrev pub exec_body : Option Statement → List (List ℕ) → (Given → Behaviour) → Behaviour
-    exec_body None blocks follows = final Blocked
-    exec_body (Some s) blocks follows = exec s (in_function follows) (frame blocks) (λ vs. follows nothing)
+    abbrev pub exec_body : Statement → List (List ℕ) → (Given → Behaviour) → Behaviour
+    exec_body s blocks follows =
+        let out = leave_parameters (length blocks) 0 in
+        enter_parameters (length blocks) 0 (frame blocks) (λ vs.
+        exec s (leaving out (in_function running.line running.function follows)) vs (λ last. out last (follows nothing)))
 
 -- ---- calls
 
--- the functions of a file by their numbers, how many times the test of each of their loops may be evaluated at an arrival, by the numbers of function and loop, and whether passing a bound breaks a check
+-- the functions of a file by their numbers, how many times the test of each of their loops may be evaluated at an arrival, by the numbers of function and loop, whether passing a bound breaks a check, the number of the first literal's object, the greatest size that may be allocated, and whether an allocation may fail
 pub record Code : Type 0 where
   pub functions : List Procedure
   pub tests : (function loop : ℕ) → ℕ
   pub assertions : Bool
+  pub literals : ℕ
+  pub malloc_limit : ℕ
+  pub malloc_may_fail : Bool
 
-abbrev pub running_at : Code → ℕ → Procedure → Running
-running_at code f p = record { function = f; sizes = p.variables; tests = code.tests f; assertions = code.assertions }
+-- the body of a function, where it is there and defined
+abbrev pub body_of : Option Procedure → Option Statement
+body_of None = None
+body_of (Some p) = p.body
 
--- a call of a function, with what the calls in it do
-abbrev pub enters : Code → ℕ → Option Procedure → ((function line : ℕ) → List (List ℕ) → (Given → Behaviour) → Behaviour) → List (List ℕ) → (Given → Behaviour) → Behaviour
-enters code f None calls blocks follows = final Blocked
-enters code f (Some p) calls blocks follows = exec_body (running_at code f p) calls p.body blocks follows
+abbrev pub variables_of : Option Procedure → List Variable
+variables_of None = []
+variables_of (Some p) = p.variables
+
+abbrev pub line_of : Option Procedure → ℕ
+line_of None = 0
+line_of (Some p) = p.line
+
+abbrev pub running_in : Code → ℕ → Running
+running_in code f = record {
+  function = f;
+  line = line_of (slice_get code.functions f);
+  variables = variables_of (slice_get code.functions f);
+  tests = code.tests f;
+  assertions = code.assertions;
+  literals = code.literals;
+  malloc_limit = code.malloc_limit;
+  malloc_may_fail = code.malloc_may_fail;
+}
+
+-- a call of a function, with what the calls in it do; one that isn't there or has no body breaks a check at the call, and no file calls one
+abbrev pub enters : Code → (caller line : ℕ) → ℕ → Option Statement → ((function line : ℕ) → List (List ℕ) → (Given → Behaviour) → Behaviour) → List (List ℕ) → (Given → Behaviour) → Behaviour
+enters code caller line f None calls blocks follows = final (Broken Assertion line caller)
+enters code caller line f (Some s) calls blocks follows = exec_body (running_in code f) calls s blocks follows
 
 -- of all functions together
 abbrev pub total : List ℕ → ℕ
@@ -404,4 +653,4 @@ abbrev pub activation : Code → (fuel : ℕ) (left : List ℕ) (caller : ℕ) �
 activation code zero left caller f line blocks follows = passed code.assertions Recursion line caller
 activation code (suc fuel) left caller f line blocks follows =
     if slice_index left f == 0 then passed code.assertions Recursion line caller
-    else enters code f (slice_get code.functions f) (activation code fuel (opened left f) f) blocks follows
+    else enters code caller line f (body_of (slice_get code.functions f)) (activation code fuel (opened left f) f) blocks follows

@@ -1,25 +1,26 @@
 //! The plans of calls: their arguments, their start, and what they give.
 
 ghost use Rattle.std.specs.Prelude.{◌≡◌, ◌+◌, ◌-◌, true, Some, None, IfOk, drop, slice_get, slice_index, is_some};
-ghost use Rattle.core_tree.specs.Trees.{arguments_of, call, give};
+ghost use Rattle.core_tree.specs.Trees.{arguments_of, items_of, call, give};
 ghost use Rattle.c_tasks.specs.declared.task.Plan.TheVariants as Plan;
 ghost use Rattle.c_tasks.specs.declared.task.Stacked.TheVariants as Stacked;
 ghost use Rattle.c_tasks.specs.declared.task.Taken.TheVariants as Taken;
 ghost use Rattle.c_tasks.specs.declared.task.Task.TheVariants as Task;
 ghost use Rattle.c_tasks.specs.declared.task.Written.TheVariants as Written;
-ghost use Rattle.c_tasks.specs.Items.{Item, evaluates, evaluates_structure, wants_end, blocks_on, gathers, adds_number, gets, line_of};
+ghost use Rattle.c_tasks.specs.Items.{Item, evaluates, evaluates_structure, wants_end, blocks_on, gathers, adds_number, gets, switches, enters_parameters, ends_parameters, leaves_parameters, line_of};
 ghost use Rattle.c_tasks.specs.Steps.{move_call};
-ghost use Rattle.c_tasks.specs.Tasks.{item_of, want_of, how_of, body_of};
-ghost use Rattle.c_tasks.specs.Plans.{FitsIn, PlansItem, Plans, IsOfCall, file_in, code_in, active_in, items_behind, values_on, structures_on};
+ghost use Rattle.c_meaning.specs.Meaning.{body_of};
+ghost use Rattle.c_tasks.specs.Tasks.{item_of, want_of, how_of};
+ghost use Rattle.c_tasks.specs.Plans.{FitsIn, PlansItem, Plans, IsOfCall, file_in, code_in, running_in, active_in, items_behind, values_on, structures_on};
 
 use c_tasks::{
-    Block, Call, Cut, Halt, Handed, Look, Plan, Request, Stacked, Taken, Task, Wanted, Written,
-    evaluating, evaluation, integer_of, number_type_of, plan_passed_bound, pushes, puts, stacks,
-    takes, top_of,
+    Block, Call, Cut, Halt, Handed, Look, Part, Plan, Request, Stacked, Taken, Task, Wanted,
+    Written, evaluating, evaluation, integer_of, number_type_of, plan_passed_bound, pushes, puts,
+    stacks, takes, top_of,
 };
 use c_types::{IntegerType, ValueType};
 use c_values::{Number, low_bytes, read_block};
-use core_tree::CoreArgument;
+use core_tree::{CoreArgument, CoreItem};
 use std::alloc::AllocError;
 use words::Class;
 
@@ -140,7 +141,7 @@ fn plan_call<'a>(look: &Look, want: Wanted, function: u32, count: usize) -> Plan
             count,
         })
     } else {
-        Plan::Halts(Halt::Blocks)
+        Plan::Halts(Halt::Breaks(Class::Assertion, line_of(want)))
     }
 }
 
@@ -265,13 +266,73 @@ pub fn plan_get<'a>(look: &Look, want: Wanted, how: Handed) -> Result<Plan<'a>, 
     }
 }
 
+// The line of the running function's name.
+fn line_of_function(look: &Look) -> u32
+    ensures { result ≡ (running_in look.now).line }
+{
+    match look.functions.get(look.function as usize) {
+        Some(function) => function.line,
+        None => 0,
+    }
+}
+
+// The objects of the variables of a switch's items die.
+fn plan_leave<'a>(_look: &Look, items: &'a Vec<CoreItem>) -> Plan<'a>
+    ensures { PlansItem _look.now (switches (items_of items.now.items)) result }
+{
+    let task = Task::Items {
+        items,
+        from: 0,
+        part: Part::Exit,
+    };
+    pushes(Taken::None, task, None, None)
+}
+
+// The parameters from one on up to another become objects.
+#[tactic(auto, using(crate::proofs::Parameters::entered, crate::proofs::Parameters::all_entered))]
+fn plan_parameters<'a>(look: &Look, from: usize, end: usize) -> Plan<'a>
+    ensures { PlansItem look.now (enters_parameters (end - from) from) result }
+{
+    if end <= from {
+        return takes(Taken::None);
+    }
+    let settle = Task::Settle(line_of_function(look), from);
+    let next = Task::EnterParameters(from + 1, end);
+    pushes(Taken::None, settle, Some(next), None)
+}
+
+// The objects of the parameters from one on up to another die, the last one first.
+#[tactic(auto, using(crate::proofs::Parameters::dying, crate::proofs::Parameters::all_dead))]
+fn plan_last<'a>(look: &Look, from: usize, end: usize) -> Plan<'a>
+    ensures { PlansItem look.now (leaves_parameters (end - from) from) result }
+{
+    if end <= from {
+        return takes(Taken::None);
+    }
+    let die = Task::Die(line_of_function(look), from);
+    let others = Task::LeaveParameters(from + 1, end);
+    pushes(Taken::None, others, Some(die), None)
+}
+
+// The objects of so many parameters die.
+#[tactic(auto, using(crate::proofs::Parameters::first_of_all))]
+fn plan_ends<'a>(_look: &Look, count: usize) -> Plan<'a>
+    ensures { PlansItem _look.now (ends_parameters count) result }
+{
+    pushes(Taken::None, Task::LeaveParameters(0, count), None, None)
+}
+
 /// The plan of a task of a call or an end.
 pub fn plan_call_task<'a>(look: &Look, task: &Task<'a>) -> Plan<'a>
     requires { IsOfCall task.now }
     ensures { PlansItem look.now (item_of task.now) result }
 {
     match task {
-        Task::Switched => takes(Taken::None),
+        Task::Switched(items) => plan_leave(look, *items),
+        Task::EnterParameters(from, end) => plan_parameters(look, *from, *end),
+        Task::EndParameters(count) => plan_ends(look, *count),
+        Task::LeaveParameters(from, end) => plan_last(look, *from, *end),
+        Task::Stray => Plan::Halts(Halt::Breaks(Class::Assertion, line_of_function(look))),
         Task::Begin { function, line } => {
             plan_call(look, Wanted::End { line: *line }, *function, 0)
         }
@@ -282,7 +343,7 @@ pub fn plan_call_task<'a>(look: &Look, task: &Task<'a>) -> Plan<'a>
             from,
         } => plan_argument(look, *want, *function, *arguments, *from),
         Task::Resume { .. } => Plan::Cuts(Cut::Return(Handed::Nothing)),
-        Task::Hand(how) => Plan::Cuts(Cut::Return(*how)),
+        Task::Out(cut) => Plan::Cuts(*cut),
         Task::End(line, value) => {
             let request = if look.first {
                 Request::Exit

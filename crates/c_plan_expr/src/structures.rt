@@ -1,7 +1,7 @@
 //! What is done with values of structures.
 
 ghost use Rattle.std.specs.Prelude.{◌≡◌, true, false, Some, None, IfOk, take, drop};
-ghost use Rattle.core_tree.specs.Trees.{view_structure, parts_of, load, list};
+ghost use Rattle.core_tree.specs.Trees.{view_place, view_structure, parts_of, list};
 ghost use Rattle.c_values.specs.Variables.{number_at, block_of};
 ghost use Rattle.c_values.specs.Numbers.{typed};
 ghost use Rattle.c_tasks.specs.declared.task.Plan.TheVariants as Plan;
@@ -9,19 +9,22 @@ ghost use Rattle.c_tasks.specs.declared.task.Stacked.TheVariants as Stacked;
 ghost use Rattle.c_tasks.specs.declared.task.Taken.TheVariants as Taken;
 ghost use Rattle.c_tasks.specs.declared.task.Task.TheVariants as Task;
 ghost use Rattle.c_tasks.specs.declared.task.Written.TheVariants as Written;
-ghost use Rattle.c_tasks.specs.Items.{top_bytes, evaluates_structure, picks, discards_structure, puts, stores_structure, cuts, lists, places_number, places_structure, initial_structure};
+ghost use Rattle.c_tasks.specs.Items.{top_bytes, evaluates_structure, picks, discards_structure, copies, stores_structure, cuts, lists, places_number, places_structure, initial_structure};
 ghost use Rattle.c_tasks.specs.Tasks.{completion_of, structure_item, structures_in};
 ghost use Rattle.c_tasks.specs.Plans.{FitsIn, PlansItem, IsByPart};
 
 use crate::calls::plan_structure_call;
+use crate::places::{is_within, line_of_place, top_bits};
 use c_tasks::{
     Block, Halt, Look, Plan, Request, Stacked, Taken, Task, Written, evaluating, evaluation,
-    number_type_of, pushes, stacks, takes, top_of,
+    held_pointer, home_of_variable, locating, number_type_of, pushes, size_of_top, stacks, takes,
+    top_of, variable_of,
 };
 use c_types::IntegerType;
-use c_values::{Number, pointer_to, read_block};
-use core_tree::{CoreExpr, CorePart, CoreStructure};
+use c_values::{Number, offset_of, read_block};
+use core_tree::{CoreExpr, CorePart, CoreStructure, Place};
 use std::alloc::{AllocError, Global};
+use words::Class;
 
 // ---- what is looked at
 
@@ -91,21 +94,6 @@ fn plan_structure<'a>(look: &Look, value: &'a CoreStructure) -> Result<Plan<'a>,
     ensures { IfOk result (λ p. PlansItem look.now (evaluates_structure (view_structure value.now)) p) }
 {
     match value {
-        CoreStructure::Read {
-            variable,
-            offset,
-            size,
-            ..
-        } => {
-            let block = section_of_variable(look, *variable, *offset, *size)?;
-            Ok(plan_pushed(block))
-        }
-        CoreStructure::Load {
-            line,
-            object,
-            offset,
-            size,
-        } => Ok(plan_load(look, *line, *object, *offset, *size)),
         CoreStructure::List { line, size, parts } => plan_started(look, *line, *size, parts),
         CoreStructure::String { size, bytes, .. } => {
             let block = Block::of_string(look.alloc, *size, bytes)?;
@@ -120,13 +108,6 @@ fn plan_structure<'a>(look: &Look, value: &'a CoreStructure) -> Result<Plan<'a>,
         } => Ok(plan_structure_call(look, *line, *function, *used, *size, arguments)),
         _ => Ok(plan_first_part(look, value)),
     }
-}
-
-// The bytes of a static object are asked for.
-fn plan_load<'a>(_look: &Look, line: u32, object: u32, offset: u32, size: u32) -> Plan<'a>
-    ensures { PlansItem _look.now (evaluates_structure (load line object offset size)) result }
-{
-    Plan::Halts(Halt::Asks(Request::Read(pointer_to(object, offset), size), line))
 }
 
 // A structure value comes on top.
@@ -220,9 +201,20 @@ fn plan_first_part<'a>(look: &Look, value: &'a CoreStructure) -> Plan<'a>
     ensures { PlansItem look.now (evaluates_structure (view_structure value.now)) result }
 {
     match value {
+        CoreStructure::Read { place, .. } => {
+            pushes(Taken::None, locating(place), Some(completion(value)), None)
+        }
         CoreStructure::Choice { test, .. } => number_first(test, value),
-        CoreStructure::Assign { value: inner, .. } => inner_first(inner, value),
-        CoreStructure::Store { value: inner, .. } => inner_first(inner, value),
+        CoreStructure::Assign {
+            place,
+            value: inner,
+            ..
+        } => pushes(
+            Taken::None,
+            locating(place),
+            Some(evaluation(inner)),
+            Some(completion(value)),
+        ),
         CoreStructure::Comma { left, .. } => number_first(left, value),
         CoreStructure::Member { value: inner, .. } => inner_first(inner, value),
         _ => unreachable!(),
@@ -242,40 +234,90 @@ fn plan_complete<'a>(look: &Look, value: &'a CoreStructure) -> Result<Plan<'a>, 
                 Ok(pushes(Taken::One, evaluation(no), None, None))
             }
         }
-        CoreStructure::Assign {
-            variable,
-            offset,
-            ..
-        } => Ok(plan_put(look, *variable, *offset)),
-        CoreStructure::Store {
-            line,
-            object,
-            offset,
-            ..
-        } => Ok(plan_tell(look, *line, *object, *offset)),
+        CoreStructure::Read { place, size } => plan_copy(look, place, *size),
+        CoreStructure::Assign { line, place, .. } => Ok(plan_put(look, *line, place)),
         CoreStructure::Comma { right, .. } => Ok(pushes(Taken::One, evaluation(right), None, None)),
         CoreStructure::Member { offset, size, .. } => plan_cut(look, *offset, *size),
         _ => Ok(takes(Taken::One)),
     }
 }
 
-// The structure value on top is written at an offset of a variable.
-fn plan_put<'a>(look: &Look, variable: u32, offset: u32) -> Plan<'a>
-    requires { FitsIn look.now (puts variable offset) }
-    ensures { PlansItem look.now (puts variable offset) result }
+// The bytes of a place that is evaluated come on top.
+fn plan_copy<'a>(look: &Look, place: &Place, size: u32) -> Result<Plan<'a>, AllocError>
+    ensures { IfOk result (λ p. PlansItem look.now (copies (view_place place.now) size) p) }
+{
+    let at = top_bits(look);
+    let line = line_of_place(place);
+    match variable_of(look, place) {
+        None => Ok(Plan::Halts(Halt::Asks(Request::Read(at, size), line))),
+        Some(variable) => {
+            if is_within(look, variable, at, size as usize) {
+                plan_copied(look, variable, offset_of(at), size)
+            } else {
+                Ok(Plan::Halts(Halt::Breaks(Class::Bounds, line)))
+            }
+        }
+    }
+}
+
+// So many bytes of a variable from an offset on come on top, in the place of a number.
+fn plan_copied<'a>(
+    look: &Look,
+    variable: u32,
+    offset: u32,
+    size: u32,
+) -> Result<Plan<'a>, AllocError>
+    ensures { IfOk result (λ p. p ≡ Plan.Goes (record {
+      tasks = record { first = None; second = None; third = None };
+      taken = Taken.One;
+      put = None;
+      stacked = Stacked.Pushed (take size (drop offset (block_of look.now.variables.now variable)));
+      written = Written.Nothing;
+    })) }
+{
+    let block = section_of_variable(look, variable, offset, size)?;
+    Ok(stacks(
+        None,
+        Taken::One,
+        None,
+        Stacked::Pushed(block),
+        Written::Nothing,
+    ))
+}
+
+// The structure value on top is written at a place that is evaluated.
+fn plan_put<'a>(look: &Look, line: u32, place: &Place) -> Plan<'a>
+    requires { FitsIn look.now (stores_structure line (view_place place.now)) }
+    ensures { PlansItem look.now (stores_structure line (view_place place.now)) result }
+{
+    let at = top_bits(look);
+    match variable_of(look, place) {
+        None => Plan::Halts(Halt::Asks(Request::WriteStructure(at, false), line)),
+        Some(variable) => {
+            if is_within(look, variable, at, size_of_top(look.structures)) {
+                plan_placed(variable, offset_of(at))
+            } else {
+                Plan::Halts(Halt::Breaks(Class::Bounds, line))
+            }
+        }
+    }
+}
+
+// The structure value on top is written in a variable; a number is taken.
+fn plan_placed<'a>(variable: u32, offset: u32) -> Plan<'a>
+    ensures { result ≡ Plan.Goes (record {
+      tasks = record { first = None; second = None; third = None };
+      taken = Taken.One;
+      put = None;
+      stacked = Stacked.Kept;
+      written = Written.Top variable offset;
+    }) }
 {
     let top = Written::Top {
         variable,
         offset: offset as usize,
     };
-    stacks(None, Taken::None, None, Stacked::Kept, top)
-}
-
-// The structure value on top is to be written at an offset of a static object.
-fn plan_tell<'a>(_look: &Look, line: u32, object: u32, offset: u32) -> Plan<'a>
-    ensures { PlansItem _look.now (stores_structure line object offset) result }
-{
-    Plan::Halts(Halt::Asks(Request::WriteStructure(pointer_to(object, offset)), line))
+    stacks(None, Taken::One, None, Stacked::Kept, top)
 }
 
 // A section takes the place of the structure value on top.
@@ -374,10 +416,14 @@ pub fn plan_discard<'a>(look: &Look) -> Plan<'a>
 }
 
 /// An initializer's structure value is written.
-pub fn plan_initial_structure<'a>(look: &Look, variable: u32) -> Plan<'a>
-    requires { FitsIn look.now (initial_structure variable) }
-    ensures { PlansItem look.now (initial_structure variable) result }
+pub fn plan_initial_structure<'a>(look: &Look, line: u32, variable: u32) -> Plan<'a>
+    requires { FitsIn look.now (initial_structure line variable) }
+    ensures { PlansItem look.now (initial_structure line variable) result }
 {
+    if let Some(home) = home_of_variable(look, variable as usize) {
+        let request = Request::WriteStructure(held_pointer(look, home), true);
+        return Plan::Halts(Halt::Asks(request, line));
+    }
     let top = Written::Top {
         variable,
         offset: 0,

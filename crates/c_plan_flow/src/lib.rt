@@ -4,5 +4,7 @@
 mod block_items;
 mod plan_statements;
 
-pub use block_items::{plan_entry, plan_fill, plan_initial, plan_items};
+pub use block_items::{
+    plan_death, plan_entry, plan_exit, plan_fill, plan_initial, plan_items, plan_settle,
+};
 pub use plan_statements::{plan_stage, running};

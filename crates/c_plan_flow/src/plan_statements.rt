@@ -16,10 +16,10 @@ ghost use Rattle.c_tasks.specs.Plans.{LeadsOut};
 ghost use Rattle.c_tasks.specs.Tasks.{end_of, loop_in, statement_item};
 ghost use Rattle.c_tasks.specs.Plans.{PlansItem, Plans, code_in};
 
-use crate::block_items::{entry, going_on, plan_select};
+use crate::block_items::{entry, going_on, items_task, plan_select};
 use c_tasks::{
-    Cut, Halt, Handed, Look, Plan, Stacked, Stage, Taken, Task, Written, evaluating, evaluation,
-    plan_passed_bound, pushes, takes, top_of,
+    Cut, Halt, Handed, Look, Part, Plan, Stacked, Stage, Taken, Task, Written, evaluating,
+    evaluation, plan_passed_bound, pushes, takes, top_of,
 };
 use c_values::Number;
 use core_tree::{Bounds, CoreExpr, CoreItem, CoreStatement, CoreStructure, LoopBound};
@@ -130,7 +130,12 @@ fn test_first<'a>(test: &'a CoreExpr, statement: &'a CoreStatement, stage: Stage
 fn plan_block<'a>(look: &Look, items: &'a Vec<CoreItem>) -> Plan<'a>
     ensures { PlansItem look.now (runs (block (items_of items.now.items))) result }
 {
-    pushes(Taken::None, entry(items, 0), Some(going_on(items, 0)), None)
+    pushes(
+        Taken::None,
+        entry(items, 0),
+        Some(going_on(items, 0)),
+        Some(items_task(items, 0, Part::End)),
+    )
 }
 
 // A part of a loop whose value isn't used is evaluated before another task.
@@ -183,6 +188,19 @@ fn plan_statement<'a>(look: &Look, statement: &'a CoreStatement) -> Plan<'a>
     }
 }
 
+// A statement leads out of others.
+fn goes_out<'a>(cut: Cut) -> Plan<'a>
+    ensures { result ≡ Plan.Goes (record {
+      tasks = record { first = Some (Task.Out cut); second = None; third = None };
+      taken = Taken.None;
+      put = None;
+      stacked = Stacked.Kept;
+      written = Written.Nothing;
+    }) }
+{
+    pushes(Taken::None, Task::Out(cut), None, None)
+}
+
 // The plan of a statement that leads out of others.
 fn plan_jump<'a>(look: &Look, statement: &'a CoreStatement) -> Plan<'a>
     requires { LeadsOut (view_statement statement.now) }
@@ -191,12 +209,10 @@ fn plan_jump<'a>(look: &Look, statement: &'a CoreStatement) -> Plan<'a>
     match statement {
         CoreStatement::Return { value, .. } => number_first(value, statement),
         CoreStatement::ReturnStructure { value, .. } => value_first(value, statement),
-        CoreStatement::ReturnNothing { .. } => {
-            pushes(Taken::None, Task::Hand(Handed::Nothing), None, None)
-        }
-        CoreStatement::Break { .. } => Plan::Cuts(Cut::Break),
-        CoreStatement::Continue { .. } => Plan::Cuts(Cut::Continue),
-        CoreStatement::Goto { label, .. } => Plan::Cuts(Cut::Jump(*label)),
+        CoreStatement::ReturnNothing { .. } => { goes_out(Cut::Return(Handed::Nothing)) }
+        CoreStatement::Break { .. } => goes_out(Cut::Break),
+        CoreStatement::Continue { .. } => goes_out(Cut::Continue),
+        CoreStatement::Goto { label, .. } => goes_out(Cut::Jump(*label)),
         _ => unreachable!(),
     }
 }

@@ -5,7 +5,7 @@ use Rattle.std.specs.Str.{bytes_eq}
 use Rattle.c_types.specs.declared.integers.IntegerType.TheVariants.{Int}
 use Rattle.core_tree.specs.declared.functions.PassedType.TheVariants as passed
 use Rattle.core_tree.specs.Typed.{same_given}
-use Rattle.core_tree.specs.Trees.{Expression, constant, read, convert, sign, is_zero, arithmetic, compare, logical, choice, assign, update, step, comma, assertion, assumption, draw, part, discard, discard_structure, call, function_name, Structure, copy, load, choose, put, store, follow, section, list, string, give, Parts, no_part, number_part, structure_part, Arguments, no_argument, number_argument, structure_argument, Statement, block, if_then, if_else, evaluate, returns, returns_structure, returns_nothing, for_loop, do_loop, switch, breaks, continues, jumps, stray, Items, done, declares, initializes, initializes_structure, does, label, case_at, default_at, Procedure, Static, TypedFile}
+use Rattle.core_tree.specs.Trees.{Place, variable_at, object_at, literal_at, pointed, arrow, member, element, subscript, Expression, constant, read, convert, sign, is_zero, arithmetic, compare, logical, choice, assign, update, step, comma, assertion, assumption, draw, part, discard, discard_structure, call, function_name, size_of_value, size_of_structure, address, sum, distance, relation, pointer_update, pointer_step, allocate, allocate_zeroed, release, exit, abort, Structure, copy, choose, put, follow, section, list, string, give, Parts, no_part, number_part, structure_part, Arguments, no_argument, number_argument, structure_argument, Statement, block, if_then, if_else, evaluate, returns, returns_structure, returns_nothing, for_loop, do_loop, switch, breaks, continues, jumps, stray, Items, done, declares, initializes, initializes_structure, does, label, case_at, default_at, Procedure, Static, TypedFile}
 
 -- a broken rule, and the line that it is told with
 pub record Breach : Type 0 where
@@ -43,7 +43,7 @@ abbrev pub main_breach : List Procedure → Option Breach
 main_breach [] = Some (breach 1 1)
 main_breach (f ∷ functions) = if is_main f then definition_breach f else main_breach functions
 
--- ---- rules 2 and 3: a function that is called has a body, and its name stands nowhere else
+-- ---- rules 2 and 3: a function that is called has a body, and its name stands nowhere else, also where nothing is evaluated
 
 abbrev pub is_defined : Option Procedure → Bool
 is_defined None = false
@@ -54,9 +54,19 @@ call_breach functions line f = if is_defined (slice_get functions f) then None e
 
 module _ (functions : List Procedure) where
   abbrev mutual
+    pub place_breach : Place → Option Breach
+    place_breach (variable_at line v offset) = None
+    place_breach (object_at line k offset) = None
+    place_breach (literal_at line k) = None
+    place_breach (pointed line e) = expression_breach e
+    place_breach (arrow line e offset) = expression_breach e
+    place_breach (member line p offset) = place_breach p
+    place_breach (element line p e size whole swapped) = earlier (place_breach p) (expression_breach e)
+    place_breach (subscript line a e size swapped) = earlier (expression_breach a) (expression_breach e)
+
     pub expression_breach : Expression → Option Breach
     expression_breach (constant line t bits) = None
-    expression_breach (read p) = None
+    expression_breach (read t p) = place_breach p
     expression_breach (convert to e) = expression_breach e
     expression_breach (sign line op e) = expression_breach e
     expression_breach (is_zero line e) = expression_breach e
@@ -64,9 +74,9 @@ module _ (functions : List Procedure) where
     expression_breach (compare line op a b) = earlier (expression_breach a) (expression_breach b)
     expression_breach (logical line op a b) = earlier (expression_breach a) (expression_breach b)
     expression_breach (choice line test a b) = earlier (expression_breach test) (earlier (expression_breach a) (expression_breach b))
-    expression_breach (assign line p e) = expression_breach e
-    expression_breach (update line p op t e) = expression_breach e
-    expression_breach (step line p op before) = None
+    expression_breach (assign line t p e) = earlier (place_breach p) (expression_breach e)
+    expression_breach (update line t p op u e) = earlier (place_breach p) (expression_breach e)
+    expression_breach (step line t p op before) = place_breach p
     expression_breach (comma line a b) = earlier (expression_breach a) (expression_breach b)
     expression_breach (assertion line e) = expression_breach e
     expression_breach (assumption line e) = expression_breach e
@@ -75,14 +85,25 @@ module _ (functions : List Procedure) where
     expression_breach (discard line e) = expression_breach e
     expression_breach (discard_structure a) = structure_breach a
     expression_breach (call line f used t args) = earlier (call_breach functions line f) (arguments_breach args)
-    expression_breach (function_name line f) = Some (breach line 3)
+    expression_breach (function_name line) = Some (breach line 3)
+    expression_breach (size_of_value line bits e) = expression_breach e
+    expression_breach (size_of_structure line bits a) = structure_breach a
+    expression_breach (address line p) = place_breach p
+    expression_breach (sum line a e n swapped) = earlier (expression_breach a) (expression_breach e)
+    expression_breach (distance line a b n) = earlier (expression_breach a) (expression_breach b)
+    expression_breach (relation line op a b) = earlier (expression_breach a) (expression_breach b)
+    expression_breach (pointer_update line p n e) = earlier (place_breach p) (expression_breach e)
+    expression_breach (pointer_step line p n before) = place_breach p
+    expression_breach (allocate line e) = expression_breach e
+    expression_breach (allocate_zeroed line a b) = earlier (expression_breach a) (expression_breach b)
+    expression_breach (release line e) = expression_breach e
+    expression_breach (exit line e) = expression_breach e
+    expression_breach (abort line) = None
 
     pub structure_breach : Structure → Option Breach
-    structure_breach (copy line v offset size) = None
-    structure_breach (load line k offset size) = None
+    structure_breach (copy p size) = place_breach p
     structure_breach (choose line test a b) = earlier (expression_breach test) (earlier (structure_breach a) (structure_breach b))
-    structure_breach (put line v offset a) = structure_breach a
-    structure_breach (store line k offset a) = structure_breach a
+    structure_breach (put line p a) = earlier (place_breach p) (structure_breach a)
     structure_breach (follow line e a) = earlier (expression_breach e) (structure_breach a)
     structure_breach (section line offset size a) = structure_breach a
     structure_breach (list line size parts) = parts_breach parts

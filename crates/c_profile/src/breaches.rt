@@ -2,13 +2,13 @@
 
 ghost use Rattle.std.specs.Prelude.{◌≡◌, length, option_map, slice_get, take, IfOk, OnOk};
 ghost use Rattle.std.specs.List.{list_any};
-ghost use Rattle.core_tree.specs.Trees.{view, boxed, view_structure, view_functions, view_statement, parts_of, with_part, arguments_of, with_argument, items_of, with_item};
+ghost use Rattle.core_tree.specs.Trees.{view, boxed, view_place, view_structure, view_functions, view_statement, parts_of, with_part, arguments_of, with_argument, items_of, with_item};
 ghost use Rattle.c_profile.specs.Rules as rules;
 ghost use Rattle.c_profile.specs.Rules.{breach, earlier, is_defined, labels_from};
 
 use crate::breach::{Breach, earlier};
 use core_tree::{
-    CoreArgument, CoreExpr, CoreItem, CorePart, CoreStatement, CoreStructure, Function,
+    CoreArgument, CoreExpr, CoreItem, CorePart, CoreStatement, CoreStructure, Function, Place,
 };
 use std::alloc::AllocError;
 
@@ -33,12 +33,34 @@ fn call_breach(functions: &[Function], line: u32, function: u32) -> Option<Breac
 }
 
 #[cycle(expression)]
+fn place_breach(functions: &[Function], place: &Place) -> Option<Breach>
+    ensures { result ≡ rules.place_breach (view_functions functions.now) (view_place place.now) }
+{
+    match place {
+        Place::Variable { .. } => None,
+        Place::Object { .. } => None,
+        Place::Literal { .. } => None,
+        Place::Pointed { pointer, .. } => expression_breach(functions, pointer),
+        Place::Arrow { pointer, .. } => expression_breach(functions, pointer),
+        Place::Member { place, .. } => place_breach(functions, place),
+        Place::Element { place, index, .. } => earlier(
+            place_breach(functions, place),
+            expression_breach(functions, index),
+        ),
+        Place::Subscript { pointer, index, .. } => earlier(
+            expression_breach(functions, pointer),
+            expression_breach(functions, index),
+        ),
+    }
+}
+
+#[cycle(expression)]
 fn expression_breach(functions: &[Function], expr: &CoreExpr) -> Option<Breach>
     ensures { result ≡ rules.expression_breach (view_functions functions.now) (view expr.now) }
 {
     match expr {
         CoreExpr::Constant { .. } => None,
-        CoreExpr::Read { .. } => None,
+        CoreExpr::Read { place, .. } => place_breach(functions, place),
         CoreExpr::Convert { operand, .. } => expression_breach(functions, operand),
         CoreExpr::Sign { operand, .. } => expression_breach(functions, operand),
         CoreExpr::IsZero { operand, .. } => expression_breach(functions, operand),
@@ -61,9 +83,15 @@ fn expression_breach(functions: &[Function], expr: &CoreExpr) -> Option<Breach>
             );
             earlier(expression_breach(functions, test), branches)
         },
-        CoreExpr::Assign { value, .. } => expression_breach(functions, value),
-        CoreExpr::Update { value, .. } => expression_breach(functions, value),
-        CoreExpr::Step { .. } => None,
+        CoreExpr::Assign { place, value, .. } => earlier(
+            place_breach(functions, place),
+            expression_breach(functions, value),
+        ),
+        CoreExpr::Update { place, value, .. } => earlier(
+            place_breach(functions, place),
+            expression_breach(functions, value),
+        ),
+        CoreExpr::Step { place, .. } => place_breach(functions, place),
         CoreExpr::Comma { left, right, .. } => earlier(
             expression_breach(functions, left),
             expression_breach(functions, right),
@@ -83,7 +111,35 @@ fn expression_breach(functions: &[Function], expr: &CoreExpr) -> Option<Breach>
             call_breach(functions, *line, *function),
             arguments_breach(functions, arguments),
         ),
-        CoreExpr::FunctionName { line, .. } => Some(Breach::new(*line, 3)),
+        CoreExpr::FunctionName { line } => Some(Breach::new(*line, 3)),
+        CoreExpr::SizeOf { operand, .. } => expression_breach(functions, operand),
+        CoreExpr::SizeOfStructure { operand, .. } => structure_breach(functions, operand),
+        CoreExpr::Address { place, .. } => place_breach(functions, place),
+        CoreExpr::Sum { pointer, index, .. } => earlier(
+            expression_breach(functions, pointer),
+            expression_breach(functions, index),
+        ),
+        CoreExpr::Distance { left, right, .. } => earlier(
+            expression_breach(functions, left),
+            expression_breach(functions, right),
+        ),
+        CoreExpr::Relation { left, right, .. } => earlier(
+            expression_breach(functions, left),
+            expression_breach(functions, right),
+        ),
+        CoreExpr::PointerUpdate { place, value, .. } => earlier(
+            place_breach(functions, place),
+            expression_breach(functions, value),
+        ),
+        CoreExpr::PointerStep { place, .. } => place_breach(functions, place),
+        CoreExpr::Allocate { size, .. } => expression_breach(functions, size),
+        CoreExpr::AllocateZeroed { count, size, .. } => earlier(
+            expression_breach(functions, count),
+            expression_breach(functions, size),
+        ),
+        CoreExpr::Release { pointer, .. } => expression_breach(functions, pointer),
+        CoreExpr::Exit { status, .. } => expression_breach(functions, status),
+        CoreExpr::Abort { .. } => None,
     }
 }
 
@@ -92,8 +148,7 @@ fn structure_breach(functions: &[Function], value: &CoreStructure) -> Option<Bre
     ensures { result ≡ rules.structure_breach (view_functions functions.now) (view_structure value.now) }
 {
     match value {
-        CoreStructure::Read { .. } => None,
-        CoreStructure::Load { .. } => None,
+        CoreStructure::Read { place, .. } => place_breach(functions, place),
         CoreStructure::Choice { test, yes, no, .. } => {
             let branches = earlier(
                 structure_breach(functions, yes),
@@ -101,8 +156,10 @@ fn structure_breach(functions: &[Function], value: &CoreStructure) -> Option<Bre
             );
             earlier(expression_breach(functions, test), branches)
         },
-        CoreStructure::Assign { value, .. } => structure_breach(functions, value),
-        CoreStructure::Store { value, .. } => structure_breach(functions, value),
+        CoreStructure::Assign { place, value, .. } => earlier(
+            place_breach(functions, place),
+            structure_breach(functions, value),
+        ),
         CoreStructure::Comma { left, right, .. } => earlier(
             expression_breach(functions, left),
             structure_breach(functions, right),

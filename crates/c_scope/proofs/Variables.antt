@@ -7,9 +7,10 @@ use Rattle.c_types.specs.declared.types.RecordKind.{RecordKind}
 use Rattle.c_types.specs.Types.{CType, void, integer, aggregate, array, Completed}
 use Rattle.c_types.specs.Layouts.{is_completed, is_complete, is_sized, size_of}
 use Rattle.c_types.proofs.Records.{same_type}
+use Rattle.core_tree.specs.declared.functions.Variable.{Variable as CoreVariable}
 use Rattle.c_scope.specs.declared.meaning.Meaning.{Meaning}
 use Rattle.c_scope.specs.declared.meaning.Meaning.TheVariants.{Variable, Object, Incomplete, Assert, Assume, Draw, Function, Typedef, Enumerator, Record, Enumeration}
-use Rattle.c_scope.specs.Scopes.{Named, ObjectEntry, Environment, is_called, meaning_in, is_there, are_there, are_complete, sizes_of}
+use Rattle.c_scope.specs.Scopes.{Named, ObjectEntry, Environment, is_called, meaning_in, is_there, are_there, are_complete, variable_by, variable_of, variables_of, sizes_of}
 use Rattle.c_scope.specs.Types.{type_size}
 
 pub both : (a b : Bool) → (a && b) ≡ true → (a ≡ true) × (b ≡ true)
@@ -105,8 +106,12 @@ complete_more done (m ∷ ms) n h e =
     let parts = both (is_complete done m.type) (are_complete done ms) h in
     and (is_complete done m.type) (are_complete done (ms ++ n ∷ [])) parts.0 (complete_more done ms n parts.1 e)
 
+pub variables_more : (done : List Completed) (variables : List Named) (n : Named) → variables_of done (variables ++ n ∷ []) ≡ variables_of done variables ++ variable_of done n ∷ []
+variables_more done variables n = map-append (variable_of done) variables (n ∷ [])
+
 pub sizes_more : (done : List Completed) (variables : List Named) (n : Named) → sizes_of done (variables ++ n ∷ []) ≡ sizes_of done variables ++ size_of done n.type ∷ []
-sizes_more done variables n = map-append (λ (m : Named). size_of done m.type) variables (n ∷ [])
+sizes_more done [] n = refl
+sizes_more done (m ∷ ms) n = ap (λ (xs : List ℕ). size_of done m.type ∷ xs) (sizes_more done ms n)
 
 -- a complete type stays complete and keeps its size where another struct or union is completed
 pub complete_later : (done : List Completed) (c : Completed) (t : CType) → is_complete done t ≡ true → is_complete (c ∷ done) t ≡ true
@@ -119,13 +124,13 @@ complete_later done c (aggregate n) is = by (c.place == n) where
 complete_later done c (array e k) is = complete_later done c e is
 
 pub variables_later : (done : List Completed) (c : Completed) (variables : List Named) → is_completed done c.place ≡ false → are_complete done variables ≡ true
-    → (are_complete (c ∷ done) variables ≡ true) × (sizes_of (c ∷ done) variables ≡ sizes_of done variables)
+    → (are_complete (c ∷ done) variables ≡ true) × (variables_of (c ∷ done) variables ≡ variables_of done variables)
 variables_later done c [] before h = (refl, refl)
 variables_later done c (n ∷ ns) before h =
     let parts = both (is_complete done n.type) (are_complete done ns) h in
     let later = variables_later done c ns before parts.1 in
     let same = same_type done c n.type before parts.0 in
-    (and (is_complete (c ∷ done) n.type) (are_complete (c ∷ done) ns) (complete_later done c n.type parts.0) later.0, ap₂ (λ (x : ℕ) (xs : List ℕ). x ∷ xs) same.size later.1)
+    (and (is_complete (c ∷ done) n.type) (are_complete (c ∷ done) ns) (complete_later done c n.type parts.0) later.0, ap₂ (λ (x : ℕ) (xs : List CoreVariable). variable_by x n.constant ∷ xs) same.size later.1)
 
 -- the first variables
 pub take_complete : (done : List Completed) (variables : List Named) (n : ℕ) → are_complete done variables ≡ true → are_complete done (take n variables) ≡ true
@@ -135,7 +140,7 @@ take_complete done (v ∷ vs) (suc n) h =
     let parts = both (is_complete done v.type) (are_complete done vs) h in
     and (is_complete done v.type) (are_complete done (take n vs)) parts.0 (take_complete done vs n parts.1)
 
-pub take_sizes : (done : List Completed) (variables : List Named) (n : ℕ) → sizes_of done (take n variables) ≡ take n (sizes_of done variables)
-take_sizes done variables zero = refl
-take_sizes done [] (suc n) = refl
-take_sizes done (v ∷ vs) (suc n) = ap (λ (xs : List ℕ). size_of done v.type ∷ xs) (take_sizes done vs n)
+pub take_variables : (done : List Completed) (variables : List Named) (n : ℕ) → variables_of done (take n variables) ≡ take n (variables_of done variables)
+take_variables done variables zero = refl
+take_variables done [] (suc n) = refl
+take_variables done (v ∷ vs) (suc n) = ap (λ (xs : List CoreVariable). variable_of done v ∷ xs) (take_variables done vs n)

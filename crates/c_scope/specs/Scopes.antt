@@ -12,7 +12,8 @@ use Rattle.c_types.specs.Types as ctypes
 use Rattle.c_types.specs.Layouts.{is_complete, size_of}
 use Rattle.core_tree.specs.declared.functions.PassedType.{PassedType}
 use Rattle.core_tree.specs.declared.functions.PassedType.TheVariants as passed
-use Rattle.core_tree.specs.Typed.{Sizes, Signature}
+use Rattle.core_tree.specs.declared.functions.Variable.{Variable as CoreVariable}
+use Rattle.core_tree.specs.Typed.{Sizes, Signature, sizes_of_variables, homes_of}
 use Rattle.c_scope.specs.declared.meaning.Meaning.{Meaning}
 use Rattle.c_scope.specs.declared.meaning.Meaning.TheVariants.{Variable, Object, Incomplete, Assert, Assume, Draw, Function, Typedef, Enumerator, Record, Enumeration}
 use Rattle.c_scope.specs.declared.scope.QualifiedType.{QualifiedType}
@@ -295,9 +296,22 @@ are_known s = are_there (length s.variables) (length s.objects) (length s.types)
 abbrev pub are_complete : List Completed → List Named → Bool
 are_complete done variables = list_all (λ n. is_complete done n.type) variables
 
+-- a variable as its typed tree has it: so many bytes, const or not, and without an address
+abbrev pub variable_by : ℕ → Bool → CoreVariable
+variable_by size constant = record { size = size; readonly = constant; home = None }
+
+abbrev pub variable_of : List Completed → Named → CoreVariable
+variable_of done n = variable_by (size_of done n.type) n.constant
+
+abbrev pub variables_of : List Completed → List Named → List CoreVariable
+variables_of done variables = map (variable_of done) variables
+
+abbrev pub variables_in : Scoped → List CoreVariable
+variables_in s = variables_of s.records.done s.variables
+
 -- their sizes in bytes
 abbrev pub sizes_of : List Completed → List Named → List ℕ
-sizes_of done variables = map (λ n. size_of done n.type) variables
+sizes_of done variables = sizes_of_variables (variables_of done variables)
 
 abbrev pub sizes : Scoped → List ℕ
 sizes s = sizes_of s.records.done s.variables
@@ -339,13 +353,16 @@ given_by done (ctypes.array e n) = Some (passed_as done (ctypes.array e n))
 abbrev pub signature_of : List Completed → Callable → Signature
 signature_of done f = record { gives = given_by done f.type.gives.type; parameters = map (passed_as done) f.type.parameters }
 
--- the sizes of what expressions name, the types of the functions that they call, and what the function gives
+-- the sizes of what expressions name, the types of the functions that they call, and what the function gives; no form has a pointer
 abbrev pub all_sizes : Scoped → Sizes
 all_sizes s = record {
   variables = sizes s;
+  homes = homes_of (variables_in s);
   objects = map (object_entry_size s.records.done) s.objects;
+  literals = 0;
   functions = map (signature_of s.records.done) s.functions.all;
   gives = given_by s.records.done s.flow.gives;
+  pointers = false;
 }
 
 -- ---- codes, by which proofs tell scopes apart

@@ -5,7 +5,7 @@ ghost use Rattle.c_types.specs.Types.{integer, view as type_view};
 ghost use Rattle.c_types.specs.Layouts.{kind_at, is_completed, with_completed, are_complete, fits, Refuses, IsBuilt};
 ghost use Rattle.c_scope.specs.Members.{view_fields, view_members, view_tables, field_types, no_members, members_in, members_by, found};
 ghost use Rattle.c_scope.specs.Places.{place_in};
-ghost use Rattle.c_scope.specs.Scopes.{binding, view_object_entry, view_callable, view_function_type, view_flow, with_callable, with_defined, object_at, linked_to, is_incomplete, view_named, meaning_of, tag_of, declares, is_there, are_there, is_known, are_known, plain, built_in_types, built_in_records, built_in_members, first_scope, sizes};
+ghost use Rattle.c_scope.specs.Scopes.{binding, view_object_entry, view_callable, view_function_type, view_flow, with_callable, with_defined, object_at, linked_to, is_incomplete, view_named, meaning_of, tag_of, declares, is_there, are_there, is_known, are_known, plain, built_in_types, built_in_records, built_in_members, first_scope, variables_in};
 ghost use Rattle.c_scope.specs.Scopes as scopes;
 ghost use Rattle.c_scope.specs.Types.{type_size};
 
@@ -19,6 +19,7 @@ use crate::members::{
 };
 use crate::places::Places;
 use c_types::{IntegerType, LayoutError, Layouts, RecordKind, Ty, is_complete};
+use core_tree::Variable;
 use indexmap::IndexMap;
 use std::alloc::{AllocError, Global};
 use std::marker::Model;
@@ -70,7 +71,7 @@ pub struct Scope {
     layouts: Layouts,
     tables: Vec<MemberTable>,
     variables: Vec<QualifiedType>,
-    sizes: Vec<u32>,
+    made: Vec<Variable>,
     objects: Vec<ObjectEntry>,
     linked: IndexMap<Vec<u8>, u32>,
     functions: Functions,
@@ -82,7 +83,7 @@ impl Model for Scope {
     ghost use Rattle.std.specs.Coded.{codes};
     ghost use Rattle.c_types.specs.Types.{coded_records};
     ghost use Rattle.c_scope.specs.Members.{view_tables, coded_members};
-    ghost use Rattle.c_scope.specs.Scopes.{Scoped, view_named, view_object_entry, view_linked, view_flow, are_there, are_complete, sizes_of, coded_named, coded_object_entry, coded_linked, coded_functions, coded_flow};
+    ghost use Rattle.c_scope.specs.Scopes.{Scoped, view_named, view_object_entry, view_linked, view_flow, are_there, are_complete, variables_of, coded_named, coded_object_entry, coded_linked, coded_functions, coded_flow};
     ghost use Rattle.c_scope.specs.Places.{environment, place_in, hidden_in, hidden_of, entries_of, place_at};
 
     ghost Value = { Scoped };
@@ -94,7 +95,7 @@ impl Model for Scope {
     ghost invariant = { λ s. (are_there (length (map view_named s.variables.items)) (length (map view_object_entry s.objects.items)) (length (map view_named s.types.items)) (length s.layouts.declared) (environment s.bounds.items) ≡ true)
         × ((tags : Bool) (name : List ℕ) → place_at (entries_of tags s.places) name ≡ place_in tags (environment s.bounds.items) name)
         × (hidden_of s.bounds.items ≡ hidden_in (environment s.bounds.items))
-        × (s.sizes.items ≡ sizes_of s.layouts.done (map view_named s.variables.items))
+        × (s.made.items ≡ variables_of s.layouts.done (map view_named s.variables.items))
         × (9 ≤ length (map view_named s.types.items))
         × (are_complete s.layouts.done (map view_named s.variables.items) ≡ true)
         × (length s.tables.items ≡ length s.layouts.declared) };
@@ -163,7 +164,7 @@ impl Scope {
             layouts: built_in_layouts(alloc)?,
             tables: built_in_tables(alloc)?,
             variables: Vec::new(alloc),
-            sizes: Vec::new(alloc),
+            made: Vec::new(alloc),
             objects: Vec::new(alloc),
             linked: IndexMap::new(alloc),
             functions: Functions::new(alloc),
@@ -435,9 +436,14 @@ impl Scope {
         ensures same { OnErr result (self.new ≡ self.old) }
     {
         let number = self.variables.len() as u32;
-        self.sizes.reserve(1)?;
+        let variable = Variable {
+            size,
+            readonly: named.constant,
+            home: None,
+        };
+        self.made.reserve(1)?;
         self.variables.push(named)?;
-        put_size(&mut self.sizes, size);
+        put_variable(&mut self.made, variable);
         Ok(number)
     }
 
@@ -601,7 +607,7 @@ impl Scope {
         } }
     {
         self.leave(outer);
-        self.sizes.truncate(variables);
+        self.made.truncate(variables);
         self.variables.truncate(variables);
     }
 
@@ -664,14 +670,14 @@ impl Scope {
         self.put_names(alloc, names)
     }
 
-    /// Ends a function: the sizes of its variables in bytes. No name in scope is one of them.
-    pub fn take_variables(&mut self, alloc: Global) -> Vec<u32>
+    /// Ends a function: its variables as its typed tree has them. No name in scope is one of them.
+    pub fn take_variables(&mut self, alloc: Global) -> Vec<Variable>
         requires { are_there 0 (length self.old.objects) (length self.old.types) (length self.old.records.declared) self.old.bindings ≡ true }
-        ensures sizes { result.items ≡ sizes self.old }
+        ensures variables { result.items ≡ variables_in self.old }
         ensures ended { self.new ≡ record self.old { variables = [] } }
     {
         let mut taken = Vec::new(alloc);
-        std::mem::swap(&mut taken, &mut self.sizes);
+        std::mem::swap(&mut taken, &mut self.made);
         self.variables.clear();
         taken
     }
@@ -687,11 +693,11 @@ fn put(bounds: &mut Vec<Bound>, bound: Bound)
     }
 }
 
-fn put_size(sizes: &mut Vec<u32>, size: u32)
-    requires { vec_len sizes.old < vec_capacity sizes.old }
-    ensures { sizes.new.items ≡ sizes.old.items ++ size ∷ [] }
+fn put_variable(variables: &mut Vec<Variable>, variable: Variable)
+    requires { vec_len variables.old < vec_capacity variables.old }
+    ensures { variables.new.items ≡ variables.old.items ++ variable ∷ [] }
 {
-    match sizes.push(size) {
+    match variables.push(variable) {
         Ok(()) => {}
         Err(_) => unreachable!(),
     }

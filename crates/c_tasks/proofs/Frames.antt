@@ -1,6 +1,9 @@
 -- The structure values on top are the last of the code's list.
 use Rattle.std.proofs.Common.{◌≡◌, ◌≤◌, ◌<◌, ◌+◌, ◌-◌, ℕ, get_or, zero, suc, min, List, [], ◌∷◌, ◌++◌, length, take, drop, refl, ap, sym, ◌∙◌, arith, length-append, length-drop, append_assoc}
 use Rattle.std.proofs.lemmas.List.{take-append-drop, take_at, drop_at, take_min, drop_min, append-nil, take_more, get_or-drop, map-append}
+use Rattle.std.proofs.Math.ListN.{get_or-map, length-map}
+use Rattle.core_tree.specs.declared.functions.Variable.{Variable}
+use Rattle.c_meaning.specs.Meaning.{sizes_of}
 use Rattle.c_values.specs.Variables.{zeros, first_variables}
 use Rattle.c_tasks.specs.Items.{blocks_on}
 use Rattle.c_tasks.specs.Tasks.{structures_in, frame_on}
@@ -63,3 +66,11 @@ more_variables start now sizes from place size h l e same =
     let count : place + 1 - from ≡ k + 1 = omega (arith, h) in
     ap (λ (cs : List (List ℕ)). cs ++ zeros size ∷ []) same ∙ append_assoc start (first_variables (take k ys)) (zeros size ∷ [])
     ∙ ap (λ (cs : List (List ℕ)). start ++ cs) (sym (map-append zeros (take k ys) (size ∷ [])) ∙ ap first_variables (sym next) ∙ ap (λ n. first_variables (take n ys)) (sym count))
+
+-- so of a list of variables
+pub more_blocks : (start now : List (List ℕ)) (vs : List Variable) (from place : ℕ) (x : Variable) → from ≤ place → place < length vs → x ≡ get_or vs place x → now ≡ start ++ first_variables (take (place - from) (drop from (sizes_of vs))) →
+    now ++ zeros x.size ∷ [] ≡ start ++ first_variables (take (place + 1 - from) (drop from (sizes_of vs)))
+more_blocks start now vs from place x h l e same =
+    let size : Variable → ℕ = λ (v : Variable). v.size in
+    let there : x.size ≡ get_or (sizes_of vs) place x.size = ap size e ∙ sym (get_or-map size vs place x) in
+    more_variables start now (sizes_of vs) from place x.size h (omega (arith, l, length-map vs size)) there same

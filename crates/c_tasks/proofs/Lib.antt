@@ -1,5 +1,7 @@
 pub mod Tops
-pub mod FitParts
 pub mod Words
 pub mod Sizes
+pub mod Places
+pub mod Homes
+pub mod FitParts
 pub mod Frames

@@ -39,6 +39,10 @@ pub number_bytes : (t : IntegerType) (x : ℕ) → length (low_bytes (bytes t) x
 number_bytes types.Bool x = refl
 number_bytes _ x = refl
 
+pub few_bytes : (t : IntegerType) → bytes t ≤ 8
+few_bytes types.Bool = omega arith
+few_bytes _ = omega arith
+
 pub section_size : (offset size : ℕ) (block : List ℕ) → offset + size ≤ length block → length (take size (drop offset block)) ≡ size
 section_size offset size block h = length-take-le size (drop offset block) (omega (arith, length-drop offset block))
 

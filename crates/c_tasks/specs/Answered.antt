@@ -1,5 +1,4 @@
 -- What the answer to an action leaves, in the state that is looked at.
-use Rattle.core_tree.specs.Trees.{Expression, assign}
 use Rattle.actions.specs.declared.action.Answer.{Answer}
 use Rattle.c_tasks.specs.declared.task.Look.{Look}
 use Rattle.c_tasks.specs.declared.task.Change.{Change}
@@ -13,8 +12,3 @@ AnswersItem l i a c = Answers (items_behind l) (active_in l) (values_on l) (stru
 
 abbrev pub AcceptsItem : Look → Item → Answer → Type 0
 AcceptsItem l i a = Accepts (move_of l i) a
-
--- of the expressions whose operands are evaluated, an assignment alone asks for an action
-abbrev pub IsAssign : Expression → Type 0
-IsAssign (assign line p e) = Unit {0}
-IsAssign _ = ⊥

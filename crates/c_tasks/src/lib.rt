@@ -9,12 +9,13 @@ mod variables;
 
 pub use functions::{Body, body_of, defined};
 pub use plan_changes::{
-    count_drawn, decides, evaluating, evaluation, instead, integer_of, number_type_of,
-    operand_and_place, operand_first, operands_first, place_first, plan_passed_bound, pushes, puts,
-    second_of, size_of_variable, stacks, structure_first, takes, top_of, writes,
+    count_drawn, count_more, decides, evaluating, evaluation, finishing, held_pointer,
+    home_of_variable, instead, integer_of, locating, number_type_of, operand_first, operands_first,
+    place_and_operand, place_first, plan_passed_bound, pushes, puts, second_of, size_of_top,
+    size_of_variable, stacks, structure_first, takes, top_of, variable_of, writes,
 };
 pub use task::{
-    Call, Caller, Change, Cut, Halt, Handed, Look, Plan, Request, Stacked, Stage, Taken, Task,
-    Tasks, Wanted, Written,
+    Call, Caller, Change, Cut, Halt, Handed, Look, Part, Plan, Request, Stacked, Stage, Taken,
+    Task, Tasks, Wanted, Written,
 };
-pub use variables::{Block, add_variables, read_variable, take_frame};
+pub use variables::{Block, add_variables, read_number, read_variable, take_frame};

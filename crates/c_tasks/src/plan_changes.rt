@@ -1,20 +1,22 @@
 //! Plans as they are put together: what is pushed, put and taken, and what is looked at.
 
-ghost use Rattle.std.specs.Prelude.{◌≡◌, ◌<◌, ◌≤◌, ◌^◌, true, false, Some, None, slice_index};
-ghost use Rattle.core_tree.specs.Trees.{view, read};
-ghost use Rattle.core_tree.specs.Typed.{place_type};
+ghost use Rattle.std.specs.Prelude.{◌≡◌, ◌<◌, ◌≤◌, ◌^◌, true, false, Some, None, length, slice_get};
+ghost use Rattle.std.specs.Option.{option_and_then};
+ghost use Rattle.core_tree.specs.declared.functions.Variable.{Variable};
+ghost use Rattle.core_tree.specs.Trees.{view, view_place};
 ghost use Rattle.c_values.specs.Variables.{drawn_count};
 ghost use Rattle.c_meaning.specs.Meaning as meaning;
-ghost use Rattle.c_meaning.specs.Meaning.{number_type, size_of};
-ghost use Rattle.c_tasks.specs.Items.{top, second, rest, Item};
+ghost use Rattle.c_meaning.specs.Meaning.{number_type, size_of, size_in_list, home_of, held_pointer, variable_of};
+ghost use Rattle.c_tasks.specs.Items.{top, second, top_bytes, Item};
 ghost use Rattle.c_tasks.specs.Steps.{stops};
-ghost use Rattle.c_tasks.specs.Tasks.{values_in};
-ghost use Rattle.c_tasks.specs.Plans.{Plans, code_in, running_in};
+ghost use Rattle.c_tasks.specs.Tasks.{values_in, structures_in};
+ghost use Rattle.c_tasks.specs.Plans.{Plans, code_in, running_in, structures_on};
 
 use crate::task::{Change, Halt, Look, Plan, Stacked, Taken, Task, Tasks, Written};
+use crate::variables::{Block, read_variable};
 use c_types::{IntegerType, ValueType};
 use c_values::{Number, drawn_count};
-use core_tree::{CoreExpr, CoreStructure, LogicalOperator, Place, place_type};
+use core_tree::{CoreExpr, CoreStructure, LogicalOperator, Place, Variable};
 use words::Class;
 
 // ---- changes
@@ -173,8 +175,8 @@ pub fn evaluating<'a>(expression: &'a CoreExpr) -> Task<'a>
     }
 }
 
-// Its operands are evaluated.
-fn finishing<'a>(expression: &'a CoreExpr) -> Task<'a>
+/// The operands of an expression are evaluated.
+pub fn finishing<'a>(expression: &'a CoreExpr) -> Task<'a>
     ensures { result ≡ Task.Expression expression.entry true }
 {
     Task::Expression {
@@ -251,10 +253,20 @@ pub fn operands_first<'a>(
     )
 }
 
-/// A place is read, and then the expression is finished.
-pub fn place_first<'a>(place: Place, expression: &'a CoreExpr) -> Plan<'a>
+/// A place is to be evaluated.
+pub fn locating<'a>(place: &'a Place) -> Task<'a>
+    ensures { result ≡ Task.Place place.entry false }
+{
+    Task::Place {
+        place,
+        finish: false,
+    }
+}
+
+/// A place is evaluated, and then the expression is finished.
+pub fn place_first<'a>(place: &'a Place, expression: &'a CoreExpr) -> Plan<'a>
     ensures { result ≡ Plan.Goes (record {
-      tasks = record { first = Some (Task.Fetch place); second = Some (Task.Expression expression.entry true); third = None };
+      tasks = record { first = Some (Task.Place place.entry false); second = Some (Task.Expression expression.entry true); third = None };
       taken = Taken.None;
       put = None;
       stacked = Stacked.Kept;
@@ -263,20 +275,20 @@ pub fn place_first<'a>(place: Place, expression: &'a CoreExpr) -> Plan<'a>
 {
     pushes(
         Taken::None,
-        Task::Fetch(place),
+        locating(place),
         Some(finishing(expression)),
         None,
     )
 }
 
-/// An operand is evaluated and a place read, and then the expression is finished.
-pub fn operand_and_place<'a>(
+/// A place and an operand are evaluated, and then the expression is finished.
+pub fn place_and_operand<'a>(
+    place: &'a Place,
     operand: &'a CoreExpr,
-    place: Place,
     expression: &'a CoreExpr,
 ) -> Plan<'a>
     ensures { result ≡ Plan.Goes (record {
-      tasks = record { first = Some (Task.Expression operand.entry false); second = Some (Task.Fetch place); third = Some (Task.Expression expression.entry true) };
+      tasks = record { first = Some (Task.Place place.entry false); second = Some (Task.Expression operand.entry false); third = Some (Task.Expression expression.entry true) };
       taken = Taken.None;
       put = None;
       stacked = Stacked.Kept;
@@ -285,8 +297,8 @@ pub fn operand_and_place<'a>(
 {
     pushes(
         Taken::None,
-        evaluating(operand),
-        Some(Task::Fetch(place)),
+        locating(place),
+        Some(evaluating(operand)),
         Some(finishing(expression)),
     )
 }
@@ -338,6 +350,52 @@ pub fn size_of_variable(look: &Look, variable: u32) -> u32
     }
 }
 
+/// The variable that holds the address of a variable of the running function, where it has one.
+pub fn home_of_variable(look: &Look, variable: usize) -> Option<u32>
+    ensures { result ≡ home_of (running_in look.now) variable }
+{
+    match look.functions.get(look.function as usize) {
+        Some(function) => home_in(&function.variables, variable),
+        None => None,
+    }
+}
+
+fn home_in(variables: &[Variable], variable: usize) -> Option<u32>
+    ensures { result ≡ option_and_then (λ (x : Variable). x.home) (slice_get variables.now variable) }
+{
+    match variables.get(variable) {
+        Some(found) => found.home,
+        None => None,
+    }
+}
+
+/// The pointer that a variable holds.
+pub fn held_pointer(look: &Look, home: u32) -> u64
+    ensures is { result ≡ held_pointer (running_in look.now) look.now.variables.now home }
+    ensures small { result < 2 ^ 64 }
+{
+    read_variable(look.variables, home, 0, IntegerType::UnsignedLong).bits()
+}
+
+/// The variable without an address within which a place lies, where no pointer tells where it is.
+pub fn variable_of(look: &Look, place: &Place) -> Option<u32>
+    ensures { result ≡ variable_of (running_in look.now) (view_place place.now) }
+{
+    match place {
+        Place::Variable { variable, .. } => match home_of_variable(look, *variable as usize) {
+            None => Some(*variable),
+            Some(_) => None,
+        },
+        Place::Member { place, .. } => variable_of(look, place),
+        Place::Element { place, .. } => variable_of(look, place),
+        Place::Object { .. }
+        | Place::Literal { .. }
+        | Place::Pointed { .. }
+        | Place::Arrow { .. }
+        | Place::Subscript { .. } => None,
+    }
+}
+
 /// How many bytes of a variable are drawn in the word that begins at an offset of it.
 pub fn count_drawn(look: &Look, variable: u32, offset: usize) -> u32
     requires { offset < size_of (running_in look.now) variable }
@@ -349,11 +407,33 @@ pub fn count_drawn(look: &Look, variable: u32, offset: usize) -> u32
     drawn_count(size_of_variable(look, variable), offset as u32)
 }
 
-fn size_in(sizes: &[u32], variable: u32) -> u32
-    ensures { result ≡ slice_index sizes.now variable }
+/// How many bytes the structure value on top has.
+#[tactic(auto, using(crate::proofs::Tops::structures_push))]
+pub fn size_of_top(structures: &[Block]) -> usize
+    ensures { result ≡ length (top_bytes (structures_in structures.now)) }
 {
-    match sizes.get(variable as usize) {
-        Some(size) => *size,
+    match structures.split_last() {
+        Some((top, _)) => top.len(),
+        None => 0,
+    }
+}
+
+/// How many bytes of an object of this size are drawn in the next word, behind those of the structure value on
+/// top.
+pub fn count_more(look: &Look, size: u32) -> u32
+    requires { length (top_bytes (structures_on look.now)) < size }
+    ensures is { result ≡ drawn_count size (length (top_bytes (structures_on look.now))) }
+    ensures positive { 1 ≤ result }
+    ensures at_most_8 { result ≤ 8 }
+{
+    drawn_count(size, size_of_top(look.structures) as u32)
+}
+
+fn size_in(variables: &[Variable], variable: u32) -> u32
+    ensures { result ≡ size_in_list (slice_get variables.now variable) }
+{
+    match variables.get(variable as usize) {
+        Some(found) => found.size,
         None => 0,
     }
 }
@@ -364,18 +444,27 @@ pub fn number_type_of(expr: &CoreExpr) -> IntegerType
 {
     match expr {
         CoreExpr::Constant { type_, .. } => *type_,
-        CoreExpr::Read { place } => place_type(place),
+        CoreExpr::Read { type_, .. } => *type_,
         CoreExpr::Convert { to, .. } => *to,
         CoreExpr::Sign { operand, .. } => number_type_of(operand),
         CoreExpr::Arithmetic { left, .. } => number_type_of(left),
         CoreExpr::Choice { yes, .. } => number_type_of(yes),
-        CoreExpr::Assign { place, .. } => place_type(place),
-        CoreExpr::Update { place, .. } => place_type(place),
-        CoreExpr::Step { place, .. } => place_type(place),
+        CoreExpr::Assign { type_, .. } => *type_,
+        CoreExpr::Update { type_, .. } => *type_,
+        CoreExpr::Step { type_, .. } => *type_,
         CoreExpr::Comma { right, .. } => number_type_of(right),
         CoreExpr::Draw { type_, .. } => *type_,
         CoreExpr::Member { type_, .. } => *type_,
         CoreExpr::Call { type_, .. } => integer_of(*type_),
+        CoreExpr::SizeOf { .. } => IntegerType::UnsignedLong,
+        CoreExpr::SizeOfStructure { .. } => IntegerType::UnsignedLong,
+        CoreExpr::Address { .. } => IntegerType::UnsignedLong,
+        CoreExpr::Sum { .. } => IntegerType::UnsignedLong,
+        CoreExpr::Distance { .. } => IntegerType::Long,
+        CoreExpr::PointerUpdate { .. } => IntegerType::UnsignedLong,
+        CoreExpr::PointerStep { .. } => IntegerType::UnsignedLong,
+        CoreExpr::Allocate { .. } => IntegerType::UnsignedLong,
+        CoreExpr::AllocateZeroed { .. } => IntegerType::UnsignedLong,
         _ => IntegerType::Int,
     }
 }

@@ -5,8 +5,8 @@ use actions::DrawBits;
 use c_types::IntegerType;
 use c_values::Number;
 use core_tree::{
-    Bounds, CoreArgument, CoreExpr, CoreItem, CorePart, CoreStatement, CoreStructure, Function,
-    Place, StaticObject,
+    ArithmeticOperator, Bounds, CoreArgument, CoreExpr, CoreItem, CorePart, CoreStatement,
+    CoreStructure, Function, Literal, Place, StaticObject,
 };
 use std::alloc::Global;
 use words::Class;
@@ -51,7 +51,17 @@ pub enum Stage {
     Body(u32),
 }
 
-/// What is still to be done.
+/// How far the items of a block are: their variables are to be made, they are to be run, the block ends, or
+/// the objects of their variables die.
+#[derive(Clone, Copy)]
+pub enum Part {
+    Entry,
+    Body,
+    End,
+    Exit,
+}
+
+/// What is still to be done. Where a place is, is told by a number: an offset of a variable, or a pointer.
 #[derive(Drop)]
 pub enum Task<'a> {
     // An expression is evaluated, or finished where its operands are.
@@ -59,10 +69,85 @@ pub enum Task<'a> {
         expression: &'a CoreExpr,
         finish: bool,
     },
-    // A place is read.
-    Fetch(Place),
-    // A place takes the number on top, at this line.
-    Store(u32, Place),
+    // A place is evaluated, or finished where its parts are.
+    Place {
+        place: &'a Place,
+        finish: bool,
+    },
+    // A place takes the number on top: where it is, is told by the number below, or here.
+    Store {
+        line: u32,
+        type_: IntegerType,
+        place: &'a Place,
+    },
+    Rewrite {
+        line: u32,
+        type_: IntegerType,
+        place: &'a Place,
+        at: u64,
+    },
+    // An operation with the number of a place, which is on top, and the number below it, or 1.
+    Combine {
+        line: u32,
+        type_: IntegerType,
+        place: &'a Place,
+        operator: ArithmeticOperator,
+        operand: IntegerType,
+    },
+    Increment {
+        line: u32,
+        type_: IntegerType,
+        place: &'a Place,
+        operator: ArithmeticOperator,
+        before: bool,
+        at: u64,
+    },
+    // The object of a pointer is looked at, or has this size, and the pointer is moved by an index.
+    Move {
+        line: u32,
+        step: i64,
+        element: bool,
+        swapped: bool,
+    },
+    Land {
+        line: u32,
+        step: i64,
+        element: bool,
+        swapped: bool,
+    },
+    // So the pointer at a place, which is moved by 1.
+    Advance {
+        line: u32,
+        place: &'a Place,
+        step: i64,
+        before: bool,
+        at: u64,
+    },
+    Arrive {
+        line: u32,
+        place: &'a Place,
+        step: i64,
+        before: bool,
+        at: u64,
+    },
+    // An allocation: it fails where the number on top says so; its size is tested; so many words are drawn of
+    // so many bytes; and the object is made.
+    Try {
+        line: u32,
+        zeroed: bool,
+    },
+    Admit {
+        line: u32,
+        zeroed: bool,
+    },
+    DrawWords {
+        words: u32,
+        size: u32,
+        line: u32,
+    },
+    Make {
+        line: u32,
+    },
     // The number on top isn't used.
     Drop,
     // A structure value is evaluated, or completed where its first part is.
@@ -81,16 +166,23 @@ pub enum Task<'a> {
         statement: &'a CoreStatement,
         stage: Stage,
     },
-    // The variables of the items from one on get their first values, or these are run where that is done.
+    // The items from one on.
     Items {
         items: &'a Vec<CoreItem>,
         from: usize,
-        entered: bool,
+        part: Part,
     },
-    // The end of a switch.
-    Switched,
-    Initialize(u32, IntegerType),
-    InitializeStructure(u32),
+    // The end of a switch over these items.
+    Switched(&'a Vec<CoreItem>),
+    // A variable becomes an object, its initializer writes it, at this line, or its object dies.
+    Settle(u32, usize),
+    Initialize(u32, u32, IntegerType),
+    InitializeStructure(u32, u32),
+    Die(u32, usize),
+    // So the parameters from one on up to another, and the end of so many.
+    EnterParameters(usize, usize),
+    EndParameters(usize),
+    LeaveParameters(usize, usize),
     // So many words are drawn, at this line, from an offset of a variable on.
     Fill(u32, u32, u32, usize),
     // A function is called that has no parameters, as the first of the thread, at this line.
@@ -119,18 +211,19 @@ pub enum Task<'a> {
         caller: u32,
         saved: Vec<Block>,
     },
-    // A function hands over, and the caller gets that.
-    Hand(Handed),
+    // A statement leads out of others; and the caller gets what a function hands over.
+    Out(Cut),
     Get(Wanted, Handed),
+    // A jump leads nowhere.
+    Stray,
     // The end of the thread's first call, at this line and with the thread's value; then nothing is left.
     End(u32, u64),
     Ended(u64),
 }
 
-/// What a call is for, the caller, and its variables.
+/// A caller that runs again, and its variables.
 #[derive(Drop)]
 pub struct Caller {
-    pub want: Wanted,
     pub function: u32,
     pub variables: Vec<Block>,
 }
@@ -149,6 +242,7 @@ pub enum Taken {
     None,
     One,
     Two,
+    Three,
 }
 
 /// What becomes of the structure values that wait: one more comes on top, the one on top is taken, or
@@ -230,14 +324,21 @@ pub enum Plan<'a> {
 }
 
 /// What a step asks for: a draw of so many bits; so many bytes at a pointer; a write there of the number on
-/// top as an object of this type, or of the structure value on top; or the end of the thread with a value,
-/// or of the process.
+/// top as an object of this type, or of the structure value on top, the first or a later one; a look at the
+/// object of a pointer, for an element of it or for a sum; an object with the bytes of a variable, or with the
+/// structure value on top, on the heap; the death of an object; the release of one; or the end of the thread
+/// with a value, or of the process.
 #[derive(Clone, Copy)]
 pub enum Request {
     Draw(DrawBits),
     Read(u64, u32),
-    WriteNumber(u64, IntegerType),
-    WriteStructure(u64),
+    WriteNumber(u64, IntegerType, bool),
+    WriteStructure(u64, bool),
+    Look(u64, bool),
+    Place(usize),
+    Allocate,
+    Die(u32),
+    Free(u64),
     End(u64),
     Exit,
 }
@@ -252,8 +353,8 @@ pub enum Halt {
     Ends(u64),
 }
 
-/// What a plan depends on: the file's functions and static objects, the bounds, the running function, how
-/// many more activations of each function may be opened, the tasks behind the first, the numbers and the
+/// What a plan depends on: the file's functions, static objects and literals, whether forms over pointers may stand
+/// in it, the bounds, the running function, how many more activations of each function may be opened, the tasks behind the first, the numbers and the
 /// structure values that wait, and the variables. The last of the tasks and of what waits come first.
 #[derive(Drop)]
 pub struct Look<'a, 'b> {
@@ -261,6 +362,8 @@ pub struct Look<'a, 'b> {
     pub first: bool,
     pub functions: &'a [Function],
     pub objects: &'a [StaticObject],
+    pub literals: &'a [Literal],
+    pub pointers: bool,
     pub bounds: &'a Bounds,
     pub function: u32,
     pub left: &'b [u64],

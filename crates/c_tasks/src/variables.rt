@@ -1,12 +1,15 @@
 //! The variables of an activation, as bytes.
 
 ghost use Rattle.std.specs.Prelude.{◌≡◌, ◌+◌, ◌-◌, ◌≤◌, ◌++◌, length, take, drop, vec_len, IfOk, OnOk, OnErr};
-ghost use Rattle.c_values.specs.Variables.{low_bytes, put_at, zeros, number_at, read_variable, first_variables};
+ghost use Rattle.c_types.specs.Integers.{bytes};
+ghost use Rattle.c_values.specs.Variables.{low_bytes, put_at, zeros, number_of, number_at, block_of, read_variable, first_variables};
 ghost use Rattle.c_values.specs.Numbers.{typed};
+ghost use Rattle.c_meaning.specs.Meaning.{sizes_of};
 ghost use Rattle.c_tasks.specs.Tasks.{structures_in, frame_on};
 
 use c_types::IntegerType;
 use c_values::{Number, low_bytes, read_block, write_block};
+use core_tree::Variable;
 use std::alloc::{AllocError, Global};
 use std::marker::Model;
 
@@ -58,6 +61,24 @@ impl Block {
     {
         let bytes = low_bytes(alloc, count, bits)?;
         Ok(Block { bytes })
+    }
+
+    /// These bytes and behind them the lowest of a number, so many of 8.
+    pub fn longer(&self, alloc: Global, count: usize, bits: u64) -> Result<Block, AllocError>
+        requires { count ≤ 8 }
+        ensures { IfOk result (λ block. block ≡ self.now ++ low_bytes count bits) }
+    {
+        let more = low_bytes(alloc, count, bits)?;
+        let mut bytes = Vec::from_slice(alloc, self.bytes.as_slice())?;
+        bytes.extend_from_slice(&more)?;
+        Ok(Block { bytes })
+    }
+
+    /// How many bytes it has.
+    pub fn len(&self) -> usize
+        ensures { result ≡ length self.now }
+    {
+        self.bytes.len()
     }
 
     /// A copy of the bytes.
@@ -157,20 +178,28 @@ pub fn read_variable(variables: &[Block], variable: u32, offset: u32, type_: Int
     }
 }
 
+/// The number of a type that as many bytes from an offset of a variable on are.
+#[tactic(auto, using(c_values::proofs::Taken::number_taken))]
+pub fn read_number(variables: &[Block], variable: u32, offset: u32, type_: IntegerType) -> Number
+    ensures { result ≡ typed type_ (number_of type_ (take (bytes type_) (drop offset (block_of variables.now variable)))) }
+{
+    read_variable(variables, variable, offset, type_)
+}
+
 // ---- the variables of a function at its start
 
-/// Adds blocks of these sizes, from one on: each byte is 0.
+/// Adds the blocks of these variables, from one on: each byte is 0.
 pub fn add_variables(
     alloc: Global,
     blocks: &mut Vec<Block>,
-    sizes: &[u32],
+    variables: &[Variable],
     from: usize,
 ) -> Result<(), AllocError>
-    ensures added { OnOk result (blocks.new.items ≡ blocks.old.items ++ first_variables (drop from sizes.now)) }
+    ensures added { OnOk result (blocks.new.items ≡ blocks.old.items ++ first_variables (drop from (sizes_of variables.now))) }
     ensures kept { take (length blocks.old.items) blocks.new.items ≡ blocks.old.items }
 {
-    for place in from..sizes.len() {
-        let block = Block::new(alloc, sizes[place])?;
+    for place in from..variables.len() {
+        let block = Block::new(alloc, variables[place].size)?;
         blocks.push(block)?;
     }
     Ok(())
@@ -181,15 +210,15 @@ fn split_frame(
     alloc: Global,
     blocks: &mut Vec<Block>,
     first: usize,
-    sizes: &[u32],
+    variables: &[Variable],
 ) -> Result<Vec<Block>, AllocError>
     requires { first ≤ vec_len blocks.old }
-    ensures frame { IfOk result (λ variables. variables.items ≡ drop first blocks.old.items ++ first_variables (drop (length blocks.old.items - first) sizes.now)) }
+    ensures frame { IfOk result (λ made. made.items ≡ drop first blocks.old.items ++ first_variables (drop (length blocks.old.items - first) (sizes_of variables.now))) }
     ensures rest { OnOk result (blocks.new.items ≡ take first blocks.old.items) }
     ensures err { OnErr result (take (length blocks.old.items) blocks.new.items ≡ blocks.old.items) }
 {
     let count = blocks.len() - first;
-    add_variables(alloc, blocks, sizes, count)?;
+    add_variables(alloc, blocks, variables, count)?;
     blocks.split_off(first)
 }
 
@@ -199,15 +228,15 @@ pub fn take_frame(
     alloc: Global,
     structures: &mut Vec<Block>,
     count: usize,
-    sizes: &[u32],
+    variables: &[Variable],
 ) -> Result<Vec<Block>, AllocError>
-    ensures frame { IfOk result (λ variables. variables.items ≡ frame_on count (structures_in structures.old.items) sizes.now) }
+    ensures frame { IfOk result (λ made. made.items ≡ frame_on count (structures_in structures.old.items) (sizes_of variables.now)) }
     ensures rest { OnOk result (structures_in structures.new.items ≡ drop count (structures_in structures.old.items)) }
     ensures err { OnErr result (structures.new.items ≡ structures.old.items) }
 {
     let len = structures.len();
-    match split_frame(alloc, structures, len.saturating_sub(count), sizes) {
-        Ok(variables) => Ok(variables),
+    match split_frame(alloc, structures, len.saturating_sub(count), variables) {
+        Ok(made) => Ok(made),
         Err(error) => {
             structures.truncate(len);
             Err(error)

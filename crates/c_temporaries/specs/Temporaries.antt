@@ -1,11 +1,10 @@
 -- The blocks that the code of a tree uses for values on the way: structure values, and numbers of static objects.
 use Rattle.std.specs.Prelude.{ℕ, max, Option, Some, None, List, [], ◌∷◌, ◌++◌}
+use Rattle.c_types.specs.declared.integers.IntegerType.{IntegerType}
 use Rattle.c_types.specs.declared.types.ValueType.{ValueType}
 use Rattle.c_types.specs.declared.types.ValueType.TheVariants.{Void, Integer}
 use Rattle.c_types.specs.Integers.{bytes}
-use Rattle.core_tree.specs.declared.expression.Place.{Place}
-use Rattle.core_tree.specs.declared.expression.Place.TheVariants.{Variable, Object}
-use Rattle.core_tree.specs.Trees.{Expression, constant, read, convert, sign, is_zero, arithmetic, compare, logical, choice, assign, update, step, comma, assertion, assumption, draw, part, discard, discard_structure, call, function_name, Structure, copy, load, choose, put, store, follow, section, list, string, give, Parts, no_part, number_part, structure_part, Arguments, no_argument, number_argument, structure_argument, Statement, block, if_then, if_else, evaluate, returns, returns_structure, returns_nothing, for_loop, do_loop, switch, breaks, continues, jumps, stray, Items, done, declares, initializes, initializes_structure, does, label, case_at, default_at}
+use Rattle.core_tree.specs.Trees.{Place, variable_at, object_at, literal_at, pointed, arrow, member, element, subscript, Expression, constant, read, convert, sign, is_zero, arithmetic, compare, logical, choice, assign, update, step, comma, assertion, assumption, draw, part, discard, discard_structure, call, function_name, size_of_value, size_of_structure, address, sum, distance, relation, pointer_update, pointer_step, allocate, allocate_zeroed, release, exit, abort, Structure, copy, choose, put, follow, section, list, string, give, Parts, no_part, number_part, structure_part, Arguments, no_argument, number_argument, structure_argument, Statement, block, if_then, if_else, evaluate, returns, returns_structure, returns_nothing, for_loop, do_loop, switch, breaks, continues, jumps, stray, Items, done, declares, initializes, initializes_structure, does, label, case_at, default_at}
 use Rattle.c_meaning.specs.Meaning.{number_type}
 use Rattle.core_tree.specs.Typed.{size_of}
 
@@ -44,10 +43,16 @@ under_all sizes a = record a { sizes = sizes ++ a.sizes }
 abbrev pub clearing : ℕ → Temporaries → Temporaries
 clearing size a = record a { zeros = max size a.zeros }
 
--- an access to a static object goes by a block
-abbrev pub place_temporaries : Place → Temporaries
-place_temporaries (Variable line t v offset) = no_temporaries
-place_temporaries (Object line t k offset) = under (bytes t) no_temporaries
+-- an access to a static object goes by a block. Forms with a pointer, which no typed file has, have no code and need none
+abbrev pub place_temporaries : IntegerType → Place → Temporaries
+place_temporaries t (variable_at line v offset) = no_temporaries
+place_temporaries t (object_at line k offset) = under (bytes t) no_temporaries
+place_temporaries t (literal_at line k) = no_temporaries
+place_temporaries t (pointed line e) = no_temporaries
+place_temporaries t (arrow line e offset) = no_temporaries
+place_temporaries t (member line x offset) = no_temporaries
+place_temporaries t (element line x e size whole swapped) = no_temporaries
+place_temporaries t (subscript line a e size swapped) = no_temporaries
 
 -- how many bytes each argument has
 abbrev pub argument_sizes : Arguments → List ℕ
@@ -62,7 +67,7 @@ call_needs size args needed = clearing size (under_all (argument_sizes args) (un
 abbrev mutual
   pub temporaries : Expression → Temporaries
   temporaries (constant line t bits) = no_temporaries
-  temporaries (read p) = place_temporaries p
+  temporaries (read t x) = place_temporaries t x
   temporaries (convert to e) = temporaries e
   temporaries (sign line op e) = temporaries e
   temporaries (is_zero line e) = temporaries e
@@ -70,9 +75,9 @@ abbrev mutual
   temporaries (compare line op a b) = both (temporaries a) (temporaries b)
   temporaries (logical line op a b) = both (temporaries a) (temporaries b)
   temporaries (choice line test a b) = both (temporaries test) (both (temporaries a) (temporaries b))
-  temporaries (assign line p e) = both (temporaries e) (place_temporaries p)
-  temporaries (update line p op t e) = both (temporaries e) (place_temporaries p)
-  temporaries (step line p op before) = place_temporaries p
+  temporaries (assign line t x e) = both (temporaries e) (place_temporaries t x)
+  temporaries (update line t x op u e) = both (temporaries e) (place_temporaries t x)
+  temporaries (step line t x op before) = place_temporaries t x
   temporaries (comma line a b) = both (temporaries a) (temporaries b)
   temporaries (assertion line e) = temporaries e
   temporaries (assumption line e) = temporaries e
@@ -81,14 +86,25 @@ abbrev mutual
   temporaries (discard line e) = temporaries e
   temporaries (discard_structure a) = under (size_of a) (structure_temporaries a)
   temporaries (call line f used t args) = clearing (value_size t) (under_all (argument_sizes args) (under (value_size t) (arguments_temporaries args)))
-  temporaries (function_name line f) = no_temporaries
+  temporaries (function_name line) = no_temporaries
+  temporaries (size_of_value line bits e) = no_temporaries
+  temporaries (size_of_structure line bits a) = no_temporaries
+  temporaries (address line x) = no_temporaries
+  temporaries (sum line a e n swapped) = no_temporaries
+  temporaries (distance line a b n) = no_temporaries
+  temporaries (relation line op a b) = no_temporaries
+  temporaries (pointer_update line x n e) = no_temporaries
+  temporaries (pointer_step line x n before) = no_temporaries
+  temporaries (allocate line e) = no_temporaries
+  temporaries (allocate_zeroed line a b) = no_temporaries
+  temporaries (release line e) = no_temporaries
+  temporaries (exit line e) = no_temporaries
+  temporaries (abort line) = no_temporaries
 
   pub structure_temporaries : Structure → Temporaries
-  structure_temporaries (copy line v offset size) = no_temporaries
-  structure_temporaries (load line k offset size) = no_temporaries
+  structure_temporaries (copy x size) = no_temporaries
   structure_temporaries (choose line test a b) = both (temporaries test) (both (structure_temporaries a) (structure_temporaries b))
-  structure_temporaries (put line v offset a) = structure_temporaries a
-  structure_temporaries (store line k offset a) = structure_temporaries a
+  structure_temporaries (put line x a) = structure_temporaries a
   structure_temporaries (follow line e a) = both (temporaries e) (structure_temporaries a)
   structure_temporaries (section line offset size a) = under (size_of a) (structure_temporaries a)
   structure_temporaries (list line size ps) = clearing size (parts_temporaries ps)

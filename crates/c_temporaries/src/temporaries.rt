@@ -1,12 +1,13 @@
 //! The blocks that code uses for values on the way: structure values, and numbers of static objects.
 
 ghost use Rattle.std.specs.Prelude.{◌≡◌, ◌++◌, ◌∷◌, [], ◌≤◌, length, IfOk, option_map};
-ghost use Rattle.core_tree.specs.Trees.{view, boxed, view_structure, parts_of, with_part, arguments_of, with_argument, view_statement, items_of, with_item};
+ghost use Rattle.core_tree.specs.Trees.{view, boxed, view_place, view_structure, parts_of, with_part, arguments_of, with_argument, view_statement, items_of, with_item};
 ghost use Rattle.c_types.specs.Integers.{bytes};
 ghost use Rattle.c_meaning.specs.Meaning.{number_type};
 ghost use Rattle.c_temporaries.specs.Temporaries as specs;
 
 use crate::sizes::{number_type, value_size};
+use c_types::IntegerType;
 use core_tree::{
     CoreArgument, CoreExpr, CoreItem, CorePart, CoreStatement, CoreStructure, Place, structure_size,
 };
@@ -151,13 +152,23 @@ fn argument_sizes(alloc: Global, arguments: &[CoreArgument]) -> Result<Vec<u32>,
     Ok(sizes)
 }
 
-/// Of an access to a place.
-fn place_temporaries(alloc: Global, place: Place) -> Result<Temporaries, AllocError>
-    ensures { IfOk result (λ r. r ≡ specs.place_temporaries place) }
+/// Of an access to a number of this type at a place.
+fn place_temporaries(
+    alloc: Global,
+    type_: IntegerType,
+    place: &Place,
+) -> Result<Temporaries, AllocError>
+    ensures { IfOk result (λ r. r ≡ specs.place_temporaries type_ (view_place place.now)) }
 {
     match place {
         Place::Variable { .. } => Ok(Temporaries::none(alloc)),
-        Place::Object { type_, .. } => Temporaries::none(alloc).under(type_.size()),
+        Place::Object { .. } => Temporaries::none(alloc).under(type_.size()),
+        Place::Literal { .. } => Ok(Temporaries::none(alloc)),
+        Place::Pointed { .. } => Ok(Temporaries::none(alloc)),
+        Place::Arrow { .. } => Ok(Temporaries::none(alloc)),
+        Place::Member { .. } => Ok(Temporaries::none(alloc)),
+        Place::Element { .. } => Ok(Temporaries::none(alloc)),
+        Place::Subscript { .. } => Ok(Temporaries::none(alloc)),
     }
 }
 
@@ -168,7 +179,7 @@ fn expression_temporaries(alloc: Global, expr: &CoreExpr) -> Result<Temporaries,
 {
     match expr {
         CoreExpr::Constant { .. } => Ok(Temporaries::none(alloc)),
-        CoreExpr::Read { place } => place_temporaries(alloc, *place),
+        CoreExpr::Read { type_, place } => place_temporaries(alloc, *type_, place),
         CoreExpr::Convert { operand, .. } => expression_temporaries(alloc, operand),
         CoreExpr::Sign { operand, .. } => expression_temporaries(alloc, operand),
         CoreExpr::IsZero { operand, .. } => expression_temporaries(alloc, operand),
@@ -187,13 +198,23 @@ fn expression_temporaries(alloc: Global, expr: &CoreExpr) -> Result<Temporaries,
             )?);
             Ok(expression_temporaries(alloc, test)?.and(branches))
         }
-        CoreExpr::Assign { place, value, .. } => Ok(expression_temporaries(alloc, value)?.and(
-            place_temporaries(alloc, *place)?,
-        )),
-        CoreExpr::Update { place, value, .. } => Ok(expression_temporaries(alloc, value)?.and(
-            place_temporaries(alloc, *place)?,
-        )),
-        CoreExpr::Step { place, .. } => place_temporaries(alloc, *place),
+        CoreExpr::Assign {
+            type_,
+            place,
+            value,
+            ..
+        } => Ok(expression_temporaries(alloc, value)?.and(place_temporaries(
+            alloc, *type_, place,
+        )?)),
+        CoreExpr::Update {
+            type_,
+            place,
+            value,
+            ..
+        } => Ok(expression_temporaries(alloc, value)?.and(place_temporaries(
+            alloc, *type_, place,
+        )?)),
+        CoreExpr::Step { type_, place, .. } => place_temporaries(alloc, *type_, place),
         CoreExpr::Comma { left, right, .. } => Ok(expression_temporaries(alloc, left)?.and(
             expression_temporaries(alloc, right)?,
         )),
@@ -213,6 +234,19 @@ fn expression_temporaries(alloc: Global, expr: &CoreExpr) -> Result<Temporaries,
             ..
         } => call_temporaries(alloc, value_size(*type_), arguments),
         CoreExpr::FunctionName { .. } => Ok(Temporaries::none(alloc)),
+        CoreExpr::SizeOf { .. } => Ok(Temporaries::none(alloc)),
+        CoreExpr::SizeOfStructure { .. } => Ok(Temporaries::none(alloc)),
+        CoreExpr::Address { .. } => Ok(Temporaries::none(alloc)),
+        CoreExpr::Sum { .. } => Ok(Temporaries::none(alloc)),
+        CoreExpr::Distance { .. } => Ok(Temporaries::none(alloc)),
+        CoreExpr::Relation { .. } => Ok(Temporaries::none(alloc)),
+        CoreExpr::PointerUpdate { .. } => Ok(Temporaries::none(alloc)),
+        CoreExpr::PointerStep { .. } => Ok(Temporaries::none(alloc)),
+        CoreExpr::Allocate { .. } => Ok(Temporaries::none(alloc)),
+        CoreExpr::AllocateZeroed { .. } => Ok(Temporaries::none(alloc)),
+        CoreExpr::Release { .. } => Ok(Temporaries::none(alloc)),
+        CoreExpr::Exit { .. } => Ok(Temporaries::none(alloc)),
+        CoreExpr::Abort { .. } => Ok(Temporaries::none(alloc)),
     }
 }
 
@@ -264,7 +298,6 @@ fn structure_temporaries(
 {
     match structure {
         CoreStructure::Read { .. } => Ok(Temporaries::none(alloc)),
-        CoreStructure::Load { .. } => Ok(Temporaries::none(alloc)),
         CoreStructure::Choice { test, yes, no, .. } => {
             let branches = structure_temporaries(alloc, yes)?.and(structure_temporaries(
                 alloc, no,
@@ -272,7 +305,6 @@ fn structure_temporaries(
             Ok(expression_temporaries(alloc, test)?.and(branches))
         }
         CoreStructure::Assign { value, .. } => structure_temporaries(alloc, value),
-        CoreStructure::Store { value, .. } => structure_temporaries(alloc, value),
         CoreStructure::Comma { left, right, .. } => Ok(expression_temporaries(alloc, left)?.and(
             structure_temporaries(alloc, right)?,
         )),

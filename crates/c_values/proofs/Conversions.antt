@@ -1,5 +1,5 @@
 -- What a conversion of integers does to the bits (C11 6.3.1.3).
-use Rattle.std.proofs.Common.{◌≡◌, ◌<◌, ◌≤◌, ◌+◌, ◌-◌, ◌*◌, ◌%◌, ◌^◌, ℕ, Bool, true, false, pos, ◌-ℤ◌, if◌then◌else◌, sym, ap, subst, ◌∙◌, arith, refl, rules}
+use Rattle.std.proofs.Common.{◌≡◌, ◌<◌, ◌≤◌, ◌-◌, ◌*◌, ◌^◌, ℕ, Bool, true, false, pos, ◌-ℤ◌, if◌then◌else◌, sym, ap, ◌∙◌, arith, refl}
 use Rattle.c_types.specs.declared.integers.IntegerType.{IntegerType}
 use Rattle.c_types.specs.declared.integers.IntegerType.TheVariants as types
 use Rattle.c_types.specs.Integers.{width, is_signed}

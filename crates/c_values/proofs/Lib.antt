@@ -1,3 +1,5 @@
 pub mod Conversions
 pub mod Counts
+pub mod Offsets
+pub mod Taken
 pub mod Undefined

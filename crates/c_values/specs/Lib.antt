@@ -1,2 +1,3 @@
 pub mod Variables
 pub mod Numbers
+pub mod Pointers

@@ -82,7 +82,7 @@ impl Number {
     }
 
     // The whole number that the bits mean.
-    fn number(self) -> i128
+    pub(crate) fn number(self) -> i128
         ensures { result ≡ number self.type self.bits }
     {
         if self.type_.is_signed() {

@@ -5,6 +5,7 @@ use Rattle.core_tree.specs.declared.functions.Function.{Function}
 use Rattle.core_tree.specs.declared.functions.Name.{Name}
 use Rattle.core_tree.specs.Trees.{Procedure, TypedFile, view_functions}
 use Rattle.core_tree.specs.Ranges.{Limits}
+use Rattle.c_profile.specs.Rules.{first_breach}
 use Rattle.cbmc_top.proofs.Congruent.{SameWords, replays_same}
 use Rattle.interleave.specs.Replay.{Replays}
 use Rattle.interleave.specs.declared.inputs.Trace.{Trace}
@@ -32,9 +33,9 @@ at_place fs k name h = by_found (slice_get fs k) refl h
     by_found (Some f) e h = (f, e, some_is h)
 
 -- The name of the function that a broken check stands in.
-pub named : (bytes : List ℕ) (core : TypedFile) (limits : Limits) (t : Trace) → IsTypedOf bytes core → IsBroken limits core t → (name : List ℕ) × (name_in core t.check.function ≡ Some name) × (is_identifier name ≡ true)
-named bytes core limits t p r =
-    let x = broken_there core limits t.inputs t.schedule t.check r in
+pub named : (bytes : List ℕ) (core : TypedFile) (limits : Limits) (t : Trace) → IsTypedOf bytes core → first_breach core ≡ None → IsBroken limits core t → (name : List ℕ) × (name_in core t.check.function ≡ Some name) × (is_identifier name ≡ true)
+named bytes core limits t p admitted r =
+    let x = broken_there core limits t.inputs t.schedule t.check admitted r in
     let f = at_place core.functions t.check.function x.0 x.1 in
     let word = functions_named IsIdentifier p.tree core p.typed (file_named bytes p.tree p.spelling) t.check.function f.0 f.1 in
     (x.0, x.1, ap is_identifier (sym f.2) ∙ word)

@@ -11,3 +11,4 @@ pub mod FunctionNames
 pub mod TokenNames
 pub mod Named
 pub mod Describing
+pub mod Plain

@@ -1,24 +1,23 @@
 -- Each action and each broken check of a thread names a function that is there.
-use Rattle.std.proofs.Common.{◌≡◌, ℕ, zero, suc, Bool, true, false, cond, List, [], ◌∷◌, Option, Some, None, refl, ap, subst}
-use Rattle.std.specs.Prelude.{◌==◌, slice_index, slice_get, option_map, if◌then◌else◌}
+use Rattle.std.proofs.Common.{◌≡◌, ◌+◌, ◌*◌, ℕ, zero, suc, Bool, true, false, cond, List, [], ◌∷◌, length, Option, Some, None, refl, ap, sym, ◌∙◌, subst, arith}
+use Rattle.std.specs.Prelude.{ℤ, pos, ◌==◌, nat_le, slice_index, slice_get, option_map, if◌then◌else◌}
 use Rattle.std.specs.Ordering.{nat_cmp, match_ordering}
 use Rattle.std.specs.declared.cmp.Ordering.{Ordering}
 use Rattle.std.specs.declared.cmp.Ordering.TheVariants.{Less, Equal, Greater}
 use Rattle.std.specs.Map.{lookup, set_value}
 use Rattle.std.specs.BTreeMap.{is_at, insert_entry}
 use Rattle.words.specs.declared.check.Class.{Class}
-use Rattle.words.specs.declared.check.Class.TheVariants.{Unwind, Recursion}
+use Rattle.words.specs.declared.check.Class.TheVariants.{Assertion, Unwind, Recursion}
 use Rattle.words.specs.declared.check.Check.{Check}
 use Rattle.c_types.specs.declared.integers.IntegerType.{IntegerType}
+use Rattle.c_types.specs.declared.integers.IntegerType.TheVariants.{UnsignedLong}
 use Rattle.core_tree.specs.declared.operators.ArithmeticOperator.{ArithmeticOperator}
-use Rattle.core_tree.specs.declared.expression.Place.{Place}
-use Rattle.core_tree.specs.declared.expression.Place.TheVariants.{Variable, Object}
 use Rattle.core_tree.specs.Ranges.{Limits}
-use Rattle.core_tree.specs.Trees.{Procedure, TypedFile, Expression, constant, read, convert, sign, is_zero, arithmetic, compare, logical, choice, assign, update, step, comma, assertion, assumption, draw, part, discard, discard_structure, call, function_name, Structure, copy, load, choose, put, store, follow, section, list, string, give, Parts, no_part, number_part, structure_part, Arguments, no_argument, number_argument, structure_argument, Statement, block, if_then, if_else, evaluate, returns, returns_structure, returns_nothing, for_loop, do_loop, switch, breaks, continues, jumps, stray, Items, done, declares, initializes, initializes_structure, does, label, case_at, default_at}
-use Rattle.c_types.specs.Integers.{promoted}
-use Rattle.core_tree.specs.Operations.{is_true, step_operation}
-use Rattle.core_tree.specs.Typed.{place_type}
+use Rattle.core_tree.specs.Trees.{Procedure, TypedFile, Place, variable_at, object_at, literal_at, pointed, arrow, member, element, subscript, Expression, constant, read, convert, sign, is_zero, arithmetic, compare, logical, choice, assign, update, step, comma, assertion, assumption, draw, part, discard, discard_structure, call, function_name, size_of_value, size_of_structure, address, sum, distance, relation, pointer_update, pointer_step, allocate, allocate_zeroed, release, exit, abort, Structure, copy, choose, put, follow, section, list, string, give, Parts, no_part, number_part, structure_part, Arguments, no_argument, number_argument, structure_argument, Statement, block, if_then, if_else, evaluate, returns, returns_structure, returns_nothing, for_loop, do_loop, switch, breaks, continues, jumps, stray, Items, done, declares, initializes, initializes_structure, does, label, case_at, default_at}
+use Rattle.c_types.specs.Integers.{bytes, promoted}
+use Rattle.core_tree.specs.Operations.{number as integer, is_true, converted, arithmetic_check, step_operation}
 use Rattle.actions.specs.declared.action.Action.{Action}
+use Rattle.actions.specs.declared.action.Action.TheVariants.{Read, Write, Look, Draw, Alloc, Die, Free, Create, End, Exit}
 use Rattle.actions.specs.declared.action.Answer.{Answer}
 use Rattle.actions.specs.declared.action.Next.{Next}
 use Rattle.actions.specs.declared.action.Next.TheVariants.{Act, Ended, Blocked, Broken}
@@ -26,8 +25,13 @@ use Rattle.actions.specs.Behaviour.{Behaviour, Thread, shape_of, has_shape}
 use Rattle.actions.specs.Memory.{Change, keeps, adds, kills, puts, starts, ends}
 use Rattle.actions.specs.Row.{Outcome, waits, moves}
 use Rattle.actions.specs.Row.{breaks as broken_row}
-use Rattle.c_values.specs.Variables.{Variables, first_variables}
-use Rattle.c_meaning.specs.Meaning.{Given, nothing, number, structure, Running, Exits, Code, running_at, integer_of, final, ask_in, passed, in_loop, in_switch, in_function, has_case, has_default, ask, unless_broken, unless_used, received, received_structure, reads, writes, combined, rounds, eval, eval_structure, eval_parts, eval_arguments, eval_part, tested, at_end, decides, draws_words, draws, enter, exec, exec_items, at_label, at_case, at_default, exec_body, enters, total, opened, activation}
+use Rattle.actions.specs.Pointer.{object_of, offset_of}
+use Rattle.actions.specs.StoredObject.{StoredObject}
+use Rattle.c_values.specs.Pointers.{in_range, offset_by}
+use Rattle.c_values.specs.Variables.{Variables, word_count, zeros}
+use Rattle.c_meaning.specs.Meaning.{Given, nothing, number, structure, value_of, Running, Exits, Code, body_of, running_in, integer_of, number_type, drawn, size_in, place_line, variable_of, size_of, home_of, final, ask_in, passed, in_loop, in_switch, in_function, leaving, has_case, has_default, ask, unless_broken, unless_outside, unless_apart, unless_used, received, received_structure, operated, reads, writes, reads_number, writes_number, combined, lands, steps_to, rounds, locate, eval, eval_structure, eval_parts, eval_arguments, eval_part, tested, at_end, decides, draws_words, draws, places, makes, enter, initial, dies, leave, enter_parameters, leave_parameters, draws_bytes, allocates, unless_large, may_fail, grants, grants_zeroed, mallocs, callocs, frees, ends_process, exec, exec_items, at_label, at_case, at_default, exec_body, enters, total, opened, activation}
+use Rattle.c_meaning.specs.Meaning as meaning
+use Rattle.c_profile.specs.Rules.{Breach, is_main, definition_breach, main_breach, earlier, functions_breach, objects_breach, first_breach}
 use Rattle.c_meaning.specs.Source.{code_of, first_left, leaves, runs_at, function_behaviour, main_number, source_world}
 use Rattle.interleave.specs.declared.turn.Turn.{Turn}
 use Rattle.interleave.specs.declared.turn.Turn.TheVariants as turned
@@ -35,12 +39,19 @@ use Rattle.interleave.specs.Inputs.{InputLists, words_of}
 use Rattle.interleave.specs.World.{World, Member, member_at, may_move, told, with_told, child, with_child}
 use Rattle.interleave.specs.Turn.{turn, settled, outcome, with_next, with_member}
 use Rattle.interleave.specs.Replay.{Replays, Moves}
+use Rattle.interleave.specs.Own.{own_part}
+use Rattle.interleave.proofs.Starts.{OnlyCreates, only_creates}
 use Rattle.cbmc_top.specs.Answers.{name_in}
 
 -- ---- what is next names a function with the property
 
+abbrev is_create : Action → Bool
+is_create (Create f v) = true
+is_create _ = false
+
+-- and starts no thread
 abbrev Names : (ℕ → Type 0) → Next → Type 0
-Names P (Act action line function) = P function
+Names P (Act action line function) = P function × (is_create action ≡ false)
 Names P (Ended v) = Unit {0}
 Names P Blocked = Unit {0}
 Names P (Broken class line function) = P function
@@ -60,29 +71,80 @@ passed_speaks : (P : ℕ → Type 0) (assertions : Bool) (class : Class) (line f
 passed_speaks P true class line function there = final_speaks P (Broken class line function) there
 passed_speaks P false class line function there = final_speaks P Blocked tt
 
-ask_in_speaks : (P : ℕ → Type 0) (function : ℕ) → P function → (action : Action) (line : ℕ) (follows : Answer → Behaviour) → ((a : Answer) → Speaks P (follows a)) → Speaks P (ask_in function action line follows)
-ask_in_speaks P function there action line follows h [] = there
-ask_in_speaks P function there action line follows h (a ∷ answers) = elim (has_shape (shape_of action) a) as (λ b. Names P (cond b (follows a answers) Blocked)) [ true ↦ h a answers | false ↦ tt ]
+ask_in_speaks : (P : ℕ → Type 0) (function : ℕ) → P function → (action : Action) → is_create action ≡ false → (line : ℕ) (follows : Answer → Behaviour) → ((a : Answer) → Speaks P (follows a)) → Speaks P (ask_in function action line follows)
+ask_in_speaks P function there action none line follows h [] = (there, none)
+ask_in_speaks P function there action none line follows h (a ∷ answers) = elim (has_shape (shape_of action) a) as (λ b. Names P (cond b (follows a answers) Blocked)) [ true ↦ h a answers | false ↦ tt ]
 
 module _ (P : ℕ → Type 0) (r : Running) (there : P r.function) where
-  ask_speaks : (action : Action) (line : ℕ) (follows : Answer → Behaviour) → ((a : Answer) → Speaks P (follows a)) → Speaks P (ask r action line follows)
-  ask_speaks action line follows h = ask_in_speaks P r.function there action line follows h
+  ask_speaks : (action : Action) → is_create action ≡ false → (line : ℕ) (follows : Answer → Behaviour) → ((a : Answer) → Speaks P (follows a)) → Speaks P (ask r action line follows)
+  ask_speaks action none line follows h = ask_in_speaks P r.function there action none line follows h
+
+  read_speaks : (p n line : ℕ) (follows : Answer → Behaviour) → ((a : Answer) → Speaks P (follows a)) → Speaks P (ask r (Read p n) line follows)
+  read_speaks p n line follows h = ask_speaks (Read p n) refl line follows h
+
+  write_speaks : (p : ℕ) (new : List ℕ) (first : Bool) (line : ℕ) (follows : Answer → Behaviour) → ((a : Answer) → Speaks P (follows a)) → Speaks P (ask r (Write p new first) line follows)
+  write_speaks p new first line follows h = ask_speaks (Write p new first) refl line follows h
+
+  look_speaks : (p : ℕ) (is_element : Bool) (line : ℕ) (follows : Answer → Behaviour) → ((a : Answer) → Speaks P (follows a)) → Speaks P (ask r (Look p is_element) line follows)
+  look_speaks p is_element line follows h = ask_speaks (Look p is_element) refl line follows h
+
+  draw_speaks : (n line : ℕ) (follows : Answer → Behaviour) → ((a : Answer) → Speaks P (follows a)) → Speaks P (ask r (Draw n) line follows)
+  draw_speaks n line follows h = ask_speaks (Draw n) refl line follows h
+
+  alloc_speaks : (o : StoredObject) (line : ℕ) (follows : Answer → Behaviour) → ((a : Answer) → Speaks P (follows a)) → Speaks P (ask r (Alloc o) line follows)
+  alloc_speaks o line follows h = ask_speaks (Alloc o) refl line follows h
+
+  die_speaks : (n line : ℕ) (follows : Answer → Behaviour) → ((a : Answer) → Speaks P (follows a)) → Speaks P (ask r (Die n) line follows)
+  die_speaks n line follows h = ask_speaks (Die n) refl line follows h
+
+  free_speaks : (p line : ℕ) (follows : Answer → Behaviour) → ((a : Answer) → Speaks P (follows a)) → Speaks P (ask r (Free p) line follows)
+  free_speaks p line follows h = ask_speaks (Free p) refl line follows h
 
   unless_speaks : (o : Option Class) (line : ℕ) (follows : Behaviour) → Speaks P follows → Speaks P (unless_broken r o line follows)
   unless_speaks None line follows h = h
   unless_speaks (Some class) line follows h = final_speaks P (Broken class line r.function) there
 
-  reads_speak : (p : Place) (vs : Variables) (follows : ℕ → Variables → Behaviour) → ((x : ℕ) (after : Variables) → Speaks P (follows x after)) → Speaks P (reads r p vs follows)
-  reads_speak (Variable line t v offset) vs follows h = h _ _
-  reads_speak (Object line t k offset) vs follows h = ask_speaks _ line _ (λ a. h _ _)
+  -- ---- places
 
-  writes_speak : (p : Place) (line bits : ℕ) (vs : Variables) (follows : Variables → Behaviour) → ((after : Variables) → Speaks P (follows after)) → Speaks P (writes r p line bits vs follows)
-  writes_speak (Variable at t v offset) line bits vs follows h = h _
-  writes_speak (Object at t k offset) line bits vs follows h = ask_speaks _ line _ (λ a. h _)
+  outside_speaks : (v offset count line : ℕ) (follows : Behaviour) → Speaks P follows → Speaks P (unless_outside r v offset count line follows)
+  outside_speaks v offset count line follows h = cond_speaks P (nat_le (offset + count) (size_of r v)) _ _ h (final_speaks P _ there)
 
-  combined_speaks : (p : Place) (op : ArithmeticOperator) (t u : IntegerType) (old y line : ℕ) (vs : Variables) (follows : ℕ → Variables → Behaviour) → ((x : ℕ) (after : Variables) → Speaks P (follows x after))
-      → Speaks P (combined r p op t u old y line vs follows)
-  combined_speaks p op t u old y line vs follows h = unless_speaks _ line _ (writes_speak p line _ vs _ (λ after. h _ after))
+  reads_speak : (o : Option ℕ) (at count line : ℕ) (vs : Variables) (follows : List ℕ → Behaviour) → ((value : List ℕ) → Speaks P (follows value)) → Speaks P (reads r o at count line vs follows)
+  reads_speak (Some v) at count line vs follows h = outside_speaks v _ _ line _ (h _)
+  reads_speak None at count line vs follows h = read_speaks _ _ line _ (λ a. h _)
+
+  writes_speak : (o : Option ℕ) (at : ℕ) (new : List ℕ) (line : ℕ) (vs : Variables) (follows : Variables → Behaviour) → ((after : Variables) → Speaks P (follows after)) → Speaks P (writes r o at new line vs follows)
+  writes_speak (Some v) at new line vs follows h = outside_speaks v _ _ line _ (h _)
+  writes_speak None at new line vs follows h = write_speaks _ _ _ line _ (λ a. h vs)
+
+  number_reads_speak : (t : IntegerType) (x : Place) (at : ℕ) (vs : Variables) (follows : ℕ → Behaviour) → ((n : ℕ) → Speaks P (follows n)) → Speaks P (reads_number r t x at vs follows)
+  number_reads_speak t x at vs follows h = reads_speak (variable_of r x) at (bytes t) (place_line x) vs _ (λ value. h _)
+
+  number_writes_speak : (t : IntegerType) (x : Place) (at line bits : ℕ) (vs : Variables) (follows : Variables → Behaviour) → ((after : Variables) → Speaks P (follows after)) → Speaks P (writes_number r t x at line bits vs follows)
+  number_writes_speak t x at line bits vs follows h = writes_speak (variable_of r x) at _ line vs follows h
+
+  operated_speaks : (op : ArithmeticOperator) (t u : IntegerType) (x y line : ℕ) (follows : ℕ → Behaviour) → ((z : ℕ) → Speaks P (follows z)) → Speaks P (operated r op t u x y line follows)
+  operated_speaks op t u x y line follows h = unless_speaks (arithmetic_check op t u x y) line _ (h _)
+
+  combined_speaks : (t : IntegerType) (x : Place) (at : ℕ) (op : ArithmeticOperator) (u w : IntegerType) (old y line : ℕ) (vs : Variables) (follows : ℕ → Variables → Behaviour) → ((z : ℕ) (after : Variables) → Speaks P (follows z after))
+      → Speaks P (combined r t x at op u w old y line vs follows)
+  combined_speaks t x at op u w old y line vs follows h = operated_speaks op u w (converted t u old) y line _ (λ z. number_writes_speak t x at line (converted u t z) vs (follows (converted u t z)) (λ after. h (converted u t z) after))
+
+  -- ---- sums of pointers
+
+  lands_speaks : (is_element : Bool) (p size : ℕ) (index stride : ℤ) (line : ℕ) (follows : ℕ → Behaviour) → ((q : ℕ) → Speaks P (follows q)) → Speaks P (lands r is_element p size index stride line follows)
+  lands_speaks is_element p size index stride line follows h = cond_speaks P (in_range (offset_by (offset_of p) index stride) size) _ _ (h _) (final_speaks P _ there)
+
+  moves_speak : (is_element : Bool) (p : ℕ) (index stride : ℤ) (line : ℕ) (follows : ℕ → Behaviour) → ((q : ℕ) → Speaks P (follows q)) → Speaks P (meaning.moves r is_element p index stride line follows)
+  moves_speak is_element p index stride line follows h = look_speaks p is_element line _ (λ a. lands_speaks is_element p (size_in a) index stride line follows h)
+
+  steps_speak : (at whole : ℕ) (index stride : ℤ) (line : ℕ) (follows : ℕ → Behaviour) → ((q : ℕ) → Speaks P (follows q)) → Speaks P (steps_to r at whole index stride line follows)
+  steps_speak at whole index stride line follows h = cond_speaks P (in_range (offset_by (offset_of at) index stride) whole) _ _ (h _) (final_speaks P _ there)
+
+  apart_speaks : (p q line : ℕ) (follows : Behaviour) → Speaks P follows → Speaks P (unless_apart r p q line follows)
+  apart_speaks p q line follows h = cond_speaks P (object_of p == object_of q) _ _ h (final_speaks P _ there)
+
+  -- ---- calls and variables
 
   used_speaks : (used : Bool) (line : ℕ) (follows : Behaviour) → Speaks P follows → Speaks P (unless_used r used line follows)
   used_speaks used line follows h = cond_speaks P used _ _ (final_speaks P _ there) h
@@ -99,20 +161,87 @@ module _ (P : ℕ → Type 0) (r : Running) (there : P r.function) where
 
   words_speak : (words line v offset : ℕ) (vs : Variables) (follows : Variables → Behaviour) → ((after : Variables) → Speaks P (follows after)) → Speaks P (draws_words r words line v offset vs follows)
   words_speak zero line v offset vs follows h = h vs
-  words_speak (suc k) line v offset vs follows h = ask_speaks _ line _ (λ a. words_speak k line v _ _ follows h)
+  words_speak (suc k) line v offset vs follows h = draw_speaks _ line _ (λ a. words_speak k line v _ _ follows h)
 
   draws_speaks : (line v : ℕ) (vs : Variables) (follows : Variables → Behaviour) → ((after : Variables) → Speaks P (follows after)) → Speaks P (draws r line v vs follows)
   draws_speaks line v vs follows h = words_speak _ line v 0 vs follows h
 
+  places_speak : (o : Option ℕ) (line v : ℕ) (vs : Variables) (follows : Variables → Behaviour) → ((after : Variables) → Speaks P (follows after)) → Speaks P (places r o line v vs follows)
+  places_speak None line v vs follows h = h vs
+  places_speak (Some x) line v vs follows h = alloc_speaks _ line _ (λ a. h _)
+
+  makes_speaks : (is_drawn : Bool) (line v : ℕ) (vs : Variables) (follows : Variables → Behaviour) → ((after : Variables) → Speaks P (follows after)) → Speaks P (makes r is_drawn line v vs follows)
+  makes_speaks true line v vs follows h = draws_speaks line v vs _ (λ after. places_speak (home_of r v) line v after follows h)
+  makes_speaks false line v vs follows h = places_speak (home_of r v) line v _ follows h
+
   enter_speaks : (items : Items) (vs : Variables) (follows : Variables → Behaviour) → ((after : Variables) → Speaks P (follows after)) → Speaks P (enter r items vs follows)
   enter_speaks done vs follows h = h vs
-  enter_speaks (declares line v rest) vs follows h = draws_speaks line v vs _ (λ after. enter_speaks rest after follows h)
-  enter_speaks (initializes line v is_drawn e rest) vs follows h = cond_speaks P is_drawn _ _ (draws_speaks line v vs _ (λ after. enter_speaks rest after follows h)) (enter_speaks rest _ follows h)
-  enter_speaks (initializes_structure line v is_drawn a rest) vs follows h = cond_speaks P is_drawn _ _ (draws_speaks line v vs _ (λ after. enter_speaks rest after follows h)) (enter_speaks rest _ follows h)
+  enter_speaks (declares line v rest) vs follows h = makes_speaks true line v vs _ (λ after. enter_speaks rest after follows h)
+  enter_speaks (initializes line v is_drawn e rest) vs follows h = makes_speaks is_drawn line v vs _ (λ after. enter_speaks rest after follows h)
+  enter_speaks (initializes_structure line v is_drawn a rest) vs follows h = makes_speaks is_drawn line v vs _ (λ after. enter_speaks rest after follows h)
   enter_speaks (does s rest) vs follows h = enter_speaks rest vs follows h
   enter_speaks (label n rest) vs follows h = enter_speaks rest vs follows h
   enter_speaks (case_at line t bits rest) vs follows h = enter_speaks rest vs follows h
   enter_speaks (default_at line rest) vs follows h = enter_speaks rest vs follows h
+
+  initial_speaks : (o : Option ℕ) (v : ℕ) (new : List ℕ) (line : ℕ) (vs : Variables) (follows : Variables → Behaviour) → ((after : Variables) → Speaks P (follows after)) → Speaks P (initial r o v new line vs follows)
+  initial_speaks None v new line vs follows h = h _
+  initial_speaks (Some x) v new line vs follows h = write_speaks _ _ _ line _ (λ a. h vs)
+
+  dies_speaks : (o : Option ℕ) (line : ℕ) (vs : Variables) (follows : Behaviour) → Speaks P follows → Speaks P (dies r o line vs follows)
+  dies_speaks None line vs follows h = h
+  dies_speaks (Some x) line vs follows h = die_speaks _ line _ (λ a. h)
+
+  leave_speaks : (items : Items) (vs : Variables) (follows : Behaviour) → Speaks P follows → Speaks P (leave r items vs follows)
+  leave_speaks done vs follows h = h
+  leave_speaks (declares line v rest) vs follows h = leave_speaks rest vs _ (dies_speaks (home_of r v) line vs follows h)
+  leave_speaks (initializes line v is_drawn e rest) vs follows h = leave_speaks rest vs _ (dies_speaks (home_of r v) line vs follows h)
+  leave_speaks (initializes_structure line v is_drawn a rest) vs follows h = leave_speaks rest vs _ (dies_speaks (home_of r v) line vs follows h)
+  leave_speaks (does s rest) vs follows h = leave_speaks rest vs follows h
+  leave_speaks (label n rest) vs follows h = leave_speaks rest vs follows h
+  leave_speaks (case_at line t bits rest) vs follows h = leave_speaks rest vs follows h
+  leave_speaks (default_at line rest) vs follows h = leave_speaks rest vs follows h
+
+  parameters_speak : (count v : ℕ) (vs : Variables) (follows : Variables → Behaviour) → ((after : Variables) → Speaks P (follows after)) → Speaks P (enter_parameters r count v vs follows)
+  parameters_speak zero v vs follows h = h vs
+  parameters_speak (suc count) v vs follows h = places_speak (home_of r v) r.line v vs _ (λ after. parameters_speak count (suc v) after follows h)
+
+  parameters_leave : (count v : ℕ) (vs : Variables) (follows : Behaviour) → Speaks P follows → Speaks P (leave_parameters r count v vs follows)
+  parameters_leave zero v vs follows h = h
+  parameters_leave (suc count) v vs follows h = parameters_leave count (suc v) vs _ (dies_speaks (home_of r v) r.line vs follows h)
+
+  -- ---- objects that are allocated
+
+  bytes_speak : (words line size : ℕ) (found : List ℕ) (follows : List ℕ → Behaviour) → ((new : List ℕ) → Speaks P (follows new)) → Speaks P (draws_bytes r words line size found follows)
+  bytes_speak zero line size found follows h = h found
+  bytes_speak (suc n) line size found follows h = draw_speaks _ line _ (λ a. bytes_speak n line size _ follows h)
+
+  allocates_speaks : (line : ℕ) (new : List ℕ) (follows : ℕ → Behaviour) → ((p : ℕ) → Speaks P (follows p)) → Speaks P (allocates r line new follows)
+  allocates_speaks line new follows h = alloc_speaks _ line _ (λ a. h _)
+
+  large_speaks : (size line : ℕ) (follows : Behaviour) → Speaks P follows → Speaks P (unless_large r size line follows)
+  large_speaks size line follows h = cond_speaks P (nat_le size r.malloc_limit) _ _ h (final_speaks P _ there)
+
+  may_fail_speaks : (line : ℕ) (fails goes_on : Behaviour) → Speaks P fails → Speaks P goes_on → Speaks P (may_fail r line fails goes_on)
+  may_fail_speaks line fails goes_on h g = cond_speaks P r.malloc_may_fail _ _ (draw_speaks _ line _ (λ a. cond_speaks P (is_true (drawn a)) _ _ h g)) g
+
+  grants_speaks : (size line : ℕ) (follows : ℕ → Behaviour) → ((p : ℕ) → Speaks P (follows p)) → Speaks P (grants r size line follows)
+  grants_speaks size line follows h = large_speaks size line _ (bytes_speak (word_count size) line size [] _ (λ new. allocates_speaks line new follows h))
+
+  zeroed_speaks : (count size line : ℕ) (follows : ℕ → Behaviour) → ((p : ℕ) → Speaks P (follows p)) → Speaks P (grants_zeroed r count size line follows)
+  zeroed_speaks count size line follows h = large_speaks (count * size) line _ (allocates_speaks line (zeros (count * size)) follows h)
+
+  mallocs_speaks : (size line : ℕ) (follows : ℕ → Behaviour) → ((p : ℕ) → Speaks P (follows p)) → Speaks P (mallocs r size line follows)
+  mallocs_speaks size line follows h = may_fail_speaks line _ _ (h 0) (grants_speaks size line follows h)
+
+  callocs_speaks : (count size line : ℕ) (follows : ℕ → Behaviour) → ((p : ℕ) → Speaks P (follows p)) → Speaks P (callocs r count size line follows)
+  callocs_speaks count size line follows h = may_fail_speaks line _ _ (h 0) (zeroed_speaks count size line follows h)
+
+  frees_speaks : (p line : ℕ) (follows : Behaviour) → Speaks P follows → Speaks P (frees r p line follows)
+  frees_speaks p line follows h = cond_speaks P (p == 0) _ _ h (free_speaks p line _ (λ a. h))
+
+  process_speaks : (line : ℕ) → Speaks P (ends_process r line)
+  process_speaks line = ask_speaks Exit refl line _ (λ a. final_speaks P _ tt)
 
   rounds_speak : (line : ℕ) (round : (Variables → Behaviour) → Variables → Behaviour) → ((again : Variables → Behaviour) → ((vs : Variables) → Speaks P (again vs)) → (vs : Variables) → Speaks P (round again vs))
       → (n : ℕ) (vs : Variables) → Speaks P (rounds r line round n vs)
@@ -122,41 +251,78 @@ module _ (P : ℕ → Type 0) (r : Running) (there : P r.function) where
   record ExitsSpeak (exits : Exits) : Type 0 where
     breaks : (vs : Variables) → Speaks P (exits.breaks vs)
     continues : (vs : Variables) → Speaks P (exits.continues vs)
-    returns : (given : Given) → Speaks P (exits.returns given)
+    returns : (given : Given) (vs : Variables) → Speaks P (exits.returns given vs)
     labels : (n : ℕ) (vs : Variables) → Speaks P (exits.labels n vs)
+
+  leaving_speaks : (out : Variables → Behaviour → Behaviour) → ((vs : Variables) (b : Behaviour) → Speaks P b → Speaks P (out vs b)) → (exits : Exits) → ExitsSpeak exits → ExitsSpeak (leaving out exits)
+  leaving_speaks out speaks exits x = record {
+    breaks = λ vs. speaks vs _ (x.breaks vs);
+    continues = λ vs. speaks vs _ (x.continues vs);
+    returns = λ given vs. speaks vs _ (x.returns given vs);
+    labels = λ n vs. speaks vs _ (x.labels n vs);
+  }
 
   module _ (calls : (function line : ℕ) → List (List ℕ) → (Given → Behaviour) → Behaviour)
       (calls_speak : (function line : ℕ) (blocks : List (List ℕ)) (follows : Given → Behaviour) → ((given : Given) → Speaks P (follows given)) → Speaks P (calls function line blocks follows)) where
     mutual
+      locate_speaks : (x : Place) (vs : Variables) (follows : ℕ → Variables → Behaviour) → ((at : ℕ) (after : Variables) → Speaks P (follows at after)) → Speaks P (locate r calls x vs follows)
+      locate_speaks (variable_at line v offset) vs follows h = h _ _
+      locate_speaks (object_at line n offset) vs follows h = h _ _
+      locate_speaks (literal_at line n) vs follows h = h _ _
+      locate_speaks (pointed line e) vs follows h = eval_speaks e vs follows h
+      locate_speaks (arrow line e offset) vs follows h = eval_speaks e vs _ (λ p after. h _ _)
+      locate_speaks (member line x offset) vs follows h = locate_speaks x vs _ (λ at after. h _ _)
+      locate_speaks (element line x e size whole false) vs follows h = locate_speaks x vs _ (λ at after. eval_speaks e after _ (λ i last. steps_speak at whole (integer (number_type e) i) (pos size) line (λ found. follows found last) (λ found. h found last)))
+      locate_speaks (element line x e size whole true) vs follows h = eval_speaks e vs _ (λ i after. locate_speaks x after _ (λ at last. steps_speak at whole (integer (number_type e) i) (pos size) line (λ found. follows found last) (λ found. h found last)))
+      locate_speaks (subscript line a e size false) vs follows h = eval_speaks a vs _ (λ p after. eval_speaks e after _ (λ i last. moves_speak true p (integer (number_type e) i) (pos size) line (λ found. follows found last) (λ found. h found last)))
+      locate_speaks (subscript line a e size true) vs follows h = eval_speaks e vs _ (λ i after. eval_speaks a after _ (λ p last. moves_speak true p (integer (number_type e) i) (pos size) line (λ found. follows found last) (λ found. h found last)))
+
       eval_speaks : (e : Expression) (vs : Variables) (follows : ℕ → Variables → Behaviour) → ((x : ℕ) (after : Variables) → Speaks P (follows x after)) → Speaks P (eval r calls e vs follows)
       eval_speaks (constant line t bits) vs follows h = h _ _
-      eval_speaks (read p) vs follows h = reads_speak p vs follows h
+      eval_speaks (read t x) vs follows h = locate_speaks x vs _ (λ at after. number_reads_speak t x at after (λ found. follows found after) (λ found. h found after))
       eval_speaks (convert to e) vs follows h = eval_speaks e vs _ (λ x after. h _ _)
       eval_speaks (sign line op e) vs follows h = eval_speaks e vs _ (λ x after. unless_speaks _ line _ (h _ _))
       eval_speaks (is_zero line e) vs follows h = eval_speaks e vs _ (λ x after. h _ _)
-      eval_speaks (arithmetic line op a b) vs follows h = eval_speaks a vs _ (λ x after. eval_speaks b after _ (λ y last. unless_speaks _ line _ (h _ _)))
+      eval_speaks (arithmetic line op a b) vs follows h = eval_speaks a vs _ (λ x after. eval_speaks b after _ (λ y last. operated_speaks op (number_type a) (number_type b) x y line (λ z. follows z last) (λ z. h z last)))
       eval_speaks (compare line op a b) vs follows h = eval_speaks a vs _ (λ x after. eval_speaks b after _ (λ y last. h _ _))
       eval_speaks (logical line op a b) vs follows h = eval_speaks a vs _ (λ x after. cond_speaks P (decides op x) _ _ (h _ _) (eval_speaks b after _ (λ y last. h _ _)))
       eval_speaks (choice line test a b) vs follows h = eval_speaks test vs _ (λ x after. cond_speaks P (is_true x) _ _ (eval_speaks a after follows h) (eval_speaks b after follows h))
-      eval_speaks (assign line p e) vs follows h = eval_speaks e vs _ (λ x after. writes_speak p line x after _ (λ last. h x last))
-      eval_speaks (update line p op t e) vs follows h = eval_speaks e vs _ (λ y after. reads_speak p after _ (λ old last. combined_speaks p op t _ old y line last follows h))
-      eval_speaks (step line p op before) vs follows h = reads_speak p vs _ (λ old after. combined_speaks p (step_operation op) (promoted (place_type p)) (promoted (place_type p)) old 1 line after _ (λ new last. h (if before then new else old) last))
+      eval_speaks (assign line t x e) vs follows h = locate_speaks x vs _ (λ at after. eval_speaks e after _ (λ y last. number_writes_speak t x at line y last (follows y) (λ now. h y now)))
+      eval_speaks (update line t x op u e) vs follows h =
+          locate_speaks x vs _ (λ at after. eval_speaks e after _ (λ y last. number_reads_speak t x at last _ (λ old. combined_speaks t x at op u (number_type e) old y line last follows h)))
+      eval_speaks (step line t x op before) vs follows h =
+          locate_speaks x vs _ (λ at after. number_reads_speak t x at after _ (λ old. combined_speaks t x at (step_operation op) (promoted t) (promoted t) old 1 line after (λ new. follows (if before then new else old)) (λ new last. h (if before then new else old) last)))
       eval_speaks (comma line a b) vs follows h = eval_speaks a vs _ (λ x after. eval_speaks b after follows h)
       eval_speaks (assertion line e) vs follows h = eval_speaks e vs _ (λ x after. cond_speaks P (is_true x) _ _ (h _ _) (final_speaks P _ there))
       eval_speaks (assumption line e) vs follows h = eval_speaks e vs _ (λ x after. cond_speaks P (is_true x) _ _ (h _ _) (final_speaks P Blocked tt))
-      eval_speaks (draw line t) vs follows h = ask_speaks _ line _ (λ a. h _ _)
+      eval_speaks (draw line t) vs follows h = draw_speaks _ line _ (λ a. h _ _)
       eval_speaks (part line t offset a) vs follows h = structure_speaks a vs _ (λ block after. h _ _)
       eval_speaks (discard line e) vs follows h = eval_speaks e vs _ (λ x after. h _ _)
       eval_speaks (discard_structure a) vs follows h = structure_speaks a vs _ (λ block after. h _ _)
       eval_speaks (call line f used t args) vs follows h = arguments_speak args [] vs _ (λ blocks after. calls_speak f line blocks _ (received_speaks used line (integer_of t) _ (λ x. h x after)))
-      eval_speaks (function_name line f) vs follows h = h _ _
+      eval_speaks (function_name line) vs follows h = h _ _
+      eval_speaks (size_of_value line bits e) vs follows h = h _ _
+      eval_speaks (size_of_structure line bits a) vs follows h = h _ _
+      eval_speaks (address line x) vs follows h = locate_speaks x vs follows h
+      eval_speaks (sum line a e n false) vs follows h = eval_speaks a vs _ (λ p after. eval_speaks e after _ (λ i last. moves_speak false p (integer (number_type e) i) n line (λ q. follows q last) (λ q. h q last)))
+      eval_speaks (sum line a e n true) vs follows h = eval_speaks e vs _ (λ i after. eval_speaks a after _ (λ p last. moves_speak false p (integer (number_type e) i) n line (λ q. follows q last) (λ q. h q last)))
+      eval_speaks (distance line a b n) vs follows h = eval_speaks a vs _ (λ p after. eval_speaks b after _ (λ q last. apart_speaks p q line _ (h _ _)))
+      eval_speaks (relation line op a b) vs follows h = eval_speaks a vs _ (λ p after. eval_speaks b after _ (λ q last. apart_speaks p q line _ (h _ _)))
+      eval_speaks (pointer_update line x n e) vs follows h =
+          locate_speaks x vs _ (λ at after. eval_speaks e after _ (λ i last. number_reads_speak UnsignedLong x at last _ (λ p.
+          moves_speak false p (integer (number_type e) i) n line _ (λ q. number_writes_speak UnsignedLong x at line q last (follows q) (λ now. h q now)))))
+      eval_speaks (pointer_step line x n before) vs follows h =
+          locate_speaks x vs _ (λ at after. number_reads_speak UnsignedLong x at after _ (λ p. moves_speak false p (pos 1) n line _ (λ q. number_writes_speak UnsignedLong x at line q after (follows (if before then q else p)) (λ now. h (if before then q else p) now))))
+      eval_speaks (allocate line e) vs follows h = eval_speaks e vs _ (λ n after. mallocs_speaks n line (λ p. follows p after) (λ p. h p after))
+      eval_speaks (allocate_zeroed line a b) vs follows h = eval_speaks a vs _ (λ m after. eval_speaks b after _ (λ n last. callocs_speaks m n line (λ p. follows p last) (λ p. h p last)))
+      eval_speaks (release line e) vs follows h = eval_speaks e vs _ (λ p after. frees_speaks p line _ (h _ _))
+      eval_speaks (exit line e) vs follows h = eval_speaks e vs _ (λ x after. process_speaks line)
+      eval_speaks (abort line) vs follows h = process_speaks line
 
       structure_speaks : (a : Structure) (vs : Variables) (follows : List ℕ → Variables → Behaviour) → ((block : List ℕ) (after : Variables) → Speaks P (follows block after)) → Speaks P (eval_structure r calls a vs follows)
-      structure_speaks (copy line v offset size) vs follows h = h _ _
-      structure_speaks (load line k offset size) vs follows h = ask_speaks _ line _ (λ a. h _ vs)
+      structure_speaks (copy x size) vs follows h = locate_speaks x vs _ (λ at after. reads_speak (variable_of r x) at size (place_line x) after (λ value. follows value after) (λ value. h value after))
       structure_speaks (choose line test a b) vs follows h = eval_speaks test vs _ (λ x after. cond_speaks P (is_true x) _ _ (structure_speaks a after follows h) (structure_speaks b after follows h))
-      structure_speaks (put line v offset a) vs follows h = structure_speaks a vs _ (λ block after. h _ _)
-      structure_speaks (store line k offset a) vs follows h = structure_speaks a vs _ (λ block after. ask_speaks _ line _ (λ b. h block after))
+      structure_speaks (put line x a) vs follows h = locate_speaks x vs _ (λ at after. structure_speaks a after _ (λ value last. writes_speak (variable_of r x) at value line last (follows value) (λ now. h value now)))
       structure_speaks (follow line e a) vs follows h = eval_speaks e vs _ (λ x after. structure_speaks a after follows h)
       structure_speaks (section line offset size a) vs follows h = structure_speaks a vs _ (λ block after. h _ _)
       structure_speaks (list line size ps) vs follows h = parts_speak ps _ vs follows h
@@ -192,13 +358,14 @@ module _ (P : ℕ → Type 0) (r : Running) (there : P r.function) where
 
     mutual
       exec_speaks : (s : Statement) (exits : Exits) (vs : Variables) (follows : Variables → Behaviour) → ExitsSpeak exits → ((after : Variables) → Speaks P (follows after)) → Speaks P (exec r calls s exits vs follows)
-      exec_speaks (block items) exits vs follows x h = enter_speaks items vs _ (λ after. items_speak items exits after follows x h)
+      exec_speaks (block items) exits vs follows x h =
+          enter_speaks items vs _ (λ after. items_speak items (leaving (leave r items) exits) after _ (leaving_speaks (leave r items) (leave_speaks items) exits x) (λ last. leave_speaks items last _ (h last)))
       exec_speaks (if_then line test s) exits vs follows x h = eval_speaks test vs _ (λ n after. cond_speaks P (is_true n) _ _ (exec_speaks s exits after follows x h) (h after))
       exec_speaks (if_else line test s t) exits vs follows x h = eval_speaks test vs _ (λ n after. cond_speaks P (is_true n) _ _ (exec_speaks s exits after follows x h) (exec_speaks t exits after follows x h))
       exec_speaks (evaluate e) exits vs follows x h = eval_speaks e vs _ (λ n after. h after)
-      exec_speaks (returns line e) exits vs follows x h = eval_speaks e vs _ (λ n after. x.returns _)
-      exec_speaks (returns_structure line a) exits vs follows x h = structure_speaks a vs _ (λ value after. x.returns _)
-      exec_speaks (returns_nothing line) exits vs follows x h = x.returns nothing
+      exec_speaks (returns line e) exits vs follows x h = eval_speaks e vs _ (λ n after. x.returns _ after)
+      exec_speaks (returns_structure line a) exits vs follows x h = structure_speaks a vs _ (λ value after. x.returns _ after)
+      exec_speaks (returns_nothing line) exits vs follows x h = x.returns nothing vs
       exec_speaks (for_loop line n first test last s) exits vs follows x h =
           part_speaks first vs _ (λ start. test_speaks test start _ follows (rounds_speak line _ (λ again g now.
           exec_speaks s (in_loop exits follows (at_end r calls last test again follows)) now (at_end r calls last test again follows) (loop_speaks exits follows (at_end r calls last test again follows) x h (end_speaks last test again follows g h)) (end_speaks last test again follows g h)) _) h)
@@ -206,8 +373,11 @@ module _ (P : ℕ → Type 0) (r : Running) (there : P r.function) where
           rounds_speak line _ (λ again g now.
           exec_speaks s (in_loop exits follows (at_end r calls None (Some test) again follows)) now (at_end r calls None (Some test) again follows) (loop_speaks exits follows (at_end r calls None (Some test) again follows) x h (end_speaks None (Some test) again follows g h)) (end_speaks None (Some test) again follows g h)) _ vs
       exec_speaks (switch line e items) exits vs follows x h =
-          eval_speaks e vs _ (λ n after. cond_speaks P (has_case items n) _ _ (enter_speaks items after _ (λ now. case_speaks items n (in_switch exits follows) now follows (switch_speaks exits follows x h) h))
-          (cond_speaks P (has_default items) _ _ (enter_speaks items after _ (λ now. default_speaks items (in_switch exits follows) now follows (switch_speaks exits follows x h) h)) (h after)))
+          let out : Exits = leaving (leave r items) (in_switch exits follows) in
+          let speaks = leaving_speaks (leave r items) (leave_speaks items) (in_switch exits follows) (switch_speaks exits follows x h) in
+          let behind : (last : Variables) → Speaks P (leave r items last (follows last)) = λ last. leave_speaks items last (follows last) (h last) in
+          eval_speaks e vs _ (λ n after. cond_speaks P (has_case items n) _ _ (enter_speaks items after _ (λ now. case_speaks items n out now _ speaks behind))
+          (cond_speaks P (has_default items) _ _ (enter_speaks items after _ (λ now. default_speaks items out now _ speaks behind)) (h after)))
       exec_speaks (breaks line) exits vs follows x h = x.breaks vs
       exec_speaks (continues line) exits vs follows x h = x.continues vs
       exec_speaks (jumps line n) exits vs follows x h = x.labels n vs
@@ -216,8 +386,8 @@ module _ (P : ℕ → Type 0) (r : Running) (there : P r.function) where
       items_speak : (items : Items) (exits : Exits) (vs : Variables) (follows : Variables → Behaviour) → ExitsSpeak exits → ((after : Variables) → Speaks P (follows after)) → Speaks P (exec_items r calls items exits vs follows)
       items_speak done exits vs follows x h = h vs
       items_speak (declares line v rest) exits vs follows x h = items_speak rest exits vs follows x h
-      items_speak (initializes line v is_drawn e rest) exits vs follows x h = eval_speaks e vs _ (λ n after. items_speak rest exits _ follows x h)
-      items_speak (initializes_structure line v is_drawn a rest) exits vs follows x h = structure_speaks a vs _ (λ value after. items_speak rest exits _ follows x h)
+      items_speak (initializes line v is_drawn e rest) exits vs follows x h = eval_speaks e vs _ (λ n after. initial_speaks (home_of r v) v _ line after _ (λ now. items_speak rest exits now follows x h))
+      items_speak (initializes_structure line v is_drawn a rest) exits vs follows x h = structure_speaks a vs _ (λ value after. initial_speaks (home_of r v) v value line after _ (λ now. items_speak rest exits now follows x h))
       items_speak (does s rest) exits vs follows x h =
           exec_speaks s _ vs _ (record { breaks = x.breaks; continues = x.continues; returns = x.returns; labels = λ n now. label_speaks rest n exits now follows x h }) (λ after. items_speak rest exits after follows x h)
       items_speak (label n rest) exits vs follows x h = items_speak rest exits vs follows x h
@@ -254,25 +424,31 @@ module _ (P : ℕ → Type 0) (r : Running) (there : P r.function) where
       default_speaks (case_at line t bits rest) exits vs follows x h = default_speaks rest exits vs follows x h
       default_speaks (default_at line rest) exits vs follows x h = items_speak rest exits vs follows x h
 
-    body_speaks : (body : Option Statement) (blocks : List (List ℕ)) (follows : Given → Behaviour) → ((given : Given) → Speaks P (follows given)) → Speaks P (exec_body r calls body blocks follows)
-    body_speaks None blocks follows h = final_speaks P Blocked tt
-    body_speaks (Some s) blocks follows h =
-        exec_speaks s (in_function follows) _ _ (record { breaks = λ vs. final_speaks P Blocked tt; continues = λ vs. final_speaks P Blocked tt; returns = h; labels = λ n vs. final_speaks P Blocked tt }) (λ vs. h nothing)
+    body_speaks : (s : Statement) (blocks : List (List ℕ)) (follows : Given → Behaviour) → ((given : Given) → Speaks P (follows given)) → Speaks P (exec_body r calls s blocks follows)
+    body_speaks s blocks follows h =
+        let out = leave_parameters r (length blocks) 0 in
+        let within : Exits = in_function r.line r.function follows in
+        let ends_speak : ExitsSpeak within = record { breaks = λ vs. final_speaks P _ there; continues = λ vs. final_speaks P _ there; returns = λ given vs. h given; labels = λ n vs. final_speaks P _ there } in
+        parameters_speak (length blocks) 0 _ _ (λ vs.
+        exec_speaks s (leaving out within) vs _ (leaving_speaks out (parameters_leave (length blocks) 0) within ends_speak) (λ last. parameters_leave (length blocks) 0 last _ (h nothing)))
 
 -- ---- calls
 
 module _ (P : ℕ → Type 0) (code : Code) (there : (f : ℕ) (p : Procedure) → slice_get code.functions f ≡ Some p → P f) where
-  enters_speaks : (f : ℕ) (o : Option Procedure) → slice_get code.functions f ≡ o → (calls : (function line : ℕ) → List (List ℕ) → (Given → Behaviour) → Behaviour)
+  enters_speaks : (caller line f : ℕ) (o : Option Procedure) → P caller → slice_get code.functions f ≡ o → (calls : (function line : ℕ) → List (List ℕ) → (Given → Behaviour) → Behaviour)
       → (P f → (function line : ℕ) (blocks : List (List ℕ)) (follows : Given → Behaviour) → ((given : Given) → Speaks P (follows given)) → Speaks P (calls function line blocks follows))
-      → (blocks : List (List ℕ)) (follows : Given → Behaviour) → ((given : Given) → Speaks P (follows given)) → Speaks P (enters code f o calls blocks follows)
-  enters_speaks f None e calls h blocks follows g = final_speaks P Blocked tt
-  enters_speaks f (Some p) e calls h blocks follows g = let here = there f p e in body_speaks P (running_at code f p) here calls (h here) p.body blocks follows g
+      → (blocks : List (List ℕ)) (follows : Given → Behaviour) → ((given : Given) → Speaks P (follows given)) → Speaks P (enters code caller line f (body_of o) calls blocks follows)
+  enters_speaks caller line f None k e calls h blocks follows g = final_speaks P (Broken Assertion line caller) k
+  enters_speaks caller line f (Some p) k e calls h blocks follows g = by p.body where
+    by : (b : Option Statement) → Speaks P (enters code caller line f b calls blocks follows)
+    by None = final_speaks P (Broken Assertion line caller) k
+    by (Some s) = let here = there f p e in body_speaks P (running_in code f) here calls (h here) s blocks follows g
 
   activation_speaks : (fuel : ℕ) (left : List ℕ) (caller : ℕ) → P caller → (f line : ℕ) (blocks : List (List ℕ)) (follows : Given → Behaviour) → ((given : Given) → Speaks P (follows given)) → Speaks P (activation code fuel left caller f line blocks follows)
   activation_speaks zero left caller here f line blocks follows g = passed_speaks P code.assertions Recursion line caller here
   activation_speaks (suc fuel) left caller here f line blocks follows g =
       cond_speaks P (slice_index left f == 0) _ _ (passed_speaks P code.assertions Recursion line caller here)
-      (enters_speaks f (slice_get code.functions f) refl (activation code fuel (opened left f) f) (λ in_f. activation_speaks fuel (opened left f) f in_f) blocks follows g)
+      (enters_speaks caller line f (slice_get code.functions f) here refl (activation code fuel (opened left f) f) (λ in_f. activation_speaks fuel (opened left f) f in_f) blocks follows g)
 
 -- ---- the threads of a file
 
@@ -282,23 +458,43 @@ IsThere core n = (name : List ℕ) × (name_in core n ≡ Some name)
 named : (core : TypedFile) (n : ℕ) (p : Procedure) → slice_get core.functions n ≡ Some p → IsThere core n
 named core n p e = (p.name, ap (option_map (λ (q : Procedure). q.name)) e)
 
+not_create : (first : Bool) (value : ℕ) → is_create (if first then Exit else End value) ≡ false
+not_create true value = refl
+not_create false value = refl
+
 leaves_speaks : (P : ℕ → Type 0) (first : Bool) (function line : ℕ) → P function → (given : Given) → Speaks P (leaves first function line given)
-leaves_speaks P first function line there given = ask_in_speaks P function there _ line _ (λ a. final_speaks P _ tt)
+leaves_speaks P first function line there given = ask_in_speaks P function there _ (not_create first (value_of given)) line _ (λ a. final_speaks P _ tt)
 
-runs_speak : (core : TypedFile) (limits : Limits) (first : Bool) (n : ℕ) (o : Option Procedure) → slice_get core.functions n ≡ o → Speaks (IsThere core) (runs_at core.functions limits first n o)
-runs_speak core limits first n None e = final_speaks (IsThere core) Blocked tt
-runs_speak core limits first n (Some f) e =
-    activation_speaks (IsThere core) (code_of core.functions limits) (named core) (suc (total (first_left core.functions limits))) (first_left core.functions limits) n (named core n f e) n f.line [] _ (leaves_speaks (IsThere core) first n f.line (named core n f e))
+runs_speak : (core : TypedFile) (limits : Limits) (first : Bool) (n : ℕ) (f : Procedure) → slice_get core.functions n ≡ Some f → Speaks (IsThere core) (runs_at core limits first n (Some f))
+runs_speak core limits first n f e =
+    activation_speaks (IsThere core) (code_of core limits) (named core) (suc (total (first_left core.functions limits))) (first_left core.functions limits) n (named core n f e) n f.line [] _ (leaves_speaks (IsThere core) first n f.line (named core n f e))
 
-function_speaks : (core : TypedFile) (limits : Limits) (first : Bool) (n : ℕ) → Speaks (IsThere core) (function_behaviour core.functions limits first n)
-function_speaks core limits first n = runs_speak core limits first n (slice_get core.functions n) refl
+-- a function that is there
+function_speaks : (core : TypedFile) (limits : Limits) (first : Bool) (n : ℕ) (f : Procedure) → slice_get core.functions n ≡ Some f → Speaks (IsThere core) (function_behaviour core limits first n)
+function_speaks core limits first n f e = subst (λ (o : Option Procedure). Speaks (IsThere core) (runs_at core limits first n o)) (sym e) (runs_speak core limits first n f e)
+
+-- in a file of the profile `main` is there
+first_none : (x y : Option Breach) → earlier x y ≡ None → x ≡ None
+first_none None y e = refl
+first_none (Some a) None e = let none : ⊥ = cc in absurd none
+first_none (Some a) (Some b) e = let none : ⊥ = cc in absurd none
+
+main_there : (fs : List Procedure) → main_breach fs ≡ None → (f : Procedure) × (slice_get fs (main_number fs) ≡ Some f)
+main_there [] e = let none : ⊥ = cc in absurd none
+main_there (f ∷ fs) e = by (is_main f) (main_there fs) e where
+  next : main_number fs + 1 ≡ suc (main_number fs)
+  next = omega arith
+
+  by : (b : Bool) → (main_breach fs ≡ None → (g : Procedure) × (slice_get fs (main_number fs) ≡ Some g)) → (if b then definition_breach f else main_breach fs) ≡ None
+      → (g : Procedure) × (slice_get (f ∷ fs) (if b then 0 else main_number fs + 1) ≡ Some g)
+  by true rest h = (f, refl)
+  by false rest h = let found = rest h in (found.0, ap (slice_get (f ∷ fs)) next ∙ found.1)
 
 -- ---- the states of a run
 
 module _ (P : ℕ → Type 0) where
   record ThreadSpeaks (t : Thread) : Type 0 where
     itself : Speaks P t.behaves
-    others : (f v : ℕ) → Speaks P (t.program.behaves f v)
 
   abbrev AllSpeak : List (ℕ × Member) → Type 0
   AllSpeak [] = Unit {0}
@@ -316,17 +512,14 @@ module _ (P : ℕ → Type 0) where
   told_speak [] t m h a = tt
   told_speak (e ∷ es) t m h a = elim (is_at (nat_cmp t) e.0) as (λ b. AllSpeak (cond b ((e.0, m) ∷ es) (e ∷ set_value (is_at (nat_cmp t)) es m))) [ true ↦ (h, a.1) | false ↦ (a.0, told_speak es t m h a.1) ]
 
-  insert_speak : (members : List (ℕ × Member)) (t : ℕ) (m : Member) → ThreadSpeaks m.thread → AllSpeak members → AllSpeak (insert_entry nat_cmp members t m)
-  insert_speak [] t m h a = (h, tt)
-  insert_speak (e ∷ es) t m h a = elim (nat_cmp t e.0) as (λ (o : Ordering). AllSpeak (match_ordering o ((t, m) ∷ e ∷ es) ((e.0, m) ∷ es) (e ∷ insert_entry nat_cmp es t m))) [ Less ↦ (h, (a.0, a.1)) | Equal ↦ (h, a.1) | Greater ↦ (a.0, insert_speak es t m h a.1) ]
-
-  child_speak : (m : Member) (change : Change) (members : List (ℕ × Member)) → ThreadSpeaks m.thread → AllSpeak members → AllSpeak (with_child m change members)
-  child_speak m keeps members h a = a
-  child_speak m (adds n o) members h a = a
-  child_speak m (kills n) members h a = a
-  child_speak m (puts p bytes) members h a = a
-  child_speak m (starts n f v) members h a = insert_speak members n (child m f v) (record { itself = h.others f v; others = h.others }) a
-  child_speak m (ends n value) members h a = a
+  -- no thread is started
+  child_speak : (m : Member) (action : Action) (answer : Answer) (change : Change) (members : List (ℕ × Member)) → OnlyCreates action (moves answer change) → is_create action ≡ false → AllSpeak members → AllSpeak (with_child m change members)
+  child_speak m action answer keeps members only none a = a
+  child_speak m action answer (adds n o) members only none a = a
+  child_speak m action answer (kills n) members only none a = a
+  child_speak m action answer (puts p bytes) members only none a = a
+  child_speak m action answer (starts n f v) members only none a = let no : true ≡ false = sym (ap is_create only) ∙ none in let never : ⊥ = cc in absurd never
+  child_speak m action answer (ends n value) members only none a = a
 
   abbrev Breaks : Turn → Type 0
   Breaks turned.Moved = Unit {0}
@@ -337,14 +530,14 @@ module _ (P : ℕ → Type 0) where
     check : Breaks r.0
     members : AllSpeak r.1.members
 
-  settled_fine : (w : World) (t : ℕ) (words : List ℕ) (m : Member) (action : Action) (line function : ℕ) (o : Outcome) → AllSpeak w.members → ThreadSpeaks m.thread → P function → IsFine (settled w t words m action line function o)
-  settled_fine w t words m action line function (broken_row class) a h p = record { check = p; members = a }
-  settled_fine w t words m action line function waits a h p = record { check = tt; members = a }
-  settled_fine w t words m action line function (moves answer change) a h p =
-      record { check = tt; members = child_speak m change (with_told w.members t (told m words action answer)) h (told_speak w.members t (told m words action answer) (record { itself = λ answers. h.itself (answer ∷ answers); others = h.others }) a) }
+  settled_fine : (w : World) (t : ℕ) (words : List ℕ) (m : Member) (action : Action) (line function : ℕ) (o : Outcome) → OnlyCreates action o → is_create action ≡ false → AllSpeak w.members → ThreadSpeaks m.thread → P function → IsFine (settled w t words m action line function o)
+  settled_fine w t words m action line function (broken_row class) only none a h p = record { check = p; members = a }
+  settled_fine w t words m action line function waits only none a h p = record { check = tt; members = a }
+  settled_fine w t words m action line function (moves answer change) only none a h p =
+      record { check = tt; members = child_speak m action answer change (with_told w.members t (told m words action answer)) only none (told_speak w.members t (told m words action answer) (record { itself = λ answers. h.itself (answer ∷ answers) }) a) }
 
   next_fine : (w : World) (t : ℕ) (words : List ℕ) (m : Member) (n : Next) → AllSpeak w.members → ThreadSpeaks m.thread → Names P n → IsFine (with_next w t words m n)
-  next_fine w t words m (Act action line function) a h p = settled_fine w t words m action line function (outcome w.common t words m.counts action) a h p
+  next_fine w t words m (Act action line function) a h p = settled_fine w t words m action line function (outcome w.common t words m.counts action) (only_creates w.common.memory t (own_part t words m.counts action) action) p.1 a h p.0
   next_fine w t words m (Ended v) a h p = record { check = tt; members = a }
   next_fine w t words m Blocked a h p = record { check = tt; members = a }
   next_fine w t words m (Broken class line function) a h p = record { check = p; members = a }
@@ -369,8 +562,8 @@ module _ (P : ℕ → Type 0) where
       let fine : Breaks (turn r.reached r.last inputs).0 = (turn_fine r.reached r.last inputs reached).check in
       subst Breaks r.breaks_there fine
 
--- The check that a run of a file breaks stands in one of its functions.
-pub broken_there : (core : TypedFile) (limits : Limits) (inputs : InputLists) (schedule : List ℕ) (check : Check) → Replays (source_world core limits) inputs schedule check → IsThere core check.function
-broken_there core limits inputs schedule check r =
-    replay_fine (IsThere core) (source_world core limits) inputs schedule check
-    (record { itself = function_speaks core limits true (main_number core.functions); others = λ f v. function_speaks core limits false f }, tt) r
+-- The check that a run of a file of the profile breaks stands in one of its functions.
+pub broken_there : (core : TypedFile) (limits : Limits) (inputs : InputLists) (schedule : List ℕ) (check : Check) → first_breach core ≡ None → Replays (source_world core limits) inputs schedule check → IsThere core check.function
+broken_there core limits inputs schedule check admitted r =
+    let first = main_there core.functions (first_none (main_breach core.functions) (earlier (functions_breach core.functions core.functions) (objects_breach core.objects)) admitted) in
+    replay_fine (IsThere core) (source_world core limits) inputs schedule check (record { itself = function_speaks core limits true (main_number core.functions) first.0 first.1 }, tt) r

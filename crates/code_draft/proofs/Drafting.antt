@@ -10,11 +10,8 @@ use Rattle.core_tree.specs.declared.operators.Comparison.{Comparison}
 use Rattle.core_tree.specs.declared.operators.LogicalOperator.TheVariants as logicals
 use Rattle.core_tree.specs.declared.operators.SignOperator.{SignOperator}
 use Rattle.core_tree.specs.declared.operators.StepOperator.{StepOperator}
-use Rattle.core_tree.specs.declared.expression.Place.{Place}
-use Rattle.core_tree.specs.declared.expression.Place.TheVariants.{Object}
 use Rattle.core_tree.specs.Operations.{step_operation}
-use Rattle.core_tree.specs.Trees.{Expression, constant, read, convert, sign, is_zero, arithmetic, compare, logical, choice, assign, update, step, comma, assertion, assumption, discard}
-use Rattle.core_tree.specs.Typed.{place_type}
+use Rattle.core_tree.specs.Trees.{Place, object_at, Expression, constant, read, convert, sign, is_zero, arithmetic, compare, logical, choice, assign, update, step, comma, assertion, assumption, discard}
 use Rattle.c_meaning.specs.Meaning.{number_type}
 use Rattle.goto_prog.specs.declared.code.Instruction.{Instruction}
 use Rattle.goto_prog.specs.declared.code.Operation.TheVariants as operations
@@ -79,13 +76,17 @@ behind_two old mid d new a b x y r tail ts h k at same =
     (behind_one mid d new b y r (λ f z n. tail f x z n) (λ z. ts x) k at same)
     ∙ (λ i. added old (code old.frame a (next old) ++ (code old.frame b m ++ tail old.frame (value_in old a) (value_from b m) (last i))) (types a ++ (types b ++ ts (value_in old a))))
 
+-- where nothing is added
+pub nothing_added : (d : Listed) → d ≡ added d [] []
+nothing_added d = λ i. record d { instructions = sym (append-nil d.instructions) i; registers = sym (append-nil d.registers) i }
+
 -- ---- places
 
 pub read_object : (old d new : Listed) (x : Operand) (line : ℕ) (t : IntegerType) (k offset block count r : ℕ)
     → block ≡ old.frame.free → count ≡ bytes t
     → d ≡ added old (at_line old.frame line (operations.ReadObject block 0 k offset count) ∷ []) []
     → r ≡ next d → new ≡ added d (at_line d.frame line (operations.Load r t block 0) ∷ []) (t ∷ []) → x ≡ operand (next d) t line
-    → Lowers old new (read (Object line t k offset)) x
+    → Lowers old new (read t (object_at line k offset)) x
 read_object old d new x line t k offset block count r is_block is_count first at second v =
     let i = at_line old.frame line (operations.ReadObject old.frame.free 0 k offset (bytes t)) in
     let first' : d ≡ added old (i ∷ []) [] = first ∙ (λ j. added old (at_line old.frame line (operations.ReadObject (is_block j) 0 k offset (is_count j)) ∷ []) []) in
@@ -101,7 +102,7 @@ pub write_object : (old d new : Listed) (line place_line : ℕ) (t : IntegerType
     → block ≡ old.frame.free → count ≡ bytes t
     → d ≡ added old (at_line old.frame line (operations.Store block 0 count r) ∷ []) []
     → new ≡ added d (at_line d.frame line (operations.WriteObject k offset block 0 count) ∷ []) []
-    → new ≡ added old (write_code old.frame line (Object place_line t k offset) r) []
+    → new ≡ added old (write_code old.frame line t (object_at place_line k offset) r) []
 write_object old d new line place_line t k offset block count r is_block is_count first second =
     let i = at_line old.frame line (operations.Store old.frame.free 0 (bytes t) r) in
     let first' : d ≡ added old (i ∷ []) [] = first ∙ (λ j. added old (at_line old.frame line (operations.Store (is_block j) 0 (is_count j) r) ∷ []) []) in
@@ -109,19 +110,19 @@ write_object old d new line place_line t k offset block count r is_block is_coun
     (second ∙ (λ j. added d (at_line (first' j).frame line (operations.WriteObject k offset (is_block j) 0 (is_count j)) ∷ []) []))
 
 -- a read of a place, three operations on it, and a write of it
-pub update_adds : (old d1 d2 d3 d4 new : Listed) (p : Place) (loaded left value back : Operand) (line : ℕ) (op : ArithmeticOperator) (t u : IntegerType) (y a b c : ℕ)
-    → Lowers old d1 (read p) loaded
+pub update_adds : (old d1 d2 d3 d4 new : Listed) (s : IntegerType) (p : Place) (loaded left value back : Operand) (line : ℕ) (op : ArithmeticOperator) (t u : IntegerType) (y a b c : ℕ)
+    → Lowers old d1 (read s p) loaded
     → a ≡ next d1 → d2 ≡ added d1 (at_line d1.frame line (operations.Convert a loaded.type_ t loaded.register) ∷ []) (t ∷ []) → left ≡ operand (next d1) t line
     → b ≡ next d2 → d3 ≡ added d2 (at_line d2.frame line (operations.Arithmetic b op t u left.register y) ∷ []) (t ∷ []) → value ≡ operand (next d2) t line
     → c ≡ next d3 → d4 ≡ added d3 (at_line d3.frame line (operations.Convert c t loaded.type_ value.register) ∷ []) (loaded.type_ ∷ []) → back ≡ operand (next d3) loaded.type_ line
-    → new ≡ added d4 (write_code d4.frame line p back.register) []
-    → new ≡ added old (update_code old.frame line p (place_type p) op t u y (next old)) (update_types p t)
-update_adds old d1 d2 d3 d4 new p loaded left value back line op t u y a b c h is_a first is_left is_b second is_value is_c third is_back last =
+    → new ≡ added d4 (write_code d4.frame line s p back.register) []
+    → new ≡ added old (update_code old.frame line s p op t u y (next old)) (update_types s t)
+update_adds old d1 d2 d3 d4 new s p loaded left value back line op t u y a b c h is_a first is_left is_b second is_value is_c third is_back last =
     let n = next old in
     let f = old.frame in
-    let place = place_type p in
+    let place = s in
     let f1 : d1.frame ≡ f = λ i. (h.code_is i).frame in
-    let n1 : next d1 ≡ n + 1 = omega (arith, next_of old d1 (read p) loaded h) in
+    let n1 : next d1 ≡ n + 1 = omega (arith, next_of old d1 (read s p) loaded h) in
     let none : n + 0 ≡ n = omega arith in
     let from : loaded.register ≡ n = (λ i. (h.value_is i).register) ∙ none in
     let is_place : loaded.type_ ≡ place = λ i. (h.value_is i).type_ in
@@ -139,19 +140,19 @@ update_adds old d1 d2 d3 d4 new p loaded left value back line op t u y a b c h i
     let third' : d4 ≡ added d3 (three ∷ []) (place ∷ []) = third ∙ (λ i. added d3 (at_line (f3 i) line (operations.Convert ((is_c ∙ n3) i) t (is_place i) (value_is i)) ∷ []) (is_place i ∷ [])) in
     let f4 : d4.frame ≡ f = (λ i. (third' i).frame) ∙ f3 in
     let back_is : back.register ≡ n + 3 = (λ i. (is_back i).register) ∙ n3 in
-    let write = write_code f line p (n + 3) in
-    let last' : new ≡ added d4 write [] = last ∙ (λ i. added d4 (write_code (f4 i) line p (back_is i)) []) in
-    adds_more old d1 new (read_code f n p) (one ∷ two ∷ three ∷ write) (place ∷ []) (t ∷ t ∷ place ∷ []) h.code_is
+    let write = write_code f line s p (n + 3) in
+    let last' : new ≡ added d4 write [] = last ∙ (λ i. added d4 (write_code (f4 i) line s p (back_is i)) []) in
+    adds_more old d1 new (read_code f n s p) (one ∷ two ∷ three ∷ write) (place ∷ []) (t ∷ t ∷ place ∷ []) h.code_is
     (adds_more d1 d2 new (one ∷ []) (two ∷ three ∷ write) (t ∷ []) (t ∷ place ∷ []) first'
     (adds_more d2 d3 new (two ∷ []) (three ∷ write) (t ∷ []) (place ∷ []) second'
     (adds_more d3 d4 new (three ∷ []) write (place ∷ []) [] third' last')))
 
-pub update_registers : (old d1 d2 d3 : Listed) (p : Place) (loaded back : Operand) (updated : Updated) (xs ys : List Instruction) (t u v : IntegerType) (line : ℕ)
-    → Lowers old d1 (read p) loaded → d2 ≡ added d1 xs (t ∷ []) → d3 ≡ added d2 ys (u ∷ []) → back ≡ operand (next d3) v line
+pub update_registers : (old d1 d2 d3 : Listed) (s : IntegerType) (p : Place) (loaded back : Operand) (updated : Updated) (xs ys : List Instruction) (t u v : IntegerType) (line : ℕ)
+    → Lowers old d1 (read s p) loaded → d2 ≡ added d1 xs (t ∷ []) → d3 ≡ added d2 ys (u ∷ []) → back ≡ operand (next d3) v line
     → updated ≡ record { old = loaded.register; new = back.register } → updated ≡ record { old = next old; new = next old + 3 }
-update_registers old d1 d2 d3 p loaded back updated xs ys t u v line h first second is_back is_updated =
+update_registers old d1 d2 d3 s p loaded back updated xs ys t u v line h first second is_back is_updated =
     let none : next old + 0 ≡ next old = omega arith in
-    let three : next d3 ≡ next old + 3 = omega (arith, ap next second, next_added d2 ys (u ∷ []), ap next first, next_added d1 xs (t ∷ []), next_of old d1 (read p) loaded h) in
+    let three : next d3 ≡ next old + 3 = omega (arith, ap next second, next_added d2 ys (u ∷ []), ap next first, next_added d1 xs (t ∷ []), next_of old d1 (read s p) loaded h) in
     is_updated ∙ (λ i. record { old = ((λ k. (h.value_is k).register) ∙ none) i; new = ((λ k. (is_back k).register) ∙ three) i })
 
 -- ---- behind one operand
@@ -184,22 +185,22 @@ module _ (old d new : Listed) (e : Expression) (x y : Operand) (h : Lowers old d
     value_is = value_behind (λ z. Int) (λ z. line) v;
   }
 
-  pub lowers_assign : (line : ℕ) (p : Place)
-      → new ≡ added d (write_code d.frame line p x.register) [] → y ≡ operand x.register (place_type p) line
-      → Lowers old new (assign line p e) y
-  lowers_assign line p n v = record {
-    code_is = behind_one old d new e x (next d) (λ f z m. write_code f line p z.register) (λ z. []) h refl n ∙ (λ i. added old (code old.frame (assign line p e) (next old)) (append-nil (types e) i));
-    value_is = v ∙ (λ i. operand (h.value_is i).register (place_type p) line);
+  pub lowers_assign : (line : ℕ) (s : IntegerType) (p : Place)
+      → new ≡ added d (write_code d.frame line s p x.register) [] → y ≡ operand x.register s line
+      → Lowers old new (assign line s p e) y
+  lowers_assign line s p n v = record {
+    code_is = behind_one old d new e x (next d) (λ f z m. write_code f line s p z.register) (λ z. []) h refl n ∙ (λ i. added old (code old.frame (assign line s p e) (next old)) (append-nil (types e) i));
+    value_is = v ∙ (λ i. operand (h.value_is i).register s line);
   }
 
-  pub lowers_update : (line : ℕ) (p : Place) (op : ArithmeticOperator) (t : IntegerType) (s : ℕ) → s ≡ next d + 3
-      → new ≡ added d (update_code d.frame line p (place_type p) op t x.type_ x.register (next d)) (update_types p t) → y ≡ operand s (place_type p) line
-      → Lowers old new (update line p op t e) y
-  lowers_update line p op t s from n v =
-      let last : s ≡ next old + (top e + 4) = omega (arith, next_of old d e x h, from) in
+  pub lowers_update : (line : ℕ) (s : IntegerType) (p : Place) (op : ArithmeticOperator) (t : IntegerType) (q : ℕ) → q ≡ next d + 3
+      → new ≡ added d (update_code d.frame line s p op t x.type_ x.register (next d)) (update_types s t) → y ≡ operand q s line
+      → Lowers old new (update line s p op t e) y
+  lowers_update line s p op t q from n v =
+      let last : q ≡ next old + (top e + 4) = omega (arith, next_of old d e x h, from) in
       record {
-        code_is = behind_one old d new e x (next d) (λ f z m. update_code f line p (place_type p) op t z.type_ z.register m) (λ z. update_types p t) h refl n;
-        value_is = v ∙ (λ i. operand (last i) (place_type p) line);
+        code_is = behind_one old d new e x (next d) (λ f z m. update_code f line s p op t z.type_ z.register m) (λ z. update_types s t) h refl n;
+        value_is = v ∙ (λ i. operand (last i) s line);
       }
 
   pub lowers_assertion : (mid : Listed) (line : ℕ)
@@ -268,18 +269,18 @@ module _ (old mid d new : Listed) (a b : Expression) (x y z : Operand) (h : Lowe
 
 -- ---- `++` and `--`
 
-step_lowers : (old d1 d2 new : Listed) (one z : Operand) (into line : ℕ) (p : Place) (op : StepOperator) (before : Bool)
-    → (let t = promoted (place_type p) in
+step_lowers : (old d1 d2 new : Listed) (one z : Operand) (into line : ℕ) (s : IntegerType) (p : Place) (op : StepOperator) (before : Bool)
+    → (let t = promoted s in
     Lowers old d1 (constant line t 1) one
     → into ≡ next d2
-    → d2 ≡ added d1 (update_code d1.frame line p (place_type p) (step_operation op) t one.type_ one.register (next d1)) (update_types p t)
-    → new ≡ added d2 (at_line d2.frame line (operations.Copy into (if before then next d1 + 3 else next d1)) ∷ []) (place_type p ∷ [])
-    → z ≡ operand (next d2) (place_type p) line
-    → Lowers old new (step line p op before) z)
-step_lowers old d1 d2 new one z into line p op before h is_into second third v =
-    let t = promoted (place_type p) in
-    let updated = λ (f : Frame) (u : Operand) (m : ℕ). update_code f line p (place_type p) (step_operation op) t u.type_ u.register m in
-    let two : next d2 ≡ next d1 + 4 = ap next second ∙ next_added d1 (updated d1.frame one (next d1)) (update_types p t) in
+    → d2 ≡ added d1 (update_code d1.frame line s p (step_operation op) t one.type_ one.register (next d1)) (update_types s t)
+    → new ≡ added d2 (at_line d2.frame line (operations.Copy into (if before then next d1 + 3 else next d1)) ∷ []) (s ∷ [])
+    → z ≡ operand (next d2) s line
+    → Lowers old new (step line s p op before) z)
+step_lowers old d1 d2 new one z into line s p op before h is_into second third v =
+    let t = promoted s in
+    let updated = λ (f : Frame) (u : Operand) (m : ℕ). update_code f line s p (step_operation op) t u.type_ u.register m in
+    let two : next d2 ≡ next d1 + 4 = ap next second ∙ next_added d1 (updated d1.frame one (next d1)) (update_types s t) in
     let from : next old + 0 ≡ next old = omega arith in
     let start : next old + (0 + 1) ≡ next old + 1 = omega arith in
     let taken : next old + (0 + 1) + 3 ≡ next old + 4 = omega arith in
@@ -287,31 +288,30 @@ step_lowers old d1 d2 new one z into line p op before h is_into second third v =
     let at : next d2 ≡ next old + 5 = omega (arith, two, next_of old d1 (constant line t 1) one h) in
     record {
       code_is =
-          behind_one old d1 new (constant line t 1) one (next d1) (λ f u m. updated f u m ++ at_line f line (operations.Copy (m + 4) (if before then m + 3 else m)) ∷ []) (λ u. update_types p t ++ place_type p ∷ []) h refl
-          (adds_more d1 d2 new (updated d1.frame one (next d1)) (at_line d1.frame line (operations.Copy (next d1 + 4) (if before then next d1 + 3 else next d1)) ∷ []) (update_types p t) (place_type p ∷ []) second
-          (third ∙ (λ i. added d2 (at_line (second i).frame line (operations.Copy ((is_into ∙ two) i) (if before then next d1 + 3 else next d1)) ∷ []) (place_type p ∷ []))))
-          ∙ (λ i. added old (at_line old.frame line (operations.Constant (next old) 1) ∷ (update_code old.frame line p (place_type p) (step_operation op) t t (from i) (start i) ++ at_line old.frame line (operations.Copy (last i) (if before then taken i else start i)) ∷ [])) (t ∷ (update_types p t ++ place_type p ∷ [])));
-      value_is = v ∙ (λ i. operand (at i) (place_type p) line);
+          behind_one old d1 new (constant line t 1) one (next d1) (λ f u m. updated f u m ++ at_line f line (operations.Copy (m + 4) (if before then m + 3 else m)) ∷ []) (λ u. update_types s t ++ s ∷ []) h refl
+          (adds_more d1 d2 new (updated d1.frame one (next d1)) (at_line d1.frame line (operations.Copy (next d1 + 4) (if before then next d1 + 3 else next d1)) ∷ []) (update_types s t) (s ∷ []) second
+          (third ∙ (λ i. added d2 (at_line (second i).frame line (operations.Copy ((is_into ∙ two) i) (if before then next d1 + 3 else next d1)) ∷ []) (s ∷ []))))
+          ∙ (λ i. added old (at_line old.frame line (operations.Constant (next old) 1) ∷ (update_code old.frame line s p (step_operation op) t t (from i) (start i) ++ at_line old.frame line (operations.Copy (last i) (if before then taken i else start i)) ∷ [])) (t ∷ (update_types s t ++ s ∷ [])));
+      value_is = v ∙ (λ i. operand (at i) s line);
     }
 
-pub lowers_step : (old d1 d2 new : Listed) (one z : Operand) (updated : Updated) (value into line : ℕ) (p : Place) (op : StepOperator) (before : Bool) (t u : IntegerType) (sum : ArithmeticOperator)
-    → t ≡ place_type p → u ≡ promoted t → sum ≡ step_operation op
+pub lowers_step : (old d1 d2 new : Listed) (one z : Operand) (updated : Updated) (value into line : ℕ) (s : IntegerType) (p : Place) (op : StepOperator) (before : Bool) (u : IntegerType) (sum : ArithmeticOperator)
+    → u ≡ promoted s → sum ≡ step_operation op
     → Lowers old d1 (constant line u 1) one
-    → d2 ≡ added d1 (update_code d1.frame line p (place_type p) sum u one.type_ one.register (next d1)) (update_types p u)
+    → d2 ≡ added d1 (update_code d1.frame line s p sum u one.type_ one.register (next d1)) (update_types s u)
     → updated ≡ record { old = next d1; new = next d1 + 3 }
     → into ≡ next d2
     → value ≡ (if before then updated.new else updated.old)
-    → new ≡ added d2 (at_line d2.frame line (operations.Copy into value) ∷ []) (t ∷ [])
-    → z ≡ operand (next d2) t line
-    → Lowers old new (step line p op before) z
-lowers_step old d1 d2 new one z updated value into line p op before t u sum is_t is_u is_sum h second is_updated is_into is_value third v =
-    let same : u ≡ promoted (place_type p) = is_u ∙ ap promoted is_t in
-    step_lowers old d1 d2 new one z into line p op before
-    (subst (λ (w : IntegerType). Lowers old d1 (constant line w 1) one) same h)
+    → new ≡ added d2 (at_line d2.frame line (operations.Copy into value) ∷ []) (s ∷ [])
+    → z ≡ operand (next d2) s line
+    → Lowers old new (step line s p op before) z
+lowers_step old d1 d2 new one z updated value into line s p op before u sum is_u is_sum h second is_updated is_into is_value third v =
+    step_lowers old d1 d2 new one z into line s p op before
+    (subst (λ (w : IntegerType). Lowers old d1 (constant line w 1) one) is_u h)
     is_into
-    (second ∙ (λ i. added d1 (update_code d1.frame line p (place_type p) (is_sum i) (same i) one.type_ one.register (next d1)) (update_types p (same i))))
-    (third ∙ (λ i. added d2 (at_line d2.frame line (operations.Copy into ((is_value ∙ (λ k. if before then (is_updated k).new else (is_updated k).old)) i)) ∷ []) (is_t i ∷ [])))
-    (v ∙ (λ i. operand (next d2) (is_t i) line))
+    (second ∙ (λ i. added d1 (update_code d1.frame line s p (is_sum i) (is_u i) one.type_ one.register (next d1)) (update_types s (is_u i))))
+    (third ∙ (λ i. added d2 (at_line d2.frame line (operations.Copy into ((is_value ∙ (λ k. if before then (is_updated k).new else (is_updated k).old)) i)) ∷ []) (s ∷ [])))
+    v
 
 -- ---- jumps
 

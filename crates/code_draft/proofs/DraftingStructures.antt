@@ -5,12 +5,12 @@ use Rattle.c_types.specs.declared.integers.IntegerType.TheVariants.{Int, Unsigne
 use Rattle.c_types.specs.Integers.{bytes}
 use Rattle.std.proofs.lemmas.List.{drop_all}
 use Rattle.core_tree.specs.declared.expression.CorePart.{CorePart}
-use Rattle.core_tree.specs.Trees.{parts_of, Expression, constant, part, discard_structure, Structure, choose, put, store, follow, section, list, string, Parts, number_part, structure_part}
+use Rattle.core_tree.specs.Trees.{parts_of, Place, Expression, constant, part, discard_structure, Structure, choose, put, follow, section, list, string, Parts, number_part, structure_part}
 use Rattle.core_tree.specs.Typed.{size_of}
 use Rattle.goto_prog.specs.declared.code.Instruction.{Instruction}
 use Rattle.goto_prog.specs.declared.code.Operation.TheVariants as operations
 use Rattle.code_draft.specs.declared.operand.Operand.{Operand}
-use Rattle.lowered_code.specs.Lowering.{Frame, deeper, structure_registers, structure_line, at_line, structure_code, parts_code, text_code}
+use Rattle.lowered_code.specs.Lowering.{Frame, deeper, structure_registers, structure_line, at_line, put_code, structure_code, parts_code, text_code}
 use Rattle.lowered_code.specs.Registers.{structure_types, parts_types}
 use Rattle.code_draft.specs.Drafts.{Listed, next, added, landed, operand, after_structure, after_temporary, after_parts, after_text, Lowers}
 use Rattle.lowered_code.proofs.RegisterCounts.{structure_length}
@@ -87,23 +87,14 @@ lowers_discarded d d1 new a x line first is_line k =
 -- ---- structure values
 
 module _ (into to : ℕ) where
-  pub put_adds : (d d1 new : Listed) (a : Structure) (line v offset size : ℕ)
+  pub put_adds : (d d1 new : Listed) (a : Structure) (line size : ℕ) (x : Place)
       → d1 ≡ after_structure d a into to → size ≡ size_of a
-      → new ≡ added d1 (at_line d1.frame line (operations.CopyBytes v offset into to size) ∷ []) []
-      → new ≡ after_structure d (put line v offset a) into to
-  put_adds d d1 new a line v offset size first is_size same =
-      adds_more d d1 new (structure_code d.frame a (next d) into to) (at_line d.frame line (operations.CopyBytes v offset into to (size_of a)) ∷ []) (structure_types a) [] first
-      (same ∙ (λ i. added d1 (at_line (first i).frame line (operations.CopyBytes v offset into to (is_size i)) ∷ []) []))
-      ∙ (λ i. added d (structure_code d.frame (put line v offset a) (next d) into to) (append-nil (structure_types a) i))
-
-  pub store_adds : (d d1 new : Listed) (a : Structure) (line k offset size : ℕ)
-      → d1 ≡ after_structure d a into to → size ≡ size_of a
-      → new ≡ added d1 (at_line d1.frame line (operations.WriteObject k offset into to size) ∷ []) []
-      → new ≡ after_structure d (store line k offset a) into to
-  store_adds d d1 new a line k offset size first is_size same =
-      adds_more d d1 new (structure_code d.frame a (next d) into to) (at_line d.frame line (operations.WriteObject k offset into to (size_of a)) ∷ []) (structure_types a) [] first
-      (same ∙ (λ i. added d1 (at_line (first i).frame line (operations.WriteObject k offset into to (is_size i)) ∷ []) []))
-      ∙ (λ i. added d (structure_code d.frame (store line k offset a) (next d) into to) (append-nil (structure_types a) i))
+      → new ≡ added d1 (put_code d1.frame line x size into to) []
+      → new ≡ after_structure d (put line x a) into to
+  put_adds d d1 new a line size x first is_size same =
+      adds_more d d1 new (structure_code d.frame a (next d) into to) (put_code d.frame line x (size_of a) into to) (structure_types a) [] first
+      (same ∙ (λ i. added d1 (put_code (first i).frame line x (is_size i) into to) []))
+      ∙ (λ i. added d (structure_code d.frame (put line x a) (next d) into to) (append-nil (structure_types a) i))
 
   pub follow_adds : (d d1 new : Listed) (e : Expression) (x : Operand) (a : Structure) (line : ℕ)
       → Lowers d d1 e x → new ≡ after_structure d1 a into to

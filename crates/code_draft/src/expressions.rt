@@ -2,8 +2,7 @@
 
 ghost use Rattle.std.specs.Prelude.{◌≡◌, [], ◌∷◌, ◌+◌, ◌<◌, IfOk, OnOk};
 ghost use Rattle.c_types.specs.Integers.{promoted};
-ghost use Rattle.core_tree.specs.Trees.{Expression, view, constant, read, convert, sign, is_zero, arithmetic, compare, logical, choice, assign, update, step, comma, assertion, assumption, draw, part, discard, discard_structure, call, view_structure, arguments_of, with_argument, Arguments};
-ghost use Rattle.core_tree.specs.Typed.{place_type};
+ghost use Rattle.core_tree.specs.Trees.{Expression, view, constant, read, convert, sign, is_zero, arithmetic, compare, logical, choice, assign, update, step, comma, assertion, assumption, draw, part, discard, discard_structure, call, view_place, view_structure, arguments_of, with_argument, Arguments};
 ghost use Rattle.c_meaning.specs.Meaning.{integer_of};
 ghost use Rattle.goto_prog.specs.declared.code.Operation.TheVariants as instructions;
 ghost use Rattle.c_temporaries.specs.Temporaries.{value_size};
@@ -19,7 +18,7 @@ use c_temporaries::value_size;
 use c_types::{IntegerType, ValueType, promote};
 use core_tree::{
     ArithmeticOperator, Comparison, CoreArgument, CoreExpr, CoreStructure, LogicalOperator, Place,
-    SignOperator, StepOperator, drawn_width, place_type, step_operation,
+    SignOperator, StepOperator, drawn_width, step_operation,
 };
 use goto_prog::Operation;
 use std::alloc::AllocError;
@@ -47,39 +46,37 @@ impl<'a> Draft<'a> {
         self.set(line, type_, Operation::Draw { into, bits })
     }
 
-    // The value of a place.
-    fn load(&mut self, place: Place) -> Result<Operand, AllocError>
-        ensures { IfOk result (λ x. Lowers self.old self.new (read place) x) }
+    // The number of this type at a place.
+    fn load(&mut self, type_: IntegerType, place: &Place) -> Result<Operand, AllocError>
+        ensures { IfOk result (λ x. Lowers self.old self.new (read type_ (view_place place.now)) x) }
     {
         match place {
             Place::Variable {
                 line,
-                type_,
                 variable,
                 offset,
             } => {
                 let operation = Operation::Load {
                     into: self.next(),
                     type_,
-                    block: variable as usize,
-                    offset,
+                    block: *variable as usize,
+                    offset: *offset,
                 };
-                self.set(line, type_, operation)
+                self.set(*line, type_, operation)
             }
             Place::Object {
                 line,
-                type_,
                 object,
                 offset,
             } => {
                 let block = self.free();
                 self.push(
-                    line,
+                    *line,
                     Operation::ReadObject {
                         block,
                         at: 0,
-                        object,
-                        offset,
+                        object: *object,
+                        offset: *offset,
                         count: type_.size(),
                     },
                 )?;
@@ -89,18 +86,30 @@ impl<'a> Draft<'a> {
                     block,
                     offset: 0,
                 };
-                self.set(line, type_, operation)
+                self.set(*line, type_, operation)
             }
+            Place::Literal { line, .. } => self.constant(*line, type_, 0),
+            Place::Pointed { line, .. } => self.constant(*line, type_, 0),
+            Place::Arrow { line, .. } => self.constant(*line, type_, 0),
+            Place::Member { line, .. } => self.constant(*line, type_, 0),
+            Place::Element { line, .. } => self.constant(*line, type_, 0),
+            Place::Subscript { line, .. } => self.constant(*line, type_, 0),
         }
     }
 
-    // A write of a register into a place.
-    fn store(&mut self, line: u32, place: Place, operand: usize) -> Result<(), AllocError>
-        ensures { OnOk result (self.new ≡ added self.old (write_code self.old.frame line place operand) []) }
+    // A write of a register into a place of this type.
+    #[tactic(auto, using(crate::proofs::Drafting::nothing_added))]
+    fn store(
+        &mut self,
+        line: u32,
+        type_: IntegerType,
+        place: &Place,
+        operand: usize,
+    ) -> Result<(), AllocError>
+        ensures { OnOk result (self.new ≡ added self.old (write_code self.old.frame line type_ (view_place place.now) operand) []) }
     {
         match place {
             Place::Variable {
-                type_,
                 variable,
                 offset,
                 ..
@@ -108,19 +117,14 @@ impl<'a> Draft<'a> {
                 self.push(
                     line,
                     Operation::Store {
-                        block: variable as usize,
-                        offset,
+                        block: *variable as usize,
+                        offset: *offset,
                         count: type_.size(),
                         operand,
                     },
                 )
             }
-            Place::Object {
-                type_,
-                object,
-                offset,
-                ..
-            } => {
+            Place::Object { object, offset, .. } => {
                 let block = self.free();
                 let count = type_.size();
                 self.push(
@@ -135,14 +139,20 @@ impl<'a> Draft<'a> {
                 self.push(
                     line,
                     Operation::WriteObject {
-                        object,
-                        offset,
+                        object: *object,
+                        offset: *offset,
                         block,
                         at: 0,
                         count,
                     },
                 )
             }
+            Place::Literal { .. } => Ok(()),
+            Place::Pointed { .. } => Ok(()),
+            Place::Arrow { .. } => Ok(()),
+            Place::Member { .. } => Ok(()),
+            Place::Element { .. } => Ok(()),
+            Place::Subscript { .. } => Ok(()),
         }
     }
 
@@ -182,54 +192,62 @@ impl<'a> Draft<'a> {
         self.set(line, IntegerType::Int, operation)
     }
 
-    fn assign(&mut self, line: u32, place: Place, x: Operand) -> Result<Operand, AllocError>
-        ensures { (old : Listed) (e : Expression) → Lowers old self.old e x → IfOk result (λ y. Lowers old self.new (assign line place e) y) }
+    fn assign(
+        &mut self,
+        line: u32,
+        type_: IntegerType,
+        place: &Place,
+        x: Operand,
+    ) -> Result<Operand, AllocError>
+        ensures { (old : Listed) (e : Expression) → Lowers old self.old e x → IfOk result (λ y. Lowers old self.new (assign line type_ (view_place place.now) e) y) }
     {
-        self.store(line, place, x.register)?;
+        self.store(line, type_, place, x.register)?;
         Ok(Operand {
             register: x.register,
-            type_: place_type(&place),
+            type_,
             line,
         })
     }
 
-    // The place's number, an operation of type `type_` with it and `y`, and the result back into the place.
+    // The number of type `type_` at the place, an operation of type `by` with it and `y`, and the result back
+    // into the place.
     fn update_by(
         &mut self,
         line: u32,
-        place: Place,
-        operator: ArithmeticOperator,
         type_: IntegerType,
+        place: &Place,
+        operator: ArithmeticOperator,
+        by: IntegerType,
         y: Operand,
     ) -> Result<Updated, AllocError>
-        ensures code { OnOk result (self.new ≡ added self.old (update_code self.old.frame line place (place_type place) operator type_ y.type_ y.register (next self.old)) (update_types place type_)) }
+        ensures code { OnOk result (self.new ≡ added self.old (update_code self.old.frame line type_ (view_place place.now) operator by y.type_ y.register (next self.old)) (update_types type_ by)) }
         ensures registers { IfOk result (λ u. u ≡ record { old = next self.old; new = next self.old + 3 }) }
     {
-        let loaded = self.load(place)?;
+        let loaded = self.load(type_, place)?;
         let operation = Operation::Convert {
             into: self.next(),
             from: loaded.type_,
-            to: type_,
+            to: by,
             operand: loaded.register,
         };
-        let left = self.set(line, type_, operation)?;
+        let left = self.set(line, by, operation)?;
         let operation = Operation::Arithmetic {
             into: self.next(),
             operator,
-            type_,
+            type_: by,
             right_type: y.type_,
             left: left.register,
             right: y.register,
         };
-        let value = self.set(line, type_, operation)?;
+        let value = self.set(line, by, operation)?;
         let operation = Operation::Convert {
             into: self.next(),
-            from: type_,
+            from: by,
             to: loaded.type_,
             operand: value.register,
         };
         let back = self.set(line, loaded.type_, operation)?;
-        self.store(line, place, back.register)?;
+        self.store(line, type_, place, back.register)?;
         Ok(Updated {
             old: loaded.register,
             new: back.register,
@@ -239,17 +257,18 @@ impl<'a> Draft<'a> {
     fn update(
         &mut self,
         line: u32,
-        place: Place,
-        operator: ArithmeticOperator,
         type_: IntegerType,
+        place: &Place,
+        operator: ArithmeticOperator,
+        by: IntegerType,
         y: Operand,
     ) -> Result<Operand, AllocError>
-        ensures { (old : Listed) (e : Expression) → Lowers old self.old e y → IfOk result (λ x. Lowers old self.new (update line place operator type_ e) x) }
+        ensures { (old : Listed) (e : Expression) → Lowers old self.old e y → IfOk result (λ x. Lowers old self.new (update line type_ (view_place place.now) operator by e) x) }
     {
-        let updated = self.update_by(line, place, operator, type_, y)?;
+        let updated = self.update_by(line, type_, place, operator, by, y)?;
         Ok(Operand {
             register: updated.new,
-            type_: place_type(&place),
+            type_,
             line,
         })
     }
@@ -257,16 +276,16 @@ impl<'a> Draft<'a> {
     fn step(
         &mut self,
         line: u32,
-        place: Place,
+        type_: IntegerType,
+        place: &Place,
         operator: StepOperator,
         before: bool,
     ) -> Result<Operand, AllocError>
-        ensures { IfOk result (λ x. Lowers self.old self.new (step line place operator before) x) }
+        ensures { IfOk result (λ x. Lowers self.old self.new (step line type_ (view_place place.now) operator before) x) }
     {
-        let type_ = place_type(&place);
         let promoted = promote(type_);
         let one = self.constant(line, promoted, 1)?;
-        let updated = self.update_by(line, place, step_operation(operator), promoted, one)?;
+        let updated = self.update_by(line, type_, place, step_operation(operator), promoted, one)?;
         let operation = Operation::Copy {
             into: self.next(),
             operand: step_value(updated, before),
@@ -578,7 +597,7 @@ impl<'a> Draft<'a> {
     {
         match expr {
             CoreExpr::Constant { line, type_, bits } => self.constant(*line, *type_, *bits),
-            CoreExpr::Read { place } => self.load(*place),
+            CoreExpr::Read { type_, place } => self.load(*type_, place),
             CoreExpr::Convert { to, operand } => {
                 let x = self.expression(operand)?;
                 self.convert(*to, x)
@@ -636,26 +655,33 @@ impl<'a> Draft<'a> {
                 let x = self.expression(test)?;
                 self.choice(*line, x, yes, no)
             }
-            CoreExpr::Assign { line, place, value } => {
-                let x = self.expression(value)?;
-                self.assign(*line, *place, x)
-            }
-            CoreExpr::Update {
+            CoreExpr::Assign {
                 line,
-                place,
-                operator,
                 type_,
+                place,
                 value,
             } => {
                 let x = self.expression(value)?;
-                self.update(*line, *place, *operator, *type_, x)
+                self.assign(*line, *type_, place, x)
+            }
+            CoreExpr::Update {
+                line,
+                type_,
+                place,
+                operator,
+                operand,
+                value,
+            } => {
+                let x = self.expression(value)?;
+                self.update(*line, *type_, place, *operator, *operand, x)
             }
             CoreExpr::Step {
                 line,
+                type_,
                 place,
                 operator,
                 before,
-            } => { self.step(*line, *place, *operator, *before) }
+            } => { self.step(*line, *type_, place, *operator, *before) }
             CoreExpr::Comma { line, left, right } => {
                 let _x = self.expression(left)?;
                 let y = self.expression(right)?;
@@ -688,7 +714,36 @@ impl<'a> Draft<'a> {
                 type_,
                 arguments,
             } => self.call(*line, *function, *used, *type_, arguments),
-            CoreExpr::FunctionName { line, .. } => { self.constant(*line, IntegerType::Int, 0) }
+            CoreExpr::FunctionName { line } => self.constant(*line, IntegerType::Int, 0),
+            CoreExpr::SizeOf { line, bits, .. } => {
+                self.constant(*line, IntegerType::UnsignedLong, *bits)
+            }
+            CoreExpr::SizeOfStructure { line, bits, .. } => {
+                self.constant(*line, IntegerType::UnsignedLong, *bits)
+            }
+            CoreExpr::Address { line, .. } => self.constant(*line, IntegerType::UnsignedLong, 0),
+            CoreExpr::Sum { line, .. } => self.constant(*line, IntegerType::UnsignedLong, 0),
+            CoreExpr::Distance { line, .. } => self.constant(*line, IntegerType::Long, 0),
+            CoreExpr::Relation { line, .. } => self.constant(*line, IntegerType::Int, 0),
+            CoreExpr::PointerUpdate { line, .. } => self.constant(
+                *line,
+                IntegerType::UnsignedLong,
+                0,
+            ),
+            CoreExpr::PointerStep { line, .. } => self.constant(
+                *line,
+                IntegerType::UnsignedLong,
+                0,
+            ),
+            CoreExpr::Allocate { line, .. } => self.constant(*line, IntegerType::UnsignedLong, 0),
+            CoreExpr::AllocateZeroed { line, .. } => self.constant(
+                *line,
+                IntegerType::UnsignedLong,
+                0,
+            ),
+            CoreExpr::Release { line, .. } => self.constant(*line, IntegerType::Int, 0),
+            CoreExpr::Exit { line, .. } => self.constant(*line, IntegerType::Int, 0),
+            CoreExpr::Abort { line } => self.constant(*line, IntegerType::Int, 0),
         }
     }
 }

@@ -1,5 +1,5 @@
 -- Typed trees without where they lie in memory.
-use Rattle.std.specs.Prelude.{ℕ, Bool, Option, option_map, List, [], ◌∷◌, map, Box}
+use Rattle.std.specs.Prelude.{ℕ, ℤ, Bool, Option, option_map, List, [], ◌∷◌, map, Box}
 use Rattle.std.specs.Global.{Global}
 use Rattle.c_types.specs.declared.integers.IntegerType.{IntegerType}
 use Rattle.c_types.specs.declared.types.ValueType.{ValueType}
@@ -8,7 +8,8 @@ use Rattle.core_tree.specs.declared.operators.Comparison.{Comparison}
 use Rattle.core_tree.specs.declared.operators.LogicalOperator.{LogicalOperator}
 use Rattle.core_tree.specs.declared.operators.SignOperator.{SignOperator}
 use Rattle.core_tree.specs.declared.operators.StepOperator.{StepOperator}
-use Rattle.core_tree.specs.declared.expression.Place.{Place}
+use Rattle.core_tree.specs.declared.expression.Place.{Place as CorePlace}
+use Rattle.core_tree.specs.declared.expression.Place as core_places
 use Rattle.core_tree.specs.declared.expression.CoreExpr.{CoreExpr}
 use Rattle.core_tree.specs.declared.expression.CoreExpr as exprs
 use Rattle.core_tree.specs.declared.expression.CoreStructure as structures
@@ -23,15 +24,29 @@ use Rattle.core_tree.specs.declared.statement.CoreItem.TheBlock.{Row_of-CoreItem
 use Rattle.core_tree.specs.declared.statement.CoreItem as codes
 use Rattle.core_tree.specs.declared.statement.CoreStatement.{CoreStatement}
 use Rattle.core_tree.specs.declared.functions.Function.{Function}
+use Rattle.core_tree.specs.declared.functions.Variable.{Variable}
+use Rattle.core_tree.specs.declared.functions.Address.{Address}
 use Rattle.core_tree.specs.declared.functions.PassedType.{PassedType}
+use Rattle.core_tree.specs.declared.functions.Literal.{Literal}
 use Rattle.core_tree.specs.declared.functions.StaticObject.{StaticObject}
 use Rattle.core_tree.specs.declared.statement.CoreStatement as statements
 
 mutual
+  -- what can be read and written
+  pub data Place : Type 0 where
+    variable_at : (line variable offset : ℕ) → Place
+    object_at : (line object offset : ℕ) → Place
+    literal_at : (line literal : ℕ) → Place
+    pointed : (line : ℕ) (pointer : Expression) → Place
+    arrow : (line : ℕ) (pointer : Expression) (offset : ℕ) → Place
+    member : (line : ℕ) (place : Place) (offset : ℕ) → Place
+    element : (line : ℕ) (place : Place) (index : Expression) (size whole : ℕ) (swapped : Bool) → Place
+    subscript : (line : ℕ) (pointer index : Expression) (size : ℕ) (swapped : Bool) → Place
+
   -- without value, or with one of an integer type
   pub data Expression : Type 0 where
     constant : (line : ℕ) (type : IntegerType) (bits : ℕ) → Expression
-    read : (place : Place) → Expression
+    read : (type : IntegerType) (place : Place) → Expression
     convert : (to : IntegerType) (operand : Expression) → Expression
     sign : (line : ℕ) (op : SignOperator) (operand : Expression) → Expression
     is_zero : (line : ℕ) (operand : Expression) → Expression
@@ -39,9 +54,9 @@ mutual
     compare : (line : ℕ) (op : Comparison) (left right : Expression) → Expression
     logical : (line : ℕ) (op : LogicalOperator) (left right : Expression) → Expression
     choice : (line : ℕ) (test yes no : Expression) → Expression
-    assign : (line : ℕ) (place : Place) (value : Expression) → Expression
-    update : (line : ℕ) (place : Place) (op : ArithmeticOperator) (type : IntegerType) (value : Expression) → Expression
-    step : (line : ℕ) (place : Place) (op : StepOperator) (before : Bool) → Expression
+    assign : (line : ℕ) (type : IntegerType) (place : Place) (value : Expression) → Expression
+    update : (line : ℕ) (type : IntegerType) (place : Place) (op : ArithmeticOperator) (operand : IntegerType) (value : Expression) → Expression
+    step : (line : ℕ) (type : IntegerType) (place : Place) (op : StepOperator) (before : Bool) → Expression
     comma : (line : ℕ) (left right : Expression) → Expression
     assertion : (line : ℕ) (condition : Expression) → Expression
     assumption : (line : ℕ) (condition : Expression) → Expression
@@ -50,15 +65,26 @@ mutual
     discard : (line : ℕ) (operand : Expression) → Expression
     discard_structure : (value : Structure) → Expression
     call : (line function : ℕ) (used : Bool) (type : ValueType) (arguments : Arguments) → Expression
-    function_name : (line function : ℕ) → Expression
+    function_name : (line : ℕ) → Expression
+    size_of_value : (line bits : ℕ) (operand : Expression) → Expression
+    size_of_structure : (line bits : ℕ) (operand : Structure) → Expression
+    address : (line : ℕ) (place : Place) → Expression
+    sum : (line : ℕ) (pointer index : Expression) (step : ℤ) (swapped : Bool) → Expression
+    distance : (line : ℕ) (left right : Expression) (step : ℕ) → Expression
+    relation : (line : ℕ) (op : Comparison) (left right : Expression) → Expression
+    pointer_update : (line : ℕ) (place : Place) (step : ℤ) (value : Expression) → Expression
+    pointer_step : (line : ℕ) (place : Place) (step : ℤ) (before : Bool) → Expression
+    allocate : (line : ℕ) (size : Expression) → Expression
+    allocate_zeroed : (line : ℕ) (count size : Expression) → Expression
+    release : (line : ℕ) (pointer : Expression) → Expression
+    exit : (line : ℕ) (status : Expression) → Expression
+    abort : (line : ℕ) → Expression
 
   -- with a value of a struct, union or array type
   pub data Structure : Type 0 where
-    copy : (line variable offset size : ℕ) → Structure
-    load : (line object offset size : ℕ) → Structure
+    copy : (place : Place) (size : ℕ) → Structure
     choose : (line : ℕ) (test : Expression) (yes no : Structure) → Structure
-    put : (line variable offset : ℕ) (value : Structure) → Structure
-    store : (line object offset : ℕ) (value : Structure) → Structure
+    put : (line : ℕ) (place : Place) (value : Structure) → Structure
     follow : (line : ℕ) (left : Expression) (right : Structure) → Structure
     section : (line offset size : ℕ) (value : Structure) → Structure
     list : (line size : ℕ) (parts : Parts) → Structure
@@ -105,9 +131,19 @@ mutual
     default_at : (line : ℕ) (rest : Items) → Items
 
 abbrev mutual
+  pub view_place : CorePlace → Place
+  view_place (core_places.Variable line v offset) = variable_at line v offset
+  view_place (core_places.Object line k offset) = object_at line k offset
+  view_place (core_places.Literal line k) = literal_at line k
+  view_place (core_places.Pointed' line p e) = pointed line (view e)
+  view_place (core_places.Arrow' line p e offset) = arrow line (view e) offset
+  view_place (core_places.Member' line p x offset) = member line (view_place x) offset
+  view_place (core_places.Element' line p x q e size whole swapped) = element line (view_place x) (view e) size whole swapped
+  view_place (core_places.Subscript' line p a q e size swapped) = subscript line (view a) (view e) size swapped
+
   pub view : CoreExpr → Expression
   view (exprs.Constant line t bits) = constant line t bits
-  view (exprs.Read p) = read p
+  view (exprs.Read' t p x) = read t (view_place x)
   view (exprs.Convert' t p e) = convert t (view e)
   view (exprs.Sign' line op p e) = sign line op (view e)
   view (exprs.IsZero' line p e) = is_zero line (view e)
@@ -115,9 +151,9 @@ abbrev mutual
   view (exprs.Compare' line op p a q b) = compare line op (view a) (view b)
   view (exprs.Logical' line op p a q b) = logical line op (view a) (view b)
   view (exprs.Choice' line p a q b r c) = choice line (view a) (view b) (view c)
-  view (exprs.Assign' line place p e) = assign line place (view e)
-  view (exprs.Update' line place op t p e) = update line place op t (view e)
-  view (exprs.Step line place op before) = step line place op before
+  view (exprs.Assign' line t p x q e) = assign line t (view_place x) (view e)
+  view (exprs.Update' line t p x op u q e) = update line t (view_place x) op u (view e)
+  view (exprs.Step' line t p x op before) = step line t (view_place x) op before
   view (exprs.Comma' line p a q b) = comma line (view a) (view b)
   view (exprs.Assertion' line p e) = assertion line (view e)
   view (exprs.Assumption' line p e) = assumption line (view e)
@@ -126,14 +162,25 @@ abbrev mutual
   view (exprs.Discard' line p e) = discard line (view e)
   view (exprs.DiscardStructure' p a) = discard_structure (view_structure a)
   view (exprs.Call' line f used t shape args) = call line f used t (view_arguments args)
-  view (exprs.FunctionName line f) = function_name line f
+  view (exprs.FunctionName line) = function_name line
+  view (exprs.SizeOf' line bits p e) = size_of_value line bits (view e)
+  view (exprs.SizeOfStructure' line bits p a) = size_of_structure line bits (view_structure a)
+  view (exprs.Address' line p x) = address line (view_place x)
+  view (exprs.Sum' line p a q e n swapped) = sum line (view a) (view e) n swapped
+  view (exprs.Distance' line p a q b n) = distance line (view a) (view b) n
+  view (exprs.Relation' line op p a q b) = relation line op (view a) (view b)
+  view (exprs.PointerUpdate' line p x n q e) = pointer_update line (view_place x) n (view e)
+  view (exprs.PointerStep' line p x n before) = pointer_step line (view_place x) n before
+  view (exprs.Allocate' line p e) = allocate line (view e)
+  view (exprs.AllocateZeroed' line p a q b) = allocate_zeroed line (view a) (view b)
+  view (exprs.Release' line p e) = release line (view e)
+  view (exprs.Exit' line p e) = exit line (view e)
+  view (exprs.Abort line) = abort line
 
   pub view_structure : CoreStructure → Structure
-  view_structure (structures.Read line v offset size) = copy line v offset size
-  view_structure (structures.Load line k offset size) = load line k offset size
+  view_structure (structures.Read' p x size) = copy (view_place x) size
   view_structure (structures.Choice' line o e p a q b) = choose line (view e) (view_structure a) (view_structure b)
-  view_structure (structures.Assign' line v offset p a) = put line v offset (view_structure a)
-  view_structure (structures.Store' line k offset p a) = store line k offset (view_structure a)
+  view_structure (structures.Assign' line p x q a) = put line (view_place x) (view_structure a)
   view_structure (structures.Comma' line o e p a) = follow line (view e) (view_structure a)
   view_structure (structures.Member' line offset size p a) = section line offset size (view_structure a)
   view_structure (structures.List' line size shape ps) = list line size (view_parts ps)
@@ -211,14 +258,14 @@ abbrev pub items_of : List CoreItem → Items
 items_of [] = done
 items_of (i ∷ is) = with_item i (items_of is)
 
--- a function: its name, the line of that, what it gives, none where that is void, the types of its parameters, and the line of its first declarator with an ellipsis, where there is one; the sizes of its variables in bytes by number, of which the parameters are the first, and its body, where it is defined
+-- a function: its name, the line of that, what it gives, none where that is void, the types of its parameters, and the line of its first declarator with an ellipsis, where there is one; its variables by number, of which the parameters are the first, and its body, where it is defined
 pub record Procedure : Type 0 where
   pub name : List ℕ
   pub line : ℕ
   pub gives : Option PassedType
   pub parameters : List PassedType
   pub ellipsis : Option ℕ
-  pub variables : List ℕ
+  pub variables : List Variable
   pub labels : ℕ
   pub body : Option Statement
 
@@ -234,28 +281,33 @@ view_function f = record {
   body = option_map boxed_statement f.body;
 }
 
--- a static object: its size in bytes, whether it is defined const, and its first bytes, as many as its initializer says; the others are 0. Where the file has no definition of it, the line of its first declarator
+-- a static object: its size in bytes, whether it is defined const, and its first bytes, as many as its initializer says, with the addresses among them; the others are 0. Where the file has no definition of it, the line of its first declarator
 pub record Static : Type 0 where
   pub size : ℕ
   pub readonly : Bool
   pub bytes : List ℕ
+  pub addresses : List Address
   pub undefined : Option ℕ
 
 abbrev pub view_static : StaticObject → Static
-view_static o = record { size = o.size; readonly = o.readonly; bytes = o.bytes.items; undefined = o.undefined }
+view_static o = record { size = o.size; readonly = o.readonly; bytes = o.bytes.items; addresses = o.addresses.items; undefined = o.undefined }
 
--- a typed file: its functions by number, and its static objects, the first of which has the number 1
+-- a typed file: its functions by number, its static objects, the first of which has the number 1, and the bytes of its string literals that are objects, in their order, each without the 0 behind it; and whether forms over pointers may stand in it
 pub record TypedFile : Type 0 where
   pub functions : List Procedure
   pub objects : List Static
+  pub literals : List (List ℕ)
+  pub pointers : Bool
 
 -- the same as it lies in memory
 pub record CoreFile : Type 0 where
   pub functions : List Function
   pub objects : List StaticObject
+  pub literals : List Literal
+  pub pointers : Bool
 
-abbrev pub core_file : List Function → List StaticObject → CoreFile
-core_file functions objects = record { functions = functions; objects = objects }
+abbrev pub core_file : List Function → List StaticObject → List Literal → Bool → CoreFile
+core_file functions objects literals pointers = record { functions = functions; objects = objects; literals = literals; pointers = pointers }
 
 abbrev pub view_functions : List Function → List Procedure
 view_functions functions = map view_function functions
@@ -263,5 +315,8 @@ view_functions functions = map view_function functions
 abbrev pub view_statics : List StaticObject → List Static
 view_statics objects = map view_static objects
 
+abbrev pub view_literals : List Literal → List (List ℕ)
+view_literals literals = map (λ (l : Literal). l.bytes.items) literals
+
 abbrev pub view_core : CoreFile → TypedFile
-view_core c = record { functions = view_functions c.functions; objects = view_statics c.objects }
+view_core c = record { functions = view_functions c.functions; objects = view_statics c.objects; literals = view_literals c.literals; pointers = c.pointers }

@@ -5,24 +5,62 @@ use crate::operators::{
 };
 use c_types::{IntegerType, ValueType};
 
-/// What can be read and written (C11 6.3.2.1p1).
-#[derive(Clone, Copy)]
+/// What can be read and written (C11 6.3.2.1p1): bytes from an offset on, of which the type stands where the place is used. Each
+/// has the line of its node's own token; offsets and sizes are in bytes.
+#[derive(Drop)]
+#[cycle(expression)]
 pub enum Place {
-    /// An object of an integer type within a variable of the function, which the variable's number there
-    /// and the object's offset in it, in bytes, tell, with the line of the node's own token.
+    /// Within a variable of the function, which its number there tells. Whether that has an address the function says.
     Variable {
         line: u32,
-        type_: IntegerType,
         variable: u32,
         offset: u32,
     },
-    /// An object of an integer type within a static object, which that one's number, from 1, and the
-    /// offset in it, in bytes, tell.
+    /// Within a static object, which its number tells, from 1.
     Object {
         line: u32,
-        type_: IntegerType,
         object: u32,
         offset: u32,
+    },
+    /// A string literal that is an object, by its place among those of the file, from 0 (C11 6.4.5p6).
+    Literal {
+        line: u32,
+        literal: u32,
+    },
+    /// What a pointer points to (C11 6.5.3.2p4).
+    Pointed {
+        line: u32,
+        pointer: Box<CoreExpr>,
+    },
+    /// A member of the structure that a pointer points to. The offset is added modulo 2 ^ 32 and isn't checked (C11 6.5.2.3p4).
+    Arrow {
+        line: u32,
+        pointer: Box<CoreExpr>,
+        offset: u32,
+    },
+    /// A member of a place of a structure (C11 6.5.2.3p3).
+    Member {
+        line: u32,
+        place: Box<Place>,
+        offset: u32,
+    },
+    /// An element, of so many bytes, of an array within a named object of `whole` bytes, whose bounds are those of that object
+    /// (C11 6.5.2.1p2). Where `swapped` stands the index is evaluated first.
+    Element {
+        line: u32,
+        place: Box<Place>,
+        index: Box<CoreExpr>,
+        size: u32,
+        whole: u32,
+        swapped: bool,
+    },
+    /// An element, of so many bytes, of the array to which a pointer points, whose bounds are those of the object there.
+    Subscript {
+        line: u32,
+        pointer: Box<CoreExpr>,
+        index: Box<CoreExpr>,
+        size: u32,
+        swapped: bool,
     },
 }
 
@@ -36,9 +74,10 @@ pub enum CoreExpr {
         type_: IntegerType,
         bits: u64,
     },
-    /// The value of a place.
+    /// The number of this type at a place.
     Read {
-        place: Place,
+        type_: IntegerType,
+        place: Box<Place>,
     },
     /// The value, converted to a type (C11 6.3.1).
     Convert {
@@ -80,26 +119,29 @@ pub enum CoreExpr {
         yes: Box<CoreExpr>,
         no: Box<CoreExpr>,
     },
-    /// `=`: the value is of the place's type (C11 6.5.16.1).
+    /// `=`: a value of this type takes the place (C11 6.5.16.1).
     Assign {
         line: u32,
-        place: Place,
+        type_: IntegerType,
+        place: Box<Place>,
         value: Box<CoreExpr>,
     },
-    /// `=` with an operator: the place's value, converted to `type_`, and the value beside it, are the
-    /// operands; the result is converted to the place's type (C11 6.5.16.2).
+    /// `=` with an operator: the number of this type at the place, converted to `operand`, and the value beside it, are the
+    /// operands; the result is converted back (C11 6.5.16.2).
     Update {
         line: u32,
-        place: Place,
-        operator: ArithmeticOperator,
         type_: IntegerType,
+        place: Box<Place>,
+        operator: ArithmeticOperator,
+        operand: IntegerType,
         value: Box<CoreExpr>,
     },
-    /// `++` or `--`, before its operand or behind it. The place's value is promoted, and the result
-    /// converted to the place's type (C11 6.5.2.4, 6.5.3.1).
+    /// `++` or `--`, before its operand or behind it. The number of this type at the place is promoted, and the result
+    /// converted back (C11 6.5.2.4, 6.5.3.1).
     Step {
         line: u32,
-        place: Place,
+        type_: IntegerType,
+        place: Box<Place>,
         operator: StepOperator,
         before: bool,
     },
@@ -153,7 +195,87 @@ pub enum CoreExpr {
     /// The name of a function that isn't called and whose value isn't used.
     FunctionName {
         line: u32,
-        function: u32,
+    },
+    /// `sizeof` of an expression with a number or without a value, which isn't evaluated: the number of type unsigned long with
+    /// these bits (C11 6.5.3.4).
+    SizeOf {
+        line: u32,
+        bits: u64,
+        operand: Box<CoreExpr>,
+    },
+    /// `sizeof` of a structure value, which isn't evaluated.
+    SizeOfStructure {
+        line: u32,
+        bits: u64,
+        operand: Box<CoreStructure>,
+    },
+    /// `&`, or an array or string that becomes a pointer to its first element: the pointer to a place (C11 6.3.2.1p3, 6.5.3.2p3).
+    /// Pointers are numbers of type unsigned long.
+    Address {
+        line: u32,
+        place: Box<Place>,
+    },
+    /// A pointer moved by so many bytes for each 1 of an integer, fewer than 0 where it is subtracted (C11 6.5.6p8). Where
+    /// `swapped` stands the integer is evaluated first.
+    Sum {
+        line: u32,
+        pointer: Box<CoreExpr>,
+        index: Box<CoreExpr>,
+        step: i64,
+        swapped: bool,
+    },
+    /// The difference of two pointers to elements of so many bytes, of type long (C11 6.5.6p9).
+    Distance {
+        line: u32,
+        left: Box<CoreExpr>,
+        right: Box<CoreExpr>,
+        step: u32,
+    },
+    /// `<`, `>`, `<=` or `>=` of two pointers (C11 6.5.8p5).
+    Relation {
+        line: u32,
+        operator: Comparison,
+        left: Box<CoreExpr>,
+        right: Box<CoreExpr>,
+    },
+    /// `+=` or `-=` at the place of a pointer, with so many bytes for each 1 of the integer beside it.
+    PointerUpdate {
+        line: u32,
+        place: Box<Place>,
+        step: i64,
+        value: Box<CoreExpr>,
+    },
+    /// `++` or `--` at the place of a pointer, which moves by so many bytes.
+    PointerStep {
+        line: u32,
+        place: Box<Place>,
+        step: i64,
+        before: bool,
+    },
+    /// A call of `malloc`, with its argument of type unsigned long (C11 7.22.3.4).
+    Allocate {
+        line: u32,
+        size: Box<CoreExpr>,
+    },
+    /// A call of `calloc`, whose bytes are 0 (C11 7.22.3.2).
+    AllocateZeroed {
+        line: u32,
+        count: Box<CoreExpr>,
+        size: Box<CoreExpr>,
+    },
+    /// A call of `free` (C11 7.22.3.3).
+    Release {
+        line: u32,
+        pointer: Box<CoreExpr>,
+    },
+    /// A call of `exit`, which evaluates its argument and ends the process (C11 7.22.4.4).
+    Exit {
+        line: u32,
+        status: Box<CoreExpr>,
+    },
+    /// A call of `abort` (C11 7.22.4.1).
+    Abort {
+        line: u32,
     },
 }
 
@@ -161,18 +283,9 @@ pub enum CoreExpr {
 #[derive(Drop)]
 #[cycle(expression)]
 pub enum CoreStructure {
-    /// The value of a place: `size` bytes of a variable, from an offset on.
+    /// The value of a place: so many bytes from it on.
     Read {
-        line: u32,
-        variable: u32,
-        offset: u32,
-        size: u32,
-    },
-    /// The value of a place: `size` bytes of a static object, from an offset on.
-    Load {
-        line: u32,
-        object: u32,
-        offset: u32,
+        place: Box<Place>,
         size: u32,
     },
     /// `?:` (C11 6.5.15).
@@ -182,18 +295,10 @@ pub enum CoreStructure {
         yes: Box<CoreStructure>,
         no: Box<CoreStructure>,
     },
-    /// `=`: the value takes the place of as many bytes of a variable, from an offset on (C11 6.5.16.1).
+    /// `=`: the value takes the place of as many bytes (C11 6.5.16.1).
     Assign {
         line: u32,
-        variable: u32,
-        offset: u32,
-        value: Box<CoreStructure>,
-    },
-    /// `=`: the value takes the place of as many bytes of a static object, from an offset on.
-    Store {
-        line: u32,
-        object: u32,
-        offset: u32,
+        place: Box<Place>,
         value: Box<CoreStructure>,
     },
     /// `,` (C11 6.5.17).

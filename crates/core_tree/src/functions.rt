@@ -22,6 +22,32 @@ pub enum PassedType {
     Structure(u32),
 }
 
+/// A variable of a function: its size in bytes, whether it is defined `const`, and where it has an address the number of the
+/// variable that holds it, of 8 bytes.
+#[derive(Clone, Copy)]
+pub struct Variable {
+    pub size: u32,
+    pub readonly: bool,
+    pub home: Option<u32>,
+}
+
+/// What an address in the bytes of a static object points into, and where (C11 6.6p9).
+#[derive(Clone, Copy)]
+pub enum Target {
+    /// A static object, by its number.
+    Object(u32),
+    /// A string literal, by its place in the file.
+    Literal(u32),
+}
+
+/// An address among the bytes of a static object: 8 of them from a place on are the pointer to an offset of its target.
+#[derive(Clone, Copy)]
+pub struct Address {
+    pub at: u32,
+    pub target: Target,
+    pub offset: u32,
+}
+
 /// A function: its name with its line, what it gives, none where that is void, the types of its parameters,
 /// and, where a declaration of it has an ellipsis, the line of the first of those. The sizes of its
 /// variables in bytes by their numbers, of which the parameters are the first, how many labels it has, and its
@@ -33,7 +59,7 @@ pub struct Function {
     pub gives: Option<PassedType>,
     pub parameters: Vec<PassedType>,
     pub ellipsis: Option<u32>,
-    pub variables: Vec<u32>,
+    pub variables: Vec<Variable>,
     pub labels: usize,
     pub body: Option<Box<CoreStatement>>,
 }
@@ -46,19 +72,30 @@ pub struct StaticObject {
     pub size: u32,
     pub readonly: bool,
     pub bytes: Vec<u8>,
+    /// The addresses among them, in the order in which they are put there.
+    pub addresses: Vec<Address>,
     /// Where the file has no definition of it, the line of its first declarator.
     pub undefined: Option<u32>,
 }
 
-/// The typed tree of a file: its functions by their numbers, and its static objects, whose numbers begin
-/// with 1. Each part has the type that its place asks for; each variable, each static object, each
+/// A string literal that is an object: its bytes, without the 0 behind them (C11 6.4.5p6).
+#[derive(Drop)]
+pub struct Literal {
+    pub bytes: Vec<u8>,
+}
+
+/// The typed tree of a file: its functions by their numbers, its static objects, whose numbers begin with 1,
+/// its string literals that are objects, in their order, and whether forms over pointers may stand in it.
+/// Each part has the type that its place asks for; each variable, each static object, each literal, each
 /// function and each label that is named is there; each `break`, `continue`, `case` and `default` stands
 /// in its statement; no variable and no static object has 2 ^ 31 bytes or more, and none has more bytes
-/// said than it has; there are fewer than 2 ^ 31 functions and fewer than 2 ^ 31 static objects.
+/// said than it has; there are fewer than 2 ^ 31 functions, static objects and literals each.
 #[derive(Drop)]
 pub struct Core {
     functions: Vec<Function>,
     objects: Vec<StaticObject>,
+    literals: Vec<Literal>,
+    pointers: bool,
 }
 
 impl Model for Core {
@@ -75,22 +112,48 @@ impl Model for Core {
 
     ghost coded = { Prim.hlevel (codes, expressions.the_row.coded, items.the_row.coded, statements.the_row.coded) };
 
-    ghost view = { λ c. core_file c.functions.items c.objects.items };
+    ghost view = { λ c. core_file c.functions.items c.objects.items c.literals.items c.pointers };
 
-    ghost invariant = { λ c. (length c.functions.items < 2 ^ 31) × (length c.objects.items < 2 ^ 31) × (are_typed (view_core (core_file c.functions.items c.objects.items)) ≡ true) × (stands_file (view_core (core_file c.functions.items c.objects.items)) ≡ true) × (have_small (view_core (core_file c.functions.items c.objects.items)).functions ≡ true) };
+    ghost invariant = { λ c. (length c.functions.items < 2 ^ 31) × (length c.objects.items < 2 ^ 31) × (length c.literals.items < 2 ^ 31) × (are_typed (view_core (core_file c.functions.items c.objects.items c.literals.items c.pointers)) ≡ true) × (stands_file (view_core (core_file c.functions.items c.objects.items c.literals.items c.pointers)) ≡ true) × (have_small (view_core (core_file c.functions.items c.objects.items c.literals.items c.pointers)).functions ≡ true) };
 }
 
 impl Core {
-    /// The tree of these functions and static objects.
-    pub fn new(functions: Vec<Function>, objects: Vec<StaticObject>) -> Core
+    /// The tree of these functions, static objects and literals, and whether forms over pointers may stand in it.
+    pub fn new(
+        functions: Vec<Function>,
+        objects: Vec<StaticObject>,
+        literals: Vec<Literal>,
+        pointers: bool,
+    ) -> Core
         requires few { length functions.items < 2 ^ 31 }
         requires few_objects { length objects.items < 2 ^ 31 }
-        requires typed { are_typed (view_core (core_file functions.items objects.items)) ≡ true }
-        requires standing { stands_file (view_core (core_file functions.items objects.items)) ≡ true }
-        requires small { have_small (view_core (core_file functions.items objects.items)).functions ≡ true }
-        ensures { result ≡ core_file functions.items objects.items }
+        requires few_literals { length literals.items < 2 ^ 31 }
+        requires typed { are_typed (view_core (core_file functions.items objects.items literals.items pointers)) ≡ true }
+        requires standing { stands_file (view_core (core_file functions.items objects.items literals.items pointers)) ≡ true }
+        requires small { have_small (view_core (core_file functions.items objects.items literals.items pointers)).functions ≡ true }
+        ensures { result ≡ core_file functions.items objects.items literals.items pointers }
     {
-        Core { functions, objects }
+        Core {
+            functions,
+            objects,
+            literals,
+            pointers,
+        }
+    }
+
+    /// Takes the tree apart into its functions, its static objects and its literals.
+    pub fn into_parts(self) -> (Vec<Function>, Vec<StaticObject>, Vec<Literal>)
+        ensures functions { result.0.items ≡ self.functions }
+        ensures objects { result.1.items ≡ self.objects }
+        ensures literals { result.2.items ≡ self.literals }
+    {
+        let Core {
+            functions,
+            objects,
+            literals,
+            ..
+        } = self;
+        (functions, objects, literals)
     }
 
     /// The functions by their numbers.
@@ -111,6 +174,22 @@ impl Core {
         ensures typed { are_typed (view_core self.now) ≡ true }
     {
         &self.objects
+    }
+
+    /// The string literals that are objects, in their order.
+    pub fn literals(&self) -> &[Literal]
+        ensures is { result.now ≡ self.now.literals }
+        ensures few { length self.now.literals < 2 ^ 31 }
+    {
+        &self.literals
+    }
+
+    /// Whether forms over pointers may stand in the tree: places other than variables and static objects, what is done with
+    /// pointers and with the heap, and variables with an address.
+    pub fn pointers(&self) -> bool
+        ensures { result ≡ self.now.pointers }
+    {
+        self.pointers
     }
 }
 

@@ -12,11 +12,16 @@ mod typing;
 
 pub use bounds::{Bounds, LoopBound};
 pub use expression::{CoreArgument, CoreExpr, CorePart, CoreStructure, Place};
-pub use functions::{Core, Function, Name, PassedType, StaticObject, function_name};
+pub use functions::{
+    Address, Core, Function, Literal, Name, PassedType, StaticObject, Target, Variable,
+    function_name,
+};
 pub use operators::{
     ArithmeticOperator, Comparison, LogicalOperator, SignOperator, StepOperator, drawn_width,
     step_operation,
 };
 pub use refusal::{Limit, Refusal};
 pub use statement::{CoreItem, CoreStatement};
-pub use typing::{names_variable, place_type, structure_names_variable, structure_size, type_of};
+pub use typing::{
+    names_variable, place_names_variable, structure_names_variable, structure_size, type_of,
+};

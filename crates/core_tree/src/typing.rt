@@ -1,20 +1,11 @@
 //! The types of typed trees, and the variables that they name.
 
 ghost use Rattle.std.specs.Prelude.{◌≡◌, ◌||◌};
-ghost use Rattle.core_tree.specs.Trees.{view, view_structure, Parts, parts_of, with_part, Arguments, arguments_of, with_argument};
-ghost use Rattle.core_tree.specs.Typed.{type_of, size_of, place_type, place_names, names_variable, structure_names, parts_name, arguments_name};
+ghost use Rattle.core_tree.specs.Trees.{view, view_place, view_structure, Parts, parts_of, with_part, Arguments, arguments_of, with_argument};
+ghost use Rattle.core_tree.specs.Typed.{type_of, size_of, place_names, names_variable, structure_names, parts_name, arguments_name};
 
 use crate::expression::{CoreArgument, CoreExpr, CorePart, CoreStructure, Place};
 use c_types::{IntegerType, ValueType};
-
-/// The type of what stands at a place.
-pub fn place_type(place: &Place) -> IntegerType
-    ensures { result ≡ place_type place.now }
-{
-    match place {
-        Place::Variable { type_, .. } | Place::Object { type_, .. } => *type_,
-    }
-}
 
 /// The type of an expression. It goes down one path of the tree.
 pub fn type_of(expr: &CoreExpr) -> ValueType
@@ -22,7 +13,7 @@ pub fn type_of(expr: &CoreExpr) -> ValueType
 {
     match expr {
         CoreExpr::Constant { type_, .. } => ValueType::Integer(*type_),
-        CoreExpr::Read { place } => ValueType::Integer(place_type(place)),
+        CoreExpr::Read { type_, .. } => ValueType::Integer(*type_),
         CoreExpr::Convert { to, .. } => ValueType::Integer(*to),
         CoreExpr::Sign { operand, .. } => type_of(operand),
         CoreExpr::IsZero { .. } => ValueType::Integer(IntegerType::Int),
@@ -30,9 +21,9 @@ pub fn type_of(expr: &CoreExpr) -> ValueType
         CoreExpr::Compare { .. } => ValueType::Integer(IntegerType::Int),
         CoreExpr::Logical { .. } => ValueType::Integer(IntegerType::Int),
         CoreExpr::Choice { yes, .. } => type_of(yes),
-        CoreExpr::Assign { place, .. } => ValueType::Integer(place_type(place)),
-        CoreExpr::Update { place, .. } => ValueType::Integer(place_type(place)),
-        CoreExpr::Step { place, .. } => ValueType::Integer(place_type(place)),
+        CoreExpr::Assign { type_, .. } => ValueType::Integer(*type_),
+        CoreExpr::Update { type_, .. } => ValueType::Integer(*type_),
+        CoreExpr::Step { type_, .. } => ValueType::Integer(*type_),
         CoreExpr::Comma { right, .. } => type_of(right),
         CoreExpr::Assertion { .. } => ValueType::Void,
         CoreExpr::Assumption { .. } => ValueType::Void,
@@ -42,6 +33,19 @@ pub fn type_of(expr: &CoreExpr) -> ValueType
         CoreExpr::DiscardStructure { .. } => ValueType::Void,
         CoreExpr::Call { type_, .. } => *type_,
         CoreExpr::FunctionName { .. } => ValueType::Void,
+        CoreExpr::SizeOf { .. } => ValueType::Integer(IntegerType::UnsignedLong),
+        CoreExpr::SizeOfStructure { .. } => ValueType::Integer(IntegerType::UnsignedLong),
+        CoreExpr::Address { .. } => ValueType::Integer(IntegerType::UnsignedLong),
+        CoreExpr::Sum { .. } => ValueType::Integer(IntegerType::UnsignedLong),
+        CoreExpr::Distance { .. } => ValueType::Integer(IntegerType::Long),
+        CoreExpr::Relation { .. } => ValueType::Integer(IntegerType::Int),
+        CoreExpr::PointerUpdate { .. } => ValueType::Integer(IntegerType::UnsignedLong),
+        CoreExpr::PointerStep { .. } => ValueType::Integer(IntegerType::UnsignedLong),
+        CoreExpr::Allocate { .. } => ValueType::Integer(IntegerType::UnsignedLong),
+        CoreExpr::AllocateZeroed { .. } => ValueType::Integer(IntegerType::UnsignedLong),
+        CoreExpr::Release { .. } => ValueType::Void,
+        CoreExpr::Exit { .. } => ValueType::Void,
+        CoreExpr::Abort { .. } => ValueType::Void,
     }
 }
 
@@ -51,10 +55,8 @@ pub fn structure_size(value: &CoreStructure) -> u32
 {
     match value {
         CoreStructure::Read { size, .. } => *size,
-        CoreStructure::Load { size, .. } => *size,
         CoreStructure::Choice { yes, .. } => structure_size(yes),
         CoreStructure::Assign { value, .. } => structure_size(value),
-        CoreStructure::Store { value, .. } => structure_size(value),
         CoreStructure::Comma { right, .. } => structure_size(right),
         CoreStructure::Member { size, .. } => *size,
         CoreStructure::List { size, .. } => *size,
@@ -63,8 +65,10 @@ pub fn structure_size(value: &CoreStructure) -> u32
     }
 }
 
-fn place_names(variable: u32, place: &Place) -> bool
-    ensures { result ≡ place_names variable place.now }
+/// Whether a place names the variable with this number where it is evaluated.
+#[cycle(names)]
+pub fn place_names_variable(variable: u32, place: &Place) -> bool
+    ensures { result ≡ place_names variable (view_place place.now) }
 {
     match place {
         Place::Variable {
@@ -72,10 +76,18 @@ fn place_names(variable: u32, place: &Place) -> bool
             ..
         } => variable == *named,
         Place::Object { .. } => false,
+        Place::Literal { .. } => false,
+        Place::Pointed { pointer, .. } => names_variable(variable, pointer),
+        Place::Arrow { pointer, .. } => names_variable(variable, pointer),
+        Place::Member { place, .. } => place_names_variable(variable, place),
+        Place::Element { place, index, .. } => place_names_variable(variable, place)
+            || names_variable(variable, index),
+        Place::Subscript { pointer, index, .. } => names_variable(variable, pointer)
+            || names_variable(variable, index),
     }
 }
 
-/// Whether an expression names the variable with this number.
+/// Whether an expression names the variable with this number, outside of `sizeof`.
 #[cycle(names)]
 #[tactic(auto, using(crate::proofs::Views::view_call))]
 pub fn names_variable(variable: u32, expr: &CoreExpr) -> bool
@@ -83,7 +95,7 @@ pub fn names_variable(variable: u32, expr: &CoreExpr) -> bool
 {
     match expr {
         CoreExpr::Constant { .. } => false,
-        CoreExpr::Read { place } => place_names(variable, place),
+        CoreExpr::Read { place, .. } => place_names_variable(variable, place),
         CoreExpr::Convert { operand, .. } => names_variable(variable, operand),
         CoreExpr::Sign { operand, .. } => names_variable(variable, operand),
         CoreExpr::IsZero { operand, .. } => names_variable(variable, operand),
@@ -98,11 +110,11 @@ pub fn names_variable(variable: u32, expr: &CoreExpr) -> bool
                 || names_variable(variable, yes)
                 || names_variable(variable, no)
         }
-        CoreExpr::Assign { place, value, .. } => place_names(variable, place)
+        CoreExpr::Assign { place, value, .. } => place_names_variable(variable, place)
             || names_variable(variable, value),
-        CoreExpr::Update { place, value, .. } => place_names(variable, place)
+        CoreExpr::Update { place, value, .. } => place_names_variable(variable, place)
             || names_variable(variable, value),
-        CoreExpr::Step { place, .. } => place_names(variable, place),
+        CoreExpr::Step { place, .. } => place_names_variable(variable, place),
         CoreExpr::Comma { left, right, .. } => names_variable(variable, left)
             || names_variable(variable, right),
         CoreExpr::Assertion { condition, .. } => names_variable(variable, condition),
@@ -113,6 +125,24 @@ pub fn names_variable(variable: u32, expr: &CoreExpr) -> bool
         CoreExpr::DiscardStructure { value } => structure_names_variable(variable, value),
         CoreExpr::Call { arguments, .. } => arguments_name(variable, arguments),
         CoreExpr::FunctionName { .. } => false,
+        CoreExpr::SizeOf { .. } => false,
+        CoreExpr::SizeOfStructure { .. } => false,
+        CoreExpr::Address { place, .. } => place_names_variable(variable, place),
+        CoreExpr::Sum { pointer, index, .. } => names_variable(variable, pointer)
+            || names_variable(variable, index),
+        CoreExpr::Distance { left, right, .. } => names_variable(variable, left)
+            || names_variable(variable, right),
+        CoreExpr::Relation { left, right, .. } => names_variable(variable, left)
+            || names_variable(variable, right),
+        CoreExpr::PointerUpdate { place, value, .. } => place_names_variable(variable, place)
+            || names_variable(variable, value),
+        CoreExpr::PointerStep { place, .. } => place_names_variable(variable, place),
+        CoreExpr::Allocate { size, .. } => names_variable(variable, size),
+        CoreExpr::AllocateZeroed { count, size, .. } => names_variable(variable, count)
+            || names_variable(variable, size),
+        CoreExpr::Release { pointer, .. } => names_variable(variable, pointer),
+        CoreExpr::Exit { status, .. } => names_variable(variable, status),
+        CoreExpr::Abort { .. } => false,
     }
 }
 
@@ -123,22 +153,14 @@ pub fn structure_names_variable(variable: u32, value: &CoreStructure) -> bool
     ensures { result ≡ structure_names variable (view_structure value.now) }
 {
     match value {
-        CoreStructure::Read {
-            variable: named,
-            ..
-        } => variable == *named,
-        CoreStructure::Load { .. } => false,
+        CoreStructure::Read { place, .. } => place_names_variable(variable, place),
         CoreStructure::Choice { test, yes, no, .. } => {
             names_variable(variable, test)
                 || structure_names_variable(variable, yes)
                 || structure_names_variable(variable, no)
         }
-        CoreStructure::Assign {
-            variable: named,
-            value,
-            ..
-        } => variable == *named || structure_names_variable(variable, value),
-        CoreStructure::Store { value, .. } => structure_names_variable(variable, value),
+        CoreStructure::Assign { place, value, .. } => place_names_variable(variable, place)
+            || structure_names_variable(variable, value),
         CoreStructure::Comma { left, right, .. } => names_variable(variable, left)
             || structure_names_variable(variable, right),
         CoreStructure::Member { value, .. } => structure_names_variable(variable, value),

@@ -1,8 +1,9 @@
 //! The code of functions and of a file.
 
-ghost use Rattle.std.specs.Prelude.{◌≡◌, ◌<◌, ◌^◌, [], ◌∷◌, reverse, IfOk, true, length};
+ghost use Rattle.std.specs.Prelude.{◌≡◌, ◌<◌, ◌^◌, [], ◌∷◌, reverse, IfOk, true, false, length};
 ghost use Rattle.core_tree.specs.Ranges.{Limits};
 ghost use Rattle.core_tree.specs.Trees.{view_statement, view_function, view_functions, view_core};
+ghost use Rattle.core_tree.specs.Typed.{sizes_of_variables};
 ghost use Rattle.c_meaning.specs.Source as source;
 ghost use Rattle.c_meaning.specs.Source.{source_thread, first_objects};
 ghost use Rattle.goto_prog.specs.Nodes.{plain, nodes_of, view_procedure, view_procedures};
@@ -21,7 +22,7 @@ use c_profile::Admitted;
 use c_temporaries::statement_temporaries;
 use c_types::IntegerType;
 use code_draft::Draft;
-use core_tree::{CoreStatement, Function, Name, PassedType};
+use core_tree::{CoreStatement, Function, Name, PassedType, Variable};
 use goto_prog::{Goto, Instruction, Node, Operation, Procedure};
 use std::alloc::{AllocError, Global};
 
@@ -42,15 +43,15 @@ fn one_register(alloc: Global) -> Result<Vec<IntegerType>, AllocError>
     Ok(registers)
 }
 
-// A place that blocks, by the register that stays 0.
-fn blocking(alloc: Global, number: u32, line: u32) -> Result<Vec<Node>, AllocError>
-    ensures forwards { IfOk result (λ v. nodes_of v.items ≡ plain (at_line (first_frame number []) line (operations.Assume 0)) ends) }
-    ensures backwards { IfOk result (λ v. nodes_of (reverse v.items) ≡ plain (at_line (first_frame number []) line (operations.Assume 0)) ends) }
+// A place that breaks an assertion, by the register that stays 0.
+fn breaking(alloc: Global, number: u32, line: u32) -> Result<Vec<Node>, AllocError>
+    ensures forwards { IfOk result (λ v. nodes_of v.items ≡ plain (at_line (first_frame number []) line (operations.Assert 0)) ends) }
+    ensures backwards { IfOk result (λ v. nodes_of (reverse v.items) ≡ plain (at_line (first_frame number []) line (operations.Assert 0)) ends) }
 {
     let instruction = Instruction {
         line,
         function: number,
-        operation: Operation::Assume { operand: 0 },
+        operation: Operation::Assert { operand: 0 },
     };
     let mut nodes = Vec::new(alloc);
     nodes.push(Node::Plain { instruction })?;
@@ -66,7 +67,7 @@ fn lower_declared(alloc: Global, number: u32, function: &Function) -> Result<Pro
         line: function.line,
         registers: one_register(alloc)?,
         blocks: Vec::new(alloc),
-        nodes: blocking(alloc, number, function.line)?,
+        nodes: breaking(alloc, number, function.line)?,
         startable: false,
     })
 }
@@ -82,7 +83,18 @@ fn given_size(gives: Option<PassedType>) -> u32
     }
 }
 
-// The blocks of a function.
+// How many bytes each variable has.
+fn variable_sizes(alloc: Global, variables: &[Variable]) -> Result<Vec<u32>, AllocError>
+    ensures { IfOk result (λ v. v.items ≡ sizes_of_variables variables.now) }
+{
+    let mut sizes = Vec::new(alloc);
+    for variable in variables {
+        sizes.push(variable.size)?;
+    }
+    Ok(sizes)
+}
+
+// The blocks of a function whose variables have these sizes.
 fn lower_blocks(
     alloc: Global,
     variables: &[u32],
@@ -108,9 +120,10 @@ fn lower_defined(
 ) -> Result<Procedure, AllocError>
     ensures { IfOk result (λ p. view_procedure p ≡ defined_code number (view_function function.now) (view_statement body.now)) }
 {
-    let mut draft = Draft::new(alloc, number, &function.variables);
+    let sizes = variable_sizes(alloc, &function.variables)?;
+    let mut draft = Draft::new(alloc, number, &sizes);
     let _zero = draft.register(IntegerType::Int)?;
-    let mut nodes = blocking(alloc, number, function.line)?;
+    let mut nodes = breaking(alloc, number, function.line)?;
     draft.put(function.line, Operation::Return { value: None }, &mut nodes)?;
     let exits = Exits {
         base: 1,
@@ -123,7 +136,7 @@ fn lower_defined(
         name: copy_name(alloc, &function.name)?,
         line: function.line,
         registers: draft.into_registers(),
-        blocks: lower_blocks(alloc, &function.variables, given_size(function.gives), body)?,
+        blocks: lower_blocks(alloc, &sizes, given_size(function.gives), body)?,
         nodes,
         startable: false,
     })
@@ -151,7 +164,7 @@ fn lower_functions(alloc: Global, functions: &[Function]) -> Result<Vec<Procedur
     Ok(procedures)
 }
 
-// The store at the start; it is empty where the static objects alone pass a limit.
+// The store at the start; it is empty where the static objects and the literals alone pass a limit.
 fn lower_objects(alloc: Global, file: &Admitted) -> Result<Store, AllocError>
     ensures { IfOk result (λ s. s ≡ (lowered (view_core file.now)).store) }
 {
@@ -163,12 +176,13 @@ fn lower_objects(alloc: Global, file: &Admitted) -> Result<Store, AllocError>
 }
 
 /// The code of a file, with loops and calls: what it does as strict code under the bounds of a command is
-/// what the file means under them. Its store is the first store of the file, where the static objects alone
-/// pass no limit. Fails only for want of memory.
+/// what the file means under them. Its store is the first store of the file, where the static objects and the
+/// literals alone pass no limit. There is no code yet for forms over pointers. Fails only for want of memory.
 pub fn lower(alloc: Global, file: &Admitted) -> Result<Goto, AllocError>
+    requires plain { file.now.pointers ≡ false }
     ensures code { IfOk result (λ g. view_goto g ≡ lowered (view_core file.now)) }
     ensures same { IfOk result (λ g. (bounds : Limits) → DoSame (strict_thread g bounds) (source_thread (view_core file.now) bounds)) }
-    ensures store { source.are_storable (view_core file.now).objects ≡ true → IfOk result (λ g. g.store ≡ first_objects (view_core file.now).objects) }
+    ensures store { source.are_storable (view_core file.now) ≡ true → IfOk result (λ g. g.store ≡ first_objects (view_core file.now)) }
 {
     let core = file.core();
     let functions = core.functions();

@@ -174,14 +174,14 @@ fourth_within p t a o b none =
     (none_passed o (b ∷ []) (none_passed a (o ∷ b ∷ []) behind_second).1).0
 
 -- a file that passes no limit has no more
-pub few_objects : (file : TypedFile) (bounds : Limits) → passed file bounds ≡ None → length file.objects ≤ 8192
+pub few_objects : (file : TypedFile) (bounds : Limits) → passed file bounds ≡ None → length file.objects + length file.literals ≤ 8192
 few_objects file bounds none =
     let q : Quantity = record { limit = limits.Places; most = 2000000; count = places file.functions bounds } in
     let t : Quantity = record { limit = limits.Threads; most = 64; count = 0 } in
     let a : Quantity = record { limit = limits.Actions; most = 4096; count = 0 } in
-    let o : Quantity = record { limit = limits.Objects; most = 8192; count = length file.objects } in
+    let o : Quantity = record { limit = limits.Objects; most = 8192; count = length file.objects + length file.literals } in
     let b : Quantity = record { limit = limits.ObjectBytes; most = 65536; count = object_bytes file } in
-    most (length file.objects) (fourth_within q t a o b none)
+    most (length file.objects + length file.literals) (fourth_within q t a o b none)
   where
     most : (n : ℕ) → nat_lt 8192 n ≡ false → n ≤ 8192
     most n h = grind (arith, nat_tests)

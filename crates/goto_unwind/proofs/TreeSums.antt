@@ -4,10 +4,10 @@ use Rattle.std.specs.Prelude.{◌==◌}
 use Rattle.std.proofs.lemmas.Bool.Decides.{nat_tests}
 use Rattle.std.proofs.Math.Nat.{mul_comm}
 use Rattle.std.proofs.lemmas.Bool.{cases_lt}
-use Rattle.core_tree.specs.Trees.{call, function_name, give, Arguments, no_argument, number_argument, structure_argument, returns_structure, returns_nothing, for_loop, do_loop, switch, breaks, continues, jumps, stray, label, case_at, default_at, Expression, constant, read, convert, sign, is_zero, arithmetic, compare, logical, choice, assign, update, step, comma, assertion, assumption, draw, part, discard, discard_structure, Structure, copy, load, choose, put, store, follow, section, list, string, Parts, no_part, number_part, structure_part, Statement, block, if_then, if_else, evaluate, returns, Items, done, declares, initializes, initializes_structure, does}
+use Rattle.core_tree.specs.Trees.{call, function_name, give, Arguments, no_argument, number_argument, structure_argument, returns_structure, returns_nothing, for_loop, do_loop, switch, breaks, continues, jumps, stray, label, case_at, default_at, Place, variable_at, object_at, literal_at, pointed, arrow, member, element, subscript, Expression, constant, read, convert, sign, is_zero, arithmetic, compare, logical, choice, assign, update, step, comma, assertion, assumption, draw, part, discard, discard_structure, size_of_value, size_of_structure, address, sum, distance, relation, pointer_update, pointer_step, allocate, allocate_zeroed, release, exit, abort, Structure, copy, choose, put, follow, section, list, string, Parts, no_part, number_part, structure_part, Statement, block, if_then, if_else, evaluate, returns, Items, done, declares, initializes, initializes_structure, does}
 use Rattle.goto_unwind.specs.declared.linear_count.Called.{Called}
-use Rattle.goto_unwind.specs.Places.{optional, expression_places, structure_places, parts_places, argument_places, statement_places, items_places}
-use Rattle.goto_unwind.specs.Linear.{cut, Linear, counted, called, expression_linear, structure_linear, parts_linear, arguments_linear, optional_linear, statement_linear, items_linear, calls_value, value}
+use Rattle.goto_unwind.specs.Places.{optional, place_places, expression_places, structure_places, parts_places, argument_places, statement_places, items_places}
+use Rattle.goto_unwind.specs.Linear.{cut, Linear, counted, called, place_linear, expression_linear, structure_linear, parts_linear, arguments_linear, optional_linear, statement_linear, items_linear, calls_value, value}
 
 -- ---- sums and products that are cut
 
@@ -104,9 +104,19 @@ module _ (calls : ℕ → ℕ) where
 
   module _ (tests : ℕ → ℕ) where
     mutual
+      pub place_adds : (n : ℕ) (x : Place) (s : Linear) → Adds n (place_places tests calls x) s (place_linear n x s)
+      place_adds n (variable_at line v offset) s = one n s
+      place_adds n (object_at line k offset) s = one n s
+      place_adds n (literal_at line k) s = one n s
+      place_adds n (pointed line e) s = then (one n s) (expression_adds n e _)
+      place_adds n (arrow line e offset) s = then (one n s) (expression_adds n e _)
+      place_adds n (member line x offset) s = then (one n s) (place_adds n x _)
+      place_adds n (element line x e size whole swapped) s = then (one n s) (then (place_adds n x _) (expression_adds n e _))
+      place_adds n (subscript line a e size swapped) s = then (one n s) (then (expression_adds n a _) (expression_adds n e _))
+
       pub expression_adds : (n : ℕ) (e : Expression) (s : Linear) → Adds n (expression_places tests calls e) s (expression_linear n e s)
       expression_adds n (constant line t bits) s = one n s
-      expression_adds n (read p) s = then (one n s) (one n _)
+      expression_adds n (read t x) s = then (one n s) (place_adds n x _)
       expression_adds n (convert to e) s = then (one n s) (expression_adds n e _)
       expression_adds n (sign line op e) s = then (one n s) (expression_adds n e _)
       expression_adds n (is_zero line e) s = then (one n s) (expression_adds n e _)
@@ -114,9 +124,9 @@ module _ (calls : ℕ → ℕ) where
       expression_adds n (compare line op a b) s = then (one n s) (then (expression_adds n a _) (expression_adds n b _))
       expression_adds n (logical line op a b) s = then (one n s) (then (expression_adds n a _) (expression_adds n b _))
       expression_adds n (choice line test a b) s = then (one n s) (then (expression_adds n test _) (then (expression_adds n a _) (expression_adds n b _)))
-      expression_adds n (assign line p e) s = then (one n s) (then (one n _) (expression_adds n e _))
-      expression_adds n (update line p op t e) s = then (one n s) (then (one n _) (expression_adds n e _))
-      expression_adds n (step line p op before) s = then (one n s) (one n _)
+      expression_adds n (assign line t x e) s = then (one n s) (then (place_adds n x _) (expression_adds n e _))
+      expression_adds n (update line t x op u e) s = then (one n s) (then (place_adds n x _) (expression_adds n e _))
+      expression_adds n (step line t x op before) s = then (one n s) (place_adds n x _)
       expression_adds n (comma line a b) s = then (one n s) (then (expression_adds n a _) (expression_adds n b _))
       expression_adds n (assertion line e) s = then (one n s) (expression_adds n e _)
       expression_adds n (assumption line e) s = then (one n s) (expression_adds n e _)
@@ -125,14 +135,25 @@ module _ (calls : ℕ → ℕ) where
       expression_adds n (discard line e) s = then (one n s) (expression_adds n e _)
       expression_adds n (discard_structure a) s = structure_adds n a s
       expression_adds n (call line f used t args) s = then (one n s) (then (arguments_adds n args _) (called_adds n f _))
-      expression_adds n (function_name line f) s = one n s
+      expression_adds n (function_name line) s = one n s
+      expression_adds n (size_of_value line bits e) s = one n s
+      expression_adds n (size_of_structure line bits a) s = one n s
+      expression_adds n (address line x) s = then (one n s) (place_adds n x _)
+      expression_adds n (sum line a e i swapped) s = then (one n s) (then (expression_adds n a _) (expression_adds n e _))
+      expression_adds n (distance line a b i) s = then (one n s) (then (expression_adds n a _) (expression_adds n b _))
+      expression_adds n (relation line op a b) s = then (one n s) (then (expression_adds n a _) (expression_adds n b _))
+      expression_adds n (pointer_update line x i e) s = then (one n s) (then (place_adds n x _) (expression_adds n e _))
+      expression_adds n (pointer_step line x i before) s = then (one n s) (place_adds n x _)
+      expression_adds n (allocate line e) s = then (one n s) (expression_adds n e _)
+      expression_adds n (allocate_zeroed line a b) s = then (one n s) (then (expression_adds n a _) (expression_adds n b _))
+      expression_adds n (release line e) s = then (one n s) (expression_adds n e _)
+      expression_adds n (exit line e) s = then (one n s) (expression_adds n e _)
+      expression_adds n (abort line) s = one n s
 
       pub structure_adds : (n : ℕ) (a : Structure) (s : Linear) → Adds n (structure_places tests calls a) s (structure_linear n a s)
-      structure_adds n (copy line v offset size) s = then (one n s) (one n _)
-      structure_adds n (load line k offset size) s = then (one n s) (one n _)
+      structure_adds n (copy x size) s = then (one n s) (place_adds n x _)
       structure_adds n (choose line test a b) s = then (one n s) (then (expression_adds n test _) (then (structure_adds n a _) (structure_adds n b _)))
-      structure_adds n (put line v offset a) s = then (one n s) (then (one n _) (structure_adds n a _))
-      structure_adds n (store line k offset a) s = then (one n s) (then (one n _) (structure_adds n a _))
+      structure_adds n (put line x a) s = then (one n s) (then (place_adds n x _) (structure_adds n a _))
       structure_adds n (follow line e a) s = then (one n s) (then (expression_adds n e _) (structure_adds n a _))
       structure_adds n (section line offset size a) s = then (one n s) (structure_adds n a _)
       structure_adds n (list line size ps) s = parts_adds n ps s

@@ -4,13 +4,13 @@ use Rattle.core_tree.specs.declared.refusal.Limit.{Limit}
 use Rattle.core_tree.specs.declared.refusal.Limit.TheVariants.{Places, Threads, Actions, Objects, ObjectBytes}
 use Rattle.core_tree.specs.Ranges.{Limits}
 use Rattle.core_tree.specs.Trees.{Procedure, TypedFile}
-use Rattle.core_tree.specs.Typed.{sizes_of_objects}
+use Rattle.core_tree.specs.Typed.{sizes_of_variables, sizes_of_objects}
 use Rattle.goto_unwind.specs.Places.{places}
 use Rattle.goto_unwind.specs.declared.counting.Counts.{Counts}
 use Rattle.goto_unwind.specs.declared.unrolling.UnwindError.{UnwindError}
 use Rattle.goto_unwind.specs.declared.unrolling.UnwindError.TheVariants as errors
 
--- ---- objects: each variable of a function is one, and each static object
+-- ---- objects: each variable of a function is one, each static object, and each string literal that is one
 
 -- the largest of these sizes
 abbrev pub largest : List ℕ → ℕ
@@ -20,11 +20,15 @@ largest (size ∷ sizes) = max size (largest sizes)
 -- the bytes of the largest variable of these functions
 abbrev pub variable_bytes : List Procedure → ℕ
 variable_bytes [] = 0
-variable_bytes (f ∷ functions) = max (largest f.variables) (variable_bytes functions)
+variable_bytes (f ∷ functions) = max (largest (sizes_of_variables f.variables)) (variable_bytes functions)
+
+-- the bytes of each string literal, with the 0 behind its text
+abbrev pub sizes_of_literals : List (List ℕ) → List ℕ
+sizes_of_literals literals = map (λ (text : List ℕ). length text + 1) literals
 
 -- the bytes of the file's largest object
 abbrev pub object_bytes : TypedFile → ℕ
-object_bytes file = max (variable_bytes file.functions) (largest (sizes_of_objects file.objects))
+object_bytes file = max (variable_bytes file.functions) (max (largest (sizes_of_objects file.objects)) (largest (sizes_of_literals file.literals)))
 
 -- ---- limits
 
@@ -33,13 +37,13 @@ pub record Quantity : Type 0 where
   pub most : ℕ
   pub count : ℕ
 
--- what is counted, in the order in which it is told; there are no threads and actions yet, and no objects but the static ones
+-- what is counted, in the order in which it is told; there are no threads and actions yet, and no objects but the static ones and the literals
 abbrev pub quantities : TypedFile → Limits → List Quantity
 quantities file bounds =
     record { limit = Places; most = 2000000; count = places file.functions bounds }
     ∷ record { limit = Threads; most = 64; count = 0 }
     ∷ record { limit = Actions; most = 4096; count = 0 }
-    ∷ record { limit = Objects; most = 8192; count = length file.objects }
+    ∷ record { limit = Objects; most = 8192; count = length file.objects + length file.literals }
     ∷ []
 
 abbrev pub first_passed : List Quantity → Option Limit

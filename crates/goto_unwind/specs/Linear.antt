@@ -1,7 +1,7 @@
 -- How many places a function has, as a sum that is linear in what a call of each function adds; the numbers are cut behind the limit.
 use Rattle.std.specs.Prelude.{ℕ, zero, suc, ◌+◌, ◌*◌, ◌-◌, ◌==◌, min, ◌≡◌, ◌||◌, replicate, length, slice_get, List, [], ◌∷◌, ◌++◌, drop, Option, Some, None, slice_index, slice_set, if◌then◌else◌}
 use Rattle.core_tree.specs.Ranges.{Limits}
-use Rattle.core_tree.specs.Trees.{call, function_name, give, Arguments, no_argument, number_argument, structure_argument, returns_structure, returns_nothing, for_loop, do_loop, switch, breaks, continues, jumps, stray, label, case_at, default_at, Expression, constant, read, convert, sign, is_zero, arithmetic, compare, logical, choice, assign, update, step, comma, assertion, assumption, draw, part, discard, discard_structure, Structure, copy, load, choose, put, store, follow, section, list, string, Parts, no_part, number_part, structure_part, Statement, block, if_then, if_else, evaluate, returns, Items, done, declares, initializes, initializes_structure, does, Procedure}
+use Rattle.core_tree.specs.Trees.{call, function_name, give, Arguments, no_argument, number_argument, structure_argument, returns_structure, returns_nothing, for_loop, do_loop, switch, breaks, continues, jumps, stray, label, case_at, default_at, Place, variable_at, object_at, literal_at, pointed, arrow, member, element, subscript, Expression, constant, read, convert, sign, is_zero, arithmetic, compare, logical, choice, assign, update, step, comma, assertion, assumption, draw, part, discard, discard_structure, size_of_value, size_of_structure, address, sum, distance, relation, pointer_update, pointer_step, allocate, allocate_zeroed, release, exit, abort, Structure, copy, choose, put, follow, section, list, string, Parts, no_part, number_part, structure_part, Statement, block, if_then, if_else, evaluate, returns, Items, done, declares, initializes, initializes_structure, does, Procedure}
 use Rattle.goto_prog.specs.Structured.{tests_in, opened}
 use Rattle.goto_prog.specs.Walks.{total}
 use Rattle.goto_unwind.specs.declared.linear_count.Called.{Called}
@@ -30,9 +30,19 @@ called f n s = if n == 0 then s else record { places = s.places; calls = s.calls
 -- ---- what a tree that counts so many times adds
 
 abbrev mutual
+  pub place_linear : (times : ℕ) → Place → Linear → Linear
+  place_linear n (variable_at line v offset) s = counted n s
+  place_linear n (object_at line k offset) s = counted n s
+  place_linear n (literal_at line k) s = counted n s
+  place_linear n (pointed line e) s = expression_linear n e (counted n s)
+  place_linear n (arrow line e offset) s = expression_linear n e (counted n s)
+  place_linear n (member line x offset) s = place_linear n x (counted n s)
+  place_linear n (element line x e size whole swapped) s = expression_linear n e (place_linear n x (counted n s))
+  place_linear n (subscript line a e size swapped) s = expression_linear n e (expression_linear n a (counted n s))
+
   pub expression_linear : (times : ℕ) → Expression → Linear → Linear
   expression_linear n (constant line t bits) s = counted n s
-  expression_linear n (read p) s = counted n (counted n s)
+  expression_linear n (read t x) s = place_linear n x (counted n s)
   expression_linear n (convert to e) s = expression_linear n e (counted n s)
   expression_linear n (sign line op e) s = expression_linear n e (counted n s)
   expression_linear n (is_zero line e) s = expression_linear n e (counted n s)
@@ -40,9 +50,9 @@ abbrev mutual
   expression_linear n (compare line op a b) s = expression_linear n b (expression_linear n a (counted n s))
   expression_linear n (logical line op a b) s = expression_linear n b (expression_linear n a (counted n s))
   expression_linear n (choice line test a b) s = expression_linear n b (expression_linear n a (expression_linear n test (counted n s)))
-  expression_linear n (assign line p e) s = expression_linear n e (counted n (counted n s))
-  expression_linear n (update line p op t e) s = expression_linear n e (counted n (counted n s))
-  expression_linear n (step line p op before) s = counted n (counted n s)
+  expression_linear n (assign line t x e) s = expression_linear n e (place_linear n x (counted n s))
+  expression_linear n (update line t x op u e) s = expression_linear n e (place_linear n x (counted n s))
+  expression_linear n (step line t x op before) s = place_linear n x (counted n s)
   expression_linear n (comma line a b) s = expression_linear n b (expression_linear n a (counted n s))
   expression_linear n (assertion line e) s = expression_linear n e (counted n s)
   expression_linear n (assumption line e) s = expression_linear n e (counted n s)
@@ -51,14 +61,25 @@ abbrev mutual
   expression_linear n (discard line e) s = expression_linear n e (counted n s)
   expression_linear n (discard_structure a) s = structure_linear n a s
   expression_linear n (call line f used t args) s = called f n (arguments_linear n args (counted n s))
-  expression_linear n (function_name line f) s = counted n s
+  expression_linear n (function_name line) s = counted n s
+  expression_linear n (size_of_value line bits e) s = counted n s
+  expression_linear n (size_of_structure line bits a) s = counted n s
+  expression_linear n (address line x) s = place_linear n x (counted n s)
+  expression_linear n (sum line a e i swapped) s = expression_linear n e (expression_linear n a (counted n s))
+  expression_linear n (distance line a b i) s = expression_linear n b (expression_linear n a (counted n s))
+  expression_linear n (relation line op a b) s = expression_linear n b (expression_linear n a (counted n s))
+  expression_linear n (pointer_update line x i e) s = expression_linear n e (place_linear n x (counted n s))
+  expression_linear n (pointer_step line x i before) s = place_linear n x (counted n s)
+  expression_linear n (allocate line e) s = expression_linear n e (counted n s)
+  expression_linear n (allocate_zeroed line a b) s = expression_linear n b (expression_linear n a (counted n s))
+  expression_linear n (release line e) s = expression_linear n e (counted n s)
+  expression_linear n (exit line e) s = expression_linear n e (counted n s)
+  expression_linear n (abort line) s = counted n s
 
   pub structure_linear : (times : ℕ) → Structure → Linear → Linear
-  structure_linear n (copy line v offset size) s = counted n (counted n s)
-  structure_linear n (load line k offset size) s = counted n (counted n s)
+  structure_linear n (copy x size) s = place_linear n x (counted n s)
   structure_linear n (choose line test a b) s = structure_linear n b (structure_linear n a (expression_linear n test (counted n s)))
-  structure_linear n (put line v offset a) s = structure_linear n a (counted n (counted n s))
-  structure_linear n (store line k offset a) s = structure_linear n a (counted n (counted n s))
+  structure_linear n (put line x a) s = structure_linear n a (place_linear n x (counted n s))
   structure_linear n (follow line e a) s = structure_linear n a (expression_linear n e (counted n s))
   structure_linear n (section line offset size a) s = structure_linear n a (counted n s)
   structure_linear n (list line size ps) s = parts_linear n ps s

@@ -1,11 +1,11 @@
 -- How many places a file unrolls to under the bounds of a command.
 use Rattle.std.specs.Prelude.{ℕ, zero, suc, ◌+◌, ◌-◌, ◌*◌, ◌==◌, replicate, slice_get, slice_index, length, List, [], ◌∷◌, Option, Some, None, if◌then◌else◌}
 use Rattle.core_tree.specs.Ranges.{Limits}
-use Rattle.core_tree.specs.Trees.{call, function_name, give, Arguments, no_argument, number_argument, structure_argument, returns_structure, returns_nothing, for_loop, do_loop, switch, breaks, continues, jumps, stray, label, case_at, default_at, Expression, constant, read, convert, sign, is_zero, arithmetic, compare, logical, choice, assign, update, step, comma, assertion, assumption, draw, part, discard, discard_structure, Structure, copy, load, choose, put, store, follow, section, list, string, Parts, no_part, number_part, structure_part, Statement, block, if_then, if_else, evaluate, returns, Items, done, declares, initializes, initializes_structure, does, Procedure}
+use Rattle.core_tree.specs.Trees.{call, function_name, give, Arguments, no_argument, number_argument, structure_argument, returns_structure, returns_nothing, for_loop, do_loop, switch, breaks, continues, jumps, stray, label, case_at, default_at, Place, variable_at, object_at, literal_at, pointed, arrow, member, element, subscript, Expression, constant, read, convert, sign, is_zero, arithmetic, compare, logical, choice, assign, update, step, comma, assertion, assumption, draw, part, discard, discard_structure, size_of_value, size_of_structure, address, sum, distance, relation, pointer_update, pointer_step, allocate, allocate_zeroed, release, exit, abort, Structure, copy, choose, put, follow, section, list, string, Parts, no_part, number_part, structure_part, Statement, block, if_then, if_else, evaluate, returns, Items, done, declares, initializes, initializes_structure, does, Procedure}
 use Rattle.c_profile.specs.Rules.{is_main}
 use Rattle.goto_prog.specs.Structured.{tests_in, opened}
 
--- ---- places: each node of the typed tree is one, a conversion too, and so is each place that is read, written or stepped, and each label, case and default; the braces of an initializer and a structure value that isn't used further add none. A loop's test counts as often as it may be evaluated, its body once less, that of a `do` as often; a call counts the body of its function where a further activation may be opened
+-- ---- places: each node of the typed tree is one, a conversion too, and so is each place, with the pointers, places and indexes in it, and each label, case and default; the braces of an initializer, the operand of `sizeof`, and a structure value that isn't used further add none. A loop's test counts as often as it may be evaluated, its body once less, that of a `do` as often; a call counts the body of its function where a further activation may be opened
 
 abbrev pub optional : (Expression → ℕ) → (missing : ℕ) → Option Expression → ℕ
 optional places missing None = missing
@@ -14,9 +14,19 @@ optional places missing (Some e) = places e
 -- by how many times the test of each loop of the function may be evaluated, and how many places a call of each function adds
 module _ (tests : ℕ → ℕ) (calls : ℕ → ℕ) where
   abbrev mutual
+    pub place_places : Place → ℕ
+    place_places (variable_at line v offset) = 1
+    place_places (object_at line k offset) = 1
+    place_places (literal_at line k) = 1
+    place_places (pointed line e) = 1 + expression_places e
+    place_places (arrow line e offset) = 1 + expression_places e
+    place_places (member line x offset) = 1 + place_places x
+    place_places (element line x e size whole swapped) = 1 + (place_places x + expression_places e)
+    place_places (subscript line a e size swapped) = 1 + (expression_places a + expression_places e)
+
     pub expression_places : Expression → ℕ
     expression_places (constant line t bits) = 1
-    expression_places (read p) = 1 + 1
+    expression_places (read t x) = 1 + place_places x
     expression_places (convert to e) = 1 + expression_places e
     expression_places (sign line op e) = 1 + expression_places e
     expression_places (is_zero line e) = 1 + expression_places e
@@ -24,9 +34,9 @@ module _ (tests : ℕ → ℕ) (calls : ℕ → ℕ) where
     expression_places (compare line op a b) = 1 + (expression_places a + expression_places b)
     expression_places (logical line op a b) = 1 + (expression_places a + expression_places b)
     expression_places (choice line test a b) = 1 + (expression_places test + (expression_places a + expression_places b))
-    expression_places (assign line p e) = 1 + (1 + expression_places e)
-    expression_places (update line p op t e) = 1 + (1 + expression_places e)
-    expression_places (step line p op before) = 1 + 1
+    expression_places (assign line t x e) = 1 + (place_places x + expression_places e)
+    expression_places (update line t x op u e) = 1 + (place_places x + expression_places e)
+    expression_places (step line t x op before) = 1 + place_places x
     expression_places (comma line a b) = 1 + (expression_places a + expression_places b)
     expression_places (assertion line e) = 1 + expression_places e
     expression_places (assumption line e) = 1 + expression_places e
@@ -35,14 +45,25 @@ module _ (tests : ℕ → ℕ) (calls : ℕ → ℕ) where
     expression_places (discard line e) = 1 + expression_places e
     expression_places (discard_structure a) = structure_places a
     expression_places (call line f used t args) = 1 + (argument_places args + calls f)
-    expression_places (function_name line f) = 1
+    expression_places (function_name line) = 1
+    expression_places (size_of_value line bits e) = 1
+    expression_places (size_of_structure line bits a) = 1
+    expression_places (address line x) = 1 + place_places x
+    expression_places (sum line a e i swapped) = 1 + (expression_places a + expression_places e)
+    expression_places (distance line a b i) = 1 + (expression_places a + expression_places b)
+    expression_places (relation line op a b) = 1 + (expression_places a + expression_places b)
+    expression_places (pointer_update line x i e) = 1 + (place_places x + expression_places e)
+    expression_places (pointer_step line x i before) = 1 + place_places x
+    expression_places (allocate line e) = 1 + expression_places e
+    expression_places (allocate_zeroed line a b) = 1 + (expression_places a + expression_places b)
+    expression_places (release line e) = 1 + expression_places e
+    expression_places (exit line e) = 1 + expression_places e
+    expression_places (abort line) = 1
 
     pub structure_places : Structure → ℕ
-    structure_places (copy line v offset size) = 1 + 1
-    structure_places (load line k offset size) = 1 + 1
+    structure_places (copy x size) = 1 + place_places x
     structure_places (choose line test a b) = 1 + (expression_places test + (structure_places a + structure_places b))
-    structure_places (put line v offset a) = 1 + (1 + structure_places a)
-    structure_places (store line k offset a) = 1 + (1 + structure_places a)
+    structure_places (put line x a) = 1 + (place_places x + structure_places a)
     structure_places (follow line e a) = 1 + (expression_places e + structure_places a)
     structure_places (section line offset size a) = 1 + structure_places a
     structure_places (list line size ps) = parts_places ps

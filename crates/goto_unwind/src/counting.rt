@@ -1,6 +1,6 @@
 //! How many places each function has when its calls are unrolled.
 
-ghost use Rattle.std.specs.Prelude.{◌≡◌, ◌<◌, ◌^◌, codes, length, map, min, nat_lt, if◌then◌else◌, IfOk};
+ghost use Rattle.std.specs.Prelude.{◌≡◌, ◌+◌, ◌<◌, ◌^◌, codes, length, map, min, nat_lt, if◌then◌else◌, IfOk};
 ghost use Rattle.std.specs.Str.{bytes_eq};
 ghost use Rattle.core_tree.specs.Trees.{view_functions, view_core};
 ghost use Rattle.goto_unwind.specs.Counts.{quantities, cut_counts, counts_list};
@@ -12,11 +12,11 @@ use crate::objects::MOST_OBJECTS;
 use crate::trees::body;
 use crate::walk;
 use c_profile::Admitted;
-use core_tree::{Bounds, Function, Name, StaticObject};
+use core_tree::{Bounds, Function, Literal, Name, StaticObject};
 use std::alloc::{AllocError, Global};
 
 /// How much a file unrolls to: its places, of which each node of the typed tree is one, its creations of
-/// threads, its actions and its objects, of which there are the static ones alone. A count that is greater than its limit is the limit plus 1, and
+/// threads, its actions and its objects, of which there are the static ones and the literals alone. A count that is greater than its limit is the limit plus 1, and
 /// the counts behind the first such one are 0.
 #[derive(Clone, Copy, PartialEq, Eq)]
 pub struct Counts {
@@ -76,16 +76,16 @@ pub(crate) fn file_places(
     walk::places(alloc, &table, bounds.unwind(), main_number(functions))
 }
 
-// How many static objects are counted behind so many places: none where these pass their limit, and at most
-// one more than the greatest number.
-fn object_count(places: u32, objects: &[StaticObject]) -> u32
-    ensures { result ≡ (if nat_lt 2000000 places then 0 else min (length objects.now) 8193) }
+// How many static objects and literals are counted behind so many places: none where these pass their limit,
+// and at most one more than the greatest number.
+fn object_count(places: u32, objects: &[StaticObject], literals: &[Literal]) -> u32
+    ensures { result ≡ (if nat_lt 2000000 places then 0 else min (length objects.now + length literals.now) 8193) }
 {
     if places > MOST_PLACES {
         return 0;
     }
     let most = MOST_OBJECTS as usize + 1;
-    objects.len().min(most) as u32
+    objects.len().saturating_add(literals.len()).min(most) as u32
 }
 
 /// How much a file unrolls to under these bounds.
@@ -94,7 +94,7 @@ pub fn count(alloc: Global, file: &Admitted, bounds: &Bounds) -> Result<Counts, 
 {
     let core = file.core();
     let places = file_places(alloc, core.functions(), bounds)?;
-    let objects = object_count(places, core.objects());
+    let objects = object_count(places, core.objects(), core.literals());
     Ok(Counts {
         places,
         threads: 0,

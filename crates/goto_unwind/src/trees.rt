@@ -1,14 +1,44 @@
 //! How many places typed trees have.
 
 ghost use Rattle.std.specs.Prelude.{◌≡◌, IfOk, OnOk, option_map};
-ghost use Rattle.core_tree.specs.Trees.{view, boxed, view_structure, parts_of, with_part, arguments_of, with_argument, view_statement, boxed_statement, items_of, with_item};
+ghost use Rattle.core_tree.specs.Trees.{view, boxed, view_place, view_structure, parts_of, with_part, arguments_of, with_argument, view_statement, boxed_statement, items_of, with_item};
 ghost use Rattle.goto_prog.specs.Structured.{tests_in};
-ghost use Rattle.goto_unwind.specs.Linear.{expression_linear, structure_linear, parts_linear, arguments_linear, optional_linear, statement_linear, items_linear, body_linear, nothing};
+ghost use Rattle.goto_unwind.specs.Linear.{place_linear, expression_linear, structure_linear, parts_linear, arguments_linear, optional_linear, statement_linear, items_linear, body_linear, nothing};
 
 use crate::linear_count::{LinearCount, product};
 use crate::loop_bounds::tests;
-use core_tree::{Bounds, CoreArgument, CoreExpr, CoreItem, CorePart, CoreStatement, CoreStructure};
+use core_tree::{
+    Bounds, CoreArgument, CoreExpr, CoreItem, CorePart, CoreStatement, CoreStructure, Place,
+};
 use std::alloc::{AllocError, Global};
+
+/// Adds a place that counts so many times, with those in it.
+#[cycle(expression)]
+fn place(linear_count: &mut LinearCount, tree: &Place, times: u32) -> Result<(), AllocError>
+    ensures { OnOk result (linear_count.new ≡ place_linear times (view_place tree.now) linear_count.old) }
+{
+    linear_count.add(times);
+    match tree {
+        Place::Variable { .. } => Ok(()),
+        Place::Object { .. } => Ok(()),
+        Place::Literal { .. } => Ok(()),
+        Place::Pointed { pointer, .. } => expression(linear_count, pointer, times),
+        Place::Arrow { pointer, .. } => expression(linear_count, pointer, times),
+        Place::Member { place: within, .. } => place(linear_count, within, times),
+        Place::Element {
+            place: within,
+            index,
+            ..
+        } => {
+            place(linear_count, within, times)?;
+            expression(linear_count, index, times)
+        }
+        Place::Subscript { pointer, index, .. } => {
+            expression(linear_count, pointer, times)?;
+            expression(linear_count, index, times)
+        }
+    }
+}
 
 /// Adds the places of an expression that counts so many times.
 #[cycle(expression)]
@@ -24,10 +54,9 @@ pub(crate) fn expression(
             linear_count.add(times);
             Ok(())
         }
-        CoreExpr::Read { .. } => {
+        CoreExpr::Read { place: from, .. } => {
             linear_count.add(times);
-            linear_count.add(times);
-            Ok(())
+            place(linear_count, from, times)
         }
         CoreExpr::Convert { operand, .. } => {
             linear_count.add(times);
@@ -62,20 +91,27 @@ pub(crate) fn expression(
             expression(linear_count, yes, times)?;
             expression(linear_count, no, times)
         }
-        CoreExpr::Assign { value, .. } => {
+        CoreExpr::Assign {
+            place: to,
+            value,
+            ..
+        } => {
             linear_count.add(times);
-            linear_count.add(times);
+            place(linear_count, to, times)?;
             expression(linear_count, value, times)
         }
-        CoreExpr::Update { value, .. } => {
+        CoreExpr::Update {
+            place: to,
+            value,
+            ..
+        } => {
             linear_count.add(times);
-            linear_count.add(times);
+            place(linear_count, to, times)?;
             expression(linear_count, value, times)
         }
-        CoreExpr::Step { .. } => {
+        CoreExpr::Step { place: to, .. } => {
             linear_count.add(times);
-            linear_count.add(times);
-            Ok(())
+            place(linear_count, to, times)
         }
         CoreExpr::Comma { left, right, .. } => {
             linear_count.add(times);
@@ -116,6 +152,67 @@ pub(crate) fn expression(
             linear_count.add(times);
             Ok(())
         }
+        CoreExpr::SizeOf { .. } => {
+            linear_count.add(times);
+            Ok(())
+        }
+        CoreExpr::SizeOfStructure { .. } => {
+            linear_count.add(times);
+            Ok(())
+        }
+        CoreExpr::Address { place: at, .. } => {
+            linear_count.add(times);
+            place(linear_count, at, times)
+        }
+        CoreExpr::Sum { pointer, index, .. } => {
+            linear_count.add(times);
+            expression(linear_count, pointer, times)?;
+            expression(linear_count, index, times)
+        }
+        CoreExpr::Distance { left, right, .. } => {
+            linear_count.add(times);
+            expression(linear_count, left, times)?;
+            expression(linear_count, right, times)
+        }
+        CoreExpr::Relation { left, right, .. } => {
+            linear_count.add(times);
+            expression(linear_count, left, times)?;
+            expression(linear_count, right, times)
+        }
+        CoreExpr::PointerUpdate {
+            place: to,
+            value,
+            ..
+        } => {
+            linear_count.add(times);
+            place(linear_count, to, times)?;
+            expression(linear_count, value, times)
+        }
+        CoreExpr::PointerStep { place: at, .. } => {
+            linear_count.add(times);
+            place(linear_count, at, times)
+        }
+        CoreExpr::Allocate { size, .. } => {
+            linear_count.add(times);
+            expression(linear_count, size, times)
+        }
+        CoreExpr::AllocateZeroed { count, size, .. } => {
+            linear_count.add(times);
+            expression(linear_count, count, times)?;
+            expression(linear_count, size, times)
+        }
+        CoreExpr::Release { pointer, .. } => {
+            linear_count.add(times);
+            expression(linear_count, pointer, times)
+        }
+        CoreExpr::Exit { status, .. } => {
+            linear_count.add(times);
+            expression(linear_count, status, times)
+        }
+        CoreExpr::Abort { .. } => {
+            linear_count.add(times);
+            Ok(())
+        }
     }
 }
 
@@ -129,15 +226,9 @@ pub(crate) fn structure(
     ensures { OnOk result (linear_count.new ≡ structure_linear times (view_structure tree.now) linear_count.old) }
 {
     match tree {
-        CoreStructure::Read { .. } => {
+        CoreStructure::Read { place: from, .. } => {
             linear_count.add(times);
-            linear_count.add(times);
-            Ok(())
-        }
-        CoreStructure::Load { .. } => {
-            linear_count.add(times);
-            linear_count.add(times);
-            Ok(())
+            place(linear_count, from, times)
         }
         CoreStructure::Choice { test, yes, no, .. } => {
             linear_count.add(times);
@@ -145,14 +236,13 @@ pub(crate) fn structure(
             structure(linear_count, yes, times)?;
             structure(linear_count, no, times)
         }
-        CoreStructure::Assign { value, .. } => {
+        CoreStructure::Assign {
+            place: to,
+            value,
+            ..
+        } => {
             linear_count.add(times);
-            linear_count.add(times);
-            structure(linear_count, value, times)
-        }
-        CoreStructure::Store { value, .. } => {
-            linear_count.add(times);
-            linear_count.add(times);
+            place(linear_count, to, times)?;
             structure(linear_count, value, times)
         }
         CoreStructure::Comma { left, right, .. } => {

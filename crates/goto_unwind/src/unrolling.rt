@@ -1,6 +1,6 @@
 //! The unrolled program, or which limit it breaks.
 
-ghost use Rattle.std.specs.Prelude.{◌≡◌, ◌≤◌, length, true, None, IfOk, IfErr};
+ghost use Rattle.std.specs.Prelude.{◌≡◌, ◌+◌, ◌≤◌, length, true, None, IfOk, IfErr};
 ghost use Rattle.core_tree.specs.Trees.{view_core};
 ghost use Rattle.goto_prog.specs.Flat as flat;
 ghost use Rattle.goto_prog.specs.GotoThreads as structured;
@@ -61,7 +61,8 @@ pub fn passed_limit(
     if file_places(alloc, core.functions(), bounds)? > MOST_PLACES {
         return Ok(Some(Limit::Places));
     }
-    Ok(if core.objects().len() > MOST_OBJECTS as usize {
+    let objects = core.objects().len().saturating_add(core.literals().len());
+    Ok(if objects > MOST_OBJECTS as usize {
         Some(Limit::Objects)
     } else if object_bytes(core) > MOST_OBJECT_BYTES {
         Some(Limit::ObjectBytes)
@@ -94,7 +95,7 @@ pub fn unwind(
     ensures same { IfOk result (λ u. starts_none (view_procedures goto.now.functions) ≡ true → DoSame (flat.plain_thread u) (structured.plain_thread goto.now bounds.now)) }
     ensures store { IfOk result (λ u. u.store ≡ goto.now.store) }
     ensures within { IfOk result (λ u. passed (view_core file.now) bounds.now ≡ None) }
-    ensures few { IfOk result (λ u. length goto.now.store ≤ length (view_core file.now).objects → MakesFew (length u.store) (flat.plain_thread u)) }
+    ensures few { IfOk result (λ u. length goto.now.store ≤ length (view_core file.now).objects + length (view_core file.now).literals → MakesFew (length u.store) (flat.plain_thread u)) }
     ensures cause { IfErr result (HasCause (view_core file.now) bounds.now) }
 {
     let _procedures = goto.procedures();

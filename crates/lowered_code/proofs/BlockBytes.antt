@@ -1,14 +1,15 @@
 -- Bytes that are put at offsets of blocks, and taken from there.
-use Rattle.std.proofs.Common.{◌≡◌, ℕ, zero, suc, ◌+◌, ◌-◌, ◌%◌, ◌<◌, ◌≤◌, List, [], ◌∷◌, ◌++◌, length, take, drop, refl, sym, ap, ◌∙◌, arith, append_assoc, length-append}
+use Rattle.std.proofs.Common.{◌≡◌, ℕ, zero, suc, ◌+◌, ◌-◌, ◌%◌, ◌^◌, ◌<◌, ◌≤◌, List, [], ◌∷◌, ◌++◌, length, take, drop, refl, sym, ap, ◌∙◌, arith, append_assoc, length-append}
 use Rattle.std.specs.Prelude.{slice_index}
 use Rattle.std.specs.Int.{byte_len, byte_worth, sum_through, from_le_bytes, to_le_bytes, w64}
-use Rattle.std.proofs.lemmas.List.{drop-append-le, take-append-le, length-take-le, length-drop, length-replicate, get_or_append_left, take-replicate}
+use Rattle.std.proofs.lemmas.List.{take-append-drop, drop-append-le, take-append-le, length-take-le, length-drop, length-replicate, get_or_append_left, take-replicate}
 use Rattle.std.proofs.Math.Seq.{take-append_seam}
 use Rattle.c_types.specs.declared.integers.IntegerType.{IntegerType}
 use Rattle.c_types.specs.declared.integers.IntegerType.TheVariants as types
 use Rattle.c_types.specs.Integers.{bytes}
 use Rattle.core_tree.specs.Operations.{read_bits}
-use Rattle.c_values.specs.Variables.{storage, low_bytes, put_at, zeros, number_at}
+use Rattle.actions.specs.Pointer.{offset_of}
+use Rattle.c_values.specs.Variables.{storage, low_bytes, put_at, zeros, number_of, number_at}
 
 pub put_size : (to : ℕ) (new old : List ℕ) → to + length new ≤ length old → length (put_at to new old) ≡ length old
 put_size to new old fits =
@@ -136,6 +137,19 @@ number_of_front t offset value old fits =
     let rest = drop (0 + length value) old in
     (λ i. read_bits t (from_le_bytes (storage t) (drop-append-le offset value rest (omega (arith, fits)) i)))
     ∙ ap (read_bits t) (number_front t (drop offset value) rest (omega (arith, fits, length-drop offset value)))
+
+-- as many bytes as the number has are enough
+pub number_taken : (t : IntegerType) (offset : ℕ) (block : List ℕ) → offset + bytes t ≤ length block → number_of t (take (bytes t) (drop offset block)) ≡ number_at t offset block
+number_taken t offset block fits =
+    let front = take (bytes t) (drop offset block) in
+    let rest = drop (bytes t) (drop offset block) in
+    let whole : front ++ rest ≡ drop offset block = take-append-drop (bytes t) (drop offset block) in
+    let long : length front ≡ bytes t = length-take-le (bytes t) (drop offset block) (omega (arith, fits, length-drop offset block)) in
+    ap (read_bits t) (sym (number_front t front rest (omega (arith, long))) ∙ ap (from_le_bytes (storage t)) whole)
+
+-- a small offset is a pointer's
+pub small_offset : (offset : ℕ) → offset < 2 ^ 32 → offset_of offset ≡ offset
+small_offset offset small = omega (arith, small)
 
 -- ---- bytes that are 0
 

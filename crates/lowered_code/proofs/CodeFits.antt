@@ -14,12 +14,10 @@ use Rattle.core_tree.specs.declared.operators.ArithmeticOperator.TheVariants as 
 use Rattle.core_tree.specs.declared.operators.Comparison.TheVariants as comparisons
 use Rattle.core_tree.specs.declared.operators.LogicalOperator.{LogicalOperator}
 use Rattle.core_tree.specs.declared.operators.LogicalOperator.TheVariants as logicals
-use Rattle.core_tree.specs.declared.expression.Place.{Place}
-use Rattle.core_tree.specs.declared.expression.Place.TheVariants.{Variable, Object}
-use Rattle.core_tree.specs.Trees.{Expression, constant, read, convert, sign, is_zero, arithmetic, compare, logical, choice, assign, update, step, comma, assertion, assumption, draw, part, discard, discard_structure, call, function_name, Structure, copy, load, choose, put, store, follow, section, list, string, give, Parts, no_part, number_part, structure_part, Arguments, no_argument, number_argument, structure_argument, Statement, block, if_then, if_else, evaluate, returns, returns_structure, returns_nothing, for_loop, do_loop, switch, breaks, continues, jumps, stray, Items, done, declares, initializes, initializes_structure, does, label, case_at, default_at, Procedure, TypedFile}
+use Rattle.core_tree.specs.Trees.{Place, variable_at, object_at, literal_at, pointed, arrow, member, element, subscript, Expression, constant, read, convert, sign, is_zero, arithmetic, compare, logical, choice, assign, update, step, comma, assertion, assumption, draw, part, discard, discard_structure, call, function_name, size_of_value, size_of_structure, address, sum, distance, relation, pointer_update, pointer_step, allocate, allocate_zeroed, release, exit, abort, Structure, copy, choose, put, follow, section, list, string, give, Parts, no_part, number_part, structure_part, Arguments, no_argument, number_argument, structure_argument, Statement, block, if_then, if_else, evaluate, returns, returns_structure, returns_nothing, for_loop, do_loop, switch, breaks, continues, jumps, stray, Items, done, declares, initializes, initializes_structure, does, label, case_at, default_at, Procedure, TypedFile}
 use Rattle.core_tree.specs.declared.functions.PassedType.{PassedType}
 use Rattle.core_tree.specs.declared.functions.PassedType.TheVariants as passed
-use Rattle.core_tree.specs.Typed.{Signature, Sizes, sizes_in, place_type, type_of, size_of, is_integer, is_within, is_place, fits_at, same_given, given_as, parameters_of, is_typed, is_structure, are_parts, are_arguments, is_typed_part, is_test, are_cases, is_typed_statement, are_typed_items, is_typed_body, is_typed_function, is_static, are_typed}
+use Rattle.core_tree.specs.Typed.{Signature, Sizes, sizes_in, sizes_of_variables, homes_of, type_of, size_of, is_integer, is_within, is_place, fits_at, same_given, given_as, parameters_of, is_typed, is_structure, are_parts, are_arguments, is_typed_part, is_test, are_cases, is_typed_statement, are_typed_items, is_typed_body, is_typed_function, are_static, are_typed}
 use Rattle.core_tree.specs.Operations.{drawn_width, step_operation}
 use Rattle.c_values.specs.Numbers.{are_operands_of}
 use Rattle.c_values.specs.Variables.{word_count, drawn_count}
@@ -30,18 +28,19 @@ use Rattle.goto_prog.specs.declared.code.Operation.TheVariants as operations
 use Rattle.goto_prog.specs.Fitting.{operation_fits}
 use Rattle.goto_prog.specs.Nodes.{Nodes, plain, node_count, nodes_fit, routine_fits, routines_fit}
 use Rattle.c_temporaries.specs.Temporaries.{value_size, Temporaries, no_temporaries, both, under, under_all, place_temporaries, argument_sizes, temporaries, structure_temporaries, parts_temporaries, arguments_temporaries, part_temporaries, statement_temporaries, items_temporaries}
-use Rattle.lowered_code.specs.Lowering.{Frame, Ways, no_ways, within_loop, within_switch, top, structure_registers, arguments_registers, argument_count, structure_line, line_of, structure_code, parts_code, arguments_code, text_code, use_code, call_code, taken_code, initial_code, at_line, read_code, write_code, update_code, logical_code, code, size_of as size_of_variable, first_registers, words_code, first_code, entry_registers, part_registers, declares_none, case_registers, statement_registers, items_registers, entry_code, part_code, test_code, to_place, plains, ends, case_tests, last_case, guarded, statement_code, items_code, labels_of, case_jumps, default_place}
+use Rattle.lowered_code.specs.Lowering.{Frame, Ways, no_ways, within_loop, within_switch, top, structure_registers, arguments_registers, argument_count, structure_line, line_of, structure_code, parts_code, arguments_code, text_code, use_code, call_code, taken_code, initial_code, at_line, read_code, write_code, fetch_code, put_code, update_code, logical_code, code, size_of as size_of_variable, first_registers, words_code, first_code, entry_registers, part_registers, declares_none, case_registers, statement_registers, items_registers, entry_code, part_code, test_code, to_place, plains, ends, case_tests, last_case, guarded, statement_code, items_code, labels_of, case_jumps, default_place}
 use Rattle.lowered_code.specs.Registers.{types, structure_types, parts_types, arguments_types, part_types, case_types, update_types, first_types, entry_types, statement_types, items_types}
 use Rattle.lowered_code.specs.Lowered.{given_size, first_frame, code_by, function_codes}
+use Rattle.lowered_code.proofs.PlainFiles.{plain_file, is_plain}
 use Rattle.lowered_code.proofs.Housing.{Room, HasTemporaries, Housed, housed_left, housed_right, housed_under, housed_room, housed_front, housed_back, housed_behind, housed_zeros, housed_body}
 use Rattle.lowered_code.proofs.ExpressionCode.{test_less, test_most, test_equal}
 use Rattle.lowered_code.proofs.RegisterCounts.{types_length, structure_length, arguments_length, part_length, case_length, first_length, entry_length, statement_length, items_length}
 use Rattle.lowered_code.proofs.RegisterTypes.{both as both_true, left_of, right_of, same_types, own_operands, Register, Has, register_at, register_of, register_is, has_at, has_left, has_right, has_itself, Fit, fit-append, there_is, constant_fits, copy_fits, load_fits, store_fits, word_fits, within_is, clear_fits, filled_there, filled_within, at_most_true, less_true, copy_bytes_fits, convert_fits, sign_fits, arithmetic_fits, compare_fits, is_zero_fits, skip_fits, skip_if_fits, draw_fits, one_fits, zero_fits, some_drawn, few_drawn}
 
--- over the sizes of the variables, of the blocks behind them, and of the static objects, the functions that are called, and what the function gives
-module _ (registers : List IntegerType) (variables others objects : List ℕ) (functions : List Signature) (gives : Option PassedType) (function : ℕ) (some : 2 ≤ length others) where
+-- over the sizes of the variables, of the blocks behind them, and of the static objects, which variables have an address, how many literals there are, the functions that are called, and what the function gives
+module _ (registers : List IntegerType) (variables others objects : List ℕ) (homes : List (Option ℕ)) (literals : ℕ) (functions : List Signature) (gives : Option PassedType) (function : ℕ) (some : 2 ≤ length others) where
   abbrev known : Sizes
-  known = record { variables = variables; objects = objects; functions = functions; gives = gives }
+  known = record { variables = variables; homes = homes; objects = objects; literals = literals; functions = functions; gives = gives; pointers = false }
 
   abbrev blocks : List ℕ
   blocks = variables ++ others
@@ -92,34 +91,66 @@ module _ (registers : List IntegerType) (variables others objects : List ℕ) (f
   chosen_register true r s t h g = h
   chosen_register false r s t h g = g
 
-  read_fits : (p : Place) (d r : ℕ) → is_place known p ≡ true → Houses d (place_temporaries p) → Holds r (place_type p) → (k : ℕ) → Fits k (read_code (frame d) r p)
-  read_fits (Variable line t v offset) d r there housed h k = (load_fits registers blocks r v offset t h (wide v offset (bytes t) there), tt)
-  read_fits (Object line t object offset) d r there housed h k =
+  read_fits : (t : IntegerType) (x : Place) (d r : ℕ) → is_place known (bytes t) x ≡ true → Houses d (place_temporaries t x) → Holds r t → (k : ℕ) → Fits k (read_code (frame d) r t x)
+  read_fits t (variable_at line v offset) d r there housed h k = (load_fits registers blocks r v offset t h (wide v offset (bytes t) there), tt)
+  read_fits t (object_at line object offset) d r there housed h k =
       let free = free_within d 0 (bytes t) (bytes t) (housed_room blocks edge d (bytes t) no_temporaries housed) (omega arith) in
       (free, (load_fits registers blocks r d 0 t h free, tt))
+  read_fits t (literal_at line object) d r there housed h k = absurd (false≢true there)
+  read_fits t (pointed line e) d r there housed h k = absurd (false≢true there)
+  read_fits t (arrow line e offset) d r there housed h k = absurd (false≢true there)
+  read_fits t (member line x offset) d r there housed h k = absurd (false≢true there)
+  read_fits t (element line x e size whole swapped) d r there housed h k = absurd (false≢true there)
+  read_fits t (subscript line a e size swapped) d r there housed h k = absurd (false≢true there)
 
-  write_fits : (line : ℕ) (p : Place) (d r : ℕ) → is_place known p ≡ true → Houses d (place_temporaries p) → Holds r (place_type p) → (k : ℕ) → Fits k (write_code (frame d) line p r)
-  write_fits line (Variable at t v offset) d r there housed h k = (store_fits registers blocks r v offset t h (wide v offset (bytes t) there), tt)
-  write_fits line (Object at t object offset) d r there housed h k =
+  write_fits : (line : ℕ) (t : IntegerType) (x : Place) (d r : ℕ) → is_place known (bytes t) x ≡ true → Houses d (place_temporaries t x) → Holds r t → (k : ℕ) → Fits k (write_code (frame d) line t x r)
+  write_fits line t (variable_at at v offset) d r there housed h k = (store_fits registers blocks r v offset t h (wide v offset (bytes t) there), tt)
+  write_fits line t (object_at at object offset) d r there housed h k =
       let free = free_within d 0 (bytes t) (bytes t) (housed_room blocks edge d (bytes t) no_temporaries housed) (omega arith) in
       (store_fits registers blocks r d 0 t h free, (free, tt))
+  write_fits line t (literal_at at object) d r there housed h k = absurd (false≢true there)
+  write_fits line t (pointed at e) d r there housed h k = absurd (false≢true there)
+  write_fits line t (arrow at e offset) d r there housed h k = absurd (false≢true there)
+  write_fits line t (member at x offset) d r there housed h k = absurd (false≢true there)
+  write_fits line t (element at x e size whole swapped) d r there housed h k = absurd (false≢true there)
+  write_fits line t (subscript at a e size swapped) d r there housed h k = absurd (false≢true there)
 
-  update_fits : (d line : ℕ) (p : Place) (op : ArithmeticOperator) (t u : IntegerType) (y n : ℕ) → is_place known p ≡ true → Houses d (place_temporaries p) → are_operands_of op t u ≡ true
-      → Holds y u → Has registers n (update_types p t) → (k : ℕ) → Fits k (update_code (frame d) line p (place_type p) op t u y n)
-  update_fits d line p op t u y n there housed operands y_is h k =
-      let place = place_type p in
-      let r2 : Holds (n + 2) t = register_at registers (n + 1 + 1) (n + 2) t (omega arith) h.1.1.0 in
-      let r3 : Holds (n + 3) place = register_at registers (n + 1 + 1 + 1) (n + 3) place (omega arith) h.1.1.1.0 in
+  -- bytes of a place, into a block, and back
+  fetch_fits : (x : Place) (size d into to : ℕ) → is_place known size x ≡ true → is_within blocks into to size ≡ true → (k : ℕ) → Fits k (fetch_code (frame d) x size into to)
+  fetch_fits (variable_at line v offset) size d into to typed there k = (copy_bytes_fits registers blocks into to v offset size there (wide v offset size typed), tt)
+  fetch_fits (object_at line object offset) size d into to typed there k = (there, tt)
+  fetch_fits (literal_at line object) size d into to typed there k = tt
+  fetch_fits (pointed line e) size d into to typed there k = tt
+  fetch_fits (arrow line e offset) size d into to typed there k = tt
+  fetch_fits (member line x offset) size d into to typed there k = tt
+  fetch_fits (element line x e stride whole swapped) size d into to typed there k = tt
+  fetch_fits (subscript line a e stride swapped) size d into to typed there k = tt
+
+  put_fits : (line : ℕ) (x : Place) (size d into to : ℕ) → is_place known size x ≡ true → is_within blocks into to size ≡ true → (k : ℕ) → Fits k (put_code (frame d) line x size into to)
+  put_fits line (variable_at at v offset) size d into to typed there k = (copy_bytes_fits registers blocks v offset into to size (wide v offset size typed) there, tt)
+  put_fits line (object_at at object offset) size d into to typed there k = (there, tt)
+  put_fits line (literal_at at object) size d into to typed there k = tt
+  put_fits line (pointed at e) size d into to typed there k = tt
+  put_fits line (arrow at e offset) size d into to typed there k = tt
+  put_fits line (member at x offset) size d into to typed there k = tt
+  put_fits line (element at x e stride whole swapped) size d into to typed there k = tt
+  put_fits line (subscript at a e stride swapped) size d into to typed there k = tt
+
+  update_fits : (d line : ℕ) (t : IntegerType) (x : Place) (op : ArithmeticOperator) (u w : IntegerType) (y n : ℕ) → is_place known (bytes t) x ≡ true → Houses d (place_temporaries t x) → are_operands_of op u w ≡ true
+      → Holds y w → Has registers n (update_types t u) → (k : ℕ) → Fits k (update_code (frame d) line t x op u w y n)
+  update_fits d line t x op u w y n there housed operands y_is h k =
+      let r2 : Holds (n + 2) u = register_at registers (n + 1 + 1) (n + 2) u (omega arith) h.1.1.0 in
+      let r3 : Holds (n + 3) t = register_at registers (n + 1 + 1 + 1) (n + 3) t (omega arith) h.1.1.1.0 in
       let behind =
-      at_line (frame d) line (operations.Convert (n + 1) place t n)
-      ∷ at_line (frame d) line (operations.Arithmetic (n + 2) op t u (n + 1) y)
-      ∷ at_line (frame d) line (operations.Convert (n + 3) t place (n + 2))
-      ∷ write_code (frame d) line p (n + 3) in
-      fit-append registers blocks k (read_code (frame d) n p) behind (read_fits p d n there housed h.0 _) (
-        convert_fits registers blocks (n + 1) n place t h.1.0 h.0,
+      at_line (frame d) line (operations.Convert (n + 1) t u n)
+      ∷ at_line (frame d) line (operations.Arithmetic (n + 2) op u w (n + 1) y)
+      ∷ at_line (frame d) line (operations.Convert (n + 3) u t (n + 2))
+      ∷ write_code (frame d) line t x (n + 3) in
+      fit-append registers blocks k (read_code (frame d) n t x) behind (read_fits t x d n there housed h.0 _) (
+        convert_fits registers blocks (n + 1) n t u h.1.0 h.0,
         (
-          arithmetic_fits registers blocks (n + 2) (n + 1) y op t u operands r2 h.1.0 y_is,
-          (convert_fits registers blocks (n + 3) (n + 2) t place r3 r2, write_fits line p d (n + 3) there housed r3 k),
+          arithmetic_fits registers blocks (n + 2) (n + 1) y op u w operands r2 h.1.0 y_is,
+          (convert_fits registers blocks (n + 3) (n + 2) u t r3 r2, write_fits line t x d (n + 3) there housed r3 k),
         ),
       )
 
@@ -232,7 +263,7 @@ module _ (registers : List IntegerType) (variables others objects : List ℕ) (f
     pub expression_fits : (e : Expression) (d n : ℕ) → edge < d → is_typed known e ≡ true → Houses d (temporaries e) → Has registers n (types e) → Fine e d n
     expression_fits (constant line t bits) d n deep typed housed h =
         record { value = register_at registers n (n + 0) t (omega arith) h.0; fits = λ k. (constant_fits registers blocks n bits t h.0 typed, tt) }
-    expression_fits (read p) d n deep typed housed h = record { value = register_at registers n (n + 0) (place_type p) (omega arith) h.0; fits = read_fits p d n typed housed h.0 }
+    expression_fits (read t x) d n deep typed housed h = record { value = register_at registers n (n + 0) t (omega arith) h.0; fits = read_fits t x d n typed housed h.0 }
     expression_fits (convert to e) d n deep typed housed h =
         let fine = expression_fits e d n deep (right_of _ _ typed) housed (within e n _ h) in
         let last = (beyond e n (to ∷ []) h).0 in
@@ -309,36 +340,36 @@ module _ (registers : List IntegerType) (variables others objects : List ℕ) (f
             )) k,
           ));
         }
-    expression_fits (assign line p e) d n deep typed housed h =
-        let fine = expression_fits e d n deep (right_of _ _ typed) (housed_left blocks edge d (temporaries e) (place_temporaries p) housed) h in
+    expression_fits (assign line t x e) d n deep typed housed h =
+        let fine = expression_fits e d n deep (right_of _ _ typed) (housed_left blocks edge d (temporaries e) (place_temporaries t x) housed) h in
         let tests = left_of _ _ typed in
-        let same = same_types (type_of e) (Integer (place_type p)) (right_of _ _ tests) in
-        let value : Holds (n + top e) (place_type p) = register_of registers (n + top e) (number_type e) (place_type p) same fine.value in
+        let same = same_types (type_of e) (Integer t) (right_of _ _ tests) in
+        let value : Holds (n + top e) t = register_of registers (n + top e) (number_type e) t same fine.value in
         record {
           value = value;
-          fits = joined e d n (write_code (frame d) line p (n + top e)) fine (write_fits line p d (n + top e) (left_of _ _ tests) (housed_right blocks edge d (temporaries e) (place_temporaries p) housed) value);
+          fits = joined e d n (write_code (frame d) line t x (n + top e)) fine (write_fits line t x d (n + top e) (left_of _ _ tests) (housed_right blocks edge d (temporaries e) (place_temporaries t x) housed) value);
         }
-    expression_fits (update line p op t e) d n deep typed housed h =
-        let fine = expression_fits e d n deep (right_of _ _ typed) (housed_left blocks edge d (temporaries e) (place_temporaries p) housed) (within e n _ h) in
+    expression_fits (update line t x op u e) d n deep typed housed h =
+        let fine = expression_fits e d n deep (right_of _ _ typed) (housed_left blocks edge d (temporaries e) (place_temporaries t x) housed) (within e n _ h) in
         let tests = left_of _ _ typed in
         let m = n + (top e + 1) in
-        let behind = beyond e n (update_types p t) h in
+        let behind = beyond e n (update_types t u) h in
         record {
-          value = register_at registers (m + 1 + 1 + 1) (n + (top e + 4)) (place_type p) (omega arith) behind.1.1.1.0;
-          fits = joined e d n _ fine (update_fits d line p op t (number_type e) (n + top e) m (left_of _ _ tests) (housed_right blocks edge d (temporaries e) (place_temporaries p) housed) (operand_widths op (Integer t) (type_of e) (right_of _ _ tests)) fine.value behind);
+          value = register_at registers (m + 1 + 1 + 1) (n + (top e + 4)) t (omega arith) behind.1.1.1.0;
+          fits = joined e d n _ fine (update_fits d line t x op u (number_type e) (n + top e) m (left_of _ _ tests) (housed_right blocks edge d (temporaries e) (place_temporaries t x) housed) (operand_widths op (Integer u) (type_of e) (right_of _ _ tests)) fine.value behind);
         }
-    expression_fits (step line p op before) d n deep typed housed h =
-        let t = promoted (place_type p) in
-        let ups = has_left registers (n + 1) (update_types p t) (place_type p ∷ []) h.1 in
-        let last : Holds (n + 5) (place_type p) = register_at registers (n + 1 + 4) (n + 5) (place_type p) (omega arith) (has_right registers (n + 1) (update_types p t) (place_type p ∷ []) h.1).0 in
-        let four : Holds (n + 4) (place_type p) = register_at registers (n + 1 + 1 + 1 + 1) (n + 4) (place_type p) (omega arith) ups.1.1.1.0 in
+    expression_fits (step line t x op before) d n deep typed housed h =
+        let u = promoted t in
+        let ups = has_left registers (n + 1) (update_types t u) (t ∷ []) h.1 in
+        let last : Holds (n + 5) t = register_at registers (n + 1 + 4) (n + 5) t (omega arith) (has_right registers (n + 1) (update_types t u) (t ∷ []) h.1).0 in
+        let four : Holds (n + 4) t = register_at registers (n + 1 + 1 + 1 + 1) (n + 4) t (omega arith) ups.1.1.1.0 in
         record {
           value = last;
           fits = λ k. (
-            constant_fits registers blocks n 1 t h.0 (one_fits t),
-            fit-append registers blocks k (update_code (frame d) line p (place_type p) (step_operation op) t t n (n + 1)) (at_line (frame d) line (operations.Copy (n + 5) (if before then n + 4 else n + 1)) ∷ [])
-                (update_fits d line p (step_operation op) t t n (n + 1) typed housed (own_operands (step_operation op) t) h.0 ups _)
-                (copy_fits registers blocks (n + 5) (if before then n + 4 else n + 1) (place_type p) last (chosen_register before (n + 4) (n + 1) (place_type p) four ups.0), tt),
+            constant_fits registers blocks n 1 u h.0 (one_fits u),
+            fit-append registers blocks k (update_code (frame d) line t x (step_operation op) u u n (n + 1)) (at_line (frame d) line (operations.Copy (n + 5) (if before then n + 4 else n + 1)) ∷ [])
+                (update_fits d line t x (step_operation op) u u n (n + 1) typed housed (own_operands (step_operation op) u) h.0 ups _)
+                (copy_fits registers blocks (n + 5) (if before then n + 4 else n + 1) t last (chosen_register before (n + 4) (n + 1) t four ups.0), tt),
           );
         }
     expression_fits (comma line a b) d n deep typed housed h =
@@ -394,12 +425,26 @@ module _ (registers : List IntegerType) (variables others objects : List ℕ) (f
               (called_fits d line callee used size count r (housed_zeros blocks edge d size (under_all (argument_sizes args) (under size (arguments_temporaries args))) housed) all.handed behind.0 _)
               (taken_fits d line t (d + count) (r + 1) all.handed behind.1.0 _, tt));
         }
-    expression_fits (function_name line callee) d n deep typed housed h =
+    expression_fits (function_name line) d n deep typed housed h =
         record { value = register_at registers n (n + 0) Int (omega arith) h.0; fits = λ k. (constant_fits registers blocks n 0 Int h.0 refl, tt) }
+    expression_fits (size_of_value line bits e) d n deep typed housed h =
+        record { value = register_at registers n (n + 0) UnsignedLong (omega arith) h.0; fits = λ k. (constant_fits registers blocks n bits UnsignedLong h.0 (left_of _ _ typed), tt) }
+    expression_fits (size_of_structure line bits a) d n deep typed housed h =
+        record { value = register_at registers n (n + 0) UnsignedLong (omega arith) h.0; fits = λ k. (constant_fits registers blocks n bits UnsignedLong h.0 (left_of _ _ typed), tt) }
+    expression_fits (address line x) d n deep typed housed h = absurd (false≢true typed)
+    expression_fits (sum line a e i swapped) d n deep typed housed h = absurd (false≢true typed)
+    expression_fits (distance line a b i) d n deep typed housed h = absurd (false≢true typed)
+    expression_fits (relation line op a b) d n deep typed housed h = absurd (false≢true typed)
+    expression_fits (pointer_update line x i e) d n deep typed housed h = absurd (false≢true typed)
+    expression_fits (pointer_step line x i before) d n deep typed housed h = absurd (false≢true typed)
+    expression_fits (allocate line e) d n deep typed housed h = absurd (false≢true typed)
+    expression_fits (allocate_zeroed line a b) d n deep typed housed h = absurd (false≢true typed)
+    expression_fits (release line e) d n deep typed housed h = absurd (false≢true typed)
+    expression_fits (exit line e) d n deep typed housed h = absurd (false≢true typed)
+    expression_fits (abort line) d n deep typed housed h = absurd (false≢true typed)
 
     pub structure_fits : (a : Structure) (d n into to : ℕ) → edge < d → is_structure known a ≡ true → Houses d (structure_temporaries a) → is_within blocks into to (size_of a) ≡ true → Has registers n (structure_types a) → (k : ℕ) → Fits k (structure_code (frame d) a n into to)
-    structure_fits (copy line v offset size) d n into to deep typed housed there h k = (copy_bytes_fits registers blocks into to v offset size there (wide v offset size typed), tt)
-    structure_fits (load line object offset size) d n into to deep typed housed there h k = (there, tt)
+    structure_fits (copy x size) d n into to deep typed housed there h k = fetch_fits x size d into to typed there k
     structure_fits (choose line test a b) d n into to deep typed housed there h k =
         let first = n + (top test + 1) in
         let second = first + structure_registers a in
@@ -420,14 +465,10 @@ module _ (registers : List IntegerType) (variables others objects : List ℕ) (f
           fit-append registers blocks j yes (over ∷ no) (structure_fits a d first into to deep (right_of _ _ some_typed) (housed_left blocks edge d (structure_temporaries a) (structure_temporaries b) ways) there (has_left registers first (structure_types a) (structure_types b) behind) _)
               (skip_fits registers blocks _ (length no) (omega arith), structure_fits b d second into to deep (right_of _ _ typed) (housed_right blocks edge d (structure_temporaries a) (structure_temporaries b) ways) other last j),
         )) k
-    structure_fits (put line v offset a) d n into to deep typed housed there h k =
-        fit-append registers blocks k (structure_code (frame d) a n into to) (at_line (frame d) line (operations.CopyBytes v offset into to (size_of a)) ∷ [])
+    structure_fits (put line x a) d n into to deep typed housed there h k =
+        fit-append registers blocks k (structure_code (frame d) a n into to) (put_code (frame d) line x (size_of a) into to)
         (structure_fits a d n into to deep (right_of _ _ typed) housed there h _)
-        (copy_bytes_fits registers blocks v offset into to (size_of a) (wide v offset (size_of a) (left_of _ _ typed)) there, tt)
-    structure_fits (store line object offset a) d n into to deep typed housed there h k =
-        fit-append registers blocks k (structure_code (frame d) a n into to) (at_line (frame d) line (operations.WriteObject object offset into to (size_of a)) ∷ [])
-        (structure_fits a d n into to deep (right_of _ _ typed) housed there h _)
-        (there, tt)
+        (put_fits line x (size_of a) d into to (left_of _ _ typed) there k)
     structure_fits (follow line e a) d n into to deep typed housed there h k =
         let fine = expression_fits e d n deep (left_of _ _ typed) (housed_left blocks edge d (temporaries e) (structure_temporaries a) housed) (within e n (structure_types a) h) in
         joined e d n (structure_code (frame d) a (n + (top e + 1)) into to) fine (λ j. structure_fits a d (n + (top e + 1)) into to deep (right_of _ _ typed) (housed_right blocks edge d (temporaries e) (structure_temporaries a) housed) there (beyond e n (structure_types a) h) j) k
@@ -869,32 +910,35 @@ module _ (registers : List IntegerType) (variables others objects : List ℕ) (f
 -- ---- functions
 
 -- the code of a function with a body
-body_fits : (file : TypedFile) (number : ℕ) (p : Procedure) (s : Statement) → is_typed_statement (sizes_in file p) s ≡ true → routine_fits (code_by number p (Some s)) ≡ true
+body_fits : (file : TypedFile) (number : ℕ) (p : Procedure) (s : Statement) → is_typed_statement (sizes_in (plain_file file) p) s ≡ true → routine_fits (code_by number p (Some s)) ≡ true
 body_fits file number p s typed =
-    let registers = Int ∷ statement_types p.variables s in
+    let variables = sizes_of_variables p.variables in
+    let registers = Int ∷ statement_types variables s in
     let needed = statement_temporaries s in
     let others = needed.zeros ∷ given_size p.gives ∷ needed.sizes in
-    let blocks = p.variables ++ others in
-    let f = first_frame number p.variables in
-    let result : slice_index blocks (length p.variables + 1) ≡ given_size p.gives = second_behind p.variables needed.zeros (given_size p.gives) needed.sizes in
-    let rest = plain (at_line f p.line (operations.Return None)) (plain (at_line f p.line (operations.Assume 0)) ends) in
-    statement_fits registers p.variables others (sizes_in file p).objects (sizes_in file p).functions p.gives number (omega arith) result s 0 no_ways 1 rest typed (housed_body p.variables (given_size p.gives) needed)
+    let blocks = variables ++ others in
+    let f = first_frame number variables in
+    let result : slice_index blocks (length variables + 1) ≡ given_size p.gives = second_behind variables needed.zeros (given_size p.gives) needed.sizes in
+    let rest = plain (at_line f p.line (operations.Return None)) (plain (at_line f p.line (operations.Assert 0)) ends) in
+    statement_fits registers variables others (sizes_in (plain_file file) p).objects (homes_of p.variables) (length file.literals) (sizes_in (plain_file file) p).functions p.gives number (omega arith) result s 0 no_ways 1 rest typed (housed_body variables (given_size p.gives) needed)
     (has_itself registers).1 (record { breaks = omega arith; continues = omega arith; labels = λ l. omega arith }) (both_true _ _ (less_true 0 (length registers) (omega arith)) refl)
   where
     second_behind : (xs : List ℕ) (a b : ℕ) (ys : List ℕ) → slice_index (xs ++ a ∷ b ∷ ys) (length xs + 1) ≡ b
     second_behind [] a b ys = refl
     second_behind (x ∷ xs) a b ys = let one : length (x ∷ xs) + 1 ≡ suc (length xs + 1) = omega arith in (λ i. slice_index (x ∷ (xs ++ a ∷ b ∷ ys)) (one i)) ∙ second_behind xs a b ys
 
-function_fits : (file : TypedFile) (number : ℕ) (p : Procedure) (body : Option Statement) → is_typed_body (sizes_in file p) body ≡ true → routine_fits (code_by number p body) ≡ true
+function_fits : (file : TypedFile) (number : ℕ) (p : Procedure) (body : Option Statement) → is_typed_body (sizes_in (plain_file file) p) body ≡ true → routine_fits (code_by number p body) ≡ true
 function_fits file number p None typed = refl
 function_fits file number p (Some s) typed = body_fits file number p s typed
 
-functions_fit : (file : TypedFile) (number : ℕ) (functions : List Procedure) → list_all (is_typed_function file) functions ≡ true → routines_fit (function_codes number functions) ≡ true
+functions_fit : (file : TypedFile) (number : ℕ) (functions : List Procedure) → list_all (is_typed_function (plain_file file)) functions ≡ true → routines_fit (function_codes number functions) ≡ true
 functions_fit file number [] typed = refl
 functions_fit file number (p ∷ functions) typed =
-    both_true _ _ (function_fits file number p p.body (right_of _ _ (left_of (is_typed_function file p) (list_all (is_typed_function file) functions) typed)))
-    (functions_fit file (number + 1) functions (right_of (is_typed_function file p) (list_all (is_typed_function file) functions) typed))
+    both_true _ _ (function_fits file number p p.body (right_of _ _ (left_of (is_typed_function (plain_file file) p) (list_all (is_typed_function (plain_file file)) functions) typed)))
+    (functions_fit file (number + 1) functions (right_of (is_typed_function (plain_file file) p) (list_all (is_typed_function (plain_file file)) functions) typed))
 
 -- the codes of the functions of a typed file
-pub codes_fit : (file : TypedFile) → are_typed file ≡ true → routines_fit (function_codes 0 file.functions) ≡ true
-codes_fit file typed = functions_fit file 0 file.functions (right_of (list_all is_static file.objects) (list_all (is_typed_function file) file.functions) typed)
+pub codes_fit : (file : TypedFile) → file.pointers ≡ false → are_typed file ≡ true → routines_fit (function_codes 0 file.functions) ≡ true
+codes_fit file none typed =
+    functions_fit file 0 file.functions
+    (right_of (are_static (plain_file file)) (list_all (is_typed_function (plain_file file)) file.functions) (subst (λ (f : TypedFile). are_typed f ≡ true) (is_plain file none) typed))

@@ -1,5 +1,5 @@
 -- The code of an expression does what the expression means.
-use Rattle.std.proofs.Common.{◌≡◌, ℕ, ◌+◌, ◌<◌, ◌≤◌, Bool, true, false, List, [], ◌∷◌, ◌++◌, length, map, take, drop, Option, Some, None, suc, refl, sym, ap, ◌∙◌, subst, arith, append_assoc, append-nil, drop-cons}
+use Rattle.std.proofs.Common.{◌≡◌, ℕ, ◌+◌, ◌^◌, ◌<◌, ◌≤◌, Bool, true, false, List, [], ◌∷◌, ◌++◌, length, map, take, drop, Option, Some, None, zero, suc, refl, sym, ap, ◌∙◌, subst, arith, append_assoc, append-nil, drop-cons}
 use Rattle.std.specs.Prelude.{not, ◌==◌, nat_lt, nat_le, slice_get, slice_index, slice_set, if◌then◌else◌}
 use Rattle.std.specs.List.{list_all}
 use Rattle.std.proofs.Math.ListN.{get_or-map}
@@ -15,32 +15,32 @@ use Rattle.c_types.specs.Integers.{bytes, promoted}
 use Rattle.core_tree.specs.declared.operators.ArithmeticOperator.{ArithmeticOperator}
 use Rattle.core_tree.specs.declared.operators.LogicalOperator.{LogicalOperator}
 use Rattle.core_tree.specs.declared.operators.LogicalOperator.TheVariants as logicals
-use Rattle.core_tree.specs.declared.expression.Place.{Place}
-use Rattle.core_tree.specs.declared.expression.Place.TheVariants.{Variable, Object}
 use Rattle.core_tree.specs.declared.operators.StepOperator.{StepOperator}
-use Rattle.core_tree.specs.Trees.{Expression, constant, read, convert, sign, is_zero, arithmetic, compare, logical, choice, assign, update, step, comma, assertion, assumption, draw, part, discard, discard_structure, call, function_name, Structure, copy, load, choose, put, store, follow, section, list, string, give, Parts, no_part, number_part, structure_part, Arguments, no_argument, number_argument, structure_argument}
+use Rattle.core_tree.specs.Trees.{Place, variable_at, object_at, literal_at, pointed, arrow, member, element, subscript, Expression, constant, read, convert, sign, is_zero, arithmetic, compare, logical, choice, assign, update, step, comma, assertion, assumption, draw, part, discard, discard_structure, call, function_name, size_of_value, size_of_structure, address, sum, distance, relation, pointer_update, pointer_step, allocate, allocate_zeroed, release, exit, abort, Structure, copy, choose, put, follow, section, list, string, give, Parts, no_part, number_part, structure_part, Arguments, no_argument, number_argument, structure_argument}
 use Rattle.core_tree.specs.Operations.{drawn_width, is_true, truth_bits, converted, arithmetic_check, arithmetic_value, sign_check, sign_value, compared, step_operation}
 use Rattle.core_tree.specs.declared.functions.PassedType.{PassedType}
 use Rattle.core_tree.specs.declared.functions.PassedType.TheVariants as passed
-use Rattle.core_tree.specs.Typed.{Signature, Sizes, place_type, type_of, size_of, is_within, is_place, fits_at, same_passed, same_given, given_as, gives_this, parameters_of, passed_size, is_typed, is_structure, are_parts, are_arguments}
+use Rattle.core_tree.specs.declared.functions.Variable.{Variable}
+use Rattle.core_tree.specs.Typed.{Signature, Sizes, type_of, size_of, is_within, is_place, fits_at, same_passed, same_given, given_as, gives_this, parameters_of, passed_size, is_typed, is_structure, are_parts, are_arguments}
+use Rattle.actions.specs.Pointer.{offset_of}
 use Rattle.c_values.specs.Variables.{Variables, pointer_to, low_bytes, put_at, zeros, number_of, number_at, block_of, put_bytes, cleared, read_variable}
 use Rattle.actions.specs.Behaviour.{Behaviour, shape_of, has_shape}
 use Rattle.actions.specs.declared.action.Action.TheVariants.{Read, Write, Draw}
 use Rattle.actions.specs.declared.action.Answer.{Answer}
 use Rattle.actions.specs.declared.action.Answer.TheVariants as answers
 use Rattle.actions.specs.declared.action.Next.TheVariants.{Broken, Blocked}
-use Rattle.words.specs.declared.check.Class.TheVariants.{Assertion, Return}
+use Rattle.words.specs.declared.check.Class.TheVariants.{Assertion, Return, Bounds}
 use Rattle.c_meaning.specs.Meaning as source
-use Rattle.c_meaning.specs.Meaning.{Running, integer_of, number_type, drawn, decides, eval, eval_structure, eval_parts, eval_arguments, unless_broken, unless_used, received, received_structure, reads, writes, tells_bytes, combined, updated, stepped, operated}
+use Rattle.c_meaning.specs.Meaning.{Running, sizes_of, place_line, integer_of, number_type, drawn, decides, eval, eval_structure, eval_parts, eval_arguments, unless_broken, unless_used, received, received_structure, operated}
 use Rattle.goto_prog.specs.declared.code.Instruction.{Instruction}
 use Rattle.goto_prog.specs.declared.code.Operation.TheVariants as operations
 use Rattle.goto_prog.specs.Meaning.{Given, Reading, word_of, bytes_in, bytes_of, Memory, register, with_register, with_blocks, at, or_else}
 use Rattle.goto_prog.specs.Meaning as flat
 use Rattle.goto_prog.specs.Threads.{Calls, acting, ask}
 use Rattle.c_temporaries.specs.Temporaries.{value_size, Temporaries, no_temporaries, both, under, under_all, place_temporaries, temporaries, structure_temporaries, parts_temporaries, arguments_temporaries, argument_sizes}
-use Rattle.lowered_code.specs.Lowering.{Frame, top, structure_registers, parts_registers, arguments_registers, argument_count, at_line, read_code, write_code, code, structure_code, parts_code, arguments_code, text_code, update_code, logical_code, use_code, call_code, taken_code}
+use Rattle.lowered_code.specs.Lowering.{Frame, top, structure_registers, parts_registers, arguments_registers, argument_count, at_line, read_code, write_code, fetch_code, put_code, code, structure_code, parts_code, arguments_code, text_code, update_code, logical_code, use_code, call_code, taken_code}
 use Rattle.lowered_code.proofs.RegisterTypes.{left_of, right_of, same_integers}
-use Rattle.lowered_code.proofs.BlockBytes.{put_size, low_count, few_bytes, put_more, put_none, taken_back, part_of_front, number_of_front, some_zeros, zeros_length, one_byte}
+use Rattle.lowered_code.proofs.BlockBytes.{put_size, low_count, few_bytes, put_more, put_none, taken_back, part_of_front, number_of_front, some_zeros, zeros_length, one_byte, number_taken}
 use Rattle.lowered_code.proofs.Housing.{Housed, HasTemporaries, Room, housed_left, housed_right, housed_under, housed_room, housed_behind, housed_zeros, housed_front, housed_back}
 use Rattle.lowered_code.proofs.Placing.{Places, begin_in, on_in, on-append, at-behind, written, written_other, Kept, Filled, kept-refl, kept-then, kept-set, kept-write, filled-write, filled-put, kept-filled, filled-kept, filled-within, set_same, set_other, set_room, same_final, same_ask, same_ask_when, same_check}
 
@@ -60,6 +60,15 @@ test_most a b h = grind (arith, nat_tests)
 
 pub test_equal : (a b : ℕ) → (a == b) ≡ true → a ≡ b
 test_equal a b h = grind (arith, nat_tests)
+
+pub same_passing : (a b : Option PassedType) → same_given a b ≡ true → a ≡ b
+same_passing None None h = refl
+same_passing None (Some q) h = absurd (false≢true h)
+same_passing (Some p) None h = absurd (false≢true h)
+same_passing (Some (passed.Integer t)) (Some (passed.Integer u)) h = ap (λ v. Some (passed.Integer v)) (same_integers t u h)
+same_passing (Some (passed.Integer t)) (Some (passed.Structure size)) h = absurd (false≢true h)
+same_passing (Some (passed.Structure size)) (Some (passed.Integer u)) h = absurd (false≢true h)
+same_passing (Some (passed.Structure size)) (Some (passed.Structure other)) h = ap (λ n. Some (passed.Structure n)) (test_equal size other h)
 
 -- what calls do, by the source
 abbrev pub SourceCalls : Type 0
@@ -94,6 +103,22 @@ AreArguments (p ∷ ps) [] vs = ⊥
 AreArguments (p ∷ ps) (b ∷ bs) [] = ⊥
 AreArguments (p ∷ ps) (b ∷ bs) (v ∷ vs) = (take (passed_size p) b ≡ v) × (length v ≡ passed_size p) × AreArguments ps bs vs
 
+-- the size of a variable is the one in the list of sizes
+pub size_in : (vs : List Variable) (v : ℕ) → source.size_in_list (slice_get vs v) ≡ slice_index (sizes_of vs) v
+size_in [] v = refl
+size_in (x ∷ vs) zero = refl
+size_in (x ∷ vs) (suc v) = size_in vs v
+
+-- a call of a function that gives this can be typed: no structure has 2 ^ 31 bytes or more
+abbrev pub Callable : Option PassedType → Type 0
+Callable None = Unit {0}
+Callable (Some (passed.Integer t)) = Unit {0}
+Callable (Some (passed.Structure size)) = size < 2 ^ 31
+
+pub number_callable : (t : ValueType) → Callable (given_as t)
+number_callable Void = tt
+number_callable (Integer t) = tt
+
 -- over the sizes of the blocks behind the variables, what calls of code do, what becomes of what the function hands over, and what calls mean
 module _ (running : Running) (others : List ℕ) (calls : Calls) (hands : Given → Behaviour) (meant : SourceCalls) where
   abbrev here : Reading Behaviour
@@ -105,11 +130,15 @@ module _ (running : Running) (others : List ℕ) (calls : Calls) (hands : Given 
   abbrev on : List Instruction → Places → Places
   on code rest = on_in calls hands code rest
 
+  -- the sizes of the variables
+  abbrev pub own : List ℕ
+  own = sizes_of running.variables
+
   abbrev edge : ℕ
-  edge = length running.sizes
+  edge = length own
 
   abbrev sizes : List ℕ
-  sizes = running.sizes ++ others
+  sizes = own ++ others
 
   abbrev pub frame : ℕ → Frame
   frame d = record { function = running.function; zeros = edge; result = edge + 1; free = d }
@@ -168,13 +197,13 @@ module _ (running : Running) (others : List ℕ) (calls : Calls) (hands : Given 
 
   -- ---- variables
 
-  pub variable_below : (v offset count : ℕ) → is_within running.sizes v offset count ≡ true → v < edge
-  variable_below v offset count within = test_less v edge (left_of (nat_lt v edge) (nat_le (offset + count) (slice_index running.sizes v)) within)
+  pub variable_below : (v offset count : ℕ) → is_within own v offset count ≡ true → v < edge
+  variable_below v offset count within = test_less v edge (left_of (nat_lt v edge) (nat_le (offset + count) (slice_index own v)) within)
 
-  pub variable_room : (d : ℕ) (m : Memory) → Placed d m → (v offset count : ℕ) → is_within running.sizes v offset count ≡ true → offset + count ≤ length (block_of m.blocks v)
+  pub variable_room : (d : ℕ) (m : Memory) → Placed d m → (v offset count : ℕ) → is_within own v offset count ≡ true → offset + count ≤ length (block_of m.blocks v)
   variable_room d m placed v offset count within =
-      let fits = test_most (offset + count) (slice_index running.sizes v) (right_of (nat_lt v edge) (nat_le (offset + count) (slice_index running.sizes v)) within) in
-      let size = block_size d m placed v ∙ get_or_append_left running.sizes others 0 v (variable_below v offset count within) in
+      let fits = test_most (offset + count) (slice_index own v) (right_of (nat_lt v edge) (nat_le (offset + count) (slice_index own v)) within) in
+      let size = block_size d m placed v ∙ get_or_append_left own others 0 v (variable_below v offset count within) in
       omega (arith, fits, size)
 
   pub shown_block : (m : Memory) (v : ℕ) → v < edge → block_of m.blocks v ≡ block_of (shown m) v
@@ -187,13 +216,13 @@ module _ (running : Running) (others : List ℕ) (calls : Calls) (hands : Given 
   pub shown_clear : (m : Memory) (v size : ℕ) → v < edge → shown (with_blocks m (cleared m.blocks v size)) ≡ cleared (shown m) v size
   shown_clear m v size below = take-set-lt edge m.blocks v (zeros size) below
 
-  pub variable_size : (d : ℕ) (m : Memory) → Placed d m → (v : ℕ) → v < edge → length (block_of m.blocks v) ≡ slice_index running.sizes v
-  variable_size d m placed v below = block_size d m placed v ∙ get_or_append_left running.sizes others 0 v below
+  pub variable_size : (d : ℕ) (m : Memory) → Placed d m → (v : ℕ) → v < edge → length (block_of m.blocks v) ≡ slice_index own v
+  variable_size d m placed v below = block_size d m placed v ∙ get_or_append_left own others 0 v below
 
   pub shown_other : (m : Memory) (b offset : ℕ) (new : List ℕ) → edge ≤ b → shown (written m b offset new) ≡ shown m
   shown_other m b offset new behind = take-set-le edge m.blocks b (put_at offset new (block_of m.blocks b)) behind
 
-  pub low_room : (d : ℕ) (m : Memory) → Placed d m → (v offset : ℕ) (t : IntegerType) (x : ℕ) → is_within running.sizes v offset (bytes t) ≡ true → offset + length (low_bytes (bytes t) x) ≤ length (block_of m.blocks v)
+  pub low_room : (d : ℕ) (m : Memory) → Placed d m → (v offset : ℕ) (t : IntegerType) (x : ℕ) → is_within own v offset (bytes t) ≡ true → offset + length (low_bytes (bytes t) x) ≤ length (block_of m.blocks v)
   low_room d m placed v offset t x within = omega (arith, low_count (bytes t) x (few_bytes t), variable_room d m placed v offset (bytes t) within)
 
   part_long : (offset size : ℕ) (block : List ℕ) → offset + size ≤ length block → length (take size (drop offset block)) ≡ size
@@ -295,9 +324,25 @@ module _ (running : Running) (others : List ℕ) (calls : Calls) (hands : Given 
   abbrev pub Agree : List Signature → Type 0
   Agree functions =
       (f line : ℕ) (g : Signature) (blocks values : List (List ℕ)) (x : Given → Behaviour) (y : source.Given → Behaviour)
-      → slice_get functions f ≡ Some g → AreArguments g.parameters blocks values
+      → slice_get functions f ≡ Some g → Callable g.gives → AreArguments g.parameters blocks values
       → ((given : source.Given) → IsGiven g.gives given → x (handed g.gives given) ≡ y given)
       → calls running.function f line blocks x ≡ meant f line values y
+
+  -- calls agree, no variable has an address, and each offset within a variable is small
+  pub record Sound (functions : List Signature) : Type 0 where
+    pub agree : Agree functions
+    pub homeless : (v : ℕ) → source.home_of running v ≡ None
+    pub small : (v offset count : ℕ) → is_within own v offset count ≡ true → offset_of offset ≡ offset
+
+  pub variable_size_is : (v : ℕ) → source.size_of running v ≡ slice_index own v
+  variable_size_is v = size_in running.variables v
+
+  -- bytes within a variable are there
+  in_bounds : (v offset count line : ℕ) (b : Behaviour) → is_within own v offset count ≡ true → source.unless_outside running v offset count line b ≡ b
+  in_bounds v offset count line b within =
+      let fits : nat_le (offset + count) (source.size_of running v) ≡ true =
+      ap (λ n. nat_le (offset + count) n) (variable_size_is v) ∙ right_of (nat_lt v edge) (nat_le (offset + count) (slice_index own v)) within in
+      λ i. if fits i then b else source.final (Broken Bounds line running.function)
 
   -- the blocks from b on begin with the arguments
   abbrev pub AreThere : List PassedType → ℕ → List (List ℕ) → Memory → Type 0
@@ -339,13 +384,7 @@ module _ (running : Running) (others : List ℕ) (calls : Calls) (hands : Given 
   structure_passed (passed.Structure other) size h = ap passed.Structure (test_equal other size h)
 
   pub same_gives : (a b : Option PassedType) → same_given a b ≡ true → a ≡ b
-  same_gives None None h = refl
-  same_gives None (Some q) h = absurd (false≢true h)
-  same_gives (Some p) None h = absurd (false≢true h)
-  same_gives (Some (passed.Integer t)) (Some (passed.Integer u)) h = ap (λ v. Some (passed.Integer v)) (same_integers t u h)
-  same_gives (Some (passed.Integer t)) (Some (passed.Structure size)) h = absurd (false≢true h)
-  same_gives (Some (passed.Structure size)) (Some (passed.Integer u)) h = absurd (false≢true h)
-  same_gives (Some (passed.Structure size)) (Some (passed.Structure other)) h = ap (λ n. Some (passed.Structure n)) (test_equal size other h)
+  same_gives a b h = same_passing a b h
 
   found_as : (gives : Option PassedType) (o : Option Signature) → gives_this gives o ≡ true → (g : Signature) × (o ≡ Some g) × (g.gives ≡ gives)
   found_as gives None h = absurd (false≢true h)
@@ -374,18 +413,56 @@ module _ (running : Running) (others : List ℕ) (calls : Calls) (hands : Given 
   given_whole m b r value fits = λ i. with_register (written m b 0 (take_all (length (block_of m.blocks b)) value fits i)) r 1
 
   -- over the sizes of the static objects, the types of the functions, and what the function gives
-  module _ (objects : List ℕ) (functions : List Signature) (gives : Option PassedType) (agree : Agree functions) where
+  module _ (objects : List ℕ) (functions : List Signature) (gives : Option PassedType) (sound : Sound functions) where
     abbrev pub known : Sizes
-    known = record { variables = running.sizes; objects = objects; functions = functions; gives = gives }
+    known = record { variables = own; homes = []; objects = objects; literals = 0; functions = functions; gives = gives; pointers = false }
+
+    -- where a place is, which a typed file has
+    abbrev spot : Place → ℕ
+    spot (variable_at line v offset) = offset
+    spot (object_at line k offset) = pointer_to k offset
+    spot (literal_at line k) = 0
+    spot (pointed line e) = 0
+    spot (arrow line e offset) = 0
+    spot (member line x offset) = 0
+    spot (element line x e size whole swapped) = 0
+    spot (subscript line a e size swapped) = 0
+
+    located : (x : Place) (count : ℕ) (vs : Variables) (follows : Follows) → is_place known count x ≡ true → source.locate running meant x vs follows ≡ follows (spot x) vs
+    located (variable_at line v offset) count vs follows typed = λ i. follows (source.in_variable running (sound.homeless v i) vs offset) vs
+    located (object_at line k offset) count vs follows typed = refl
+    located (literal_at line k) count vs follows typed = absurd (false≢true typed)
+    located (pointed line e) count vs follows typed = absurd (false≢true typed)
+    located (arrow line e offset) count vs follows typed = absurd (false≢true typed)
+    located (member line x offset) count vs follows typed = absurd (false≢true typed)
+    located (element line x e size whole swapped) count vs follows typed = absurd (false≢true typed)
+    located (subscript line a e size swapped) count vs follows typed = absurd (false≢true typed)
+
+    -- bytes of a variable are read and written without an action
+    own_reads : (v at count line : ℕ) (vs : Variables) (follows : List ℕ → Behaviour) → is_within own v at count ≡ true
+        → source.reads running (source.own_variable running (source.home_of running v) v) at count line vs follows ≡ follows (take count (drop at (block_of vs v)))
+    own_reads v at count line vs follows within =
+        (λ i. source.reads running (source.own_variable running (sound.homeless v i) v) at count line vs follows)
+        ∙ (λ i. source.unless_outside running v (sound.small v at count within i) count line (follows (take count (drop (sound.small v at count within i) (block_of vs v)))))
+        ∙ in_bounds v at count line (follows (take count (drop at (block_of vs v)))) within
+
+    own_writes : (v at line : ℕ) (new : List ℕ) (vs : Variables) (follows : Variables → Behaviour) → is_within own v at (length new) ≡ true
+        → source.writes running (source.own_variable running (source.home_of running v) v) at new line vs follows ≡ follows (put_bytes vs v at new)
+    own_writes v at line new vs follows within =
+        (λ i. source.writes running (source.own_variable running (sound.homeless v i) v) at new line vs follows)
+        ∙ (λ i. source.unless_outside running v (sound.small v at (length new) within i) (length new) line (follows (put_bytes vs v (sound.small v at (length new) within i) new)))
+        ∙ in_bounds v at (length new) line (follows (put_bytes vs v at new)) within
 
     -- the code of a read of a place, into a register from n on
-    reading : (d n r : ℕ) (p : Place) (m : Memory) (rest : Places) (follows : Follows)
-        → is_place known p ≡ true → Houses d (place_temporaries p) → Placed d m → n ≤ r → r < length m.registers → Goes d n m rest r follows
-        → begin (on (read_code (frame d) r p) rest) m ≡ reads running p (shown m) follows
-    reading d n r (Variable line t v offset) m rest follows typed housed placed above room goes =
+    reading : (d n r : ℕ) (t : IntegerType) (x : Place) (m : Memory) (rest : Places) (follows : Follows)
+        → is_place known (bytes t) x ≡ true → Houses d (place_temporaries t x) → Placed d m → n ≤ r → r < length m.registers → Goes d n m rest r follows
+        → begin (on (read_code (frame d) r t x) rest) m ≡ source.reads_number running t x (spot x) (shown m) (λ found. follows found (shown m))
+    reading d n r t (variable_at line v offset) m rest follows typed housed placed above room goes =
         sets d n r (read_variable m.blocks v offset t) m m rest follows above room (kept-refl edge d n m) goes
-        ∙ ap (λ x. follows x (shown m)) (ap (number_at t offset) (shown_block m v (variable_below v offset (bytes t) typed)))
-    reading d n r (Object line t k offset) m rest follows typed housed placed above room goes =
+        ∙ ap (λ x. follows x (shown m)) (sym (number_taken t offset (block_of m.blocks v) (variable_room d m placed v offset (bytes t) typed)))
+        ∙ ap (λ block. follows (number_of t (take (bytes t) (drop offset block))) (shown m)) (shown_block m v (variable_below v offset (bytes t) typed))
+        ∙ sym (own_reads v offset (bytes t) line (shown m) (λ found. follows (number_of t found) (shown m)) typed)
+    reading d n r t (object_at line k offset) m rest follows typed housed placed above room goes =
         let free = housed_room sizes edge d (bytes t) no_temporaries housed in
         let there : d < length m.blocks = block_there (d + 1) m (placed_deeper d m free.there placed) d (omega arith) in
         same_ask_when running (Read (pointer_to k offset) (bytes t)) line _ _ (λ a h.
@@ -397,19 +474,27 @@ module _ (running : Running) (others : List ℕ) (calls : Calls) (hands : Given 
         ∙ (λ i. follows (number_at t 0 (filled.filled i)) (shown m1))
         ∙ ap (λ x. follows x (shown m1)) (number_of_front t 0 found (block_of m.blocks d) (omega (arith, long)))
         ∙ (λ i. follows (number_of t (same_bytes a i)) (shown_other m d 0 found (omega (arith, placed.deep)) i)))
+    reading d n r t (literal_at line k) m rest follows typed housed placed above room goes = absurd (false≢true typed)
+    reading d n r t (pointed line e) m rest follows typed housed placed above room goes = absurd (false≢true typed)
+    reading d n r t (arrow line e offset) m rest follows typed housed placed above room goes = absurd (false≢true typed)
+    reading d n r t (member line x offset) m rest follows typed housed placed above room goes = absurd (false≢true typed)
+    reading d n r t (element line x e size whole swapped) m rest follows typed housed placed above room goes = absurd (false≢true typed)
+    reading d n r t (subscript line a e size swapped) m rest follows typed housed placed above room goes = absurd (false≢true typed)
 
     -- the code of a write of a place leaves the registers as they are
-    writing : (d n line r : ℕ) (p : Place) (m0 m : Memory) (rest : Places) (follows : Variables → Behaviour)
-        → is_place known p ≡ true → Houses d (place_temporaries p) → Placed d m0 → Kept edge d n m0 m
+    writing : (d n line r : ℕ) (t : IntegerType) (x : Place) (m0 m : Memory) (rest : Places) (follows : Variables → Behaviour)
+        → is_place known (bytes t) x ≡ true → Houses d (place_temporaries t x) → Placed d m0 → Kept edge d n m0 m
         → ((m' : Memory) → Kept edge d n m0 m' → m'.registers ≡ m.registers → begin rest m' ≡ follows (shown m'))
-        → begin (on (write_code (frame d) line p r) rest) m ≡ writes running p line (register m r) (shown m) follows
-    writing d n line r (Variable at_name t v offset) m0 m rest follows typed housed placed kept goes =
+        → begin (on (write_code (frame d) line t x r) rest) m ≡ source.writes_number running t x (spot x) line (register m r) (shown m) follows
+    writing d n line r t (variable_at at_name v offset) m0 m rest follows typed housed placed kept goes =
         let variable = variable_below v offset (bytes t) typed in
         let new = low_bytes (bytes t) (register m r) in
+        let count : length new ≡ bytes t = low_count (bytes t) (register m r) (few_bytes t) in
         let fits = low_room d m (placed_kept d n m0 m placed kept) v offset t (register m r) typed in
         goes (written m v offset new) (kept-write edge d n v offset new m0 m variable fits kept) refl
         ∙ ap follows (shown_write m v offset new variable)
-    writing d n line r (Object at_name t k offset) m0 m rest follows typed housed placed kept goes =
+        ∙ sym (own_writes v offset line new (shown m) follows ((λ i. is_within own v offset (count i)) ∙ typed))
+    writing d n line r t (object_at at_name k offset) m0 m rest follows typed housed placed kept goes =
         let free = housed_room sizes edge d (bytes t) no_temporaries housed in
         let placed1 = placed_kept d n m0 m placed kept in
         let there : d < length m.blocks = block_there (d + 1) m (placed_deeper d m free.there placed1) d (omega arith) in
@@ -421,41 +506,46 @@ module _ (running : Running) (others : List ℕ) (calls : Calls) (hands : Given 
         let same : bytes_of m1.blocks d 0 (bytes t) ≡ new = (λ i. take (bytes t) (filled.filled i)) ∙ taken_back 0 (bytes t) new (block_of m.blocks d) long (omega arith) in
         (λ i. ask (Write (pointer_to k offset) (same i) false) line running.function (λ a. begin rest m1))
         ∙ same_ask running (Write (pointer_to k offset) new false) line _ _ (λ i a. (goes m1 kept1 refl ∙ ap follows (shown_other m d 0 new (omega (arith, placed.deep)))) i)
+    writing d n line r t (literal_at at_name k) m0 m rest follows typed housed placed kept goes = absurd (false≢true typed)
+    writing d n line r t (pointed at_name e) m0 m rest follows typed housed placed kept goes = absurd (false≢true typed)
+    writing d n line r t (arrow at_name e offset) m0 m rest follows typed housed placed kept goes = absurd (false≢true typed)
+    writing d n line r t (member at_name x offset) m0 m rest follows typed housed placed kept goes = absurd (false≢true typed)
+    writing d n line r t (element at_name x e size whole swapped) m0 m rest follows typed housed placed kept goes = absurd (false≢true typed)
+    writing d n line r t (subscript at_name a e size swapped) m0 m rest follows typed housed placed kept goes = absurd (false≢true typed)
 
     -- what an operation on a place does: the registers from k on hold the place's number, it converted, the result, and that converted back
-    updating : (d line : ℕ) (p : Place) (op : ArithmeticOperator) (t u : IntegerType) (y k : ℕ) (m : Memory) (rest : Places) (follows : ℕ → Follows)
-        → is_place known p ≡ true → Houses d (place_temporaries p) → Placed d m → y < k → k + 3 < length m.registers
+    updating : (d line : ℕ) (t : IntegerType) (x : Place) (op : ArithmeticOperator) (u w : IntegerType) (y k : ℕ) (m : Memory) (rest : Places) (follows : ℕ → Follows)
+        → is_place known (bytes t) x ≡ true → Houses d (place_temporaries t x) → Placed d m → y < k → k + 3 < length m.registers
         → ((m' : Memory) → Kept edge d k m m' → begin rest m' ≡ follows (register m' k) (register m' (k + 3)) (shown m'))
-        → begin (on (update_code (frame d) line p (place_type p) op t u y k) rest) m
-        ≡ reads running p (shown m) (λ old after. combined running p op t u old (register m y) line after (follows old))
-    updating d line p op t u y k m rest follows typed housed placed below room goes =
-        let from = place_type p in
-        split (read_code (frame d) k p) _ rest m
-        ∙ reading d k k p m _ (λ old after. combined running p op t u old (register m y) line after (follows old)) typed housed placed (omega arith) (omega (arith, room)) (λ m1 kept1.
+        → begin (on (update_code (frame d) line t x op u w y k) rest) m
+        ≡ source.reads_number running t x (spot x) (shown m) (λ old. source.combined running t x (spot x) op u w old (register m y) line (shown m) (follows old))
+    updating d line t x op u w y k m rest follows typed housed placed below room goes =
+        split (read_code (frame d) k t x) _ rest m
+        ∙ reading d k k t x m _ (λ old after. source.combined running t x (spot x) op u w old (register m y) line after (follows old)) typed housed placed (omega arith) (omega (arith, room)) (λ m1 kept1.
         let old = register m1 k in
-        let m2 : Memory = with_register m1 (k + 1) (converted from t old) in
-        let m3 : Memory = with_register m2 (k + 2) (arithmetic_value op t (register m2 (k + 1)) (register m2 y)) in
-        let m4 : Memory = with_register m3 (k + 3) (converted t from (register m3 (k + 2))) in
+        let m2 : Memory = with_register m1 (k + 1) (converted t u old) in
+        let m3 : Memory = with_register m2 (k + 2) (arithmetic_value op u (register m2 (k + 1)) (register m2 y)) in
+        let m4 : Memory = with_register m3 (k + 3) (converted u t (register m3 (k + 2))) in
         let new = register m4 (k + 3) in
         let room2 : length m2.registers ≡ length m1.registers = set_room m1 (k + 1) _ in
         let room3 : length m3.registers ≡ length m2.registers = set_room m2 (k + 2) _ in
-        let left : register m2 (k + 1) ≡ converted from t old = set_same m1 (k + 1) _ (omega (arith, room, kept1.room)) in
+        let left : register m2 (k + 1) ≡ converted t u old = set_same m1 (k + 1) _ (omega (arith, room, kept1.room)) in
         let right : register m2 y ≡ register m y = set_other m1 (k + 1) _ y (λ e. omega (arith, e, below)) ∙ kept1.below y below in
-        let value : register m3 (k + 2) ≡ arithmetic_value op t (register m2 (k + 1)) (register m2 y) = set_same m2 (k + 2) _ (omega (arith, room, kept1.room, room2)) in
-        let back : new ≡ converted t from (arithmetic_value op t (register m2 (k + 1)) (register m2 y)) =
-        set_same m3 (k + 3) _ (omega (arith, room, kept1.room, room2, room3)) ∙ ap (converted t from) value in
+        let value : register m3 (k + 2) ≡ arithmetic_value op u (register m2 (k + 1)) (register m2 y) = set_same m2 (k + 2) _ (omega (arith, room, kept1.room, room2)) in
+        let back : new ≡ converted u t (arithmetic_value op u (register m2 (k + 1)) (register m2 y)) =
+        set_same m3 (k + 3) _ (omega (arith, room, kept1.room, room2, room3)) ∙ ap (converted u t) value in
         let still : register m4 k ≡ old = set_other m3 (k + 3) _ k (λ e. omega (arith, e)) ∙ set_other m2 (k + 2) _ k (λ e. omega (arith, e)) ∙ set_other m1 (k + 1) _ k (λ e. omega (arith, e)) in
         let kept : Kept edge d k m m4 =
         kept-then edge d k k m m1 m4 (omega arith) kept1
         (kept-then edge d k k m1 m2 m4 (omega arith) (kept-set edge d k (k + 1) m1 _ (omega arith))
         (kept-then edge d k k m2 m3 m4 (omega arith) (kept-set edge d k (k + 2) m2 _ (omega arith)) (kept-set edge d k (k + 3) m3 _ (omega arith)))) in
-        same_check calls hands running (arithmetic_check op t u (register m2 (k + 1)) (register m2 y)) line (begin (on (write_code (frame d) line p (k + 3)) rest) m4) (writes running p line new (shown m4) (follows old new))
-        (writing d k line (k + 3) p m m4 rest (follows old new) typed housed placed kept (λ m5 kept5 same.
+        same_check calls hands running (arithmetic_check op u w (register m2 (k + 1)) (register m2 y)) line (begin (on (write_code (frame d) line t x (k + 3)) rest) m4) (source.writes_number running t x (spot x) line new (shown m4) (follows old new))
+        (writing d k line (k + 3) t x m m4 rest (follows old new) typed housed placed kept (λ m5 kept5 same.
         goes m5 kept5
         ∙ (λ i. follows (slice_index (same i) k) (slice_index (same i) (k + 3)) (shown m5))
-        ∙ ap (λ x. follows x new (shown m5)) still))
-        ∙ (λ i. unless_broken running (arithmetic_check op t u (register m2 (k + 1)) (register m2 y)) line (writes running p line (back i) (shown m1) (follows old (back i))))
-        ∙ (λ i. operated running op t u (left i) (right i) line (λ z. writes running p line (converted t from z) (shown m1) (follows old (converted t from z)))))
+        ∙ ap (λ z. follows z new (shown m5)) still))
+        ∙ (λ i. unless_broken running (arithmetic_check op u w (register m2 (k + 1)) (register m2 y)) line (source.writes_number running t x (spot x) line (back i) (shown m1) (follows old (back i))))
+        ∙ (λ i. operated running op u w (left i) (right i) line (λ z. source.writes_number running t x (spot x) line (converted u t z) (shown m1) (follows old (converted u t z)))))
 
     -- code with registers from n on and blocks from d on does what a meaning says; the register `last` behind n takes the value
     abbrev pub Means : List Instruction → ℕ → ℕ → ℕ → (Variables → Follows → Behaviour) → Type 0
@@ -488,20 +578,71 @@ module _ (running : Running) (others : List ℕ) (calls : Calls) (hands : Given 
         (past xs _ rest 2 (with_register m1 result 1)
         ∙ sets d n result 1 m m1 rest follows (omega arith) (omega (arith, room)) kept1 goes')
 
-    means_step : (d line : ℕ) (p : Place) (op : StepOperator) (before : Bool) (n : ℕ) (m : Memory) (rest : Places) (follows : Follows)
-        → is_place known p ≡ true → Houses d (place_temporaries p) → Placed d m → n + 5 < length m.registers → Goes d n m rest (n + 5) follows
-        → begin (on (code (frame d) (step line p op before) n) rest) m ≡ stepped running p (step_operation op) before line (shown m) follows
-    means_step d line p op before n m rest follows typed housed placed room goes =
-        let u = promoted (place_type p) in
+    means_step : (d line : ℕ) (t : IntegerType) (x : Place) (op : StepOperator) (before : Bool) (n : ℕ) (m : Memory) (rest : Places) (follows : Follows)
+        → is_place known (bytes t) x ≡ true → Houses d (place_temporaries t x) → Placed d m → n + 5 < length m.registers → Goes d n m rest (n + 5) follows
+        → begin (on (code (frame d) (step line t x op before) n) rest) m ≡ eval running meant (step line t x op before) (shown m) follows
+    means_step d line t x op before n m rest follows typed housed placed room goes =
+        let u = promoted t in
         let m1 = with_register m n 1 in
         let kept1 : Kept edge d n m m1 = kept-set edge d n n m 1 (omega arith) in
         let one : register m1 n ≡ 1 = set_same m n 1 (omega (arith, room)) in
         let last : List Instruction = at_line (frame d) line (operations.Copy (n + 5) (if before then n + 4 else n + 1)) ∷ [] in
-        split (update_code (frame d) line p (place_type p) (step_operation op) u u n (n + 1)) last rest m1
-        ∙ updating d line p (step_operation op) u u n (n + 1) m1 (on last rest) (λ old new. follows (if before then new else old)) typed housed (placed_kept d n m m1 placed kept1) (omega arith) (omega (arith, room, kept1.room)) (λ m2 kept2.
+        split (update_code (frame d) line t x (step_operation op) u u n (n + 1)) last rest m1
+        ∙ updating d line t x (step_operation op) u u n (n + 1) m1 (on last rest) (λ old new. follows (if before then new else old)) typed housed (placed_kept d n m m1 placed kept1) (omega arith) (omega (arith, room, kept1.room)) (λ m2 kept2.
         sets d n (n + 5) (register m2 (if before then n + 4 else n + 1)) m m2 rest follows (omega arith) room (kept-then edge d n (n + 1) m m1 m2 (omega arith) kept1 kept2) goes
-        ∙ ap (λ x. follows x (shown m2)) (chosen before (register m2) (n + 4) (n + 1) (n + 1 + 3) (register m2 (n + 1)) (omega arith) refl))
-        ∙ ap (λ y. reads running p (shown m) (λ old after. combined running p (step_operation op) u u old y line after (λ new. follows (if before then new else old)))) one
+        ∙ ap (λ z. follows z (shown m2)) (chosen before (register m2) (n + 4) (n + 1) (n + 1 + 3) (register m2 (n + 1)) (omega arith) refl))
+        ∙ ap (λ y. source.reads_number running t x (spot x) (shown m) (λ old. source.combined running t x (spot x) (step_operation op) u u old y line (shown m) (λ new. follows (if before then new else old)))) one
+        ∙ sym (located x (bytes t) (shown m) (λ at after. source.reads_number running t x at after (λ old. source.combined running t x at (step_operation op) u u old 1 line after (λ new. follows (if before then new else old)))) typed)
+
+    -- the bytes of a place, into a block
+    fetching : (x : Place) (size d n into to : ℕ) (m : Memory) (rest : Places) (follows : FollowsBytes)
+        → is_place known size x ≡ true → Placed d m → edge < into → into < d → to + size ≤ length (block_of m.blocks into) → GoesInto d n m rest into to size follows
+        → begin (on (fetch_code (frame d) x size into to) rest) m ≡ source.reads running (source.variable_of running x) (spot x) size (place_line x) (shown m) (λ value. follows value (shown m))
+    fetching (variable_at line v offset) size d n into to m rest follows typed placed behind free fits goes =
+        let variable = variable_below v offset size typed in
+        let value = take size (drop offset (block_of m.blocks v)) in
+        let long : length value ≡ size = part_long offset size (block_of m.blocks v) (variable_room d m placed v offset size typed) in
+        goes (written m into to value) value long (filled-put edge d n into to value m (block_there d m placed into free) (omega (arith, fits, long)))
+        ∙ (λ i. follows (take size (drop offset (shown_block m v variable i))) (shown_other m into to value (omega (arith, behind)) i))
+        ∙ sym (own_reads v offset size line (shown m) (λ found. follows found (shown m)) typed)
+    fetching (object_at line k offset) size d n into to m rest follows typed placed behind free fits goes =
+        same_ask_when running (Read (pointer_to k offset) size) line _ _ (λ a h.
+        let value = bytes_in a in
+        let long : length value ≡ size = read_size (pointer_to k offset) size a h in
+        goes (written m into to value) value long (filled-put edge d n into to value m (block_there d m placed into free) (omega (arith, fits, long)))
+        ∙ (λ i. follows (same_bytes a i) (shown_other m into to value (omega (arith, behind)) i)))
+    fetching (literal_at line k) size d n into to m rest follows typed placed behind free fits goes = absurd (false≢true typed)
+    fetching (pointed line e) size d n into to m rest follows typed placed behind free fits goes = absurd (false≢true typed)
+    fetching (arrow line e offset) size d n into to m rest follows typed placed behind free fits goes = absurd (false≢true typed)
+    fetching (member line x offset) size d n into to m rest follows typed placed behind free fits goes = absurd (false≢true typed)
+    fetching (element line x e stride whole swapped) size d n into to m rest follows typed placed behind free fits goes = absurd (false≢true typed)
+    fetching (subscript line a e stride swapped) size d n into to m rest follows typed placed behind free fits goes = absurd (false≢true typed)
+
+    -- the bytes that a block has got, into a place
+    putting : (line : ℕ) (x : Place) (size d n into to : ℕ) (value : List ℕ) (m m1 : Memory) (rest : Places) (follows : FollowsBytes)
+        → is_place known size x ≡ true → Placed d m → edge < into → into < d → to + size ≤ length (block_of m.blocks into) → length value ≡ size → Filled edge d n into to value m m1 → GoesInto d n m rest into to size follows
+        → begin (on (put_code (frame d) line x size into to) rest) m1 ≡ source.writes running (source.variable_of running x) (spot x) value line (shown m1) (follows value)
+    putting line (variable_at at_name v offset) size d n into to value m m1 rest follows typed placed behind free fits long filled goes =
+        let variable = variable_below v offset size typed in
+        let new = take size (drop to (block_of m1.blocks into)) in
+        let same : new ≡ value = (λ i. take size (drop to (filled.filled i))) ∙ taken_back to size value (block_of m.blocks into) long (omega (arith, fits)) in
+        let placed1 = placed_filled d n into to value m m1 placed behind filled in
+        let there : offset + length new ≤ length (block_of m1.blocks v) = omega (arith, long, ap length same, variable_room d m1 placed1 v offset size typed) in
+        goes (written m1 v offset new) value long (filled-write edge d n into to v offset value new m m1 variable (omega (arith, behind)) there filled)
+        ∙ (λ i. follows value (shown_write m1 v offset new variable i))
+        ∙ (λ i. follows value (put_bytes (shown m1) v offset (same i)))
+        ∙ sym (own_writes v offset line value (shown m1) (follows value) ((λ i. is_within own v offset (long i)) ∙ typed))
+    putting line (object_at at_name k offset) size d n into to value m m1 rest follows typed placed behind free fits long filled goes =
+        let new = take size (drop to (block_of m1.blocks into)) in
+        let same : new ≡ value = (λ i. take size (drop to (filled.filled i))) ∙ taken_back to size value (block_of m.blocks into) long (omega (arith, fits)) in
+        (λ i. ask (Write (pointer_to k offset) (same i) false) line running.function (λ done. begin rest m1))
+        ∙ same_ask running (Write (pointer_to k offset) value false) line _ _ (λ i done. goes m1 value long filled i)
+    putting line (literal_at at_name k) size d n into to value m m1 rest follows typed placed behind free fits long filled goes = absurd (false≢true typed)
+    putting line (pointed at_name e) size d n into to value m m1 rest follows typed placed behind free fits long filled goes = absurd (false≢true typed)
+    putting line (arrow at_name e offset) size d n into to value m m1 rest follows typed placed behind free fits long filled goes = absurd (false≢true typed)
+    putting line (member at_name x offset) size d n into to value m m1 rest follows typed placed behind free fits long filled goes = absurd (false≢true typed)
+    putting line (element at_name x e stride whole swapped) size d n into to value m m1 rest follows typed placed behind free fits long filled goes = absurd (false≢true typed)
+    putting line (subscript at_name a e stride swapped) size d n into to value m m1 rest follows typed placed behind free fits long filled goes = absurd (false≢true typed)
 
     -- the bytes of a string, over the bytes so far
     text_means : (text : List ℕ) (line d n into to size offset at_offset : ℕ) (value : List ℕ) (m0 m : Memory) (rest : Places) (follows : FollowsBytes)
@@ -528,11 +669,11 @@ module _ (running : Running) (others : List ℕ) (calls : Calls) (hands : Given 
 
     -- a call whose arguments are in blocks from d on, and what comes behind it
     call_does : (line f : ℕ) (used : Bool) (size count d r : ℕ) (g : Signature) (values : List (List ℕ)) (m : Memory) (xs : List Instruction) (rest : Places) (y : source.Given → Behaviour)
-        → slice_get functions f ≡ Some g → AreThere g.parameters d values m → count ≡ length g.parameters → edge + 1 < d → Placed (d + (count + 1)) m
+        → slice_get functions f ≡ Some g → Callable g.gives → AreThere g.parameters d values m → count ≡ length g.parameters → edge + 1 < d → Placed (d + (count + 1)) m
         → size ≤ slice_index sizes edge → size ≤ length (block_of m.blocks (d + count))
         → ((given : source.Given) → IsGiven g.gives given → begin (on (use_code (frame d) line used r ++ xs) rest) (flat.received (written m (d + count) 0 (zeros size)) (d + count) r (handed g.gives given)) ≡ y given)
         → begin (on (call_code (frame d) line f used size count r ++ xs) rest) m ≡ meant f line values y
-    call_does line f used size count d r g values m xs rest y found there many low placed zero_room room goes =
+    call_does line f used size count d r g values m xs rest y found callable there many low placed zero_room room goes =
         let into = d + count in
         let behind : Given → Behaviour = λ given. begin (on (use_code (frame d) line used r ++ xs) rest) (flat.received (written m into 0 (zeros size)) into r given) in
         let zero : take size (drop 0 (block_of m.blocks edge)) ≡ zeros size = (λ i. take size (placed.clean i)) ∙ some_zeros size (slice_index sizes edge) zero_room in
@@ -543,7 +684,7 @@ module _ (running : Running) (others : List ℕ) (calls : Calls) (hands : Given 
         let first : AreArguments g.parameters (take (length g.parameters) (drop d m1.blocks)) values = arguments_there g.parameters d values m1 (omega (arith, many, wide, last)) still in
         let taken : AreArguments g.parameters (take count (drop d m1.blocks)) values = subst (λ (k : ℕ). AreArguments g.parameters (take k (drop d m1.blocks)) values) (sym many) first in
         (λ i. calls running.function f line (take count (drop d (written m into 0 (zero i)).blocks)) (λ given. begin (on (use_code (frame d) line used r ++ xs) rest) (flat.received (written m into 0 (zero i)) into r given)))
-        ∙ agree f line g (take count (drop d m1.blocks)) values behind y found taken goes
+        ∙ sound.agree f line g (take count (drop d m1.blocks)) values behind y found callable taken goes
 
     -- what tells that a value was handed over lets its use pass
     used_means : (line : ℕ) (used : Bool) (d r : ℕ) (xs : List Instruction) (m : Memory) (rest : Places) → register m r ≡ 1 → begin (on (use_code (frame d) line used r ++ xs) rest) m ≡ begin (on xs rest) m
@@ -673,7 +814,9 @@ module _ (running : Running) (others : List ℕ) (calls : Calls) (hands : Given 
           → begin (on (code (frame d) e n) rest) m ≡ eval running meant e (shown m) follows
       means (constant line t bits) d n m rest follows typed housed placed room goes =
           sets d n n bits m m rest follows (omega arith) (omega (arith, room)) (kept-refl edge d n m) (goes-at d n m rest n (n + 0) follows (omega arith) goes)
-      means (read p) d n m rest follows typed housed placed room goes = reading d n n p m rest follows typed housed placed (omega arith) (omega (arith, room)) (goes-at d n m rest n (n + 0) follows (omega arith) goes)
+      means (read t x) d n m rest follows typed housed placed room goes =
+          reading d n n t x m rest follows typed housed placed (omega arith) (omega (arith, room)) (goes-at d n m rest n (n + 0) follows (omega arith) goes)
+          ∙ sym (located x (bytes t) (shown m) (λ at after. source.reads_number running t x at after (λ found. follows found after)) typed)
       means (draw line t) d n m rest follows typed housed placed room goes =
           same_ask running (Draw (drawn_width t)) line _ _ (λ i a.
           (sets d n n (word_of a) m m rest follows (omega arith) (omega (arith, room)) (kept-refl edge d n m) (goes-at d n m rest n (n + 0) follows (omega arith) goes)
@@ -732,18 +875,20 @@ module _ (running : Running) (others : List ℕ) (calls : Calls) (hands : Given 
           ∙ means a d first m1 _ follows (right_of _ _ (left_of _ _ typed)) (housed_left sizes edge d (temporaries a) (temporaries b) (housed_right sizes edge d (temporaries test) (both (temporaries a) (temporaries b)) housed)) (placed_kept d n m m1 placed kept1) (omega (arith, room, kept1.room)) (λ m2 kept2.
           past no_code _ rest 1 (with_register m2 result (register m2 (first + top a)))
           ∙ sets d n result (register m2 (first + top a)) m m2 rest follows (omega arith) (omega (arith, room)) (kept-then edge d n first m m1 m2 (omega arith) kept1 kept2) goes')))
-      means (assign line p e) d n m rest follows typed housed placed room goes =
+      means (assign line t x e) d n m rest follows typed housed placed room goes =
           split (code (frame d) e n) _ rest m
-          ∙ means e d n m _ (λ x after. writes running p line x after (follows x)) (right_of _ _ typed) (housed_left sizes edge d (temporaries e) (place_temporaries p) housed) placed (omega (arith, room)) (λ m1 kept1.
-          writing d n line (n + top e) p m m1 rest (follows (register m1 (n + top e))) (left_of _ _ (left_of _ _ typed)) (housed_right sizes edge d (temporaries e) (place_temporaries p) housed) placed kept1 (λ m2 kept2 same.
+          ∙ means e d n m _ (λ y after. source.writes_number running t x (spot x) line y after (follows y)) (right_of _ _ typed) (housed_left sizes edge d (temporaries e) (place_temporaries t x) housed) placed (omega (arith, room)) (λ m1 kept1.
+          writing d n line (n + top e) t x m m1 rest (follows (register m1 (n + top e))) (left_of _ _ (left_of _ _ typed)) (housed_right sizes edge d (temporaries e) (place_temporaries t x) housed) placed kept1 (λ m2 kept2 same.
           goes m2 kept2 ∙ (λ i. follows (slice_index (same i) (n + top e)) (shown m2))))
-      means (update line p op t e) d n m rest follows typed housed placed room goes =
+          ∙ sym (located x (bytes t) (shown m) (λ at after. eval running meant e after (λ y last. source.writes_number running t x at line y last (follows y))) (left_of _ _ (left_of _ _ typed)))
+      means (update line t x op u e) d n m rest follows typed housed placed room goes =
           split (code (frame d) e n) _ rest m
-          ∙ means e d n m _ (λ y after. updated running p op t (number_type e) y line after follows) (right_of _ _ typed) (housed_left sizes edge d (temporaries e) (place_temporaries p) housed) placed (omega (arith, room)) (λ m1 kept1.
-          updating d line p op t (number_type e) (n + top e) (n + (top e + 1)) m1 rest (λ old. follows) (left_of _ _ (left_of _ _ typed)) (housed_right sizes edge d (temporaries e) (place_temporaries p) housed) (placed_kept d n m m1 placed kept1) (omega arith) (omega (arith, room, kept1.room)) (λ m2 kept2.
+          ∙ means e d n m _ (λ y after. source.reads_number running t x (spot x) after (λ old. source.combined running t x (spot x) op u (number_type e) old y line after follows)) (right_of _ _ typed) (housed_left sizes edge d (temporaries e) (place_temporaries t x) housed) placed (omega (arith, room)) (λ m1 kept1.
+          updating d line t x op u (number_type e) (n + top e) (n + (top e + 1)) m1 rest (λ old. follows) (left_of _ _ (left_of _ _ typed)) (housed_right sizes edge d (temporaries e) (place_temporaries t x) housed) (placed_kept d n m m1 placed kept1) (omega arith) (omega (arith, room, kept1.room)) (λ m2 kept2.
           goes m2 (kept-then edge d n (n + (top e + 1)) m m1 m2 (omega arith) kept1 kept2)
           ∙ (let same : n + (top e + 4) ≡ n + (top e + 1) + 3 = omega arith in ap (λ r. follows (register m2 r) (shown m2)) same)))
-      means (step line p op before) d n m rest follows typed housed placed room goes = means_step d line p op before n m rest follows typed housed placed room goes
+          ∙ sym (located x (bytes t) (shown m) (λ at after. eval running meant e after (λ y last. source.reads_number running t x at last (λ old. source.combined running t x at op u (number_type e) old y line last follows))) (left_of _ _ (left_of _ _ typed)))
+      means (step line t x op before) d n m rest follows typed housed placed room goes = means_step d line t x op before n m rest follows typed housed placed room goes
       means (comma line a b) d n m rest follows typed housed placed room goes =
           let second = n + (top a + 1) in
           split (code (frame d) a n) _ rest m
@@ -805,13 +950,28 @@ module _ (running : Running) (others : List ℕ) (calls : Calls) (hands : Given 
           let filled : Filled edge (into + 1) n into 0 (zeros size) m1 m2 = filled-put edge (into + 1) n into 0 (zeros size) m1 wide (omega (arith, zeros_length size, fits)) in
           let kept2 : Kept edge d n m m2 = kept-then edge d n n m m1 m2 (omega arith) kept1 (kept_lower into d n m1 m2 (omega arith) (filled-kept edge into n 0 (zeros size) m1 m2 filled)) in
           let same : shown m2 ≡ shown m1 = shown_other m1 into 0 (zeros size) (omega (arith, placed.deep)) in
-          call_does line f used size count d r g values m1 (taken_code (frame d) line t into (r + 1) ∷ []) rest (received running used line (integer_of t) (λ x. follows x (shown m1))) found.1 there many placed.deep placed_deep zero_room fits (λ given is.
+          call_does line f used size count d r g values m1 (taken_code (frame d) line t into (r + 1) ∷ []) rest (received running used line (integer_of t) (λ x. follows x (shown m1))) found.1 (subst Callable (sym found.2) (number_callable t)) there many placed.deep placed_deep zero_room fits (λ given is.
           (λ i. begin (on (use_code (frame d) line used r ++ taken_code (frame d) line t into (r + 1) ∷ []) rest) (flat.received m2 into r (handed (found.2 i) given)))
           ∙ taken_means line used t d n into r (block_of m1.blocks into) m m2 rest follows given (subst (λ (gives : Option PassedType). IsGiven gives given) found.2 is) kept2 (omega arith) (omega (arith, room)) (omega (arith, placed.deep)) (omega arith)
           (omega (arith, wide, length-set m1.blocks into (put_at 0 (zeros size) (block_of m1.blocks into)))) (filled.filled) fits (goes-at d n m rest (r + 1) (n + (arguments_registers args + 1)) follows (omega arith) goes)
           ∙ (λ i. received running used line (integer_of t) (λ x. follows x (same i)) given)))
-      means (function_name line f) d n m rest follows typed housed placed room goes =
+      means (function_name line) d n m rest follows typed housed placed room goes =
           sets d n n 0 m m rest follows (omega arith) (omega (arith, room)) (kept-refl edge d n m) (goes-at d n m rest n (n + 0) follows (omega arith) goes)
+      means (size_of_value line bits e) d n m rest follows typed housed placed room goes =
+          sets d n n bits m m rest follows (omega arith) (omega (arith, room)) (kept-refl edge d n m) (goes-at d n m rest n (n + 0) follows (omega arith) goes)
+      means (size_of_structure line bits a) d n m rest follows typed housed placed room goes =
+          sets d n n bits m m rest follows (omega arith) (omega (arith, room)) (kept-refl edge d n m) (goes-at d n m rest n (n + 0) follows (omega arith) goes)
+      means (address line x) d n m rest follows typed housed placed room goes = absurd (false≢true typed)
+      means (sum line a e i swapped) d n m rest follows typed housed placed room goes = absurd (false≢true typed)
+      means (distance line a b i) d n m rest follows typed housed placed room goes = absurd (false≢true typed)
+      means (relation line op a b) d n m rest follows typed housed placed room goes = absurd (false≢true typed)
+      means (pointer_update line x i e) d n m rest follows typed housed placed room goes = absurd (false≢true typed)
+      means (pointer_step line x i before) d n m rest follows typed housed placed room goes = absurd (false≢true typed)
+      means (allocate line e) d n m rest follows typed housed placed room goes = absurd (false≢true typed)
+      means (allocate_zeroed line a b) d n m rest follows typed housed placed room goes = absurd (false≢true typed)
+      means (release line e) d n m rest follows typed housed placed room goes = absurd (false≢true typed)
+      means (exit line e) d n m rest follows typed housed placed room goes = absurd (false≢true typed)
+      means (abort line) d n m rest follows typed housed placed room goes = absurd (false≢true typed)
 
       -- the arguments of a call are put into blocks from b on
       pub arguments_mean : (args : Arguments) (ps : List PassedType) (d n b : ℕ) (so_far : List (List ℕ)) (m : Memory) (rest : Places) (follows : List (List ℕ) → Variables → Behaviour)
@@ -866,18 +1026,9 @@ module _ (running : Running) (others : List ℕ) (calls : Calls) (hands : Given 
           → is_structure known a ≡ true → Houses d (structure_temporaries a) → Placed d m → edge < into → into < d → to + size_of a ≤ length (block_of m.blocks into)
           → n + structure_registers a ≤ length m.registers → GoesInto d n m rest into to (size_of a) follows
           → begin (on (structure_code (frame d) a n into to) rest) m ≡ eval_structure running meant a (shown m) follows
-      structure_means (copy line v offset size) d n into to m rest follows typed housed placed behind free fits room goes =
-          let variable = variable_below v offset size typed in
-          let value = take size (drop offset (block_of m.blocks v)) in
-          let long : length value ≡ size = part_long offset size (block_of m.blocks v) (variable_room d m placed v offset size typed) in
-          goes (written m into to value) value long (filled-put edge d n into to value m (block_there d m placed into free) (omega (arith, fits, long)))
-          ∙ (λ i. follows (take size (drop offset (shown_block m v variable i))) (shown_other m into to value (omega (arith, behind)) i))
-      structure_means (load line k offset size) d n into to m rest follows typed housed placed behind free fits room goes =
-          same_ask_when running (Read (pointer_to k offset) size) line _ _ (λ a h.
-          let value = bytes_in a in
-          let long : length value ≡ size = read_size (pointer_to k offset) size a h in
-          goes (written m into to value) value long (filled-put edge d n into to value m (block_there d m placed into free) (omega (arith, fits, long)))
-          ∙ (λ i. follows (same_bytes a i) (shown_other m into to value (omega (arith, behind)) i)))
+      structure_means (copy x size) d n into to m rest follows typed housed placed behind free fits room goes =
+          fetching x size d n into to m rest follows typed placed behind free fits goes
+          ∙ sym (located x size (shown m) (λ at after. source.reads running (source.variable_of running x) at size (place_line x) after (λ value. follows value after)) typed)
       structure_means (choose line test a b) d n into to m rest follows typed housed placed behind free fits room goes =
           let first = n + (top test + 1) in
           let second = first + structure_registers a in
@@ -895,24 +1046,11 @@ module _ (running : Running) (others : List ℕ) (calls : Calls) (hands : Given 
           ∙ structure_means a d first into to m1 _ follows (right_of _ _ (left_of _ _ typed)) (housed_left sizes edge d (structure_temporaries a) (structure_temporaries b) ways) (placed_kept d n m m1 placed kept1) behind free (omega (arith, fits, kept_size d n m m1 placed kept1 into)) (omega (arith, room, kept1.room)) (λ m2 value long filled.
           past_all no_code rest m2
           ∙ goes m2 value long (kept-filled edge d n first into to value m m1 m2 (omega arith) (omega (arith, behind)) free kept1 filled))))
-      structure_means (put line v offset a) d n into to m rest follows typed housed placed behind free fits room goes =
-          let variable = variable_below v offset (size_of a) (left_of _ _ typed) in
+      structure_means (put line x a) d n into to m rest follows typed housed placed behind free fits room goes =
           split (structure_code (frame d) a n into to) _ rest m
-          ∙ structure_means a d n into to m _ (λ value after. follows value (put_bytes after v offset value)) (right_of _ _ typed) housed placed behind free fits room (λ m1 value long filled.
-          let new = take (size_of a) (drop to (block_of m1.blocks into)) in
-          let same : new ≡ value = (λ i. take (size_of a) (drop to (filled.filled i))) ∙ taken_back to (size_of a) value (block_of m.blocks into) long (omega (arith, fits)) in
-          let placed1 = placed_filled d n into to value m m1 placed behind filled in
-          let there : offset + length new ≤ length (block_of m1.blocks v) = omega (arith, long, ap length same, variable_room d m1 placed1 v offset (size_of a) (left_of _ _ typed)) in
-          goes (written m1 v offset new) value long (filled-write edge d n into to v offset value new m m1 variable (omega (arith, behind)) there filled)
-          ∙ (λ i. follows value (shown_write m1 v offset new variable i))
-          ∙ (λ i. follows value (put_bytes (shown m1) v offset (same i))))
-      structure_means (store line k offset a) d n into to m rest follows typed housed placed behind free fits room goes =
-          split (structure_code (frame d) a n into to) _ rest m
-          ∙ structure_means a d n into to m _ (λ value after. tells_bytes running k offset value line (follows value after)) (right_of _ _ typed) housed placed behind free fits room (λ m1 value long filled.
-          let new = take (size_of a) (drop to (block_of m1.blocks into)) in
-          let same : new ≡ value = (λ i. take (size_of a) (drop to (filled.filled i))) ∙ taken_back to (size_of a) value (block_of m.blocks into) long (omega (arith, fits)) in
-          (λ i. ask (Write (pointer_to k offset) (same i) false) line running.function (λ done. begin rest m1))
-          ∙ same_ask running (Write (pointer_to k offset) value false) line _ _ (λ i done. goes m1 value long filled i))
+          ∙ structure_means a d n into to m _ (λ value after. source.writes running (source.variable_of running x) (spot x) value line after (follows value)) (right_of _ _ typed) housed placed behind free fits room (λ m1 value long filled.
+          putting line x (size_of a) d n into to value m m1 rest follows (left_of _ _ typed) placed behind free fits long filled goes)
+          ∙ sym (located x (size_of a) (shown m) (λ at after. eval_structure running meant a after (λ value last. source.writes running (source.variable_of running x) at value line last (follows value))) (left_of _ _ typed))
       structure_means (follow line e a) d n into to m rest follows typed housed placed behind free fits room goes =
           split (code (frame d) e n) _ rest m
           ∙ means e d n m _ (λ x after. eval_structure running meant a after follows) (left_of _ _ typed) (housed_left sizes edge d (temporaries e) (structure_temporaries a) housed) placed (omega (arith, room)) (λ m1 kept1.
@@ -977,7 +1115,7 @@ module _ (running : Running) (others : List ℕ) (calls : Calls) (hands : Given 
           let filled : Filled edge (b + 1) n b 0 (zeros size) m1 m2 = filled-put edge (b + 1) n b 0 (zeros size) m1 wide (omega (arith, zeros_length size, room1)) in
           let kept2 : Kept edge d n m m2 = kept-then edge d n n m m1 m2 (omega arith) kept1 (kept_lower b d n m1 m2 (omega arith) (filled-kept edge b n 0 (zeros size) m1 m2 filled)) in
           let same : shown m2 ≡ shown m1 = shown_other m1 b 0 (zeros size) (omega (arith, placed.deep)) in
-          call_does line f used size count d r g values m1 copy_code rest (received_structure running used size line (λ value. follows value (shown m1))) found.1 there many placed.deep placed_deep zero_room room1 (λ given is.
+          call_does line f used size count d r g values m1 copy_code rest (received_structure running used size line (λ value. follows value (shown m1))) found.1 (subst Callable (sym found.2) (test_less size (2 ^ 31) (left_of _ _ (left_of _ _ typed)))) there many placed.deep placed_deep zero_room room1 (λ given is.
           (λ i. begin (on (use_code (frame d) line used r ++ copy_code) rest) (flat.received m2 b r (handed (found.2 i) given)))
           ∙ structure_taken line used size d n into to b r (block_of m1.blocks b) m m2 rest follows given (subst (λ (gives : Option PassedType). IsGiven gives given) found.2 is) placed kept2 (omega arith) (omega (arith, room)) behind free (omega arith)
           (omega (arith, wide, length-set m1.blocks b (put_at 0 (zeros size) (block_of m1.blocks b)))) filled.filled room1 fits goes

@@ -1,22 +1,26 @@
 -- The code of functions does what they mean, however they call one another.
-use Rattle.std.proofs.Common.{◌≡◌, ℕ, zero, suc, ◌+◌, ◌-◌, ◌≤◌, Bool, true, false, take, drop, List, [], ◌∷◌, ◌++◌, length, map, Option, Some, None, refl, sym, ap, ◌∙◌, subst, arith, append_assoc, append-nil, length-append}
-use Rattle.std.specs.Prelude.{◌==◌, ◌&&◌, ◌||◌, not, is_some, slice_get, slice_index, if◌then◌else◌}
+use Rattle.std.proofs.Common.{◌≡◌, ℕ, zero, suc, ◌+◌, ◌-◌, ◌^◌, ◌<◌, ◌≤◌, Bool, true, false, take, drop, List, [], ◌∷◌, ◌++◌, length, map, Option, Some, None, refl, sym, ap, ◌∙◌, subst, arith, append_assoc, append-nil, length-append}
+use Rattle.std.specs.Prelude.{◌==◌, ◌&&◌, ◌||◌, not, is_some, nat_lt, nat_le, slice_get, slice_index, if◌then◌else◌}
+use Rattle.std.specs.Option.{option_and_then}
 use Rattle.std.proofs.lemmas.Bool.{false≢true}
 use Rattle.std.proofs.lemmas.List.{length-replicate, length-map}
 use Rattle.std.proofs.Math.Seq.{get_or-append_seam, take-append_seam}
 use Rattle.c_types.specs.declared.integers.IntegerType.{IntegerType}
 use Rattle.words.specs.declared.check.Class.{Class}
-use Rattle.words.specs.declared.check.Class.TheVariants.{Recursion}
+use Rattle.words.specs.declared.check.Class.TheVariants.{Recursion, Assertion}
 use Rattle.core_tree.specs.declared.functions.PassedType.{PassedType}
 use Rattle.core_tree.specs.Ranges.{Limits}
 use Rattle.std.specs.List.{list_all}
-use Rattle.core_tree.specs.Typed.{is_typed_function, Signature, signature, sizes_in, sizes_of_objects, passed_size, have_parameters, is_typed_body, is_typed_statement}
+use Rattle.core_tree.specs.declared.functions.Variable.{Variable}
+use Rattle.core_tree.specs.Typed.{is_within, is_typed_function, is_home, Signature, Sizes, sizes_in, sizes_of_variables, homes_of, are_small, have_small, sizes_of_objects, passed_size, have_parameters, is_typed_body, is_typed_statement}
 use Rattle.core_tree.specs.Trees.{Statement, Procedure, TypedFile}
 use Rattle.c_values.specs.Variables.{Variables, block_of, put_at, zeros, first_variables}
 use Rattle.actions.specs.Behaviour.{Behaviour}
 use Rattle.actions.specs.declared.action.Next.TheVariants.{Broken, Blocked}
 use Rattle.c_meaning.specs.Meaning as source
-use Rattle.c_meaning.specs.Meaning.{Running, Code, running_at, in_function, exec}
+use Rattle.c_profile.specs.Rules.{functions_breach, body_breach}
+use Rattle.actions.specs.Pointer.{offset_of}
+use Rattle.c_meaning.specs.Meaning.{Running, Code, in_function, exec}
 use Rattle.goto_prog.specs.Meaning.{Memory, Given, at}
 use Rattle.goto_prog.specs.Threads.{Calls, acting, final}
 use Rattle.goto_prog.specs.Nodes.{Nodes, plain, Routine}
@@ -25,13 +29,16 @@ use Rattle.goto_prog.specs.Structured.{Bounded, with_arguments, entry_memory}
 use Rattle.goto_prog.specs.declared.code.Operation.TheVariants as operations
 use Rattle.lowered_code.specs.Lowering.{at_line, ends, no_ways, statement_code}
 use Rattle.c_temporaries.specs.Temporaries.{Temporaries, statement_temporaries}
-use Rattle.lowered_code.specs.Lowered.{given_size, first_frame, undefined_code, defined_code, code_by, function_code, function_codes}
+use Rattle.lowered_code.specs.Lowered.{given_size, first_frame, defined_code, code_by, function_code, function_codes}
+use Rattle.lowered_code.proofs.PlainFiles.{plain_file}
 use Rattle.lowered_code.proofs.RegisterTypes.{left_of, right_of}
+use Rattle.lowered_code.proofs.BlockBytes.{small_offset}
+use Rattle.lowered_code.proofs.Defined.{first_none, second_none, callable_by, callable, defined_only, statement_defined}
 use Rattle.lowered_code.proofs.RegisterCounts.{statement_length}
 use Rattle.lowered_code.proofs.Housing.{housed_body}
 use Rattle.lowered_code.proofs.Placing.{Places, same_final}
-use Rattle.lowered_code.proofs.ExpressionCode.{SourceCalls, IsGiven, handed, AreArguments, Placed, test_equal}
-use Rattle.lowered_code.proofs.StatementCode.{Ready, LeadOut, places_count, statement_means}
+use Rattle.lowered_code.proofs.ExpressionCode.{SourceCalls, Callable, Sound, IsGiven, handed, AreArguments, Placed, test_less, test_most, test_equal}
+use Rattle.lowered_code.proofs.StatementCode.{Ready, LeadOut, leaving_out, places_count, statement_means}
 
 -- ---- the blocks of a function at its start
 
@@ -111,10 +118,10 @@ argument_count_is (p ∷ ps) (v ∷ vs) (b ∷ blocks) (x ∷ values) fits are =
 
 -- ---- lists of functions
 
-signature_of : (procedures : List Procedure) (f : ℕ) (g : Signature) → slice_get (map signature procedures) f ≡ Some g → (p : Procedure) × (slice_get procedures f ≡ Some p) × (signature p ≡ g)
-signature_of [] f g h = absurd (cc)
-signature_of (p ∷ procedures) zero g h = let same : signature p ≡ g = cc in (p, refl, same)
-signature_of (p ∷ procedures) (suc f) g h = signature_of procedures f g h
+found_in : {A B : Type 0} (f : A → B) (xs : List A) (k : ℕ) (y : B) → slice_get (map f xs) k ≡ Some y → (x : A) × (slice_get xs k ≡ Some x) × (f x ≡ y)
+found_in f [] k y h = absurd (cc)
+found_in f (x ∷ xs) zero y h = let same : f x ≡ y = cc in (x, refl, same)
+found_in f (x ∷ xs) (suc k) y h = found_in f xs k y h
 
 pub codes_at : (number : ℕ) (procedures : List Procedure) (k : ℕ) (p : Procedure) → slice_get procedures k ≡ Some p → slice_get (function_codes number procedures) k ≡ Some (function_code (number + k) p)
 codes_at number [] k p h = absurd (cc)
@@ -126,12 +133,32 @@ codes_at number (q ∷ procedures) (suc k) p h =
     let there : number + 1 + k ≡ number + suc k = omega arith in
     codes_at (number + 1) procedures k p h ∙ ap (λ n. Some (function_code n p)) there
 
-typed_at : (file : TypedFile) (procedures : List Procedure) (k : ℕ) (p : Procedure) → list_all (is_typed_function file) procedures ≡ true → slice_get procedures k ≡ Some p → is_typed_function file p ≡ true
-typed_at file [] k p h found = absurd (cc)
-typed_at file (q ∷ procedures) zero p h found =
-    let same : q ≡ p = cc in
-    subst (λ (r : Procedure). is_typed_function file r ≡ true) same (left_of (is_typed_function file q) (list_all (is_typed_function file) procedures) h)
-typed_at file (q ∷ procedures) (suc k) p h found = typed_at file procedures k p (right_of (is_typed_function file q) (list_all (is_typed_function file) procedures) h) found
+-- what holds of each holds of one
+all_at : {A : Type 0} (test : A → Bool) (xs : List A) (k : ℕ) (x : A) → list_all test xs ≡ true → slice_get xs k ≡ Some x → test x ≡ true
+all_at test [] k x h found = absurd (cc)
+all_at test (y ∷ xs) zero x h found = let same : y ≡ x = cc in ap test (sym same) ∙ left_of (test y) (list_all test xs) h
+all_at test (y ∷ xs) (suc k) x h found = all_at test xs k x (right_of (test y) (list_all test xs) h) found
+
+-- no function breaks a rule where none does
+clean_at : (functions procedures : List Procedure) (k : ℕ) (p : Procedure) → functions_breach functions procedures ≡ None → slice_get procedures k ≡ Some p → body_breach functions p.body ≡ None
+clean_at functions [] k p h found = absurd (cc)
+clean_at functions (q ∷ procedures) zero p h found = let same : q ≡ p = cc in subst (λ (r : Procedure). body_breach functions r.body ≡ None) same (second_none _ _ (first_none _ _ h))
+clean_at functions (q ∷ procedures) (suc k) p h found = clean_at functions procedures k p (second_none _ _ h) found
+
+no_home : (sizes : Sizes) (home : Option ℕ) → sizes.pointers ≡ false → is_home sizes home ≡ true → home ≡ None
+no_home sizes None none h = refl
+no_home sizes (Some v) none h = absurd (false≢true (sym none ∙ left_of _ _ (left_of _ _ h)))
+
+-- where no form with a pointer may stand no variable has an address
+homeless_at : (sizes : Sizes) (vs : List Variable) (v : ℕ) → sizes.pointers ≡ false → list_all (is_home sizes) (homes_of vs) ≡ true → option_and_then (λ (x : Variable). x.home) (slice_get vs v) ≡ None
+homeless_at sizes [] v none h = refl
+homeless_at sizes (x ∷ vs) zero none h = no_home sizes x.home none (left_of (is_home sizes x.home) (list_all (is_home sizes) (homes_of vs)) h)
+homeless_at sizes (x ∷ vs) (suc v) none h = homeless_at sizes vs v none (right_of (is_home sizes x.home) (list_all (is_home sizes) (homes_of vs)) h)
+
+small_at : (vs : List Variable) (v : ℕ) → are_small vs ≡ true → v < length (sizes_of_variables vs) → slice_index (sizes_of_variables vs) v < 2 ^ 31
+small_at [] v h lt = absurd (omega (arith, lt))
+small_at (x ∷ vs) zero h lt = test_less x.size (2 ^ 31) (left_of (nat_lt x.size (2 ^ 31)) (are_small vs) h)
+small_at (x ∷ vs) (suc v) h lt = small_at vs v (right_of (nat_lt x.size (2 ^ 31)) (are_small vs) h) (omega (arith, lt))
 
 zero_register : (ts : List IntegerType) → slice_index (map (λ t. 0) ts) 0 ≡ 0
 zero_register [] = refl
@@ -148,32 +175,57 @@ parameters_or false false h k = absurd (false≢true k)
 
 -- ---- functions
 
--- over a file that is typed, the bounds, and how many times tests may be evaluated
-module _ (file : TypedFile) (limits : Limits) (all_typed : list_all (is_typed_function file) file.functions ≡ true)
+-- over a file that is typed and breaks no rule, the bounds, and how many times tests may be evaluated
+module _ (file : TypedFile) (limits : Limits) (all_typed : list_all (is_typed_function (plain_file file)) file.functions ≡ true)
+    (all_clean : functions_breach file.functions file.functions ≡ None) (all_small : have_small file.functions ≡ true)
     (tests_of : (function loop : ℕ) → ℕ) (tests_same : (f l : ℕ) → flat.tests (record { strict = true; functions = function_codes 0 file.functions; limits = limits }) f l ≡ tests_of f l) where
   abbrev pub bounded : Bounded
   bounded = record { strict = true; functions = function_codes 0 file.functions; limits = limits }
 
   abbrev pub meaning : Code
-  meaning = record { functions = file.functions; tests = tests_of; assertions = limits.assertions }
+  meaning = record {
+    functions = file.functions;
+    tests = tests_of;
+    assertions = limits.assertions;
+    literals = length file.objects + 1;
+    malloc_limit = limits.malloc_limit;
+    malloc_may_fail = limits.malloc_may_fail;
+  }
 
   abbrev signatures : List Signature
-  signatures = map signature file.functions
+  signatures = map callable file.functions
 
   -- calls agree where so much fuel is left
   abbrev CallsAgree : ℕ → Type 0
   CallsAgree fuel =
       (left : List ℕ) (caller f line : ℕ) (g : Signature) (blocks values : List (List ℕ)) (x : Given → Behaviour) (y : source.Given → Behaviour)
-      → slice_get signatures f ≡ Some g → AreArguments g.parameters blocks values
+      → slice_get signatures f ≡ Some g → Callable g.gives → AreArguments g.parameters blocks values
       → ((given : source.Given) → IsGiven g.gives given → x (handed g.gives given) ≡ y given)
       → flat.activation bounded fuel left caller f line blocks x ≡ source.activation meaning fuel left caller f line values y
 
+  abbrev typed_body : Procedure → Statement → Type 0
+  typed_body p s = is_typed_statement (defined_only file.functions (sizes_of_variables p.variables) (homes_of p.variables) (sizes_of_objects file.objects) (length file.literals) p.gives) s ≡ true
+
   -- a function that is defined
   module _ (fuel : ℕ) (agrees : CallsAgree fuel) (left : List ℕ) (f : ℕ) (p : Procedure) (s : Statement) (blocks values : List (List ℕ)) (x : Given → Behaviour) (y : source.Given → Behaviour)
-      (fits : have_parameters p.variables p.parameters ≡ true) (typed : is_typed_statement (sizes_in file p) s ≡ true) (are : AreArguments p.parameters blocks values)
+      (fits : have_parameters (sizes_of_variables p.variables) p.parameters ≡ true) (homeless : (v : ℕ) → option_and_then (λ (u : Variable). u.home) (slice_get p.variables v) ≡ None) (small : are_small p.variables ≡ true)
+      (typed : typed_body p s) (are : AreArguments p.parameters blocks values)
       (follows : (given : source.Given) → IsGiven p.gives given → x (handed p.gives given) ≡ y given) where
     abbrev running : Running
-    running = running_at meaning f p
+    running = record {
+      function = f;
+      line = p.line;
+      variables = p.variables;
+      tests = tests_of f;
+      assertions = limits.assertions;
+      literals = length file.objects + 1;
+      malloc_limit = limits.malloc_limit;
+      malloc_may_fail = limits.malloc_may_fail;
+    }
+
+    -- the sizes of the variables
+    abbrev own : List ℕ
+    own = sizes_of_variables p.variables
 
     abbrev needed : Temporaries
     needed = statement_temporaries s
@@ -191,7 +243,7 @@ module _ (file : TypedFile) (limits : Limits) (all_typed : list_all (is_typed_fu
     routine = defined_code f p s
 
     abbrev depth : ℕ
-    depth = length p.variables + 2
+    depth = length own + 2
 
     abbrev total : ℕ
     total = length routine.registers
@@ -203,106 +255,153 @@ module _ (file : TypedFile) (limits : Limits) (all_typed : list_all (is_typed_fu
     later = (λ last. x None) ∷ []
 
     abbrev rest : Nodes
-    rest = plain (at_line (first_frame f p.variables) p.line (operations.Return None)) (plain (at_line (first_frame f p.variables) p.line (operations.Assume 0)) ends)
+    rest = plain (at_line (first_frame f own) p.line (operations.Return None)) (plain (at_line (first_frame f own) p.line (operations.Assert 0)) ends)
 
-    blocks_are : start.blocks ≡ with_arguments p.variables blocks ++ first_variables others
-    blocks_are = arguments_front p.variables others blocks (argument_count_is p.parameters p.variables blocks values fits are)
+    blocks_are : start.blocks ≡ with_arguments own blocks ++ first_variables others
+    blocks_are = arguments_front own others blocks (argument_count_is p.parameters own blocks values fits are)
 
-    front_length : length (with_arguments p.variables blocks) ≡ length p.variables
-    front_length = sym (length-map (with_arguments p.variables blocks) length) ∙ ap length (argument_sizes_are p.variables blocks)
+    front_length : length (with_arguments own blocks) ≡ length own
+    front_length = sym (length-map (with_arguments own blocks) length) ∙ ap length (argument_sizes_are own blocks)
 
-    long : length (p.variables ++ others) ≡ length p.variables + length others
-    long = length-append p.variables others
+    long : length (own ++ others) ≡ length own + length others
+    long = length-append own others
 
     placed : Placed running others calls x meant depth start
     placed = record {
       deep = omega arith;
       within = omega (arith, long);
-      sized = argument_sizes_are (p.variables ++ others) blocks;
-      clean = (λ i. block_of (blocks_are i) (sym front_length i)) ∙ get_or-append_seam (with_arguments p.variables blocks) (zeros needed.zeros) (first_variables (given_size p.gives ∷ needed.sizes)) []
-          ∙ sym (ap zeros (get_or-append_seam p.variables needed.zeros (given_size p.gives ∷ needed.sizes) 0));
+      sized = argument_sizes_are (own ++ others) blocks;
+      clean = (λ i. block_of (blocks_are i) (sym front_length i)) ∙ get_or-append_seam (with_arguments own blocks) (zeros needed.zeros) (first_variables (given_size p.gives ∷ needed.sizes)) []
+          ∙ sym (ap zeros (get_or-append_seam own needed.zeros (given_size p.gives ∷ needed.sizes) 0));
     }
 
     signature_agrees : (g : ℕ) (line : ℕ) (k : Signature) (bs vs : List (List ℕ)) (u : Given → Behaviour) (v : source.Given → Behaviour)
-        → slice_get signatures g ≡ Some k → AreArguments k.parameters bs vs → ((given : source.Given) → IsGiven k.gives given → u (handed k.gives given) ≡ v given)
+        → slice_get signatures g ≡ Some k → Callable k.gives → AreArguments k.parameters bs vs → ((given : source.Given) → IsGiven k.gives given → u (handed k.gives given) ≡ v given)
         → calls f g line bs u ≡ meant g line vs v
-    signature_agrees g line k bs vs u v found fit same = agrees left f g line k bs vs u v found fit same
+    signature_agrees g line k bs vs u v found can fit same = agrees left f g line k bs vs u v found can fit same
 
-    out : LeadOut running others (sizes_of_objects file.objects) signatures p.gives calls x meant signature_agrees (function_codes 0 file.functions) limits depth total no_ways (in_function y) (flat.nodes_before bounded (acting calls x) rest later)
+    small_within : (v offset count : ℕ) → is_within own v offset count ≡ true → offset_of offset ≡ offset
+    small_within v offset count within =
+        let there = test_less v (length own) (left_of (nat_lt v (length own)) (nat_le (offset + count) (slice_index own v)) within) in
+        let most = test_most (offset + count) (slice_index own v) (right_of (nat_lt v (length own)) (nat_le (offset + count) (slice_index own v)) within) in
+        let few : slice_index own v < 2 ^ 31 = small_at p.variables v small there in
+        small_offset offset (omega (arith, most, few))
+
+    sound : Sound running others calls x meant signatures
+    sound = record { agree = signature_agrees; homeless = homeless; small = small_within }
+
+    out : LeadOut running others (sizes_of_objects file.objects) signatures p.gives calls x meant sound (function_codes 0 file.functions) limits depth total no_ways (in_function p.line f y) (flat.nodes_before bounded (acting calls x) rest later)
     out = record {
-      breaks = blocked;
-      continues = blocked;
-      labels = λ l. blocked;
-      returns = follows;
+      breaks = broken;
+      continues = broken;
+      labels = λ l. broken;
+      returns = λ given is vs. follows given is;
     }
       where
         places : Places
         places = flat.nodes_before bounded (acting calls x) rest later
 
         three : length places ≡ 3
-        three = places_count running others (sizes_of_objects file.objects) signatures p.gives calls x meant signature_agrees (function_codes 0 file.functions) limits depth total rest later
+        three = places_count running others (sizes_of_objects file.objects) signatures p.gives calls x meant sound (function_codes 0 file.functions) limits depth total rest later
 
-        blocked : (2 ≤ length places) × ((m : Memory) → Ready running others (sizes_of_objects file.objects) signatures p.gives calls x meant signature_agrees (function_codes 0 file.functions) limits depth total m → at (acting calls x) places (length places - 2) m ≡ source.final Blocked)
-        blocked = (
+        broken : (2 ≤ length places) × ((m : Memory) → Ready running others (sizes_of_objects file.objects) signatures p.gives calls x meant sound (function_codes 0 file.functions) limits depth total m → at (acting calls x) places (length places - 2) m ≡ source.final (Broken Assertion p.line f))
+        broken = (
           omega (arith, three),
           λ m ready.
               (let one : length places - 2 ≡ 1 = omega (arith, three) in ap (λ n. at (acting calls x) places n m) one)
-              ∙ (λ i. if ready.zero_there i == 0 then final Blocked else x None)
-              ∙ same_final Blocked,
+              ∙ (λ i. if ready.zero_there i == 0 then final (Broken Assertion p.line f) else x None)
+              ∙ same_final (Broken Assertion p.line f),
         )
 
-    ready : Ready running others (sizes_of_objects file.objects) signatures p.gives calls x meant signature_agrees (function_codes 0 file.functions) limits depth total start
+    ready : Ready running others (sizes_of_objects file.objects) signatures p.gives calls x meant sound (function_codes 0 file.functions) limits depth total start
     ready = record { placed = placed; zero_there = zero_register routine.registers; room = length-map {B = ℕ} routine.registers (λ t. 0) }
 
-    result_size : slice_index (p.variables ++ others) (length p.variables + 1) ≡ given_size p.gives
+    result_size : slice_index (own ++ others) (length own + 1) ≡ given_size p.gives
     result_size =
-        let front = p.variables ++ needed.zeros ∷ [] in
-        let at_end : length front ≡ length p.variables + 1 = length-append p.variables (needed.zeros ∷ []) in
-        (λ i. slice_index (sym (append_assoc p.variables (needed.zeros ∷ []) (given_size p.gives ∷ needed.sizes)) i) (sym at_end i))
+        let front = own ++ needed.zeros ∷ [] in
+        let at_end : length front ≡ length own + 1 = length-append own (needed.zeros ∷ []) in
+        (λ i. slice_index (sym (append_assoc own (needed.zeros ∷ []) (given_size p.gives ∷ needed.sizes)) i) (sym at_end i))
         ∙ get_or-append_seam front (given_size p.gives) needed.sizes 0
 
-    shown_start : take (length p.variables) start.blocks ≡ source.frame running values
+    shown_start : take (length own) start.blocks ≡ source.frame running values
     shown_start =
-        let front = with_arguments p.variables blocks in
-        (λ i. take (length p.variables) (blocks_are i))
+        let front = with_arguments own blocks in
+        (λ i. take (length own) (blocks_are i))
         ∙ (λ i. take (sym front_length i) (front ++ first_variables others))
         ∙ take-append_seam front (first_variables others)
-        ∙ arguments_are p.variables p.parameters blocks values fits are
+        ∙ arguments_are own p.parameters blocks values fits are
 
-    defined_means : at (acting calls x) (flat.nodes_before bounded (acting calls x) routine.nodes later) 0 start ≡ exec running meant s (in_function y) (source.frame running values) (λ vs. y source.nothing)
+    -- no object of a parameter is made, and none dies
+    parameters_entered : (count v : ℕ) (vs : Variables) (g : Variables → Behaviour) → source.enter_parameters running count v vs g ≡ g vs
+    parameters_entered zero v vs g = refl
+    parameters_entered (suc count) v vs g =
+        (λ i. source.places running (homeless v i) p.line v vs (λ after. source.enter_parameters running count (suc v) after g)) ∙ parameters_entered count (suc v) vs g
+
+    parameters_left : (count v : ℕ) (vs : Variables) (b : Behaviour) → source.leave_parameters running count v vs b ≡ b
+    parameters_left zero v vs b = refl
+    parameters_left (suc count) v vs b =
+        parameters_left count (suc v) vs (source.dies running (source.home_of running v) p.line vs b) ∙ (λ i. source.dies running (homeless v i) p.line vs b)
+
+    body_same : source.exec_body running meant s values y ≡ exec running meant s (in_function p.line f y) (source.frame running values) (λ vs. y source.nothing)
+    body_same =
+        let count = length values in
+        let out = source.leave_parameters running count 0 in
+        parameters_entered count 0 (source.frame running values) (λ vs. exec running meant s (source.leaving out (in_function p.line f y)) vs (λ last. out last (y source.nothing)))
+        ∙ (λ i. exec running meant s (leaving_out out (parameters_left count 0) (in_function p.line f y) i) (source.frame running values) (λ last. parameters_left count 0 last (y source.nothing) i))
+
+    defined_means : at (acting calls x) (flat.nodes_before bounded (acting calls x) routine.nodes later) 0 start ≡ source.exec_body running meant s values y
     defined_means =
         let one : 1 ≡ length later = omega arith in
-        (λ i. at (acting calls x) (flat.nodes_before bounded (acting calls x) (statement_code (first_frame f p.variables) p.variables (one i) no_ways s 1 rest) later) 0 start)
-        ∙ statement_means running others (sizes_of_objects file.objects) signatures p.gives calls x meant signature_agrees (function_codes 0 file.functions) limits depth total (tests_same f) refl result_size
-        s no_ways (in_function y) 1 rest later (λ vs. y source.nothing) typed (housed_body p.variables (given_size p.gives) needed) (omega arith) (omega (arith, statement_length p.variables s)) out (λ m ready'. follows source.nothing tt) start ready
-        ∙ (λ i. exec running meant s (in_function y) (shown_start i) (λ vs. y source.nothing))
+        (λ i. at (acting calls x) (flat.nodes_before bounded (acting calls x) (statement_code (first_frame f own) own (one i) no_ways s 1 rest) later) 0 start)
+        ∙ statement_means running others (sizes_of_objects file.objects) signatures p.gives calls x meant sound (function_codes 0 file.functions) limits depth total (tests_same f) refl result_size
+        s no_ways (in_function p.line f y) 1 rest later (λ vs. y source.nothing) typed (housed_body own (given_size p.gives) needed) (omega arith) (omega (arith, statement_length own s)) out (λ m ready'. follows source.nothing tt) start ready
+        ∙ (λ i. exec running meant s (in_function p.line f y) (shown_start i) (λ vs. y source.nothing))
+        ∙ sym body_same
 
   choose_same : (b : Bool) (u v u' v' : Behaviour) → u ≡ u' → v ≡ v' → (if b then u else v) ≡ (if b then u' else v')
   choose_same true u v u' v' first second = first
   choose_same false u v u' v' first second = second
 
   -- a function's code and its body
-  enters_same : (fuel : ℕ) → CallsAgree fuel → (left : List ℕ) (f : ℕ) (p : Procedure) (body : Option Statement) (blocks values : List (List ℕ)) (x : Given → Behaviour) (y : source.Given → Behaviour)
-      → ((have_parameters p.variables p.parameters || not (is_some body)) && is_typed_body (sizes_in file p) body) ≡ true → AreArguments p.parameters blocks values
-      → ((given : source.Given) → IsGiven p.gives given → x (handed p.gives given) ≡ y given)
-      → flat.enters bounded (Some (code_by f p body)) (flat.activation bounded fuel left) blocks x ≡ source.exec_body (running_at meaning f p) (source.activation meaning fuel left f) body values y
-  enters_same fuel agrees left f p None blocks values x y typed are follows =
-      (λ i. if zero_register (undefined_code f p).registers i == 0 then final Blocked else x None) ∙ same_final Blocked
-  enters_same fuel agrees left f p (Some s) blocks values x y typed are follows =
-      defined_means fuel agrees left f p s blocks values x y (parameters_or (have_parameters p.variables p.parameters) true (left_of _ _ typed) refl) (right_of _ _ typed) are follows
+  enters_same : (fuel : ℕ) → CallsAgree fuel → (left : List ℕ) (caller line f : ℕ) (p : Procedure) (body : Option Statement) (blocks values : List (List ℕ)) (x : Given → Behaviour) (y : source.Given → Behaviour)
+      → slice_get file.functions f ≡ Some p
+      → ((have_parameters (sizes_of_variables p.variables) p.parameters || not (is_some body)) && list_all (is_home (sizes_in (plain_file file) p)) (homes_of p.variables) && is_typed_body (sizes_in (plain_file file) p) body) ≡ true
+      → body_breach file.functions body ≡ None → are_small p.variables ≡ true
+      → Callable (callable_by body p).gives → AreArguments (callable_by body p).parameters blocks values
+      → ((given : source.Given) → IsGiven (callable_by body p).gives given → x (handed (callable_by body p).gives given) ≡ y given)
+      → flat.enters bounded (Some (code_by f p body)) (flat.activation bounded fuel left) blocks x ≡ source.enters meaning caller line f body (source.activation meaning fuel left f) values y
+  enters_same fuel agrees left caller line f p None blocks values x y found typed clean small can are follows = absurd (omega (arith, can))
+  enters_same fuel agrees left caller line f p (Some s) blocks values x y found typed clean small can are follows =
+      let parameters = left_of (have_parameters (sizes_of_variables p.variables) p.parameters || not true) (list_all (is_home (sizes_in (plain_file file) p)) (homes_of p.variables)) (left_of _ (is_typed_statement (sizes_in (plain_file file) p) s) typed) in
+      let homes = right_of (have_parameters (sizes_of_variables p.variables) p.parameters || not true) (list_all (is_home (sizes_in (plain_file file) p)) (homes_of p.variables)) (left_of _ (is_typed_statement (sizes_in (plain_file file) p) s) typed) in
+      let calls_typed : typed_body p s =
+      statement_defined file.functions (sizes_of_variables p.variables) (homes_of p.variables) (sizes_of_objects file.objects) (length file.literals) p.gives s [] (right_of _ (is_typed_statement (sizes_in (plain_file file) p) s) typed) clean in
+      defined_means fuel agrees left f p s blocks values x y (parameters_or (have_parameters (sizes_of_variables p.variables) p.parameters) true parameters refl) (λ v. homeless_at (sizes_in (plain_file file) p) p.variables v refl homes) small calls_typed are follows
+      ∙ sym (λ i. source.exec_body (record {
+        function = f;
+        line = source.line_of (found i);
+        variables = source.variables_of (found i);
+        tests = tests_of f;
+        assertions = limits.assertions;
+        literals = length file.objects + 1;
+        malloc_limit = limits.malloc_limit;
+        malloc_may_fail = limits.malloc_may_fail;
+      }) (source.activation meaning fuel left f) s values y)
 
   -- calls of code do what calls mean
   pub calls_agree : (fuel : ℕ) → CallsAgree fuel
-  calls_agree zero left caller f line g blocks values x y found fit same = passed_same limits.assertions Recursion line caller
-  calls_agree (suc fuel) left caller f line g blocks values x y found fit same =
-      let there = signature_of file.functions f g found in
+  calls_agree zero left caller f line g blocks values x y found can fit same = passed_same limits.assertions Recursion line caller
+  calls_agree (suc fuel) left caller f line g blocks values x y found can fit same =
+      let there = found_in callable file.functions f g found in
       let p = there.0 in
       let here : 0 + f ≡ f = omega arith in
       let got : slice_get (function_codes 0 file.functions) f ≡ Some (function_code f p) = codes_at 0 file.functions f p there.1 ∙ ap (λ n. Some (function_code n p)) here in
-      let are : AreArguments p.parameters blocks values = subst (λ (k : Signature). AreArguments k.parameters blocks values) (sym there.2) fit in
-      let follows : (given : source.Given) → IsGiven p.gives given → x (handed p.gives given) ≡ y given =
+      let can_be : Callable (callable p).gives = subst (λ (k : Signature). Callable k.gives) (sym there.2) can in
+      let are : AreArguments (callable p).parameters blocks values = subst (λ (k : Signature). AreArguments k.parameters blocks values) (sym there.2) fit in
+      let follows : (given : source.Given) → IsGiven (callable p).gives given → x (handed (callable p).gives given) ≡ y given =
       subst (λ (k : Signature). (given : source.Given) → IsGiven k.gives given → x (handed k.gives given) ≡ y given) (sym there.2) same in
       choose_same (slice_index left f == 0) _ _ _ _ (passed_same limits.assertions Recursion line caller)
       ((λ i. flat.enters bounded (got i) (flat.activation bounded fuel (flat.opened left f)) blocks x)
-      ∙ enters_same fuel (calls_agree fuel) (flat.opened left f) f p p.body blocks values x y (typed_at file file.functions f p all_typed there.1) are follows
-      ∙ sym (λ i. source.enters meaning f (there.1 i) (source.activation meaning fuel (source.opened left f) f) values y))
+      ∙ enters_same fuel (calls_agree fuel) (flat.opened left f) caller line f p p.body blocks values x y there.1 (all_at (is_typed_function (plain_file file)) file.functions f p all_typed there.1) (clean_at file.functions file.functions f p all_clean there.1)
+      (all_at (λ (q : Procedure). are_small q.variables) file.functions f p all_small there.1) can_be are follows
+      ∙ sym (λ i. source.enters meaning caller line f (source.body_of (there.1 i)) (source.activation meaning fuel (source.opened left f) f) values y))

@@ -1,3 +1,4 @@
+pub mod PlainFiles
 pub mod RegisterCounts
 pub mod BlockBytes
 pub mod Housing
@@ -5,6 +6,7 @@ pub mod Placing
 pub mod RegisterTypes
 pub mod ExpressionCode
 pub mod StatementCode
+pub mod Defined
 pub mod FunctionCode
 pub mod SameThread
 pub mod CodeFits

@@ -2,7 +2,7 @@
 use Rattle.std.proofs.Common.{◌≡◌, ℕ, ◌+◌, Bool, true, List, [], ◌∷◌, ◌++◌, length, Option, Some, None, refl, arith, length-append}
 use Rattle.std.proofs.lemmas.List.{length-replicate}
 use Rattle.c_types.specs.declared.integers.IntegerType.TheVariants.{Int, UnsignedLong}
-use Rattle.core_tree.specs.Trees.{Expression, constant, read, convert, sign, is_zero, arithmetic, compare, logical, choice, assign, update, step, comma, assertion, assumption, draw, part, discard, discard_structure, call, function_name, Structure, copy, load, choose, put, store, follow, section, list, string, give, Parts, no_part, number_part, structure_part, Arguments, no_argument, number_argument, structure_argument, Statement, block, if_then, if_else, evaluate, returns, returns_structure, returns_nothing, for_loop, do_loop, switch, breaks, continues, jumps, stray, Items, done, declares, initializes, initializes_structure, does, label, case_at, default_at}
+use Rattle.core_tree.specs.Trees.{Expression, constant, read, convert, sign, is_zero, arithmetic, compare, logical, choice, assign, update, step, comma, assertion, assumption, draw, part, discard, discard_structure, call, function_name, size_of_value, size_of_structure, address, sum, distance, relation, pointer_update, pointer_step, allocate, allocate_zeroed, release, exit, abort, Structure, copy, choose, put, follow, section, list, string, give, Parts, no_part, number_part, structure_part, Arguments, no_argument, number_argument, structure_argument, Statement, block, if_then, if_else, evaluate, returns, returns_structure, returns_nothing, for_loop, do_loop, switch, breaks, continues, jumps, stray, Items, done, declares, initializes, initializes_structure, does, label, case_at, default_at}
 use Rattle.c_meaning.specs.Meaning.{integer_of, number_type}
 use Rattle.c_meaning.specs.Meaning.{number_type}
 use Rattle.lowered_code.specs.Lowering.{top, structure_registers, parts_registers, arguments_registers, first_registers, entry_registers, part_registers, case_registers, statement_registers, items_registers}
@@ -11,7 +11,7 @@ use Rattle.lowered_code.specs.Registers.{update_types, types, structure_types, p
 mutual
   pub types_length : (e : Expression) → length (types e) ≡ top e + 1
   types_length (constant line t bits) = refl
-  types_length (read p) = refl
+  types_length (read t x) = refl
   types_length (convert to e) = omega (arith, length-append (types e) (to ∷ []), types_length e)
   types_length (sign line op e) = omega (arith, length-append (types e) (number_type e ∷ []), types_length e)
   types_length (is_zero line e) = omega (arith, length-append (types e) (Int ∷ []), types_length e)
@@ -20,9 +20,9 @@ mutual
   types_length (logical line op a b) = omega (arith, length-append (types a) (types b ++ Int ∷ Int ∷ []), length-append (types b) (Int ∷ Int ∷ []), types_length a, types_length b)
   types_length (choice line test a b) =
       omega (arith, length-append (types test) (types a ++ (types b ++ number_type a ∷ [])), length-append (types a) (types b ++ number_type a ∷ []), length-append (types b) (number_type a ∷ []), types_length test, types_length a, types_length b)
-  types_length (assign line p e) = types_length e
-  types_length (update line p op t e) = omega (arith, length-append (types e) (update_types p t), types_length e)
-  types_length (step line p op before) = refl
+  types_length (assign line t x e) = types_length e
+  types_length (update line t x op u e) = omega (arith, length-append (types e) (update_types t u), types_length e)
+  types_length (step line t x op before) = refl
   types_length (comma line a b) = omega (arith, length-append (types a) (types b), types_length a, types_length b)
   types_length (assertion line e) = omega (arith, length-append (types e) (Int ∷ []), types_length e)
   types_length (assumption line e) = omega (arith, length-append (types e) (Int ∷ []), types_length e)
@@ -31,14 +31,25 @@ mutual
   types_length (discard line e) = omega (arith, length-append (types e) (Int ∷ []), types_length e)
   types_length (discard_structure a) = omega (arith, length-append (structure_types a) (Int ∷ []), structure_length a)
   types_length (call line f used t args) = omega (arith, length-append (arguments_types args) (Int ∷ integer_of t ∷ []), arguments_length args)
-  types_length (function_name line f) = refl
+  types_length (function_name line) = refl
+  types_length (size_of_value line bits e) = refl
+  types_length (size_of_structure line bits a) = refl
+  types_length (address line x) = refl
+  types_length (sum line a e i swapped) = refl
+  types_length (distance line a b i) = refl
+  types_length (relation line op a b) = refl
+  types_length (pointer_update line x i e) = refl
+  types_length (pointer_step line x i before) = refl
+  types_length (allocate line e) = refl
+  types_length (allocate_zeroed line a b) = refl
+  types_length (release line e) = refl
+  types_length (exit line e) = refl
+  types_length (abort line) = refl
 
   pub structure_length : (a : Structure) → length (structure_types a) ≡ structure_registers a
-  structure_length (copy line v offset size) = refl
-  structure_length (load line k offset size) = refl
+  structure_length (copy x size) = refl
   structure_length (choose line test a b) = omega (arith, length-append (types test) (structure_types a ++ structure_types b), length-append (structure_types a) (structure_types b), types_length test, structure_length a, structure_length b)
-  structure_length (put line v offset a) = structure_length a
-  structure_length (store line k offset a) = structure_length a
+  structure_length (put line x a) = structure_length a
   structure_length (follow line e a) = omega (arith, length-append (types e) (structure_types a), types_length e, structure_length a)
   structure_length (section line offset size a) = structure_length a
   structure_length (list line size ps) = parts_length ps

@@ -10,12 +10,12 @@ use Rattle.core_tree.specs.declared.functions.PassedType.{PassedType}
 use Rattle.core_tree.specs.declared.functions.PassedType.TheVariants as passed_types
 use Rattle.core_tree.specs.Ranges.{Limits, LoopLimit}
 use Rattle.core_tree.specs.Trees.{Statement, Procedure, TypedFile}
-use Rattle.core_tree.specs.Typed.{signature, same_given, is_static, is_typed_function, are_typed}
+use Rattle.core_tree.specs.Typed.{signature, same_given, are_static, is_typed_function, are_typed, have_small}
 use Rattle.actions.specs.Behaviour.{word_64, shape_of, has_shape}
 use Rattle.actions.specs.declared.action.Action.TheVariants.{Exit}
 use Rattle.actions.specs.declared.action.Answer.{Answer}
 use Rattle.actions.specs.declared.action.Next.TheVariants.{Ended, Blocked}
-use Rattle.c_profile.specs.Rules.{Breach, breach, earlier, is_main, is_int_without_parameters, definition_breach, main_breach, functions_breach, objects_breach, first_breach}
+use Rattle.c_profile.specs.Rules.{breach, earlier, is_main, is_int_without_parameters, definition_breach, main_breach, functions_breach, objects_breach, first_breach}
 use Rattle.c_meaning.specs.Meaning as source
 use Rattle.c_meaning.specs.Source as source_threads
 use Rattle.c_meaning.specs.Source.{code_of, main_number, source_thread}
@@ -24,9 +24,11 @@ use Rattle.goto_prog.specs.Same.{DoSame}
 use Rattle.goto_prog.specs.Structured as flat
 use Rattle.goto_prog.specs.Structured.{Bounded, can_start}
 use Rattle.lowered_code.specs.Lowered.{code_by, function_code, function_codes}
+use Rattle.lowered_code.proofs.PlainFiles.{plain_file, is_plain}
 use Rattle.lowered_code.proofs.RegisterTypes.{left_of, right_of}
 use Rattle.lowered_code.proofs.Placing.{same_final}
-use Rattle.lowered_code.proofs.ExpressionCode.{handed, AreArguments}
+use Rattle.lowered_code.proofs.ExpressionCode.{Callable, handed, AreArguments, same_passing}
+use Rattle.lowered_code.proofs.Defined.{first_none, second_none, callable, callable_is}
 use Rattle.lowered_code.proofs.FunctionCode.{codes_at, calls_agree}
 
 -- ---- the codes of functions
@@ -60,9 +62,9 @@ never_startable number (f ∷ functions) (suc k) = never_startable (number + 1) 
 never_less : (k : ℕ) → nat_lt k 0 ≡ false
 never_less k = grind (arith, nat_tests)
 
-signature_at : (functions : List Procedure) (k : ℕ) (p : Procedure) → slice_get functions k ≡ Some p → slice_get (map signature functions) k ≡ Some (signature p)
+signature_at : (functions : List Procedure) (k : ℕ) (p : Procedure) → slice_get functions k ≡ Some p → slice_get (map callable functions) k ≡ Some (callable p)
 signature_at [] k p found = absurd (cc)
-signature_at (f ∷ functions) zero p found = let same : f ≡ p = cc in ap (λ q. Some (signature q)) same
+signature_at (f ∷ functions) zero p found = let same : f ≡ p = cc in ap (λ q. Some (callable q)) same
 signature_at (f ∷ functions) (suc k) p found = signature_at functions k p found
 
 -- ---- bounds
@@ -80,15 +82,15 @@ total_is (suc n) k = ap (λ rest. k + rest) (total_is n k) ∙ sum
 
 -- ---- the function named main
 
-first_none : (a b : Option Breach) → earlier a b ≡ None → a ≡ None
-first_none None b h = refl
-first_none (Some a) None h = absurd (cc)
-first_none (Some a) (Some b) h = absurd (cc)
+pub record IsMain (p : Procedure) : Type 0 where
+  pub body : is_some p.body ≡ true
+  pub gives : p.gives ≡ Some (passed_types.Integer Int)
+  pub parameters : p.parameters ≡ []
 
 pub record Main (functions : List Procedure) : Type 0 where
   pub procedure : Procedure
   pub there : slice_get functions (main_number functions) ≡ Some procedure
-  pub parameters : procedure.parameters ≡ []
+  pub defined : IsMain procedure
 
 no_parameters : (ps : List PassedType) → (length ps == 0) ≡ true → ps ≡ []
 no_parameters [] h = refl
@@ -97,29 +99,35 @@ no_parameters (p ∷ ps) h = absurd (omega (arith, none (length (p ∷ ps)) h))
     none : (n : ℕ) → (n == 0) ≡ true → n ≡ 0
     none n h = grind (arith, nat_tests)
 
-defined : (f : Procedure) → definition_breach f ≡ None → f.parameters ≡ []
-defined f h = by_body (is_some f.body) (is_int_without_parameters f) refl h
+is_defined_main : (f : Procedure) → definition_breach f ≡ None → IsMain f
+is_defined_main f h = by_body (is_some f.body) (is_int_without_parameters f) refl refl h
   where
-    by_body : (z w : Bool) → w ≡ is_int_without_parameters f → (if z then (if w then None else Some (breach f.line 1)) else Some (breach 1 1)) ≡ None → f.parameters ≡ []
-    by_body true true same h = no_parameters f.parameters (right_of (same_given f.gives (Some (passed_types.Integer Int))) (length f.parameters == 0) (left_of (same_given f.gives (Some (passed_types.Integer Int)) && (length f.parameters == 0)) (is_none f.ellipsis) (sym same)))
-    by_body true false same h = absurd (cc)
-    by_body false w same h = absurd (cc)
+    by_body : (z w : Bool) → z ≡ is_some f.body → w ≡ is_int_without_parameters f → (if z then (if w then None else Some (breach f.line 1)) else Some (breach 1 1)) ≡ None → IsMain f
+    by_body true true has same h =
+        let both = left_of (same_given f.gives (Some (passed_types.Integer Int)) && (length f.parameters == 0)) (is_none f.ellipsis) (sym same) in
+        record {
+          body = sym has;
+          gives = same_passing f.gives (Some (passed_types.Integer Int)) (left_of (same_given f.gives (Some (passed_types.Integer Int))) (length f.parameters == 0) both);
+          parameters = no_parameters f.parameters (right_of (same_given f.gives (Some (passed_types.Integer Int))) (length f.parameters == 0) both);
+        }
+    by_body true false has same h = absurd (cc)
+    by_body false w has same h = absurd (cc)
 
 by_name : (f : Procedure) (functions : List Procedure) (z : Bool) → (if z then definition_breach f else main_breach functions) ≡ None
-    → (main_breach functions ≡ None → Main functions) → (p : Procedure) × (slice_get (f ∷ functions) (if z then 0 else main_number functions + 1) ≡ Some p) × (p.parameters ≡ [])
-by_name f functions true h later = (f, refl, defined f h)
+    → (main_breach functions ≡ None → Main functions) → (p : Procedure) × (slice_get (f ∷ functions) (if z then 0 else main_number functions + 1) ≡ Some p) × IsMain p
+by_name f functions true h later = (f, refl, is_defined_main f h)
 by_name f functions false h later =
     let found = later h in
     let next : main_number functions + 1 ≡ suc (main_number functions) = omega arith in
-    (found.procedure, ap (λ n. slice_get (f ∷ functions) n) next ∙ found.there, found.parameters)
+    (found.procedure, ap (λ n. slice_get (f ∷ functions) n) next ∙ found.there, found.defined)
 
 pub main_is : (functions : List Procedure) → main_breach functions ≡ None → Main functions
 main_is [] h = absurd (cc)
-main_is (f ∷ functions) h = let found = by_name f functions (is_main f) h (main_is functions) in record { procedure = found.0; there = found.1; parameters = found.2 }
+main_is (f ∷ functions) h = let found = by_name f functions (is_main f) h (main_is functions) in record { procedure = found.0; there = found.1; defined = found.2 }
 
 -- ---- threads
 
-module _ (file : TypedFile) (limits : Limits) (typed : are_typed file ≡ true) where
+module _ (file : TypedFile) (limits : Limits) (typed : are_typed (plain_file file) ≡ true) (clean : functions_breach file.functions file.functions ≡ None) (small : have_small file.functions ≡ true) where
   abbrev functions : List Procedure
   functions = file.functions
 
@@ -132,8 +140,8 @@ module _ (file : TypedFile) (limits : Limits) (typed : are_typed file ≡ true) 
   tests_same : (f l : ℕ) → flat.tests bounded f l ≡ tests_of f l
   tests_same f l = (λ i. flat.tests_in limits.set limits.unwind (names_same 0 functions f i) l) ∙ bounds_same limits.set limits.unwind (source_threads.name_of (slice_get functions f)) l
 
-  all_typed : list_all (is_typed_function file) functions ≡ true
-  all_typed = right_of (list_all is_static file.objects) (list_all (is_typed_function file) functions) typed
+  all_typed : list_all (is_typed_function (plain_file file)) functions ≡ true
+  all_typed = right_of (are_static (plain_file file)) (list_all (is_typed_function (plain_file file)) functions) typed
 
   leaves_same : (number line : ℕ) (given : Given) (meant : source.Given) → flat.leaves true number line given ≡ source_threads.leaves true number line meant
   leaves_same number line given meant = λ i answers. by_answers answers i
@@ -148,29 +156,38 @@ module _ (file : TypedFile) (limits : Limits) (typed : are_typed file ≡ true) 
       let many : n ≡ length functions * limits.unwind = ap (λ k. k * limits.unwind) (codes_length 0 functions) in
       omega (arith, many, total_is (length functions) limits.unwind)
 
-  main_does : (number : ℕ) (p : Procedure) → slice_get functions number ≡ Some p → p.parameters ≡ [] → flat.function_behaviour bounded true number ≡ source_threads.function_behaviour functions limits true number
-  main_does number p found none =
+  main_does : (number : ℕ) (p : Procedure) → slice_get functions number ≡ Some p → IsMain p → flat.function_behaviour bounded true number ≡ source_threads.function_behaviour file limits true number
+  main_does number p found is_it =
       let here : 0 + number ≡ number = omega arith in
       let got : slice_get (function_codes 0 functions) number ≡ Some (function_code number p) = codes_at 0 functions number p found ∙ ap (λ n. Some (function_code n p)) here in
-      let signed : slice_get (map signature functions) number ≡ Some (signature p) = signature_at functions number p found in
-      let are : AreArguments p.parameters [] [] = subst (λ (ps : List PassedType). AreArguments ps [] []) (sym none) tt in
+      let signed : slice_get (map callable functions) number ≡ Some (signature p) = signature_at functions number p found ∙ ap Some (callable_is p.body p is_it.body) in
+      let can : Callable p.gives = subst Callable (sym is_it.gives) tt in
+      let are : AreArguments p.parameters [] [] = subst (λ (ps : List PassedType). AreArguments ps [] []) (sym is_it.parameters) tt in
       (λ i. flat.runs_at bounded true number (got i))
       ∙ (λ i. flat.activation bounded (fuel_is i) (replicate (codes_length 0 functions i) limits.unwind) number number (code_line number p p.body i) [] (flat.leaves true number (code_line number p p.body i)))
-      ∙ calls_agree file limits all_typed tests_of tests_same (suc (source.total (source_threads.first_left functions limits))) (source_threads.first_left functions limits) number number p.line (signature p) [] []
-      (flat.leaves true number p.line) (source_threads.leaves true number p.line) signed are (λ given is. leaves_same number p.line (handed p.gives given) given)
-      ∙ (λ i. source_threads.runs_at functions limits true number (sym found i))
+      ∙ calls_agree file limits all_typed clean small tests_of tests_same (suc (source.total (source_threads.first_left functions limits))) (source_threads.first_left functions limits) number number p.line (signature p) [] []
+      (flat.leaves true number p.line) (source_threads.leaves true number p.line) signed can are (λ given is. leaves_same number p.line (handed p.gives given) given)
+      ∙ (λ i. source_threads.runs_at file limits true number (sym found i))
 
-pub same_thread : (file : TypedFile) → first_breach file ≡ None → are_typed file ≡ true → (limits : Limits)
+-- neither `main` nor a function breaks a rule
+main_clean : (file : TypedFile) → first_breach file ≡ None → main_breach file.functions ≡ None
+main_clean file admitted = first_none (main_breach file.functions) (earlier (functions_breach file.functions file.functions) (objects_breach file.objects)) admitted
+
+functions_clean : (file : TypedFile) → first_breach file ≡ None → functions_breach file.functions file.functions ≡ None
+functions_clean file admitted =
+    first_none (functions_breach file.functions file.functions) (objects_breach file.objects) (second_none (main_breach file.functions) (earlier (functions_breach file.functions file.functions) (objects_breach file.objects)) admitted)
+
+pub same_thread : (file : TypedFile) → file.pointers ≡ false → first_breach file ≡ None → are_typed file ≡ true → have_small file.functions ≡ true → (limits : Limits)
     → DoSame (flat.function_thread (record { strict = true; functions = function_codes 0 file.functions; limits = limits }) true (main_number file.functions)) (source_thread file limits)
-same_thread file admitted typed limits =
-    let main = main_is file.functions (first_none (main_breach file.functions) (earlier (functions_breach file.functions file.functions) (objects_breach file.objects)) admitted) in
+same_thread file none admitted typed few limits =
+    let main = main_is file.functions (main_clean file admitted) in
     record {
-      behaves = main_does file limits typed (main_number file.functions) main.procedure main.there main.parameters;
+      behaves = main_does file limits (subst (λ (f : TypedFile). are_typed f ≡ true) (is_plain file none) typed) (functions_clean file admitted) few (main_number file.functions) main.procedure main.there main.defined;
       startable = λ k. never_startable 0 file.functions k ∙ sym (never_less k);
       others = λ k v can small. absurd (true≢false (sym can ∙ never_startable 0 file.functions k));
     }
 
 pub main_below : (file : TypedFile) → first_breach file ≡ None → main_number file.functions < length file.functions
 main_below file admitted =
-    let main = main_is file.functions (first_none (main_breach file.functions) (earlier (functions_breach file.functions file.functions) (objects_breach file.objects)) admitted) in
+    let main = main_is file.functions (main_clean file admitted) in
     slice_get_within file.functions (main_number file.functions) main.procedure main.there

@@ -35,7 +35,7 @@ use Rattle.lowered_code.proofs.RegisterTypes as registers_of
 use Rattle.lowered_code.proofs.BlockBytes.{low_count, few_bytes, taken_back}
 use Rattle.lowered_code.proofs.Housing.{Housed, housed_left, housed_right, housed_under, housed_room}
 use Rattle.lowered_code.proofs.Placing.{Places, begin_in, on_in, written, Kept, kept-refl, kept-then, kept-set, kept-write, kept-clear, filled-kept, set_same, set_other, set_room, same_final, same_ask}
-use Rattle.lowered_code.proofs.ExpressionCode.{SourceCalls, Agree, IsGiven, handed, frame, shown, known, Placed, placed_kept, placed_deeper, block_size, variable_below, variable_size, low_room, block_there, shown_write, shown_clear, split, turned, same_word, means, structure_means, same_gives, test_less, test_equal}
+use Rattle.lowered_code.proofs.ExpressionCode.{SourceCalls, Sound, IsGiven, handed, frame, shown, known, Placed, placed_kept, placed_deeper, block_size, variable_size_is, variable_below, variable_size, low_room, block_there, shown_write, shown_clear, split, turned, same_word, means, structure_means, same_gives, test_less, test_equal}
 
 -- ---- lists of places
 
@@ -45,15 +45,28 @@ at_append o (x ∷ xs) ys j m =
     let one : length (x ∷ xs) + j ≡ suc (length xs + j) = omega arith in
     ap (λ n. at o ((x ∷ xs) ++ ys) n m) one ∙ at_append o xs ys j m
 
+-- where nothing is done on the way out
+pub leaving_out : (out : Variables → Behaviour → Behaviour) → ((vs : Variables) (b : Behaviour) → out vs b ≡ b) → (exits : Exits) → source.leaving out exits ≡ exits
+leaving_out out none exits = λ i. record {
+  breaks = λ vs. none vs (exits.breaks vs) i;
+  continues = λ vs. none vs (exits.continues vs) i;
+  returns = λ given vs. none vs (exits.returns given vs) i;
+  labels = λ n vs. none vs (exits.labels n vs) i;
+}
+
 -- over the sizes of the blocks behind the variables, those of the static objects, the types of the functions and what the function gives, what calls of code do, what becomes of what the function hands over, what calls mean, the functions of the code, the bounds, the first block that is free, and how many registers there are
 module _ (running : Running) (others objects : List ℕ) (functions : List Signature) (gives : Option PassedType)
-    (calls : Calls) (hands : Given → Behaviour) (meant : SourceCalls) (agree : Agree running others calls hands meant functions)
+    (calls : Calls) (hands : Given → Behaviour) (meant : SourceCalls) (sound : Sound running others calls hands meant functions)
     (routines : List Routine) (limits : Limits) (d total : ℕ) where
+  -- the sizes of the variables
+  abbrev own : List ℕ
+  own = source.sizes_of running.variables
+
   abbrev edge : ℕ
-  edge = length running.sizes
+  edge = length own
 
   abbrev sizes : List ℕ
-  sizes = running.sizes ++ others
+  sizes = own ++ others
 
   abbrev reading : Reading Behaviour
   reading = acting calls hands
@@ -71,7 +84,7 @@ module _ (running : Running) (others objects : List ℕ) (functions : List Signa
   nodes_on x later = nodes_before bounded reading x later
 
   abbrev named : Sizes
-  named = known running others calls hands meant objects functions gives agree
+  named = known running others calls hands meant objects functions gives sound
 
   abbrev here : Frame
   here = frame running others calls hands meant d
@@ -177,7 +190,7 @@ module _ (running : Running) (others objects : List ℕ) (functions : List Signa
     pub breaks : Leads ps ways.break_at exits.breaks
     pub continues : Leads ps ways.continue_at exits.continues
     pub labels : (l : ℕ) → Leads ps (ways.label_at l) (exits.labels l)
-    pub returns : (given : source.Given) → IsGiven gives given → hands (handed gives given) ≡ exits.returns given
+    pub returns : (given : source.Given) → IsGiven gives given → (vs : Variables) → hands (handed gives given) ≡ exits.returns given vs
 
   lead_front : (ways : Ways) (exits : Exits) (x rest : Nodes) (later : Places) → InFront x rest → LeadOut ways exits (nodes_on rest later) → LeadOut ways exits (nodes_on x later)
   lead_front ways exits x rest later front out = record {
@@ -191,54 +204,64 @@ module _ (running : Running) (others objects : List ℕ) (functions : List Signa
 
   -- the words of a variable from an offset on, by draws
   draws_first : (words line v offset n start : ℕ) (xs : List Instruction) (m0 m : Memory) (ps : Places) (follows : Variables → Behaviour)
-      → v < edge → 8 * words ≤ source.size_of running v - offset + 7 → Ready m0 → Kept edge d start m0 m → 1 ≤ start → start ≤ n → n + words ≤ total
+      → v < edge → 8 * words ≤ size_of own v - offset + 7 → Ready m0 → Kept edge d start m0 m → 1 ≤ start → start ≤ n → n + words ≤ total
       → ((m' : Memory) → Kept edge d start m0 m' → begin (on xs ps) m' ≡ follows (view m'))
-      → begin (on (words_code here running.sizes words line v offset n ++ xs) ps) m ≡ source.draws_words running words line v offset (view m) follows
+      → begin (on (words_code here own words line v offset n ++ xs) ps) m ≡ source.draws_words running words line v offset (view m) follows
   draws_first zero line v offset n start xs m0 m ps follows variable few ready kept some above room goes = goes m kept
   draws_first (suc words) line v offset n start xs m0 m ps follows variable few ready kept some above room goes =
       let now = ready_kept start m0 m some ready kept in
-      let count = drawn_count (size_of running.sizes v) offset in
+      let real : source.size_of running v ≡ size_of own v = variable_size_is running others calls hands meant v in
+      let count = drawn_count (size_of own v) offset in
       let size = variable_size running others calls hands meant d m now.placed v variable in
       let behind : (a : Answer) → Memory = λ a. written (with_register m n (word_of a)) v offset (low_bytes count (register (with_register m n (word_of a)) n)) in
       let fits : (a : Answer) → offset + length (low_bytes count (register (with_register m n (word_of a)) n)) ≤ length (block_of m.blocks v) =
       λ a. omega (arith, few, size, low_count count (register (with_register m n (word_of a)) n) (omega arith)) in
       let kept_then : (a : Answer) → Kept edge d start m0 (behind a) =
       λ a. kept-write edge d start v offset (low_bytes count (register (with_register m n (word_of a)) n)) m0 (with_register m n (word_of a)) variable (fits a) (kept-then edge d start start m0 m (with_register m n (word_of a)) (omega arith) kept (kept-set edge d start n m (word_of a) above)) in
-      same_ask running (Draw (8 * count)) line _ _ (λ i a.
+      let drawing : ℕ → Behaviour =
+      λ size. source.ask running (Draw (8 * drawn_count size offset)) line (λ a. source.draws_words running words line v (offset + 8) (put_bytes (view m) v offset (low_bytes (drawn_count size offset) (source.drawn a))) follows) in
+      same_ask running (Draw (8 * count)) line _ (λ a. source.draws_words running words line v (offset + 8) (put_bytes (view m) v offset (low_bytes count (source.drawn a))) follows) (λ i a.
       (draws_first words line v (offset + 8) (n + 1) start xs m0 (behind a) ps follows variable (omega (arith, few)) ready (kept_then a) some (omega (arith, above)) (omega (arith, room)) goes
       ∙ (λ k. source.draws_words running words line v (offset + 8) (shown_write running others calls hands meant (with_register m n (word_of a)) v offset (low_bytes count (register (with_register m n (word_of a)) n)) variable k) follows)
       ∙ ap (λ x. source.draws_words running words line v (offset + 8) (put_bytes (view m) v offset (low_bytes count x)) follows) (set_same m n (word_of a) (omega (arith, room, now.room)) ∙ same_word running others calls hands meant a)) i)
+      ∙ sym (ap drawing real)
 
   -- the first values of variables by registers from n on; those below `start` are kept
   abbrev Enters : Items → Type 0
-  Enters items = (n start : ℕ) (m0 m : Memory) (ps : Places) (follows : Variables → Behaviour) → are_typed_items named items ≡ true → Ready m0 → Kept edge d start m0 m → 1 ≤ start → start ≤ n → n + entry_registers running.sizes items ≤ total
+  Enters items = (n start : ℕ) (m0 m : Memory) (ps : Places) (follows : Variables → Behaviour) → are_typed_items named items ≡ true → Ready m0 → Kept edge d start m0 m → 1 ≤ start → start ≤ n → n + entry_registers own items ≤ total
       → ((m' : Memory) → Kept edge d start m0 m' → begin ps m' ≡ follows (view m'))
-      → begin (on (entry_code here running.sizes items n) ps) m ≡ enter running items (view m) follows
+      → begin (on (entry_code here own items n) ps) m ≡ enter running items (view m) follows
 
   -- a variable before others
   enters_first : (line v : ℕ) (drawn : Bool) (items : Items) → Enters items → (n start : ℕ) (m0 m : Memory) (ps : Places) (follows : Variables → Behaviour)
-      → v < edge → are_typed_items named items ≡ true → Ready m0 → Kept edge d start m0 m → 1 ≤ start → start ≤ n → n + (first_registers running.sizes v drawn + entry_registers running.sizes items) ≤ total
+      → v < edge → are_typed_items named items ≡ true → Ready m0 → Kept edge d start m0 m → 1 ≤ start → start ≤ n → n + (first_registers own v drawn + entry_registers own items) ≤ total
       → ((m' : Memory) → Kept edge d start m0 m' → begin ps m' ≡ follows (view m'))
-      → begin (on (first_code here running.sizes line v drawn n ++ entry_code here running.sizes items (n + first_registers running.sizes v drawn)) ps) m
-      ≡ (if drawn then source.draws running line v (view m) (λ after. enter running items after follows) else enter running items (cleared (view m) v (source.size_of running v)) follows)
+      → begin (on (first_code here own line v drawn n ++ entry_code here own items (n + first_registers own v drawn)) ps) m
+      ≡ source.makes running drawn line v (view m) (λ after. enter running items after follows)
   enters_first line v true items more n start m0 m ps follows variable typed ready kept some above room goes =
-      let words = word_count (size_of running.sizes v) in
-      draws_first words line v 0 n start (entry_code here running.sizes items (n + words)) m0 m ps (λ after. enter running items after follows) variable (omega arith) ready kept some above (omega (arith, room)) (λ m' kept'.
-      more (n + words) start m0 m' ps follows typed ready kept' some (omega (arith, above)) (omega (arith, room)) goes)
+      let words = word_count (size_of own v) in
+      let real : source.size_of running v ≡ size_of own v = variable_size_is running others calls hands meant v in
+      let placed : Variables → Behaviour = λ after. source.places running (source.home_of running v) line v after (λ last. enter running items last follows) in
+      draws_first words line v 0 n start (entry_code here own items (n + words)) m0 m ps placed variable (omega arith) ready kept some above (omega (arith, room)) (λ m' kept'.
+      more (n + words) start m0 m' ps follows typed ready kept' some (omega (arith, above)) (omega (arith, room)) goes
+      ∙ sym (λ i. source.places running (sound.homeless v i) line v (view m') (λ last. enter running items last follows)))
+      ∙ sym (ap (λ size. source.draws_words running (word_count size) line v 0 (view m) placed) real)
   enters_first line v false items more n start m0 m ps follows variable typed ready kept some above room goes =
       let now = ready_kept start m0 m some ready kept in
-      let size = size_of running.sizes v in
+      let size = size_of own v in
+      let real : source.size_of running v ≡ size = variable_size_is running others calls hands meant v in
       let m1 : Memory = with_blocks m (cleared m.blocks v size) in
       let kept1 : Kept edge d start m0 m1 = kept-clear edge d start v size m0 m variable (variable_size running others calls hands meant d m now.placed v variable) kept in
       more (n + 0) start m0 m1 ps follows typed ready kept1 some (omega (arith, above)) (omega (arith, room)) goes
       ∙ ap (λ vs. enter running items vs follows) (shown_clear running others calls hands meant m v size variable)
+      ∙ sym (λ i. source.places running (sound.homeless v i) line v (cleared (view m) v (real i)) (λ last. enter running items last follows))
 
   entering : (items : Items) → Enters items
   entering done n start m0 m ps follows typed ready kept some above room goes = goes m kept
   entering (declares line v items) n start m0 m ps follows typed ready kept some above room goes =
       enters_first line v true items (entering items) n start m0 m ps follows (test_less v edge (left_of _ _ typed)) (right_of _ _ typed) ready kept some above room goes
   entering (initializes line v drawn e items) n start m0 m ps follows typed ready kept some above room goes =
-      enters_first line v drawn items (entering items) n start m0 m ps follows (test_less v edge (filled_there [] running.sizes v (type_of e) (left_of _ _ (left_of _ _ typed)))) (right_of _ _ typed) ready kept some above room goes
+      enters_first line v drawn items (entering items) n start m0 m ps follows (test_less v edge (filled_there [] own v (type_of e) (left_of _ _ (left_of _ _ typed)))) (right_of _ _ typed) ready kept some above room goes
   entering (initializes_structure line v drawn a items) n start m0 m ps follows typed ready kept some above room goes =
       enters_first line v drawn items (entering items) n start m0 m ps follows (test_less v edge (left_of _ _ (left_of _ _ (left_of _ _ typed)))) (right_of _ _ typed) ready kept some above room goes
   entering (does s items) n start m0 m ps follows typed ready kept some above room goes = entering items n start m0 m ps follows (right_of _ _ typed) ready kept some above room goes
@@ -246,30 +269,60 @@ module _ (running : Running) (others objects : List ℕ) (functions : List Signa
   entering (case_at line t bits items) n start m0 m ps follows typed ready kept some above room goes = entering items n start m0 m ps follows (right_of _ _ typed) ready kept some above room goes
   entering (default_at line items) n start m0 m ps follows typed ready kept some above room goes = entering items n start m0 m ps follows typed ready kept some above room goes
 
+  -- no object of a variable dies
+  leave_none : (items : Items) (vs : Variables) (b : Behaviour) → source.leave running items vs b ≡ b
+  leave_none done vs b = refl
+  leave_none (declares line v items) vs b = leave_none items vs (source.dies running (source.home_of running v) line vs b) ∙ (λ i. source.dies running (sound.homeless v i) line vs b)
+  leave_none (initializes line v drawn e items) vs b = leave_none items vs (source.dies running (source.home_of running v) line vs b) ∙ (λ i. source.dies running (sound.homeless v i) line vs b)
+  leave_none (initializes_structure line v drawn a items) vs b = leave_none items vs (source.dies running (source.home_of running v) line vs b) ∙ (λ i. source.dies running (sound.homeless v i) line vs b)
+  leave_none (does s items) vs b = leave_none items vs b
+  leave_none (label l items) vs b = leave_none items vs b
+  leave_none (case_at line t bits items) vs b = leave_none items vs b
+  leave_none (default_at line items) vs b = leave_none items vs b
+
+  leaving_none : (items : Items) (exits : Exits) → source.leaving (source.leave running items) exits ≡ exits
+  leaving_none items exits = leaving_out (source.leave running items) (leave_none items) exits
+
+  block_same : (items : Items) (exits : Exits) (vs : Variables) (follows : Variables → Behaviour) → exec running meant (block items) exits vs follows ≡ enter running items vs (λ after. exec_items running meant items exits after follows)
+  block_same items exits vs follows = λ i. enter running items vs (λ after. exec_items running meant items (leaving_none items exits i) after (λ last. leave_none items last (follows last) i))
+
+  -- a switch, with what is done behind its value
+  abbrev chosen_in : Items → Exits → (Variables → Behaviour) → ℕ → Variables → Behaviour
+  chosen_in items exits follows x after =
+      if has_case items x then enter running items after (λ now. at_case running meant items x exits now follows)
+      else (if has_default items then enter running items after (λ now. at_default running meant items exits now follows) else follows after)
+
+  switch_same : (line : ℕ) (e : Expression) (items : Items) (exits : Exits) (vs : Variables) (follows : Variables → Behaviour)
+      → exec running meant (switch line e items) exits vs follows ≡ eval running meant e vs (chosen_in items (in_switch exits follows) follows)
+  switch_same line e items exits vs follows =
+      let inner : source.leaving (source.leave running items) (in_switch exits follows) ≡ in_switch exits follows = leaving_none items (in_switch exits follows) in
+      let out : (last : Variables) → source.leave running items last (follows last) ≡ follows last = λ last. leave_none items last (follows last) in
+      λ i. eval running meant e vs (λ x after. if has_case items x then enter running items after (λ now. at_case running meant items x (inner i) now (λ last. out last i)) else (if has_default items then enter running items after (λ now. at_default running meant items (inner i) now (λ last. out last i)) else follows after))
+
   -- an expression, in front of places
   value_first : (e : Expression) (n : ℕ) (m : Memory) (ps : Places) (follows : ℕ → Variables → Behaviour) → is_typed named e ≡ true → Lives (temporaries e) → Ready m → 1 ≤ n → n + top e < total
       → ((m' : Memory) → Ready m' → Kept edge d n m m' → begin ps m' ≡ follows (register m' (n + top e)) (view m'))
       → begin (on (code here e n) ps) m ≡ eval running meant e (view m) follows
   value_first e n m ps follows typed housed ready some room goes =
-      means running others calls hands meant objects functions gives agree e d n m ps follows typed housed ready.placed (omega (arith, room, ready.room)) (λ m' kept. goes m' (ready_kept n m m' some ready kept) kept)
+      means running others calls hands meant objects functions gives sound e d n m ps follows typed housed ready.placed (omega (arith, room, ready.room)) (λ m' kept. goes m' (ready_kept n m m' some ready kept) kept)
 
   structure_first : (a : Structure) (n into : ℕ) (m : Memory) (ps : Places) (follows : List ℕ → Variables → Behaviour) → is_structure named a ≡ true → Lives (structure_temporaries a) → Ready m → edge < into → into < d
       → 0 + trees.size_of a ≤ length (block_of m.blocks into) → n + structure_registers a ≤ total
       → ((m' : Memory) (value : List ℕ) → length value ≡ trees.size_of a → block_of m'.blocks into ≡ put_at 0 value (block_of m.blocks into) → begin ps m' ≡ follows value (view m'))
       → begin (on (structure_code here a n into 0) ps) m ≡ eval_structure running meant a (view m) follows
   structure_first a n into m ps follows typed housed ready behind inside fits room goes =
-      structure_means running others calls hands meant objects functions gives agree a d n into 0 m ps follows typed housed ready.placed behind inside fits (omega (arith, room, ready.room)) (λ m' value long filled. goes m' value long filled.filled)
+      structure_means running others calls hands meant objects functions gives sound a d n into 0 m ps follows typed housed ready.placed behind inside fits (omega (arith, room, ready.room)) (λ m' value long filled. goes m' value long filled.filled)
 
   -- the structure value of an initializer
   initial_means : (line v : ℕ) (a : Structure) (n : ℕ) (m : Memory) (ps : Places) (follows : Variables → Behaviour)
-      → v < edge → slice_index running.sizes v ≡ trees.size_of a → is_structure named a ≡ true → Lives (under (trees.size_of a) (structure_temporaries a)) → Ready m → 1 ≤ n → n + structure_registers a ≤ total → Goes ps follows
-      → begin (on (initial_code here running.sizes line v a n) ps) m ≡ eval_structure running meant a (view m) (λ value after. follows (put_bytes after v 0 value))
+      → v < edge → slice_index own v ≡ trees.size_of a → is_structure named a ≡ true → Lives (under (trees.size_of a) (structure_temporaries a)) → Ready m → 1 ≤ n → n + structure_registers a ≤ total → Goes ps follows
+      → begin (on (initial_code here own line v a n) ps) m ≡ eval_structure running meant a (view m) (λ value after. follows (put_bytes after v 0 value))
   initial_means line v a n m ps follows variable whole typed housed ready some room goes =
       let placed = ready.placed in
       let free = housed_room sizes edge d (trees.size_of a) (structure_temporaries a) housed in
       let free_size = block_size running others calls hands meant d m placed d in
       split running others calls hands meant (structure_code (frame running others calls hands meant (d + 1)) a n d 0) _ ps m
-      ∙ structure_means running others calls hands meant objects functions gives agree a (d + 1) n d 0 m _ (λ value after. follows (put_bytes after v 0 value)) typed (housed_under sizes edge d (trees.size_of a) (structure_temporaries a) housed) (placed_deeper running others calls hands meant d m free.there placed)
+      ∙ structure_means running others calls hands meant objects functions gives sound a (d + 1) n d 0 m _ (λ value after. follows (put_bytes after v 0 value)) typed (housed_under sizes edge d (trees.size_of a) (structure_temporaries a) housed) (placed_deeper running others calls hands meant d m free.there placed)
       (omega (arith, placed.deep)) (omega arith) (omega (arith, free.fits, free_size)) (omega (arith, room, ready.room)) (λ m1 value long filled.
       let new = take (trees.size_of a) (drop 0 (block_of m1.blocks d)) in
       let same : new ≡ value = (λ i. take (trees.size_of a) (drop 0 (filled.filled i))) ∙ taken_back 0 (trees.size_of a) value (block_of m.blocks d) long (omega arith) in
@@ -285,15 +338,15 @@ module _ (running : Running) (others objects : List ℕ) (functions : List Signa
   -- ---- loops
 
   -- a part that may be missing
-  part_means : (e : Option Expression) (n : ℕ) (ps : Places) (follows : Variables → Behaviour) → is_typed_part named e ≡ true → Lives (part_temporaries e) → 1 ≤ n → n + part_registers running.sizes e ≤ total → Goes ps follows
-      → Goes (on (part_code here running.sizes e n) ps) (λ vs. eval_part running meant e vs follows)
+  part_means : (e : Option Expression) (n : ℕ) (ps : Places) (follows : Variables → Behaviour) → is_typed_part named e ≡ true → Lives (part_temporaries e) → 1 ≤ n → n + part_registers own e ≤ total → Goes ps follows
+      → Goes (on (part_code here own e n) ps) (λ vs. eval_part running meant e vs follows)
   part_means None n ps follows typed housed some room goes m ready = goes m ready
   part_means (Some e) n ps follows typed housed some room goes m ready = value_first e n m ps (λ x. follows) typed housed ready some (omega (arith, room)) (λ m' ready' kept. goes m' ready')
 
   -- a test, behind which comes one place where it holds and another where it fails
-  test_means : (line : ℕ) (e : Option Expression) (n : ℕ) (ps : Places) (holds fails : Variables → Behaviour) → is_test named e ≡ true → Lives (part_temporaries e) → 1 ≤ n → n + part_registers running.sizes e ≤ total
+  test_means : (line : ℕ) (e : Option Expression) (n : ℕ) (ps : Places) (holds fails : Variables → Behaviour) → is_test named e ≡ true → Lives (part_temporaries e) → 1 ≤ n → n + part_registers own e ≤ total
       → Goes ps holds → ((m : Memory) → Ready m → at reading ps 1 m ≡ fails (view m))
-      → Goes (on (test_code here running.sizes line e n) ps) (λ vs. tested running meant e vs holds fails)
+      → Goes (on (test_code here own line e n) ps) (λ vs. tested running meant e vs holds fails)
   test_means line None n ps holds fails typed housed some room goes past m ready = goes m ready
   test_means line (Some e) n ps holds fails typed housed some room goes past m ready =
       split running others calls hands meant (code here e n) _ ps m
@@ -320,7 +373,7 @@ module _ (running : Running) (others objects : List ℕ) (functions : List Signa
   if_front true x y rest first second = first
   if_front false x y rest first second = second
 
-  jumps_front : (base : ℕ) (ways : Ways) (x : ℕ) (items : Items) (k n : ℕ) (rest more : Nodes) → InFront (case_jumps here running.sizes base ways x items k n rest more) more
+  jumps_front : (base : ℕ) (ways : Ways) (x : ℕ) (items : Items) (k n : ℕ) (rest more : Nodes) → InFront (case_jumps here own base ways x items k n rest more) more
   jumps_front base ways x done k n rest more = itself more
   jumps_front base ways x (declares at_line_of v items) k n rest more = jumps_front base ways x items k n rest more
   jumps_front base ways x (initializes at_line_of v drawn e items) k n rest more = jumps_front base ways x items k n rest more
@@ -332,14 +385,14 @@ module _ (running : Running) (others objects : List ℕ) (functions : List Signa
   jumps_front base ways x (default_at at_line_of items) k n rest more = jumps_front base ways x items k n rest more
 
   mutual
-    statement_front : (s : Statement) (base : ℕ) (ways : Ways) (n : ℕ) (rest : Nodes) → InFront (statement_code here running.sizes base ways s n rest) rest
+    statement_front : (s : Statement) (base : ℕ) (ways : Ways) (n : ℕ) (rest : Nodes) → InFront (statement_code here own base ways s n rest) rest
     statement_front (block items) base ways n rest = plains_front _ _ rest (items_front items base ways n rest)
     statement_front (if_then line test s) base ways n rest = plains_front _ _ rest (plain_front _ _ rest (statement_front s base ways n rest))
     statement_front (if_else line test s t) base ways n rest =
-        let no = statement_code here running.sizes base ways t n rest in
-        let jump = to_place here running.sizes line base (base + node_count rest) no in
-        let yes = statement_code here running.sizes base ways s (n + statement_registers running.sizes t) jump in
-        plains_front _ _ rest (plain_front _ yes rest (then_front yes jump rest (statement_front s base ways (n + statement_registers running.sizes t) jump) (plain_front _ no rest (statement_front t base ways n rest))))
+        let no = statement_code here own base ways t n rest in
+        let jump = to_place here own line base (base + node_count rest) no in
+        let yes = statement_code here own base ways s (n + statement_registers own t) jump in
+        plains_front _ _ rest (plain_front _ yes rest (then_front yes jump rest (statement_front s base ways (n + statement_registers own t) jump) (plain_front _ no rest (statement_front t base ways n rest))))
     statement_front (evaluate e) base ways n rest = plains_front _ _ rest (itself rest)
     statement_front (returns line e) base ways n rest = plains_front _ _ rest (plain_front _ _ rest (plain_front _ rest rest (itself rest)))
     statement_front (returns_structure line a) base ways n rest = plains_front _ _ rest (plain_front _ rest rest (itself rest))
@@ -348,13 +401,13 @@ module _ (running : Running) (others objects : List ℕ) (functions : List Signa
     statement_front (do_loop line l s test) base ways n rest = repeats_front line here.function l false _ rest
     statement_front (switch line e items) base ways n rest =
         let inner = within_switch ways (base + node_count rest) in
-        let value = n + items_registers running.sizes items + 1 in
+        let value = n + items_registers own items + 1 in
         let in_cases = value + 1 in
-        let in_entry = in_cases + case_registers running.sizes items in
-        let body = items_code here running.sizes base inner items n rest in
-        let last = to_place here running.sizes line base (if has_default items then default_place here running.sizes base inner items n rest else base + node_count rest) body in
-        let jumps_of = case_jumps here running.sizes base inner value items in_cases n rest last in
-        let entered : InFront (plains (entry_code here running.sizes items in_entry) jumps_of) rest =
+        let in_entry = in_cases + case_registers own items in
+        let body = items_code here own base inner items n rest in
+        let last = to_place here own line base (if has_default items then default_place here own base inner items n rest else base + node_count rest) body in
+        let jumps_of = case_jumps here own base inner value items in_cases n rest last in
+        let entered : InFront (plains (entry_code here own items in_entry) jumps_of) rest =
         plains_front _ jumps_of rest (then_front jumps_of last rest (jumps_front base inner value items in_cases n rest last) (plain_front _ body rest (items_front items base inner n rest))) in
         plains_front _ _ rest (plain_front _ _ rest (if_front (has_default items || declares_none items) _ _ rest entered (plain_front _ _ rest (plains_front _ _ rest (plain_front _ _ rest entered)))))
     statement_front (breaks line) base ways n rest = plain_front _ rest rest (itself rest)
@@ -362,14 +415,14 @@ module _ (running : Running) (others objects : List ℕ) (functions : List Signa
     statement_front (jumps line l) base ways n rest = plain_front _ rest rest (itself rest)
     statement_front (stray line s) base ways n rest = statement_front s base ways n rest
 
-    items_front : (items : Items) (base : ℕ) (ways : Ways) (n : ℕ) (rest : Nodes) → InFront (items_code here running.sizes base ways items n rest) rest
+    items_front : (items : Items) (base : ℕ) (ways : Ways) (n : ℕ) (rest : Nodes) → InFront (items_code here own base ways items n rest) rest
     items_front done base ways n rest = itself rest
     items_front (declares line v items) base ways n rest = items_front items base ways n rest
     items_front (initializes line v drawn e items) base ways n rest = plains_front _ _ rest (plain_front _ _ rest (items_front items base ways n rest))
     items_front (initializes_structure line v drawn a items) base ways n rest = plains_front _ _ rest (items_front items base ways n rest)
     items_front (does s items) base ways n rest =
-        let more = items_code here running.sizes base ways items n rest in
-        then_front (items_code here running.sizes base ways (does s items) n rest) more rest (statement_front s base (labels_of here running.sizes base ways items n rest) (n + items_registers running.sizes items) more) (items_front items base ways n rest)
+        let more = items_code here own base ways items n rest in
+        then_front (items_code here own base ways (does s items) n rest) more rest (statement_front s base (labels_of here own base ways items n rest) (n + items_registers own items) more) (items_front items base ways n rest)
     items_front (label l items) base ways n rest = items_front items base ways n rest
     items_front (case_at line t bits items) base ways n rest = items_front items base ways n rest
     items_front (default_at line items) base ways n rest = items_front items base ways n rest
@@ -389,12 +442,12 @@ module _ (running : Running) (others objects : List ℕ) (functions : List Signa
   -- what is known behind the tests of cases by registers from k on
   abbrev AfterTests : Items → (before k x : ℕ) → Bool → Memory → Memory → Type 0
   AfterTests items before k x any m m' =
-      Ready m' × (m'.blocks ≡ m.blocks) × ((r : ℕ) → r < k → register m' r ≡ register m r) × (register m' (last_case here running.sizes before items k) ≡ truth_bits (any || has_case items x))
+      Ready m' × (m'.blocks ≡ m.blocks) × ((r : ℕ) → r < k → register m' r ≡ register m r) × (register m' (last_case here own before items k) ≡ truth_bits (any || has_case items x))
 
   tests_mean : (items : Items) (line xr before k x : ℕ) (any : Bool) (m : Memory) (ps : Places) (b : Behaviour)
-      → register m xr ≡ x → register m before ≡ truth_bits any → before < k → xr < k → k + case_registers running.sizes items ≤ total → Ready m
+      → register m xr ≡ x → register m before ≡ truth_bits any → before < k → xr < k → k + case_registers own items ≤ total → Ready m
       → ((m' : Memory) → AfterTests items before k x any m m' → begin ps m' ≡ b)
-      → begin (on (case_tests here running.sizes line xr before items k) ps) m ≡ b
+      → begin (on (case_tests here own line xr before items k) ps) m ≡ b
   tests_mean done line xr before k x any m ps b value prior low under_k room ready goes =
       goes m (ready, refl, (λ r lt. refl), prior ∙ ap truth_bits (no_more any))
     where
@@ -487,45 +540,45 @@ module _ (running : Running) (others objects : List ℕ) (functions : List Signa
     abbrev Means : Statement → Type 0
     Means s =
         (ways : Ways) (exits : Exits) (n : ℕ) (rest : Nodes) (later : Places) (follows : Variables → Behaviour)
-        → is_typed_statement named s ≡ true → Lives (statement_temporaries s) → 1 ≤ n → n + statement_registers running.sizes s ≤ total → LeadOut ways exits (nodes_on rest later) → Goes (nodes_on rest later) follows
-        → Goes (nodes_on (statement_code here running.sizes (length later) ways s n rest) later) (λ vs. exec running meant s exits vs follows)
+        → is_typed_statement named s ≡ true → Lives (statement_temporaries s) → 1 ≤ n → n + statement_registers own s ≤ total → LeadOut ways exits (nodes_on rest later) → Goes (nodes_on rest later) follows
+        → Goes (nodes_on (statement_code here own (length later) ways s n rest) later) (λ vs. exec running meant s exits vs follows)
 
     -- the jumps to cases lead to the one that has the value in the register xr
     abbrev JumpsMean : Items → Type 0
     JumpsMean items =
         (xr x k n : ℕ) (ways : Ways) (exits : Exits) (rest more : Nodes) (later : Places) (follows other : Variables → Behaviour)
-        → are_typed_items named items ≡ true → Lives (items_temporaries items) → 1 ≤ n → n + items_registers running.sizes items ≤ total → LeadOut ways exits (nodes_on rest later) → Goes (nodes_on rest later) follows
-        → InFront more (items_code here running.sizes (length later) ways items n rest)
-        → 1 ≤ k → xr < k → k + case_registers running.sizes items ≤ total → Goes (nodes_on more later) other → (m : Memory) → Ready m → register m xr ≡ x
-        → begin (nodes_on (case_jumps here running.sizes (length later) ways xr items k n rest more) later) m ≡ (if has_case items x then at_case running meant items x exits (view m) follows else other (view m))
+        → are_typed_items named items ≡ true → Lives (items_temporaries items) → 1 ≤ n → n + items_registers own items ≤ total → LeadOut ways exits (nodes_on rest later) → Goes (nodes_on rest later) follows
+        → InFront more (items_code here own (length later) ways items n rest)
+        → 1 ≤ k → xr < k → k + case_registers own items ≤ total → Goes (nodes_on more later) other → (m : Memory) → Ready m → register m xr ≡ x
+        → begin (nodes_on (case_jumps here own (length later) ways xr items k n rest more) later) m ≡ (if has_case items x then at_case running meant items x exits (view m) follows else other (view m))
 
     -- `default` is where its place says
     abbrev DefaultLeads : Items → Type 0
     DefaultLeads items =
         (n : ℕ) (ways : Ways) (exits : Exits) (rest : Nodes) (later : Places) (follows : Variables → Behaviour)
-        → has_default items ≡ true → are_typed_items named items ≡ true → Lives (items_temporaries items) → 1 ≤ n → n + items_registers running.sizes items ≤ total → LeadOut ways exits (nodes_on rest later) → Goes (nodes_on rest later) follows
-        → Leads (nodes_on (items_code here running.sizes (length later) ways items n rest) later) (default_place here running.sizes (length later) ways items n rest) (λ vs. at_default running meant items exits vs follows)
+        → has_default items ≡ true → are_typed_items named items ≡ true → Lives (items_temporaries items) → 1 ≤ n → n + items_registers own items ≤ total → LeadOut ways exits (nodes_on rest later) → Goes (nodes_on rest later) follows
+        → Leads (nodes_on (items_code here own (length later) ways items n rest) later) (default_place here own (length later) ways items n rest) (λ vs. at_default running meant items exits vs follows)
 
     -- a round of a loop: the body, then the last part and the test
     each_round : (line : ℕ) (s : Statement) → Means s → (last test : Option Expression) (ways : Ways) (exits : Exits) (n in_last in_body behind : ℕ) (rest : Nodes) (later : Places) (follows : Variables → Behaviour) (again : Memory → Behaviour) (on_again : Variables → Behaviour)
         → behind ≡ length later + node_count rest → is_typed_statement named s ≡ true → is_test named test ≡ true → is_typed_part named last ≡ true
         → Lives (statement_temporaries s) → Lives (part_temporaries test) → Lives (part_temporaries last) → 1 ≤ n → 1 ≤ in_last → 1 ≤ in_body
-        → n + part_registers running.sizes test ≤ total → in_last + part_registers running.sizes last ≤ total → in_body + statement_registers running.sizes s ≤ total
+        → n + part_registers own test ≤ total → in_last + part_registers own last ≤ total → in_body + statement_registers own s ≤ total
         → LeadOut ways exits (nodes_on rest later) → Goes (nodes_on rest later) follows → ((m : Memory) → Ready m → again m ≡ on_again (view m))
-        → (let end = plains (part_code here running.sizes last in_last) (plains (test_code here running.sizes line test n) ends) in
-        (m : Memory) → Ready m → begin (nodes_on (statement_code here running.sizes (behind + 1) (within_loop ways behind (behind + 1 + node_count end)) s in_body end) (again ∷ nodes_on rest later)) m
+        → (let end = plains (part_code here own last in_last) (plains (test_code here own line test n) ends) in
+        (m : Memory) → Ready m → begin (nodes_on (statement_code here own (behind + 1) (within_loop ways behind (behind + 1 + node_count end)) s in_body end) (again ∷ nodes_on rest later)) m
         ≡ exec running meant s (in_loop exits follows (at_end running meant last test on_again follows)) (view m) (at_end running meant last test on_again follows))
     each_round line s means_it last test ways exits n in_last in_body behind rest later follows again on_again is_behind typed test_typed last_typed housed test_temporaries last_temporaries some some_last some_body test_room last_room room out goes same m ready =
         let later_in : Places = again ∷ nodes_on rest later in
-        let end = plains (part_code here running.sizes last in_last) (plains (test_code here running.sizes line test n) ends) in
+        let end = plains (part_code here own last in_last) (plains (test_code here own line test n) ends) in
         let ways_in = within_loop ways behind (behind + 1 + node_count end) in
         let follows_end : Variables → Behaviour = at_end running meant last test on_again follows in
         let base : behind + 1 ≡ length later_in = omega (arith, is_behind, places_count rest later) in
         let end_front : InFront end ends = plains_front _ _ ends (plains_front _ ends ends (itself ends)) in
         let end_goes : Goes (nodes_on end later_in) follows_end = λ m1 ready1.
-        begin_plains (part_code here running.sizes last in_last) _ later_in m1
-        ∙ part_means last in_last (nodes_on (plains (test_code here running.sizes line test n) ends) later_in) (λ now. tested running meant test now on_again follows) last_typed last_temporaries some_last last_room (λ m2 ready2.
-        begin_plains (test_code here running.sizes line test n) ends later_in m2
+        begin_plains (part_code here own last in_last) _ later_in m1
+        ∙ part_means last in_last (nodes_on (plains (test_code here own line test n) ends) later_in) (λ now. tested running meant test now on_again follows) last_typed last_temporaries some_last last_room (λ m2 ready2.
+        begin_plains (test_code here own line test n) ends later_in m2
         ∙ test_means line test n later_in on_again follows test_typed test_temporaries some test_room same goes m2 ready2) m1 ready1 in
         let out_in : LeadOut ways_in (in_loop exits follows follows_end) (nodes_on end later_in) = record {
           breaks = leads_front end ends later_in behind follows end_front (leads_behind (again ∷ []) (nodes_on rest later) behind follows (leads_begin (nodes_on rest later) behind follows (omega (arith, is_behind, places_count rest later)) goes));
@@ -533,30 +586,30 @@ module _ (running : Running) (others objects : List ℕ) (functions : List Signa
           labels = λ l. leads_front end ends later_in (ways.label_at l) (exits.labels l) end_front (leads_behind (again ∷ []) (nodes_on rest later) (ways.label_at l) (exits.labels l) (out.labels l));
           returns = out.returns;
         } in
-        (λ i. begin (nodes_on (statement_code here running.sizes (base i) ways_in s in_body end) later_in) m)
+        (λ i. begin (nodes_on (statement_code here own (base i) ways_in s in_body end) later_in) m)
         ∙ means_it ways_in (in_loop exits follows follows_end) in_body end later_in follows_end typed housed some_body room out_in end_goes m ready
 
     -- the block of a switch, from the place of the case that has the value, else from that of the default, or nothing more
     entered_means : (b : Bool) (line xr : ℕ) (items : Items) → JumpsMean items → DefaultLeads items → (ways : Ways) (exits : Exits) (n in_entry : ℕ) (rest : Nodes) (later : Places) (follows : Variables → Behaviour) (x : ℕ)
-        → has_default items ≡ b → in_entry ≡ xr + 1 + case_registers running.sizes items
-        → are_typed_items named items ≡ true → Lives (items_temporaries items) → 1 ≤ n → n + items_registers running.sizes items ≤ total → in_entry + entry_registers running.sizes items ≤ total
+        → has_default items ≡ b → in_entry ≡ xr + 1 + case_registers own items
+        → are_typed_items named items ≡ true → Lives (items_temporaries items) → 1 ≤ n → n + items_registers own items ≤ total → in_entry + entry_registers own items ≤ total
         → LeadOut ways exits (nodes_on rest later) → Goes (nodes_on rest later) follows → (m : Memory) → Ready m → register m xr ≡ x
-        → (let body = items_code here running.sizes (length later) ways items n rest in
-        let last = to_place here running.sizes line (length later) (if b then default_place here running.sizes (length later) ways items n rest else length later + node_count rest) body in
-        begin (nodes_on (plains (entry_code here running.sizes items in_entry) (case_jumps here running.sizes (length later) ways xr items (xr + 1) n rest last)) later) m
+        → (let body = items_code here own (length later) ways items n rest in
+        let last = to_place here own line (length later) (if b then default_place here own (length later) ways items n rest else length later + node_count rest) body in
+        begin (nodes_on (plains (entry_code here own items in_entry) (case_jumps here own (length later) ways xr items (xr + 1) n rest last)) later) m
         ≡ enter running items (view m) (λ now. if has_case items x then at_case running meant items x exits now follows else (if b then at_default running meant items exits now follows else follows now)))
     entered_means b line xr items jumps_it default_it ways exits n in_entry rest later follows x is_default is_entry typed housed some room entry_room out goes m ready value =
         let base = length later in
         let behind = base + node_count rest in
-        let body = items_code here running.sizes base ways items n rest in
-        let place = if b then default_place here running.sizes base ways items n rest else behind in
-        let last = to_place here running.sizes line base place body in
+        let body = items_code here own base ways items n rest in
+        let place = if b then default_place here own base ways items n rest else behind in
+        let last = to_place here own line base place body in
         let other : Variables → Behaviour = λ now. if b then at_default running meant items exits now follows else follows now in
         let leads : Leads (nodes_on body later) place other =
-        leads_either b (nodes_on body later) (default_place here running.sizes base ways items n rest) behind (λ vs. at_default running meant items exits vs follows) follows
+        leads_either b (nodes_on body later) (default_place here own base ways items n rest) behind (λ vs. at_default running meant items exits vs follows) follows
         (λ is. default_it n ways exits rest later follows (is_default ∙ is) typed housed some room out goes)
         (leads_front body rest later behind follows (items_front items base ways n rest) (leads_begin (nodes_on rest later) behind follows (omega (arith, places_count rest later)) goes)) in
-        begin_plains (entry_code here running.sizes items in_entry) _ later m
+        begin_plains (entry_code here own items in_entry) _ later m
         ∙ entering items in_entry in_entry m m _ (λ now. if has_case items x then at_case running meant items x exits now follows else other now) typed ready (kept-refl edge d in_entry m) (omega (arith, is_entry)) (omega arith) (omega (arith, entry_room)) (λ m1 kept.
         let ready1 = ready_kept in_entry m m1 (omega (arith, is_entry)) ready kept in
         jumps_it xr x (xr + 1) n ways exits rest last later follows other typed housed some room out goes (plain_front _ body body (itself body)) (omega arith) (omega arith) (omega (arith, is_entry, entry_room))
@@ -565,13 +618,13 @@ module _ (running : Running) (others objects : List ℕ) (functions : List Signa
 
     -- behind the value: nothing where no case has it and there is no default, else the block
     switch_tail : (b c : Bool) (line before : ℕ) (items : Items) → JumpsMean items → DefaultLeads items → (ways : Ways) (exits : Exits) (n in_entry : ℕ) (rest : Nodes) (later : Places) (follows : Variables → Behaviour) (x : ℕ)
-        → has_default items ≡ b → declares_none items ≡ c → 1 ≤ before → in_entry ≡ before + 1 + 1 + case_registers running.sizes items
-        → are_typed_items named items ≡ true → Lives (items_temporaries items) → 1 ≤ n → n + items_registers running.sizes items ≤ total → in_entry + entry_registers running.sizes items ≤ total
+        → has_default items ≡ b → declares_none items ≡ c → 1 ≤ before → in_entry ≡ before + 1 + 1 + case_registers own items
+        → are_typed_items named items ≡ true → Lives (items_temporaries items) → 1 ≤ n → n + items_registers own items ≤ total → in_entry + entry_registers own items ≤ total
         → LeadOut ways exits (nodes_on rest later) → Goes (nodes_on rest later) follows → (m : Memory) → Ready m → register m (before + 1) ≡ x
-        → (let body = items_code here running.sizes (length later) ways items n rest in
-        let last = to_place here running.sizes line (length later) (if b then default_place here running.sizes (length later) ways items n rest else length later + node_count rest) body in
-        let entered = plains (entry_code here running.sizes items in_entry) (case_jumps here running.sizes (length later) ways (before + 1) items (before + 1 + 1) n rest last) in
-        begin (nodes_on (if b || c then entered else guarded here running.sizes line before (before + 1) items (before + 1 + 1) (node_count rest) entered) later) m
+        → (let body = items_code here own (length later) ways items n rest in
+        let last = to_place here own line (length later) (if b then default_place here own (length later) ways items n rest else length later + node_count rest) body in
+        let entered = plains (entry_code here own items in_entry) (case_jumps here own (length later) ways (before + 1) items (before + 1 + 1) n rest last) in
+        begin (nodes_on (if b || c then entered else guarded here own line before (before + 1) items (before + 1 + 1) (node_count rest) entered) later) m
         ≡ (if has_case items x then enter running items (view m) (λ now. at_case running meant items x exits now follows)
         else (if b then enter running items (view m) (λ now. at_default running meant items exits now follows) else follows (view m))))
     switch_tail true c line before items jumps_it default_it ways exits n in_entry rest later follows x is_default is_none some_before is_entry typed housed some room entry_room out goes m ready value =
@@ -585,17 +638,17 @@ module _ (running : Running) (others objects : List ℕ) (functions : List Signa
         let base = length later in
         let behind = base + node_count rest in
         let xr = before + 1 in
-        let body = items_code here running.sizes base ways items n rest in
-        let last = to_place here running.sizes line base behind body in
-        let jumps_of = case_jumps here running.sizes base ways xr items (xr + 1) n rest last in
-        let entered = plains (entry_code here running.sizes items in_entry) jumps_of in
+        let body = items_code here own base ways items n rest in
+        let last = to_place here own line base behind body in
+        let jumps_of = case_jumps here own base ways xr items (xr + 1) n rest last in
+        let entered = plains (entry_code here own items in_entry) jumps_of in
         let by_case : Variables → Behaviour = λ vs. at_case running meant items x exits vs follows in
         let entered_front : InFront entered rest = plains_front _ jumps_of rest (then_front jumps_of last rest (jumps_front base ways xr items (xr + 1) n rest last) (plain_front _ body rest (items_front items base ways n rest))) in
         let m1 : Memory = with_register m before 0 in
         let ready1 : Ready m1 = ready_kept before m m1 some_before ready (kept-set edge d before before m 0 (omega arith)) in
         let value1 : register m1 xr ≡ x = set_other m before 0 xr (λ e. omega (arith, e)) ∙ value in
         let prior : register m1 before ≡ 0 = set_same m before 0 (omega (arith, is_entry, entry_room, ready.room)) in
-        begin_plains (case_tests here running.sizes line xr before items (xr + 1)) _ later m1
+        begin_plains (case_tests here own line xr before items (xr + 1)) _ later m1
         ∙ tests_mean items line xr before (xr + 1) x false m1 _ _ value1 prior (omega arith) (omega arith) (omega (arith, is_entry, entry_room)) ready1 (λ m2 after.
         let skipped : at reading (nodes_on entered later) (node_count entered - node_count rest) m2 ≡ follows (view m2) =
         skip_to (nodes_on entered later) (node_count entered - node_count rest) behind follows (omega (arith, places_count entered later))
@@ -608,16 +661,17 @@ module _ (running : Running) (others objects : List ℕ) (functions : List Signa
 
     mutual
       pub statement_means : (s : Statement) (ways : Ways) (exits : Exits) (n : ℕ) (rest : Nodes) (later : Places) (follows : Variables → Behaviour)
-          → is_typed_statement named s ≡ true → Lives (statement_temporaries s) → 1 ≤ n → n + statement_registers running.sizes s ≤ total → LeadOut ways exits (nodes_on rest later) → Goes (nodes_on rest later) follows
-          → Goes (nodes_on (statement_code here running.sizes (length later) ways s n rest) later) (λ vs. exec running meant s exits vs follows)
+          → is_typed_statement named s ≡ true → Lives (statement_temporaries s) → 1 ≤ n → n + statement_registers own s ≤ total → LeadOut ways exits (nodes_on rest later) → Goes (nodes_on rest later) follows
+          → Goes (nodes_on (statement_code here own (length later) ways s n rest) later) (λ vs. exec running meant s exits vs follows)
       statement_means (block items) ways exits n rest later follows typed housed some room out goes m ready =
-          let in_entry = n + items_registers running.sizes items in
-          begin_plains (entry_code here running.sizes items in_entry) _ later m
+          let in_entry = n + items_registers own items in
+          begin_plains (entry_code here own items in_entry) _ later m
           ∙ entering items in_entry 1 m m _ (λ after. exec_items running meant items exits after follows) typed ready (kept-refl edge d 1 m) (omega arith) (omega (arith, some)) (omega (arith, room)) (λ m' kept.
           items_mean items ways exits n rest later follows typed housed some (omega (arith, room)) out goes m' (ready_kept 1 m m' (omega arith) ready kept))
+          ∙ sym (block_same items exits (view m) follows)
       statement_means (if_then line test s) ways exits n rest later follows typed housed some room out goes m ready =
-          let yes = statement_code here running.sizes (length later) ways s n rest in
-          let in_test = n + statement_registers running.sizes s in
+          let yes = statement_code here own (length later) ways s n rest in
+          let in_test = n + statement_registers own s in
           begin_plains (code here test in_test) _ later m
           ∙ value_first test in_test m _ (λ x after. if is_true x then exec running meant s exits after follows else follows after) (right_of _ _ (left_of _ _ typed)) (housed_left sizes edge d (temporaries test) (statement_temporaries s) housed) ready (omega (arith, some)) (omega (arith, room)) (λ m1 ready1 kept1.
           turned running others calls hands meant (register m1 (in_test + top test) == 0) _ _ _ _
@@ -626,11 +680,11 @@ module _ (running : Running) (others objects : List ℕ) (functions : List Signa
           (statement_means s ways exits n rest later follows (right_of _ _ typed) (housed_right sizes edge d (temporaries test) (statement_temporaries s) housed) some (omega (arith, room)) out goes m1 ready1))
       statement_means (if_else line test s t) ways exits n rest later follows typed housed some room out goes m ready =
           let base = length later in
-          let no = statement_code here running.sizes base ways t n rest in
-          let second = n + statement_registers running.sizes t in
-          let jump = to_place here running.sizes line base (base + node_count rest) no in
-          let yes = statement_code here running.sizes base ways s second jump in
-          let in_test = second + statement_registers running.sizes s in
+          let no = statement_code here own base ways t n rest in
+          let second = n + statement_registers own t in
+          let jump = to_place here own line base (base + node_count rest) no in
+          let yes = statement_code here own base ways s second jump in
+          let in_test = second + statement_registers own s in
           let both_temporaries = housed_right sizes edge d (temporaries test) (both (statement_temporaries s) (statement_temporaries t)) housed in
           let no_front : InFront no rest = statement_front t base ways n rest in
           let jump_front : InFront jump rest = plain_front _ no rest no_front in
@@ -654,7 +708,7 @@ module _ (running : Running) (others objects : List ℕ) (functions : List Signa
           let result = edge + 1 in
           let is : gives ≡ Some (passed.Integer t) = number_returned (type_of e) (left_of _ _ (left_of _ _ typed)) (right_of _ _ (left_of _ _ typed)) in
           begin_plains (code here e n) _ later m
-          ∙ value_first e n m _ (λ x after. exits.returns (source.number x)) (right_of _ _ typed) housed ready some (omega (arith, room)) (λ m1 ready1 kept1.
+          ∙ value_first e n m _ (λ x. exits.returns (source.number x)) (right_of _ _ typed) housed ready some (omega (arith, room)) (λ m1 ready1 kept1.
           let x = register m1 (n + top e) in
           let new = low_bytes (bytes t) x in
           let count : length new ≡ bytes t = low_count (bytes t) x (few_bytes t) in
@@ -663,32 +717,32 @@ module _ (running : Running) (others objects : List ℕ) (functions : List Signa
           let whole : block_of (written m1 result 0 new).blocks result ≡ new = get_or-set_same m1.blocks result (put_at 0 new (block_of m1.blocks result)) [] there ∙ put_whole new (block_of m1.blocks result) (count ∙ sym size) in
           (λ i. hands (Some (whole i)))
           ∙ sym (λ i. hands (handed (is i) (source.number x)))
-          ∙ out.returns (source.number x) (subst (λ (g : Option PassedType). IsGiven g (source.number x)) (sym is) tt))
+          ∙ out.returns (source.number x) (subst (λ (g : Option PassedType). IsGiven g (source.number x)) (sym is) tt) (view m1))
       statement_means (returns_structure line a) ways exits n rest later follows typed housed some room out goes m ready =
           let result = edge + 1 in
           let is : gives ≡ Some (passed.Structure (trees.size_of a)) = same_gives running others calls hands meant gives (Some (passed.Structure (trees.size_of a))) (left_of _ _ typed) in
           let size : length (block_of m.blocks result) ≡ trees.size_of a = result_length m ready ∙ ap given_size is in
           begin_plains (structure_code here a n result 0) _ later m
-          ∙ structure_first a n result m _ (λ value after. exits.returns (source.structure value)) (right_of _ _ typed) housed ready (omega arith) ready.placed.deep (omega (arith, size)) (omega (arith, room)) (λ m1 value long block_is.
+          ∙ structure_first a n result m _ (λ value. exits.returns (source.structure value)) (right_of _ _ typed) housed ready (omega arith) ready.placed.deep (omega (arith, size)) (omega (arith, room)) (λ m1 value long block_is.
           (λ i. hands (Some ((block_is ∙ put_whole value (block_of m.blocks result) (long ∙ sym size)) i)))
           ∙ sym (λ i. hands (handed (is i) (source.structure value)))
-          ∙ out.returns (source.structure value) (subst (λ (g : Option PassedType). IsGiven g (source.structure value)) (sym is) long))
-      statement_means (returns_nothing line) ways exits n rest later follows typed housed some room out goes m ready = out.returns source.nothing tt
+          ∙ out.returns (source.structure value) (subst (λ (g : Option PassedType). IsGiven g (source.structure value)) (sym is) long) (view m1))
+      statement_means (returns_nothing line) ways exits n rest later follows typed housed some room out goes m ready = out.returns source.nothing tt (view m)
       statement_means (for_loop line l first test last s) ways exits n rest later follows typed housed some room out goes m ready =
           let behind = length later + node_count rest in
-          let in_last = n + part_registers running.sizes test in
-          let in_body = in_last + part_registers running.sizes last in
-          let in_test = in_body + statement_registers running.sizes s in
-          let in_first = in_test + part_registers running.sizes test in
+          let in_last = n + part_registers own test in
+          let in_body = in_last + part_registers own last in
+          let in_test = in_body + statement_registers own s in
+          let in_first = in_test + part_registers own test in
           let first_typed = left_of _ _ (left_of _ _ (left_of _ _ typed)) in
           let test_typed = right_of _ _ (left_of _ _ (left_of _ _ typed)) in
           let first_temporaries = housed_left sizes edge d (part_temporaries first) (both (part_temporaries test) (both (part_temporaries last) (statement_temporaries s))) housed in
           let others_temporaries = housed_right sizes edge d (part_temporaries first) (both (part_temporaries test) (both (part_temporaries last) (statement_temporaries s))) housed in
           let test_temporaries = housed_left sizes edge d (part_temporaries test) (both (part_temporaries last) (statement_temporaries s)) others_temporaries in
           let rounds_temporaries = housed_right sizes edge d (part_temporaries test) (both (part_temporaries last) (statement_temporaries s)) others_temporaries in
-          let end = plains (part_code here running.sizes last in_last) (plains (test_code here running.sizes line test n) ends) in
+          let end = plains (part_code here own last in_last) (plains (test_code here own line test n) ends) in
           let ways_in = within_loop ways behind (behind + 1 + node_count end) in
-          let body = statement_code here running.sizes (behind + 1) ways_in s in_body end in
+          let body = statement_code here own (behind + 1) ways_in s in_body end in
           let loop = repeats line running.function l true body rest in
           let round : (Variables → Behaviour) → Variables → Behaviour =
           λ again now. exec running meant s (in_loop exits follows (at_end running meant last test again follows)) now (at_end running meant last test again follows) in
@@ -701,9 +755,9 @@ module _ (running : Running) (others objects : List ℕ) (functions : List Signa
           some (omega (arith, some)) (omega (arith, some)) (omega (arith, room)) (omega (arith, room)) (omega (arith, room)) out goes same m2 ready2)
           (tests bounded running.function l - 1) m' ready'
           ∙ (λ i. source.rounds running line round (tests_same l i - 1) (view m')) in
-          begin_plains (part_code here running.sizes first in_first) _ later m
-          ∙ part_means first in_first (nodes_on (plains (test_code here running.sizes line test in_test) loop) later) (λ start. tested running meant test start rest_rounds follows) first_typed first_temporaries (omega (arith, some)) (omega (arith, room)) (λ m1 ready1.
-          begin_plains (test_code here running.sizes line test in_test) loop later m1
+          begin_plains (part_code here own first in_first) _ later m
+          ∙ part_means first in_first (nodes_on (plains (test_code here own line test in_test) loop) later) (λ start. tested running meant test start rest_rounds follows) first_typed first_temporaries (omega (arith, some)) (omega (arith, room)) (λ m1 ready1.
+          begin_plains (test_code here own line test in_test) loop later m1
           ∙ test_means line test in_test (nodes_on loop later) rest_rounds follows test_typed test_temporaries (omega (arith, some)) (omega (arith, room)) loop_goes goes m1 ready1) m ready
       statement_means (do_loop line l s test) ways exits n rest later follows typed housed some room out goes m ready =
           let behind = length later + node_count rest in
@@ -711,8 +765,8 @@ module _ (running : Running) (others objects : List ℕ) (functions : List Signa
           let b = trees.is_integer (type_of test) in
           let c = is_typed named test in
           let in_body = n + (top test + 1) in
-          let end = plains (test_code here running.sizes line (Some test) n) ends in
-          let body = statement_code here running.sizes (behind + 1) (within_loop ways behind (behind + 1 + node_count end)) s in_body end in
+          let end = plains (test_code here own line (Some test) n) ends in
+          let body = statement_code here own (behind + 1) (within_loop ways behind (behind + 1 + node_count end)) s in_body end in
           let round : (Variables → Behaviour) → Variables → Behaviour =
           λ again now. exec running meant s (in_loop exits follows (at_end running meant None (Some test) again follows)) now (at_end running meant None (Some test) again follows) in
           rounds_mean line limits.assertions (λ again. at reading (nodes_on body (again ∷ nodes_on rest later)) 0) round assertions_same (λ again on_again same m2 ready2.
@@ -724,9 +778,9 @@ module _ (running : Running) (others objects : List ℕ) (functions : List Signa
           ∙ (λ i. source.rounds running line round (tests_same l i) (view m))
       statement_means (switch line e items) ways exits n rest later follows typed housed some room out goes m ready =
           let behind = length later + node_count rest in
-          let before = n + items_registers running.sizes items in
-          let in_entry = before + 1 + 1 + case_registers running.sizes items in
-          let from = in_entry + entry_registers running.sizes items in
+          let before = n + items_registers own items in
+          let in_entry = before + 1 + 1 + case_registers own items in
+          let from = in_entry + entry_registers own items in
           let inner_out : LeadOut (within_switch ways behind) (in_switch exits follows) (nodes_on rest later) = record {
             breaks = leads_begin (nodes_on rest later) behind follows (omega (arith, places_count rest later)) goes;
             continues = out.continues;
@@ -734,13 +788,14 @@ module _ (running : Running) (others objects : List ℕ) (functions : List Signa
             returns = out.returns;
           } in
           begin_plains (code here e from) _ later m
-          ∙ value_first e from m _ _ (right_of _ _ (left_of _ _ (left_of _ _ typed))) (housed_left sizes edge d (temporaries e) (items_temporaries items) housed) ready (omega (arith, some)) (omega (arith, room)) (λ m1 ready1 kept1.
+          ∙ value_first e from m _ (chosen_in items (in_switch exits follows) follows) (right_of _ _ (left_of _ _ (left_of _ _ typed))) (housed_left sizes edge d (temporaries e) (items_temporaries items) housed) ready (omega (arith, some)) (omega (arith, room)) (λ m1 ready1 kept1.
           let x = register m1 (from + top e) in
           let m2 : Memory = with_register m1 (before + 1) x in
           let ready2 : Ready m2 = ready_kept (before + 1) m1 m2 (omega arith) ready1 (kept-set edge d (before + 1) (before + 1) m1 x (omega arith)) in
           switch_tail (has_default items) (declares_none items) line before items (λ xr2 x2 k2 n2 ways2 exits2 rest2 more2 later2 follows2 other2. jumps_mean items xr2 x2 k2 n2 ways2 exits2 rest2 more2 later2 follows2 other2) (λ n2 ways2 exits2 rest2 later2 follows2. default_leads items n2 ways2 exits2 rest2 later2 follows2)
           (within_switch ways behind) (in_switch exits follows) n in_entry rest later follows x refl refl (omega (arith, some)) refl (right_of _ _ typed) (housed_right sizes edge d (temporaries e) (items_temporaries items) housed) some (omega (arith, room)) (omega (arith, room)) inner_out goes m2 ready2
           (set_same m1 (before + 1) x (omega (arith, room, ready1.room))))
+          ∙ sym (switch_same line e items exits (view m) follows)
       statement_means (breaks line) ways exits n rest later follows typed housed some room out goes m ready =
           skip_to (nodes_on rest later) (length later + node_count rest - ways.break_at) ways.break_at exits.breaks (omega (arith, places_count rest later)) out.breaks m ready
       statement_means (continues line) ways exits n rest later follows typed housed some room out goes m ready =
@@ -750,14 +805,14 @@ module _ (running : Running) (others objects : List ℕ) (functions : List Signa
       statement_means (stray line s) ways exits n rest later follows typed housed some room out goes m ready = statement_means s ways exits n rest later follows typed housed some room out goes m ready
 
       pub items_mean : (items : Items) (ways : Ways) (exits : Exits) (n : ℕ) (rest : Nodes) (later : Places) (follows : Variables → Behaviour)
-          → are_typed_items named items ≡ true → Lives (items_temporaries items) → 1 ≤ n → n + items_registers running.sizes items ≤ total → LeadOut ways exits (nodes_on rest later) → Goes (nodes_on rest later) follows
-          → Goes (nodes_on (items_code here running.sizes (length later) ways items n rest) later) (λ vs. exec_items running meant items exits vs follows)
+          → are_typed_items named items ≡ true → Lives (items_temporaries items) → 1 ≤ n → n + items_registers own items ≤ total → LeadOut ways exits (nodes_on rest later) → Goes (nodes_on rest later) follows
+          → Goes (nodes_on (items_code here own (length later) ways items n rest) later) (λ vs. exec_items running meant items exits vs follows)
       items_mean done ways exits n rest later follows typed housed some room out goes m ready = goes m ready
       items_mean (declares line v items) ways exits n rest later follows typed housed some room out goes m ready = items_mean items ways exits n rest later follows (right_of _ _ typed) housed some room out goes m ready
       items_mean (initializes line v drawn e items) ways exits n rest later follows typed housed some room out goes m ready =
           let t = number_type e in
-          let in_value = n + items_registers running.sizes items in
-          let fills_it = filled_within [] running.sizes v (type_of e) (left_of _ _ (left_of _ _ typed)) in
+          let in_value = n + items_registers own items in
+          let fills_it = filled_within [] own v (type_of e) (left_of _ _ (left_of _ _ typed)) in
           let variable = variable_below running others calls hands meant v 0 (bytes t) fills_it in
           begin_plains (code here e in_value) _ later m
           ∙ value_first e in_value m _ (λ x after. exec_items running meant items exits (write_variable after v 0 t x) follows) (right_of _ _ (left_of _ _ typed)) (housed_left sizes edge d (temporaries e) (items_temporaries items) housed) ready (omega (arith, some)) (omega (arith, room)) (λ m1 ready1 kept1.
@@ -765,17 +820,19 @@ module _ (running : Running) (others objects : List ℕ) (functions : List Signa
           let kept2 : Kept edge d 1 m1 (written m1 v 0 new) = kept-write edge d 1 v 0 new m1 m1 variable (low_room running others calls hands meant d m1 ready1.placed v 0 t (register m1 (in_value + top e)) fills_it) (kept-refl edge d 1 m1) in
           items_mean items ways exits n rest later follows (right_of _ _ typed) (housed_right sizes edge d (temporaries e) (items_temporaries items) housed) some (omega (arith, room)) out goes (written m1 v 0 new) (ready_kept 1 m1 (written m1 v 0 new) (omega arith) ready1 kept2)
           ∙ ap (λ vs. exec_items running meant items exits vs follows) (shown_write running others calls hands meant m1 v 0 new variable))
+          ∙ sym (λ i. eval running meant e (view m) (λ x after. source.initial running (sound.homeless v i) v (low_bytes (bytes t) x) line after (λ now. exec_items running meant items exits now follows)))
       items_mean (initializes_structure line v drawn a items) ways exits n rest later follows typed housed some room out goes m ready =
           let needs = under (trees.size_of a) (structure_temporaries a) in
           let about = left_of _ _ (left_of _ _ typed) in
-          let in_value = n + items_registers running.sizes items in
-          begin_plains (initial_code here running.sizes line v a in_value) _ later m
-          ∙ initial_means line v a in_value m _ (λ after. exec_items running meant items exits after follows) (test_less v edge (left_of _ _ about)) (sym (test_equal (trees.size_of a) (slice_index running.sizes v) (right_of _ _ about))) (right_of _ _ (left_of _ _ typed)) (housed_left sizes edge d needs (items_temporaries items) housed) ready (omega (arith, some)) (omega (arith, room))
+          let in_value = n + items_registers own items in
+          begin_plains (initial_code here own line v a in_value) _ later m
+          ∙ initial_means line v a in_value m _ (λ after. exec_items running meant items exits after follows) (test_less v edge (left_of _ _ about)) (sym (test_equal (trees.size_of a) (slice_index own v) (right_of _ _ about))) (right_of _ _ (left_of _ _ typed)) (housed_left sizes edge d needs (items_temporaries items) housed) ready (omega (arith, some)) (omega (arith, room))
           (items_mean items ways exits n rest later follows (right_of _ _ typed) (housed_right sizes edge d needs (items_temporaries items) housed) some (omega (arith, room)) out goes)
+          ∙ sym (λ i. eval_structure running meant a (view m) (λ value after. source.initial running (sound.homeless v i) v value line after (λ now. exec_items running meant items exits now follows)))
       items_mean (does s items) ways exits n rest later follows typed housed some room out goes m ready =
-          let more = items_code here running.sizes (length later) ways items n rest in
+          let more = items_code here own (length later) ways items n rest in
           let items_housed = housed_right sizes edge d (statement_temporaries s) (items_temporaries items) housed in
-          statement_means s (labels_of here running.sizes (length later) ways items n rest) (with_labels exits (λ l now. at_label running meant items l exits now follows)) (n + items_registers running.sizes items) more later (λ after. exec_items running meant items exits after follows)
+          statement_means s (labels_of here own (length later) ways items n rest) (with_labels exits (λ l now. at_label running meant items l exits now follows)) (n + items_registers own items) more later (λ after. exec_items running meant items exits after follows)
           (left_of _ _ typed) (housed_left sizes edge d (statement_temporaries s) (items_temporaries items) housed) (omega (arith, some)) (omega (arith, room))
           (labels_lead items ways exits n rest later follows (right_of _ _ typed) items_housed some (omega (arith, room)) out goes)
           (items_mean items ways exits n rest later follows (right_of _ _ typed) items_housed some (omega (arith, room)) out goes) m ready
@@ -785,33 +842,33 @@ module _ (running : Running) (others objects : List ℕ) (functions : List Signa
 
       -- the labels among items lead behind them
       labels_lead : (items : Items) (ways : Ways) (exits : Exits) (n : ℕ) (rest : Nodes) (later : Places) (follows : Variables → Behaviour)
-          → are_typed_items named items ≡ true → Lives (items_temporaries items) → 1 ≤ n → n + items_registers running.sizes items ≤ total → LeadOut ways exits (nodes_on rest later) → Goes (nodes_on rest later) follows
-          → LeadOut (labels_of here running.sizes (length later) ways items n rest) (with_labels exits (λ l now. at_label running meant items l exits now follows)) (nodes_on (items_code here running.sizes (length later) ways items n rest) later)
+          → are_typed_items named items ≡ true → Lives (items_temporaries items) → 1 ≤ n → n + items_registers own items ≤ total → LeadOut ways exits (nodes_on rest later) → Goes (nodes_on rest later) follows
+          → LeadOut (labels_of here own (length later) ways items n rest) (with_labels exits (λ l now. at_label running meant items l exits now follows)) (nodes_on (items_code here own (length later) ways items n rest) later)
       labels_lead done ways exits n rest later follows typed housed some room out goes = record { breaks = out.breaks; continues = out.continues; labels = out.labels; returns = out.returns }
       labels_lead (declares line v items) ways exits n rest later follows typed housed some room out goes = labels_lead items ways exits n rest later follows (right_of _ _ typed) housed some room out goes
       labels_lead (initializes line v drawn e items) ways exits n rest later follows typed housed some room out goes =
-          let more = items_code here running.sizes (length later) ways items n rest in
-          lead_front (labels_of here running.sizes (length later) ways items n rest) (with_labels exits (λ l now. at_label running meant items l exits now follows)) (items_code here running.sizes (length later) ways (initializes line v drawn e items) n rest) more later
+          let more = items_code here own (length later) ways items n rest in
+          lead_front (labels_of here own (length later) ways items n rest) (with_labels exits (λ l now. at_label running meant items l exits now follows)) (items_code here own (length later) ways (initializes line v drawn e items) n rest) more later
           (plains_front _ _ more (plain_front _ more more (itself more)))
           (labels_lead items ways exits n rest later follows (right_of _ _ typed) (housed_right sizes edge d (temporaries e) (items_temporaries items) housed) some (omega (arith, room)) out goes)
       labels_lead (initializes_structure line v drawn a items) ways exits n rest later follows typed housed some room out goes =
-          let more = items_code here running.sizes (length later) ways items n rest in
-          lead_front (labels_of here running.sizes (length later) ways items n rest) (with_labels exits (λ l now. at_label running meant items l exits now follows)) (items_code here running.sizes (length later) ways (initializes_structure line v drawn a items) n rest) more later
+          let more = items_code here own (length later) ways items n rest in
+          lead_front (labels_of here own (length later) ways items n rest) (with_labels exits (λ l now. at_label running meant items l exits now follows)) (items_code here own (length later) ways (initializes_structure line v drawn a items) n rest) more later
           (plains_front _ more more (itself more))
           (labels_lead items ways exits n rest later follows (right_of _ _ typed) (housed_right sizes edge d (under (trees.size_of a) (structure_temporaries a)) (items_temporaries items) housed) some (omega (arith, room)) out goes)
       labels_lead (does s items) ways exits n rest later follows typed housed some room out goes =
-          let more = items_code here running.sizes (length later) ways items n rest in
-          lead_front (labels_of here running.sizes (length later) ways items n rest) (with_labels exits (λ l now. at_label running meant items l exits now follows)) (items_code here running.sizes (length later) ways (does s items) n rest) more later
-          (statement_front s (length later) (labels_of here running.sizes (length later) ways items n rest) (n + items_registers running.sizes items) more)
+          let more = items_code here own (length later) ways items n rest in
+          lead_front (labels_of here own (length later) ways items n rest) (with_labels exits (λ l now. at_label running meant items l exits now follows)) (items_code here own (length later) ways (does s items) n rest) more later
+          (statement_front s (length later) (labels_of here own (length later) ways items n rest) (n + items_registers own items) more)
           (labels_lead items ways exits n rest later follows (right_of _ _ typed) (housed_right sizes edge d (statement_temporaries s) (items_temporaries items) housed) some (omega (arith, room)) out goes)
       labels_lead (label l items) ways exits n rest later follows typed housed some room out goes =
-          let more = items_code here running.sizes (length later) ways items n rest in
+          let more = items_code here own (length later) ways items n rest in
           let first = labels_lead items ways exits n rest later follows typed housed some room out goes in
           let place = length later + node_count more in
           record {
             breaks = first.breaks;
             continues = first.continues;
-            labels = λ q. leads_if (l == q) (nodes_on more later) place ((labels_of here running.sizes (length later) ways items n rest).label_at q) (λ vs. exec_items running meant items exits vs follows) (λ vs. at_label running meant items q exits vs follows)
+            labels = λ q. leads_if (l == q) (nodes_on more later) place ((labels_of here own (length later) ways items n rest).label_at q) (λ vs. exec_items running meant items exits vs follows) (λ vs. at_label running meant items q exits vs follows)
                 (leads_begin (nodes_on more later) place (λ vs. exec_items running meant items exits vs follows) (omega (arith, places_count more later)) (items_mean items ways exits n rest later follows typed housed some room out goes)) (first.labels q);
             returns = first.returns;
           }
@@ -820,30 +877,30 @@ module _ (running : Running) (others objects : List ℕ) (functions : List Signa
 
       -- the jumps to the cases: behind the one that has the value, else on
       jumps_mean : (items : Items) (xr x k n : ℕ) (ways : Ways) (exits : Exits) (rest more : Nodes) (later : Places) (follows other : Variables → Behaviour)
-          → are_typed_items named items ≡ true → Lives (items_temporaries items) → 1 ≤ n → n + items_registers running.sizes items ≤ total → LeadOut ways exits (nodes_on rest later) → Goes (nodes_on rest later) follows
-          → InFront more (items_code here running.sizes (length later) ways items n rest)
-          → 1 ≤ k → xr < k → k + case_registers running.sizes items ≤ total → Goes (nodes_on more later) other → (m : Memory) → Ready m → register m xr ≡ x
-          → begin (nodes_on (case_jumps here running.sizes (length later) ways xr items k n rest more) later) m ≡ (if has_case items x then at_case running meant items x exits (view m) follows else other (view m))
+          → are_typed_items named items ≡ true → Lives (items_temporaries items) → 1 ≤ n → n + items_registers own items ≤ total → LeadOut ways exits (nodes_on rest later) → Goes (nodes_on rest later) follows
+          → InFront more (items_code here own (length later) ways items n rest)
+          → 1 ≤ k → xr < k → k + case_registers own items ≤ total → Goes (nodes_on more later) other → (m : Memory) → Ready m → register m xr ≡ x
+          → begin (nodes_on (case_jumps here own (length later) ways xr items k n rest more) later) m ≡ (if has_case items x then at_case running meant items x exits (view m) follows else other (view m))
       jumps_mean done xr x k n ways exits rest more later follows other typed housed some room out goes front some_cases low cases_room last m ready value = last m ready
       jumps_mean (declares at_line_of v items) xr x k n ways exits rest more later follows other typed housed some room out goes front some_cases low cases_room last m ready value =
           jumps_mean items xr x k n ways exits rest more later follows other (right_of _ _ typed) housed some room out goes front some_cases low cases_room last m ready value
       jumps_mean (initializes at_line_of v drawn e items) xr x k n ways exits rest more later follows other typed housed some room out goes front some_cases low cases_room last m ready value =
-          let others_code = items_code here running.sizes (length later) ways items n rest in
+          let others_code = items_code here own (length later) ways items n rest in
           jumps_mean items xr x k n ways exits rest more later follows other (right_of _ _ typed) (housed_right sizes edge d (temporaries e) (items_temporaries items) housed) some (omega (arith, room)) out goes
-          (then_front more (items_code here running.sizes (length later) ways (initializes at_line_of v drawn e items) n rest) others_code front (plains_front _ _ others_code (plain_front _ others_code others_code (itself others_code)))) some_cases low cases_room last m ready value
+          (then_front more (items_code here own (length later) ways (initializes at_line_of v drawn e items) n rest) others_code front (plains_front _ _ others_code (plain_front _ others_code others_code (itself others_code)))) some_cases low cases_room last m ready value
       jumps_mean (initializes_structure at_line_of v drawn a items) xr x k n ways exits rest more later follows other typed housed some room out goes front some_cases low cases_room last m ready value =
-          let others_code = items_code here running.sizes (length later) ways items n rest in
+          let others_code = items_code here own (length later) ways items n rest in
           jumps_mean items xr x k n ways exits rest more later follows other (right_of _ _ typed) (housed_right sizes edge d (under (trees.size_of a) (structure_temporaries a)) (items_temporaries items) housed) some (omega (arith, room)) out goes
-          (then_front more (items_code here running.sizes (length later) ways (initializes_structure at_line_of v drawn a items) n rest) others_code front (plains_front _ others_code others_code (itself others_code))) some_cases low cases_room last m ready value
+          (then_front more (items_code here own (length later) ways (initializes_structure at_line_of v drawn a items) n rest) others_code front (plains_front _ others_code others_code (itself others_code))) some_cases low cases_room last m ready value
       jumps_mean (does s items) xr x k n ways exits rest more later follows other typed housed some room out goes front some_cases low cases_room last m ready value =
-          let others_code = items_code here running.sizes (length later) ways items n rest in
+          let others_code = items_code here own (length later) ways items n rest in
           jumps_mean items xr x k n ways exits rest more later follows other (right_of _ _ typed) (housed_right sizes edge d (statement_temporaries s) (items_temporaries items) housed) some (omega (arith, room)) out goes
-          (then_front more (items_code here running.sizes (length later) ways (does s items) n rest) others_code front (statement_front s (length later) (labels_of here running.sizes (length later) ways items n rest) (n + items_registers running.sizes items) others_code)) some_cases low cases_room last m ready value
+          (then_front more (items_code here own (length later) ways (does s items) n rest) others_code front (statement_front s (length later) (labels_of here own (length later) ways items n rest) (n + items_registers own items) others_code)) some_cases low cases_room last m ready value
       jumps_mean (label l items) xr x k n ways exits rest more later follows other typed housed some room out goes front some_cases low cases_room last m ready value =
           jumps_mean items xr x k n ways exits rest more later follows other typed housed some room out goes front some_cases low cases_room last m ready value
       jumps_mean (case_at at_line_of t bits items) xr x k n ways exits rest more later follows other typed housed some room out goes front some_cases low cases_room last m ready value =
-          let behind = items_code here running.sizes (length later) ways items n rest in
-          let next = case_jumps here running.sizes (length later) ways xr items (k + 5) n rest more in
+          let behind = items_code here own (length later) ways items n rest in
+          let next = case_jumps here own (length later) ways xr items (k + 5) n rest more in
           let place = length later + node_count behind in
           let meets : Variables → Behaviour = λ vs. exec_items running meant items exits vs follows in
           let m1 : Memory = with_register m (k + 3) bits in
@@ -867,24 +924,24 @@ module _ (running : Running) (others objects : List ℕ) (functions : List Signa
 
       -- where `default` stands
       default_leads : (items : Items) (n : ℕ) (ways : Ways) (exits : Exits) (rest : Nodes) (later : Places) (follows : Variables → Behaviour)
-          → has_default items ≡ true → are_typed_items named items ≡ true → Lives (items_temporaries items) → 1 ≤ n → n + items_registers running.sizes items ≤ total → LeadOut ways exits (nodes_on rest later) → Goes (nodes_on rest later) follows
-          → Leads (nodes_on (items_code here running.sizes (length later) ways items n rest) later) (default_place here running.sizes (length later) ways items n rest) (λ vs. at_default running meant items exits vs follows)
+          → has_default items ≡ true → are_typed_items named items ≡ true → Lives (items_temporaries items) → 1 ≤ n → n + items_registers own items ≤ total → LeadOut ways exits (nodes_on rest later) → Goes (nodes_on rest later) follows
+          → Leads (nodes_on (items_code here own (length later) ways items n rest) later) (default_place here own (length later) ways items n rest) (λ vs. at_default running meant items exits vs follows)
       default_leads done n ways exits rest later follows there typed housed some room out goes = absurd (false≢true there)
       default_leads (declares line v items) n ways exits rest later follows there typed housed some room out goes = default_leads items n ways exits rest later follows there (right_of _ _ typed) housed some room out goes
       default_leads (initializes line v drawn e items) n ways exits rest later follows there typed housed some room out goes =
-          let behind = items_code here running.sizes (length later) ways items n rest in
-          leads_front (items_code here running.sizes (length later) ways (initializes line v drawn e items) n rest) behind later (default_place here running.sizes (length later) ways items n rest) (λ vs. at_default running meant items exits vs follows) (plains_front _ _ behind (plain_front _ behind behind (itself behind)))
+          let behind = items_code here own (length later) ways items n rest in
+          leads_front (items_code here own (length later) ways (initializes line v drawn e items) n rest) behind later (default_place here own (length later) ways items n rest) (λ vs. at_default running meant items exits vs follows) (plains_front _ _ behind (plain_front _ behind behind (itself behind)))
           (default_leads items n ways exits rest later follows there (right_of _ _ typed) (housed_right sizes edge d (temporaries e) (items_temporaries items) housed) some (omega (arith, room)) out goes)
       default_leads (initializes_structure line v drawn a items) n ways exits rest later follows there typed housed some room out goes =
-          let behind = items_code here running.sizes (length later) ways items n rest in
-          leads_front (items_code here running.sizes (length later) ways (initializes_structure line v drawn a items) n rest) behind later (default_place here running.sizes (length later) ways items n rest) (λ vs. at_default running meant items exits vs follows) (plains_front _ behind behind (itself behind))
+          let behind = items_code here own (length later) ways items n rest in
+          leads_front (items_code here own (length later) ways (initializes_structure line v drawn a items) n rest) behind later (default_place here own (length later) ways items n rest) (λ vs. at_default running meant items exits vs follows) (plains_front _ behind behind (itself behind))
           (default_leads items n ways exits rest later follows there (right_of _ _ typed) (housed_right sizes edge d (under (trees.size_of a) (structure_temporaries a)) (items_temporaries items) housed) some (omega (arith, room)) out goes)
       default_leads (does s items) n ways exits rest later follows there typed housed some room out goes =
-          let behind = items_code here running.sizes (length later) ways items n rest in
-          leads_front (items_code here running.sizes (length later) ways (does s items) n rest) behind later (default_place here running.sizes (length later) ways items n rest) (λ vs. at_default running meant items exits vs follows) (statement_front s (length later) (labels_of here running.sizes (length later) ways items n rest) (n + items_registers running.sizes items) behind)
+          let behind = items_code here own (length later) ways items n rest in
+          leads_front (items_code here own (length later) ways (does s items) n rest) behind later (default_place here own (length later) ways items n rest) (λ vs. at_default running meant items exits vs follows) (statement_front s (length later) (labels_of here own (length later) ways items n rest) (n + items_registers own items) behind)
           (default_leads items n ways exits rest later follows there (right_of _ _ typed) (housed_right sizes edge d (statement_temporaries s) (items_temporaries items) housed) some (omega (arith, room)) out goes)
       default_leads (label l items) n ways exits rest later follows there typed housed some room out goes = default_leads items n ways exits rest later follows there typed housed some room out goes
       default_leads (case_at line t bits items) n ways exits rest later follows there typed housed some room out goes = default_leads items n ways exits rest later follows there (right_of _ _ typed) housed some room out goes
       default_leads (default_at line items) n ways exits rest later follows there typed housed some room out goes =
-          let behind = items_code here running.sizes (length later) ways items n rest in
+          let behind = items_code here own (length later) ways items n rest in
           leads_begin (nodes_on behind later) (length later + node_count behind) (λ vs. exec_items running meant items exits vs follows) (omega (arith, places_count behind later)) (items_mean items ways exits n rest later follows typed housed some room out goes)

@@ -3,7 +3,7 @@ use Rattle.std.specs.Prelude.{ℕ, ◌+◌, false, Option, Some, None, List, [],
 use Rattle.actions.specs.Objects.{Objects}
 use Rattle.c_types.specs.declared.integers.IntegerType.TheVariants.{Int}
 use Rattle.core_tree.specs.declared.functions.PassedType.{PassedType}
-use Rattle.core_tree.specs.Typed.{passed_size}
+use Rattle.core_tree.specs.Typed.{passed_size, sizes_of_variables}
 use Rattle.core_tree.specs.Trees.{Statement, Procedure, TypedFile}
 use Rattle.c_meaning.specs.Source.{main_number, first_objects, are_storable}
 use Rattle.goto_prog.specs.declared.code.Operation.TheVariants as operations
@@ -25,14 +25,14 @@ blocks_of variables given needed = variables ++ needed.zeros ∷ given ∷ neede
 abbrev pub first_frame : ℕ → List ℕ → Frame
 first_frame number variables = record { function = number; zeros = length variables; result = length variables + 1; free = length variables + 2 }
 
--- a function that is only declared blocks its thread; none that is admitted is called
+-- a function that is only declared breaks an assertion; none that is admitted is called
 abbrev pub undefined_code : ℕ → Procedure → Routine
 undefined_code number f = record {
   name = f.name;
   line = f.line;
   registers = Int ∷ [];
   blocks = [];
-  nodes = plain (at_line (first_frame number []) f.line (operations.Assume 0)) ends;
+  nodes = plain (at_line (first_frame number []) f.line (operations.Assert 0)) ends;
   startable = false;
 }
 
@@ -41,9 +41,9 @@ abbrev pub defined_code : ℕ → Procedure → Statement → Routine
 defined_code number f body = record {
   name = f.name;
   line = f.line;
-  registers = Int ∷ statement_types f.variables body;
-  blocks = blocks_of f.variables (given_size f.gives) (statement_temporaries body);
-  nodes = body_code (first_frame number f.variables) f.variables f.line body;
+  registers = Int ∷ statement_types (sizes_of_variables f.variables) body;
+  blocks = blocks_of (sizes_of_variables f.variables) (given_size f.gives) (statement_temporaries body);
+  nodes = body_code (first_frame number (sizes_of_variables f.variables)) (sizes_of_variables f.variables) f.line body;
   startable = false;
 }
 
@@ -69,10 +69,10 @@ pub record LoweredFile : Type 0 where
 abbrev pub view_goto : GotoFile → LoweredFile
 view_goto g = record { functions = view_procedures g.functions; main = g.main; store = g.store }
 
--- the static objects are there at the start, unless they alone pass a limit
+-- the static objects and the literals are there at the start, unless they alone pass a limit
 abbrev pub lowered : TypedFile → LoweredFile
 lowered file = record {
   functions = function_codes 0 file.functions;
   main = main_number file.functions;
-  store = if are_storable file.objects then first_objects file.objects else [];
+  store = if are_storable file then first_objects file else [];
 }

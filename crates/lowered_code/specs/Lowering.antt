@@ -1,4 +1,4 @@
--- The flat code of typed trees. Each node has a register of its own, which the code of the node sets last; the code of a tree uses registers from n on. A structure value is written where it is wanted: into a block from an offset on. A number in a static object is read and written by a block on the way.
+-- The flat code of typed trees. Each node has a register of its own, which the code of the node sets last; the code of a tree uses registers from n on. A structure value is written where it is wanted: into a block from an offset on. A number in a static object is read and written by a block on the way. Forms with a pointer, which no typed file has, are left out: their register is 0, and nothing is written.
 use Rattle.std.specs.Prelude.{ℕ, zero, suc, ◌+◌, ◌-◌, ◌*◌, ◌==◌, Bool, true, false, ◌||◌, Option, Some, None, List, [], ◌∷◌, ◌++◌, length, slice_index, if◌then◌else◌}
 use Rattle.c_types.specs.declared.integers.IntegerType.{IntegerType}
 use Rattle.c_types.specs.declared.integers.IntegerType.TheVariants.{Int}
@@ -10,14 +10,11 @@ use Rattle.core_tree.specs.declared.operators.ArithmeticOperator.TheVariants as 
 use Rattle.core_tree.specs.declared.operators.Comparison.TheVariants as comparisons
 use Rattle.core_tree.specs.declared.operators.LogicalOperator.{LogicalOperator}
 use Rattle.core_tree.specs.declared.operators.LogicalOperator.TheVariants as logicals
-use Rattle.core_tree.specs.declared.expression.Place.{Place}
-use Rattle.core_tree.specs.declared.expression.Place.TheVariants.{Variable, Object}
-use Rattle.core_tree.specs.Trees.{Expression, constant, read, convert, sign, is_zero, arithmetic, compare, logical, choice, assign, update, step, comma, assertion, assumption, draw, part, discard, discard_structure, call, function_name, Structure, copy, load, choose, put, store, follow, section, list, string, give, Parts, no_part, number_part, structure_part, Arguments, no_argument, number_argument, structure_argument, Statement, block, if_then, if_else, evaluate, returns, returns_structure, returns_nothing, for_loop, do_loop, switch, breaks, continues, jumps, stray, Items, done, declares, initializes, initializes_structure, does, label, case_at, default_at}
+use Rattle.core_tree.specs.Trees.{Place, variable_at, object_at, literal_at, pointed, arrow, member, element, subscript, Expression, constant, read, convert, sign, is_zero, arithmetic, compare, logical, choice, assign, update, step, comma, assertion, assumption, draw, part, discard, discard_structure, call, function_name, size_of_value, size_of_structure, address, sum, distance, relation, pointer_update, pointer_step, allocate, allocate_zeroed, release, exit, abort, Structure, copy, choose, put, follow, section, list, string, give, Parts, no_part, number_part, structure_part, Arguments, no_argument, number_argument, structure_argument, Statement, block, if_then, if_else, evaluate, returns, returns_structure, returns_nothing, for_loop, do_loop, switch, breaks, continues, jumps, stray, Items, done, declares, initializes, initializes_structure, does, label, case_at, default_at}
 use Rattle.core_tree.specs.Operations.{drawn_width, step_operation}
-use Rattle.core_tree.specs.Typed.{place_type}
 use Rattle.core_tree.specs.Typed as typed
 use Rattle.c_values.specs.Variables.{word_count, drawn_count}
-use Rattle.c_meaning.specs.Meaning.{number_type, has_default}
+use Rattle.c_meaning.specs.Meaning.{number_type, place_line, has_default}
 use Rattle.c_temporaries.specs.Temporaries.{value_size}
 use Rattle.goto_prog.specs.declared.code.Operation.{Operation}
 use Rattle.goto_prog.specs.declared.code.Operation.TheVariants as operations
@@ -30,7 +27,7 @@ use Rattle.goto_prog.specs.Nodes as nodes
 abbrev mutual
   pub top : Expression → ℕ
   top (constant line t bits) = 0
-  top (read p) = 0
+  top (read t x) = 0
   top (convert to e) = top e + 1
   top (sign line op e) = top e + 1
   top (is_zero line e) = top e + 1
@@ -38,9 +35,9 @@ abbrev mutual
   top (compare line op a b) = top a + (top b + 2)
   top (logical line op a b) = top a + (top b + 3)
   top (choice line test a b) = top test + (top a + (top b + 3))
-  top (assign line p e) = top e
-  top (update line p op t e) = top e + 4
-  top (step line p op before) = 5
+  top (assign line t x e) = top e
+  top (update line t x op u e) = top e + 4
+  top (step line t x op before) = 5
   top (comma line a b) = top a + (top b + 1)
   top (assertion line e) = top e + 1
   top (assumption line e) = top e + 1
@@ -49,15 +46,26 @@ abbrev mutual
   top (discard line e) = top e + 1
   top (discard_structure a) = structure_registers a
   top (call line fn used t args) = arguments_registers args + 1
-  top (function_name line fn) = 0
+  top (function_name line) = 0
+  top (size_of_value line bits e) = 0
+  top (size_of_structure line bits a) = 0
+  top (address line x) = 0
+  top (sum line a e i swapped) = 0
+  top (distance line a b i) = 0
+  top (relation line op a b) = 0
+  top (pointer_update line x i e) = 0
+  top (pointer_step line x i before) = 0
+  top (allocate line e) = 0
+  top (allocate_zeroed line a b) = 0
+  top (release line e) = 0
+  top (exit line e) = 0
+  top (abort line) = 0
 
   -- how many registers a structure value needs
   pub structure_registers : Structure → ℕ
-  structure_registers (copy line v offset size) = 0
-  structure_registers (load line k offset size) = 0
+  structure_registers (copy x size) = 0
   structure_registers (choose line test a b) = top test + (structure_registers a + (structure_registers b + 1))
-  structure_registers (put line v offset a) = structure_registers a
-  structure_registers (store line k offset a) = structure_registers a
+  structure_registers (put line x a) = structure_registers a
   structure_registers (follow line e a) = top e + (structure_registers a + 1)
   structure_registers (section line offset size a) = structure_registers a
   structure_registers (list line size ps) = parts_registers ps
@@ -79,16 +87,10 @@ argument_count no_argument = 0
 argument_count (number_argument e rest) = argument_count rest + 1
 argument_count (structure_argument a rest) = argument_count rest + 1
 
-abbrev pub place_line : Place → ℕ
-place_line (Variable line t v offset) = line
-place_line (Object line t k offset) = line
-
 abbrev pub structure_line : Structure → ℕ
-structure_line (copy line v offset size) = line
-structure_line (load line k offset size) = line
+structure_line (copy x size) = place_line x
 structure_line (choose line test a b) = line
-structure_line (put line v offset a) = line
-structure_line (store line k offset a) = line
+structure_line (put line x a) = line
 structure_line (follow line e a) = line
 structure_line (section line offset size a) = line
 structure_line (list line size ps) = line
@@ -98,7 +100,7 @@ structure_line (give line fn used size args) = line
 -- the line of the node's own token; a conversion has its operand's
 abbrev pub line_of : Expression → ℕ
 line_of (constant line t bits) = line
-line_of (read p) = place_line p
+line_of (read t x) = place_line x
 line_of (convert to e) = line_of e
 line_of (sign line op e) = line
 line_of (is_zero line e) = line
@@ -106,9 +108,9 @@ line_of (arithmetic line op a b) = line
 line_of (compare line op a b) = line
 line_of (logical line op a b) = line
 line_of (choice line test a b) = line
-line_of (assign line p e) = line
-line_of (update line p op t e) = line
-line_of (step line p op before) = line
+line_of (assign line t x e) = line
+line_of (update line t x op u e) = line
+line_of (step line t x op before) = line
 line_of (comma line a b) = line
 line_of (assertion line e) = line
 line_of (assumption line e) = line
@@ -117,7 +119,20 @@ line_of (part line t offset a) = line
 line_of (discard line e) = line
 line_of (discard_structure a) = structure_line a
 line_of (call line fn used t args) = line
-line_of (function_name line fn) = line
+line_of (function_name line) = line
+line_of (size_of_value line bits e) = line
+line_of (size_of_structure line bits a) = line
+line_of (address line x) = line
+line_of (sum line a e i swapped) = line
+line_of (distance line a b i) = line
+line_of (relation line op a b) = line
+line_of (pointer_update line x i e) = line
+line_of (pointer_step line x i before) = line
+line_of (allocate line e) = line
+line_of (allocate_zeroed line a b) = line
+line_of (release line e) = line
+line_of (exit line e) = line
+line_of (abort line) = line
 
 -- where code stands: its function, a block whose bytes stay 0, one for what the function hands over, and the first of the blocks that it may use for values on the way
 pub record Frame : Type 0 where
@@ -138,26 +153,64 @@ module _ (frame : Frame) where
   abbrev pub at_line : ℕ → Operation → Instruction
   at_line line o = record { line = line; function = frame.function; operation = o }
 
-  -- the number at a place, into the register r
-  abbrev pub read_code : ℕ → Place → List Instruction
-  read_code r (Variable line t v offset) = at_line line (operations.Load r t v offset) ∷ []
-  read_code r (Object line t k offset) =
+  -- a form that is left out: the register r is 0
+  abbrev pub left_out : ℕ → ℕ → List Instruction
+  left_out line r = at_line line (operations.Constant r 0) ∷ []
+
+  -- the number of type t at a place, into the register r
+  abbrev pub read_code : ℕ → IntegerType → Place → List Instruction
+  read_code r t (variable_at line v offset) = at_line line (operations.Load r t v offset) ∷ []
+  read_code r t (object_at line k offset) =
       at_line line (operations.ReadObject frame.free 0 k offset (bytes t)) ∷ at_line line (operations.Load r t frame.free 0) ∷ []
+  read_code r t (literal_at line k) = left_out line r
+  read_code r t (pointed line e) = left_out line r
+  read_code r t (arrow line e offset) = left_out line r
+  read_code r t (member line x offset) = left_out line r
+  read_code r t (element line x e size whole swapped) = left_out line r
+  read_code r t (subscript line a e size swapped) = left_out line r
 
-  -- the low bytes of the register a, into a place
-  abbrev pub write_code : ℕ → Place → ℕ → List Instruction
-  write_code line (Variable at t v offset) a = at_line line (operations.Store v offset (bytes t) a) ∷ []
-  write_code line (Object at t k offset) a =
+  -- the bytes of type t of the register a, into a place
+  abbrev pub write_code : ℕ → IntegerType → Place → ℕ → List Instruction
+  write_code line t (variable_at at v offset) a = at_line line (operations.Store v offset (bytes t) a) ∷ []
+  write_code line t (object_at at k offset) a =
       at_line line (operations.Store frame.free 0 (bytes t) a) ∷ at_line line (operations.WriteObject k offset frame.free 0 (bytes t)) ∷ []
+  write_code line t (literal_at at k) a = []
+  write_code line t (pointed at e) a = []
+  write_code line t (arrow at e offset) a = []
+  write_code line t (member at x offset) a = []
+  write_code line t (element at x e size whole swapped) a = []
+  write_code line t (subscript at b e size swapped) a = []
 
-  -- the place's number, an operation with another on it, and the result back into the place: registers from n on
-  abbrev pub update_code : ℕ → Place → IntegerType → ArithmeticOperator → IntegerType → IntegerType → ℕ → ℕ → List Instruction
-  update_code line p from op t u y n =
-      read_code n p
-      ++ at_line line (operations.Convert (n + 1) from t n)
-      ∷ at_line line (operations.Arithmetic (n + 2) op t u (n + 1) y)
-      ∷ at_line line (operations.Convert (n + 3) t from (n + 2))
-      ∷ write_code line p (n + 3)
+  -- the number of type t at a place, an operation of type u with another of type w on it, and the result back into the place: registers from n on
+  abbrev pub update_code : ℕ → IntegerType → Place → ArithmeticOperator → IntegerType → IntegerType → ℕ → ℕ → List Instruction
+  update_code line t x op u w y n =
+      read_code n t x
+      ++ at_line line (operations.Convert (n + 1) t u n)
+      ∷ at_line line (operations.Arithmetic (n + 2) op u w (n + 1) y)
+      ∷ at_line line (operations.Convert (n + 3) u t (n + 2))
+      ∷ write_code line t x (n + 3)
+
+  -- so many bytes of a place, into a block from an offset on
+  abbrev pub fetch_code : Place → (size into at : ℕ) → List Instruction
+  fetch_code (variable_at line v offset) size into to = at_line line (operations.CopyBytes into to v offset size) ∷ []
+  fetch_code (object_at line k offset) size into to = at_line line (operations.ReadObject into to k offset size) ∷ []
+  fetch_code (literal_at line k) size into to = []
+  fetch_code (pointed line e) size into to = []
+  fetch_code (arrow line e offset) size into to = []
+  fetch_code (member line x offset) size into to = []
+  fetch_code (element line x e stride whole swapped) size into to = []
+  fetch_code (subscript line a e stride swapped) size into to = []
+
+  -- so many bytes of a block from an offset on, into a place
+  abbrev pub put_code : ℕ → Place → (size from at : ℕ) → List Instruction
+  put_code line (variable_at at v offset) size from to = at_line line (operations.CopyBytes v offset from to size) ∷ []
+  put_code line (object_at at k offset) size from to = at_line line (operations.WriteObject k offset from to size) ∷ []
+  put_code line (literal_at at k) size from to = []
+  put_code line (pointed at e) size from to = []
+  put_code line (arrow at e offset) size from to = []
+  put_code line (member at x offset) size from to = []
+  put_code line (element at x e stride whole swapped) size from to = []
+  put_code line (subscript at a e stride swapped) size from to = []
 
   -- 1 or 0 in the register behind n, whether the register y is other than 0
   abbrev pub truth_code : ℕ → ℕ → ℕ → List Instruction
@@ -208,7 +261,7 @@ taken_code f line (Integer t) b r = at_line f line (operations.Load r t b 0)
 abbrev mutual
   pub code : Frame → Expression → ℕ → List Instruction
   code f (constant line t bits) n = at_line f line (operations.Constant n bits) ∷ []
-  code f (read p) n = read_code f n p
+  code f (read t x) n = read_code f n t x
   code f (convert to e) n = code f e n ++ at_line f (line_of e) (operations.Convert (n + (top e + 1)) (number_type e) to (n + top e)) ∷ []
   code f (sign line op e) n = code f e n ++ at_line f line (operations.Sign (n + (top e + 1)) op (number_type e) (n + top e)) ∷ []
   code f (is_zero line e) n = code f e n ++ at_line f line (operations.IsZero (n + (top e + 1)) (n + top e)) ∷ []
@@ -231,11 +284,11 @@ abbrev mutual
       ++ at_line f line (operations.Copy result (first + top a))
       ∷ at_line f line (operations.Skip (length (code f b second) + 1))
       ∷ (code f b second ++ at_line f line (operations.Copy result (second + top b)) ∷ []))
-  code f (assign line p e) n = code f e n ++ write_code f line p (n + top e)
-  code f (update line p op t e) n = code f e n ++ update_code f line p (place_type p) op t (number_type e) (n + top e) (n + (top e + 1))
-  code f (step line p op before) n =
+  code f (assign line t x e) n = code f e n ++ write_code f line t x (n + top e)
+  code f (update line t x op u e) n = code f e n ++ update_code f line t x op u (number_type e) (n + top e) (n + (top e + 1))
+  code f (step line t x op before) n =
       at_line f line (operations.Constant n 1)
-      ∷ (update_code f line p (place_type p) (step_operation op) (promoted (place_type p)) (promoted (place_type p)) n (n + 1)
+      ∷ (update_code f line t x (step_operation op) (promoted t) (promoted t) n (n + 1)
       ++ at_line f line (operations.Copy (n + 5) (if before then n + 4 else n + 1)) ∷ [])
   code f (comma line a b) n = code f a n ++ code f b (n + (top a + 1))
   code f (assertion line e) n = code f e n ++ at_line f line (operations.Assert (n + top e)) ∷ at_line f line (operations.Constant (n + (top e + 1)) 0) ∷ []
@@ -249,19 +302,30 @@ abbrev mutual
       let r = n + arguments_registers args in
       arguments_code (deeper_by (count + 1) f) args n f.free
       ++ (call_code f line callee used (value_size t) count r ++ taken_code f line t (f.free + count) (r + 1) ∷ [])
-  code f (function_name line callee) n = at_line f line (operations.Constant n 0) ∷ []
+  code f (function_name line) n = at_line f line (operations.Constant n 0) ∷ []
+  code f (size_of_value line bits e) n = at_line f line (operations.Constant n bits) ∷ []
+  code f (size_of_structure line bits a) n = at_line f line (operations.Constant n bits) ∷ []
+  code f (address line x) n = left_out f line n
+  code f (sum line a e i swapped) n = left_out f line n
+  code f (distance line a b i) n = left_out f line n
+  code f (relation line op a b) n = left_out f line n
+  code f (pointer_update line x i e) n = left_out f line n
+  code f (pointer_step line x i before) n = left_out f line n
+  code f (allocate line e) n = left_out f line n
+  code f (allocate_zeroed line a b) n = left_out f line n
+  code f (release line e) n = left_out f line n
+  code f (exit line e) n = left_out f line n
+  code f (abort line) n = left_out f line n
 
   -- the bytes of a structure value, into a block from an offset on
   pub structure_code : Frame → Structure → (n into at : ℕ) → List Instruction
-  structure_code f (copy line v offset size) n into to = at_line f line (operations.CopyBytes into to v offset size) ∷ []
-  structure_code f (load line k offset size) n into to = at_line f line (operations.ReadObject into to k offset size) ∷ []
+  structure_code f (copy x size) n into to = fetch_code f x size into to
   structure_code f (choose line test a b) n into to =
       let first = n + (top test + 1) in
       let yes = structure_code f a first into to in
       let no = structure_code f b (first + structure_registers a) into to in
       code f test n ++ at_line f line (operations.SkipIfZero (n + top test) (length yes + 1)) ∷ (yes ++ at_line f line (operations.Skip (length no)) ∷ no)
-  structure_code f (put line v offset a) n into to = structure_code f a n into to ++ at_line f line (operations.CopyBytes v offset into to (typed.size_of a)) ∷ []
-  structure_code f (store line k offset a) n into to = structure_code f a n into to ++ at_line f line (operations.WriteObject k offset into to (typed.size_of a)) ∷ []
+  structure_code f (put line x a) n into to = structure_code f a n into to ++ put_code f line x (typed.size_of a) into to
   structure_code f (follow line e a) n into to = code f e n ++ structure_code f a (n + (top e + 1)) into to
   structure_code f (section line offset size a) n into to = structure_code (deeper f) a n f.free 0 ++ at_line f line (operations.CopyBytes into to f.free offset size) ∷ []
   structure_code f (list line size ps) n into to = at_line f line (operations.CopyBytes into to f.zeros 0 size) ∷ parts_code f line ps n into to
@@ -356,7 +420,7 @@ pub record Ways : Type 0 where
   pub continue_at : ℕ
   pub label_at : ℕ → ℕ
 
--- all to the place in front of the end of a function, which blocks
+-- all to the place in front of the end of a function, which breaks an assertion
 abbrev pub no_ways : Ways
 no_ways = record { break_at = 2; continue_at = 2; label_at = λ l. 2 }
 
@@ -576,7 +640,7 @@ module _ (frame : Frame) (variables : List ℕ) where
     default_place base ways (case_at line t bits more) n rest = default_place base ways more n rest
     default_place base ways (default_at line more) n rest = base + node_count (items_code base ways more n rest)
 
-  -- a body, behind which the function ends; then a place that blocks, by a register that stays 0: no way leads there in what is admitted
+  -- a body, behind which the function ends; then a place that breaks an assertion, by a register that stays 0: no way leads there in what is admitted
   abbrev pub body_code : (line : ℕ) → Statement → Nodes
   body_code line body =
-      statement_code 1 no_ways body 1 (plain (at_line frame line (operations.Return None)) (plain (at_line frame line (operations.Assume 0)) ends))
+      statement_code 1 no_ways body 1 (plain (at_line frame line (operations.Return None)) (plain (at_line frame line (operations.Assert 0)) ends))

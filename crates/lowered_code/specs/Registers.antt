@@ -1,22 +1,20 @@
 -- The types of the registers of a tree, in the order of their numbers.
 use Rattle.std.specs.Prelude.{ℕ, Bool, true, Option, Some, None, List, [], ◌∷◌, ◌++◌, replicate}
 use Rattle.c_types.specs.declared.integers.IntegerType.{IntegerType}
-use Rattle.c_types.specs.declared.integers.IntegerType.TheVariants.{Int, UnsignedChar, UnsignedLong}
+use Rattle.c_types.specs.declared.integers.IntegerType.TheVariants.{Int, Long, UnsignedChar, UnsignedLong}
 use Rattle.c_types.specs.Integers.{promoted}
-use Rattle.core_tree.specs.declared.expression.Place.{Place}
-use Rattle.core_tree.specs.Trees.{Expression, constant, read, convert, sign, is_zero, arithmetic, compare, logical, choice, assign, update, step, comma, assertion, assumption, draw, part, discard, discard_structure, call, function_name, Structure, copy, load, choose, put, store, follow, section, list, string, give, Parts, no_part, number_part, structure_part, Arguments, no_argument, number_argument, structure_argument, Statement, block, if_then, if_else, evaluate, returns, returns_structure, returns_nothing, for_loop, do_loop, switch, breaks, continues, jumps, stray, Items, done, declares, initializes, initializes_structure, does, label, case_at, default_at}
-use Rattle.core_tree.specs.Typed.{place_type}
+use Rattle.core_tree.specs.Trees.{Expression, constant, read, convert, sign, is_zero, arithmetic, compare, logical, choice, assign, update, step, comma, assertion, assumption, draw, part, discard, discard_structure, call, function_name, size_of_value, size_of_structure, address, sum, distance, relation, pointer_update, pointer_step, allocate, allocate_zeroed, release, exit, abort, Structure, copy, choose, put, follow, section, list, string, give, Parts, no_part, number_part, structure_part, Arguments, no_argument, number_argument, structure_argument, Statement, block, if_then, if_else, evaluate, returns, returns_structure, returns_nothing, for_loop, do_loop, switch, breaks, continues, jumps, stray, Items, done, declares, initializes, initializes_structure, does, label, case_at, default_at}
 use Rattle.c_meaning.specs.Meaning.{integer_of, number_type}
 use Rattle.lowered_code.specs.Lowering.{first_registers}
 
--- of an operation of type t on a place
-abbrev pub update_types : Place → IntegerType → List IntegerType
-update_types p t = place_type p ∷ t ∷ t ∷ place_type p ∷ []
+-- of an operation of type u on a place of type t
+abbrev pub update_types : IntegerType → IntegerType → List IntegerType
+update_types t u = t ∷ u ∷ u ∷ t ∷ []
 
 abbrev mutual
   pub types : Expression → List IntegerType
   types (constant line t bits) = t ∷ []
-  types (read p) = place_type p ∷ []
+  types (read t x) = t ∷ []
   types (convert to e) = types e ++ to ∷ []
   types (sign line op e) = types e ++ number_type e ∷ []
   types (is_zero line e) = types e ++ Int ∷ []
@@ -24,9 +22,9 @@ abbrev mutual
   types (compare line op a b) = types a ++ (types b ++ Int ∷ [])
   types (logical line op a b) = types a ++ (types b ++ Int ∷ Int ∷ [])
   types (choice line test a b) = types test ++ (types a ++ (types b ++ number_type a ∷ []))
-  types (assign line p e) = types e
-  types (update line p op t e) = types e ++ update_types p t
-  types (step line p op before) = promoted (place_type p) ∷ (update_types p (promoted (place_type p)) ++ place_type p ∷ [])
+  types (assign line t x e) = types e
+  types (update line t x op u e) = types e ++ update_types t u
+  types (step line t x op before) = promoted t ∷ (update_types t (promoted t) ++ t ∷ [])
   types (comma line a b) = types a ++ types b
   types (assertion line e) = types e ++ Int ∷ []
   types (assumption line e) = types e ++ Int ∷ []
@@ -35,14 +33,25 @@ abbrev mutual
   types (discard line e) = types e ++ Int ∷ []
   types (discard_structure a) = structure_types a ++ Int ∷ []
   types (call line f used t args) = arguments_types args ++ Int ∷ integer_of t ∷ []
-  types (function_name line f) = Int ∷ []
+  types (function_name line) = Int ∷ []
+  types (size_of_value line bits e) = UnsignedLong ∷ []
+  types (size_of_structure line bits a) = UnsignedLong ∷ []
+  types (address line x) = UnsignedLong ∷ []
+  types (sum line a e i swapped) = UnsignedLong ∷ []
+  types (distance line a b i) = Long ∷ []
+  types (relation line op a b) = Int ∷ []
+  types (pointer_update line x i e) = UnsignedLong ∷ []
+  types (pointer_step line x i before) = UnsignedLong ∷ []
+  types (allocate line e) = UnsignedLong ∷ []
+  types (allocate_zeroed line a b) = UnsignedLong ∷ []
+  types (release line e) = Int ∷ []
+  types (exit line e) = Int ∷ []
+  types (abort line) = Int ∷ []
 
   pub structure_types : Structure → List IntegerType
-  structure_types (copy line v offset size) = []
-  structure_types (load line k offset size) = []
+  structure_types (copy x size) = []
   structure_types (choose line test a b) = types test ++ (structure_types a ++ structure_types b)
-  structure_types (put line v offset a) = structure_types a
-  structure_types (store line k offset a) = structure_types a
+  structure_types (put line x a) = structure_types a
   structure_types (follow line e a) = types e ++ structure_types a
   structure_types (section line offset size a) = structure_types a
   structure_types (list line size ps) = parts_types ps

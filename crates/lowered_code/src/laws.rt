@@ -2,7 +2,7 @@
 
 ghost use Rattle.lowered_code.specs.Laws.{FitsTogether, KeepsMeaning};
 
-/// What the code of an admitted file does as strict code, under the bounds of a command, is what the file means under them.
+/// What the code of an admitted file without forms over pointers does as strict code, under the bounds of a command, is what the file means under them.
 pub fn lowering_keeps_meaning()
     ensures { KeepsMeaning }
 {}

@@ -81,6 +81,9 @@ fn code_outcomes(
     bounds: &Bounds,
     script: &Script,
 ) -> Result<[Outcome; 3], Fail> {
+    if file.core().pointers() {
+        return Err(Fail::from("forms over pointers"));
+    }
     let goto = lower(alloc, file)?;
     let first = StrictThread::new(alloc, &goto, bounds)?;
     let strict = end_of(alloc, first, goto.store(), script)?;
@@ -110,6 +113,9 @@ pub fn outcomes_under(
         return Err(Fail::from("too large objects"));
     }
     let script = script_of(alloc, ints)?;
+    if script.schedule.as_slice().len() > 24 {
+        return Err(Fail::from("too many turns"));
+    }
     let source = run(alloc, &file, bounds, &script.inputs, &script.schedule)?;
     let [strict, plain, unrolled] = code_outcomes(alloc, &file, bounds, &script)?;
     Ok([source, strict, plain, unrolled])

@@ -1,21 +1,27 @@
 -- The first store of a file: each object has as many bytes as its size says, and none of the limits is passed.
-use Rattle.std.proofs.Common.{◌≡◌, ◌+◌, ◌-◌, ◌^◌, ◌++◌, ◌≤◌, ℕ, zero, suc, Bool, true, false, List, [], ◌∷◌, length, replicate, Option, Some, None, refl, arith}
-use Rattle.std.specs.Prelude.{◌&&◌, nat_lt, nat_le, if◌then◌else◌}
+use Rattle.std.proofs.Common.{◌≡◌, ◌+◌, ◌-◌, ◌^◌, ◌++◌, ◌/◌, ◌%◌, ◌*◌, ◌<◌, ◌≤◌, ℕ, zero, suc, Bool, true, false, List, [], ◌∷◌, length, map, take, drop, get_or, replicate, Option, Some, None, refl, sym, ap, ◌∙◌, arith}
+use Rattle.std.specs.Prelude.{◌&&◌, nat_lt, nat_le, max, if◌then◌else◌}
+use Rattle.std.specs.Int.{w64, byte_at, bytes_low_first, to_le_bytes}
+use Rattle.std.proofs.lemmas.Nat.{mod_below}
 use Rattle.std.specs.List.{list_all}
-use Rattle.std.proofs.lemmas.List.{length-append, length-replicate}
+use Rattle.std.proofs.lemmas.List.{length-append, length-replicate, length-drop, length-take-le, drop_more}
 use Rattle.std.proofs.lemmas.List.Elements.{All-nil, All-cons}
 use borrow.Author.Tests.{leb-true}
-use Rattle.core_tree.specs.Trees.{Static, TypedFile}
+use Rattle.core_tree.specs.declared.functions.Address.{Address}
+use Rattle.core_tree.specs.declared.functions.Literal.{Literal}
+use Rattle.core_tree.specs.Trees.{Static, TypedFile, view_literals}
 use Rattle.std.proofs.lemmas.Bool.Decides.{nat_tests}
 use Rattle.core_tree.specs.Ranges.{Limits}
 use Rattle.core_tree.specs.declared.refusal.Limit.{Limit}
 use Rattle.core_tree.specs.declared.refusal.Limit.TheVariants.{Places, Objects, ObjectBytes}
-use Rattle.core_tree.specs.Typed.{is_static, sizes_of_objects, is_typed_function, are_typed}
+use Rattle.core_tree.specs.Typed.{is_target, is_static, are_static, sizes_of_objects, is_typed_function, are_typed}
+use Rattle.c_values.specs.Variables.{low_bytes, put_at, pointer_to}
 use Rattle.actions.specs.ByteList.{are_bytes}
+use Rattle.actions.proofs.ByteLists.{are_bytes-take, are_bytes-drop}
 use Rattle.actions.specs.StoredObject.{StoredObject}
-use Rattle.c_meaning.specs.Source.{first_object, objects_from, first_objects, are_storable}
+use Rattle.c_meaning.specs.Source.{target_number, with_addresses, first_object, literal_object, numbered, first_objects, are_small_objects, are_small_literals, are_storable}
 use Rattle.goto_unwind.specs.Places.{places}
-use Rattle.goto_unwind.specs.Counts.{largest, object_bytes, passed}
+use Rattle.goto_unwind.specs.Counts.{largest, sizes_of_literals, object_bytes, passed}
 use Rattle.guarded_ssa.specs.Accesses.{HoldsBytes, AreObjects}
 use Rattle.report.proofs.Both.{and_both}
 
@@ -29,26 +35,97 @@ with_zeros (x ∷ xs) n h =
     let parts = and_both (nat_lt x 256) (are_bytes xs) h in
     rw parts.0 (with_zeros xs n parts.1)
 
-object_holds : (o : Static) → is_static o ≡ true → HoldsBytes (first_object o)
-object_holds o h =
-    let sized = and_both (nat_lt o.size (2 ^ 31) && nat_le (length o.bytes) o.size) (list_all (λ b. nat_lt b 256) o.bytes) h in
+bytes_append : (xs ys : List ℕ) → are_bytes xs ≡ true → are_bytes ys ≡ true → are_bytes (xs ++ ys) ≡ true
+bytes_append [] ys first second = second
+bytes_append (x ∷ xs) ys first second =
+    let parts = and_both (nat_lt x 256) (are_bytes xs) first in
+    rw parts.0 (bytes_append xs ys parts.1 second)
+
+test_of : (n m : ℕ) → n < m → nat_lt n m ≡ true
+test_of n m h = grind (arith, nat_tests)
+
+bytes_below : (i k x : ℕ) → are_bytes (bytes_low_first i k x) ≡ true
+bytes_below i zero x = refl
+bytes_below i (suc k) x = rw (test_of (byte_at i x) 256 (below i)) (bytes_below (suc i) k x)
+  where
+    below : (i : ℕ) → byte_at i x < 256
+    below zero = mod_below x 256 (omega arith)
+    below (suc i) = mod_below (x / 256 ^ suc i) 256 (omega arith)
+
+low_are_bytes : (count x : ℕ) → are_bytes (low_bytes count x) ≡ true
+low_are_bytes count x = are_bytes-take count (to_le_bytes w64 x) (bytes_below 0 8 x)
+
+-- bytes that are put at an offset
+put_long : (to : ℕ) (new old : List ℕ) → to + length new ≤ length old → length (put_at to new old) ≡ length old
+put_long to new old fits =
+    let front = length-take-le to old (omega (arith, fits)) in
+    let rest = length-append new (drop (to + length new) old) in
+    let all = length-append (take to old) (new ++ drop (to + length new) old) in
+    omega (arith, fits, front, rest, all, length-drop (to + length new) old)
+
+put_bytes_are : (to : ℕ) (new old : List ℕ) → are_bytes new ≡ true → are_bytes old ≡ true → are_bytes (put_at to new old) ≡ true
+put_bytes_are to new old first second =
+    bytes_append (take to old) (new ++ drop (to + length new) old) (are_bytes-take to old second) (bytes_append new (drop (to + length new) old) first (are_bytes-drop (to + length new) old second))
+
+low_long : (x : ℕ) → length (low_bytes 8 x) ≡ 8
+low_long x = length-take-le 8 (to_le_bytes w64 x) (omega arith)
+
+-- addresses change no size, and are bytes
+addressed : (literals m n size : ℕ) (addresses : List Address) (bytes : List ℕ) → list_all (λ (a : Address). nat_le (a.at + 8) size && is_target m n a.target) addresses ≡ true → length bytes ≡ size → are_bytes bytes ≡ true
+    → (length (with_addresses literals addresses bytes) ≡ size) × (are_bytes (with_addresses literals addresses bytes) ≡ true)
+addressed literals m n size [] bytes h long are = (long, are)
+addressed literals m n size (a ∷ addresses) bytes h long are =
+    let lies : (Address → Bool) = λ b. nat_le (b.at + 8) size && is_target m n b.target in
+    let parts = and_both (lies a) (list_all lies addresses) h in
+    let there = and_both (nat_le (a.at + 8) size) (is_target m n a.target) parts.0 in
+    let new = low_bytes 8 (pointer_to (target_number literals a.target) a.offset) in
+    let eight = low_long (pointer_to (target_number literals a.target) a.offset) in
+    let room = leb-true (a.at + 8) size there.0 in
+    addressed literals m n size addresses (put_at a.at new bytes) parts.1 (put_long a.at new bytes (omega (arith, eight, room, long)) ∙ long) (put_bytes_are a.at new bytes (low_are_bytes 8 (pointer_to (target_number literals a.target) a.offset)) are)
+
+object_holds : (literals m n : ℕ) (o : Static) → is_static m n o ≡ true → HoldsBytes (first_object literals o)
+object_holds literals m n o h =
+    let lies : (Address → Bool) = λ a. nat_le (a.at + 8) o.size && is_target m n a.target in
+    let addresses = and_both (nat_lt o.size (2 ^ 31) && nat_le (length o.bytes) o.size && list_all (λ b. nat_lt b 256) o.bytes) (list_all lies o.addresses) h in
+    let sized = and_both (nat_lt o.size (2 ^ 31) && nat_le (length o.bytes) o.size) (list_all (λ b. nat_lt b 256) o.bytes) addresses.0 in
     let fits = and_both (nat_lt o.size (2 ^ 31)) (nat_le (length o.bytes) o.size) sized.0 in
     let room = leb-true (length o.bytes) o.size fits.1 in
     let long = length-append o.bytes (replicate (o.size - length o.bytes) 0) in
     let rest = length-replicate {A = ℕ} (o.size - length o.bytes) 0 in
-    record { whole = omega (arith, room, long, rest); bytes = with_zeros o.bytes (o.size - length o.bytes) sized.1 }
+    let all = addressed literals m n o.size o.addresses (o.bytes ++ replicate (o.size - length o.bytes) 0) addresses.1 (omega (arith, room, long, rest)) (with_zeros o.bytes (o.size - length o.bytes) sized.1) in
+    record { whole = all.0; bytes = all.1 }
+
+literal_holds : (text : List ℕ) → are_bytes text ≡ true → HoldsBytes (literal_object text)
+literal_holds text h = record { whole = length-append text (0 ∷ []); bytes = bytes_append text (0 ∷ []) h refl }
 
 abbrev Holds : ℕ × StoredObject → Type 0
 Holds e = HoldsBytes e.1
 
-objects_hold : (objects : List Static) (k : ℕ) → list_all is_static objects ≡ true → AreObjects (objects_from k objects)
-objects_hold [] k h = All-nil Holds
-objects_hold (o ∷ objects) k h =
-    let parts = and_both (is_static o) (list_all is_static objects) h in
-    All-cons Holds (k, first_object o) (objects_from (k + 1) objects) (object_holds o parts.0) (objects_hold objects (k + 1) parts.1)
+literals_hold : (literals : List (List ℕ)) (k : ℕ) → list_all are_bytes literals ≡ true → AreObjects (numbered k (map literal_object literals))
+literals_hold [] k h = All-nil Holds
+literals_hold (text ∷ literals) k h =
+    let parts = and_both (are_bytes text) (list_all are_bytes literals) h in
+    All-cons Holds (k, literal_object text) (numbered (k + 1) (map literal_object literals)) (literal_holds text parts.0) (literals_hold literals (k + 1) parts.1)
 
-pub file_holds : (core : TypedFile) → are_typed core ≡ true → AreObjects (first_objects core.objects)
-file_holds core h = objects_hold core.objects 1 (and_both (list_all is_static core.objects) (list_all (is_typed_function core) core.functions) h).0
+-- objects, and the literals behind them
+objects_hold : (first m n : ℕ) (objects : List Static) (literals : List (List ℕ)) (k : ℕ) → list_all (is_static m n) objects ≡ true → list_all are_bytes literals ≡ true
+    → AreObjects (numbered k (map (first_object first) objects ++ map literal_object literals))
+objects_hold first m n [] literals k h texts = literals_hold literals k texts
+objects_hold first m n (o ∷ objects) literals k h texts =
+    let parts = and_both (is_static m n o) (list_all (is_static m n) objects) h in
+    All-cons Holds (k, first_object first o) (numbered (k + 1) (map (first_object first) objects ++ map literal_object literals)) (object_holds first m n o parts.0) (objects_hold first m n objects literals (k + 1) parts.1 texts)
+
+-- one literal more, the last ones first
+pub text_more : (ls : List Literal) (n : ℕ) (l : Literal) → n < length ls → l ≡ get_or ls n l → are_bytes l.bytes.items ≡ true
+    → list_all are_bytes (view_literals (drop (n + 1) ls)) ≡ true → list_all are_bytes (view_literals (drop n ls)) ≡ true
+text_more ls n l within found here others =
+    ap (λ xs. list_all are_bytes (view_literals xs)) (drop_more ls n l within)
+    ∙ ap (λ (k : Literal). are_bytes k.bytes.items && list_all are_bytes (view_literals (drop (n + 1) ls))) (sym found)
+    ∙ (λ i. here i && others i)
+
+pub file_holds : (core : TypedFile) → are_typed core ≡ true → list_all are_bytes core.literals ≡ true → AreObjects (first_objects core)
+file_holds core h texts =
+    objects_hold (length core.objects + 1) (length core.objects) (length core.literals) core.objects core.literals 1 (and_both (are_static core) (list_all (is_typed_function core) core.functions) h).0 texts
 
 -- ---- where no count passes its limit they can be stored
 
@@ -69,11 +146,24 @@ all_small (o ∷ objects) most h =
     let others = all_small objects most (omega (arith, h)) in
     λ k. here k && others k
 
-pub storable : (core : TypedFile) (limits : Limits) → passed core limits ≡ None → are_storable core.objects ≡ true
+text_test : (text : List ℕ) (most : ℕ) → length text + 1 ≤ most → nat_lt (length text) most ≡ true
+text_test text most h = test_of (length text) most (omega (arith, h))
+
+all_short : (literals : List (List ℕ)) (most : ℕ) → largest (sizes_of_literals literals) ≤ most → list_all (λ (text : List ℕ). nat_lt (length text) most) literals ≡ true
+all_short [] most h = refl
+all_short (text ∷ literals) most h =
+    let here = text_test text most (omega (arith, h)) in
+    let others = all_short literals most (omega (arith, h)) in
+    λ k. here k && others k
+
+pub storable : (core : TypedFile) (limits : Limits) → passed core limits ≡ None → are_storable core ≡ true
 storable core limits h =
+    let count = length core.objects + length core.literals in
     let places_fit = not_passed (nat_lt 2000000 (places core.functions limits)) Places _ h in
-    let objects_fit = not_passed (nat_lt 8192 (length core.objects)) Objects _ places_fit.1 in
+    let objects_fit = not_passed (nat_lt 8192 count) Objects _ places_fit.1 in
     let bytes_fit = not_passed (nat_lt 65536 (object_bytes core)) ObjectBytes None objects_fit.1 in
-    let few = most_true (length core.objects) 8192 (at_most (length core.objects) 8192 objects_fit.0) in
-    let small = all_small core.objects 65536 (omega (arith, at_most (object_bytes core) 65536 bytes_fit.0)) in
-    λ k. few k && small k
+    let few = most_true count 8192 (at_most count 8192 objects_fit.0) in
+    let most = at_most (object_bytes core) 65536 bytes_fit.0 in
+    let small = all_small core.objects 65536 (omega (arith, most)) in
+    let short = all_short core.literals 65536 (omega (arith, most)) in
+    λ k. few k && small k && short k

@@ -1,10 +1,12 @@
 //! From a program to what its runs do.
 
-ghost use Rattle.std.specs.Prelude.{◌≡◌, ◌≤◌, None, IfOk, IfErr};
+ghost use Rattle.std.specs.Prelude.{◌≡◌, ◌≤◌, true, false, None, IfOk, IfErr};
+ghost use Rattle.std.specs.List.{list_all};
+ghost use Rattle.actions.specs.ByteList.{are_bytes};
 ghost use Rattle.actions.specs.Behaviour.{Thread};
 ghost use Rattle.word_dag.specs.Meaning.{width};
 ghost use Rattle.word_dag.specs.Growth.{Within};
-ghost use Rattle.core_tree.specs.Trees.{view_core};
+ghost use Rattle.core_tree.specs.Trees.{view_literals, view_core};
 ghost use Rattle.c_meaning.specs.Source.{source_thread, first_objects};
 ghost use Rattle.interleave.specs.World.{first_world};
 ghost use Rattle.goto_prog.specs.Flat.{plain_thread};
@@ -22,7 +24,7 @@ use bit_blast::{blast, lift};
 use c_interp::safe_at_all;
 use c_profile::Admitted;
 use cdcl_search::{Answer, solve};
-use core_tree::Bounds;
+use core_tree::{Bounds, Literal};
 use goto_checks::insert;
 use goto_lower::lower;
 use goto_prog::Unrolled;
@@ -61,16 +63,34 @@ pub enum Searched {
 
 // Each object of a file has as many first bytes as its size says.
 fn prove_objects(file: &Admitted)
-    ensures { AreObjects (first_objects (view_core file.now).objects) }
+    ensures { AreObjects (first_objects (view_core file.now)) }
 {
-    let _objects = file.core().objects();
+    let core = file.core();
+    let _objects = core.objects();
+    prove_texts(core.literals());
+}
+
+// Bytes are numbers below 256.
+fn prove_text(_text: &[u8])
+    ensures { are_bytes _text.now ≡ true }
+{}
+
+// So are those of each literal.
+#[tactic(auto, using(crate::proofs::FirstStores::text_more))]
+fn prove_texts(literals: &[Literal])
+    ensures { list_all are_bytes (view_literals literals.now) ≡ true }
+{
+    for place in (0..literals.len()).rev() {
+        prove_text(&literals[place].bytes);
+    }
 }
 
 /// The code of a program with explicit checks and without loops and calls, or the count that passes its limit.
 fn unrolled_code(alloc: Global, file: &Admitted, bounds: &Bounds) -> Result<Unrolled, Stop>
+    requires { file.now.pointers ≡ false }
     ensures counts { IfOk result (λ u. passed (view_core file.now) bounds.now ≡ None) }
     ensures same { IfOk result (λ u. (plain_thread u).behaves ≡ (source_thread (view_core file.now) bounds.now).behaves) }
-    ensures store { IfOk result (λ u. u.store ≡ first_objects (view_core file.now).objects) }
+    ensures store { IfOk result (λ u. u.store ≡ first_objects (view_core file.now)) }
     ensures objects { IfOk result (λ u. AreObjects u.store) }
     ensures stop { IfErr result (λ s. StopsWith s (IsPassed bounds.now (view_core file.now))) }
 {
@@ -129,14 +149,15 @@ fn values_for(alloc: Global, dag: &Dag, goal: Id, budget: u32) -> Result<Solved,
 }
 
 /// A run of the program within the bounds that breaks a check, or a refutation, if one of the two is found within the
-/// budget; or the count that passes its limit.
+/// budget; or the count that passes its limit. No form over pointers stands in the program.
 pub fn search(
     alloc: Global,
     file: &Admitted,
     bounds: &Bounds,
     budget: u32,
 ) -> Result<Searched, Stop>
-    requires { 1 ≤ budget }
+    requires plain { file.now.pointers ≡ false }
+    requires budget { 1 ≤ budget }
     ensures counts { IfOk result (λ _. passed (view_core file.now) bounds.now ≡ None) }
     ensures found { IfOk result (IsSearched bounds.now budget (view_core file.now)) }
     ensures stop { IfErr result (λ s. StopsWith s (IsPassed bounds.now (view_core file.now))) }

@@ -33,7 +33,7 @@ use Rattle.c_elab_expr.specs.declared.operands.Home.{Home}
 use Rattle.c_elab_expr.specs.declared.operands.Home.TheVariants as homes
 use Rattle.c_elab_expr.specs.Strings.{strings_of}
 use Rattle.c_elab_expr.specs.Nodes.{Node, integer, as_type, place_of, target_of, discarded, cast_node, sign_node, step_node, unary_node, postfix_node, arithmetic_node, compare_node, logical_node, binary_node, chosen, choice_node, operator_of, assignment_node}
-use Rattle.c_elab_expr.specs.Operands.{Operand, value, object, structure, number_place, held_value, put_value, computed, valued, number, same_record, record_value, dropped, is_array, used, place_operand, variable_node, object_entry_node, function_node, name_node, part_operand, member_node, operand_bytes, cast_record, cast_operand, unary_operand, postfix_operand, binary_operand, choice_record, choice_value, choice_operand, assign_value, assign_operand, comma_operand, one_integer, no_arguments, argument_in, arguments_in, extra_arguments, given_size, given_operand, behind_extra, function_call, drawn_or_called, callable_call, call_node}
+use Rattle.c_elab_expr.specs.Operands.{Operand, value, object, structure, home_place, held_value, put_value, computed, valued, number, same_record, record_value, dropped, is_array, used, place_operand, variable_node, object_entry_node, function_node, name_node, part_operand, member_node, operand_bytes, sized_operand, cast_record, cast_operand, unary_operand, postfix_operand, binary_operand, choice_record, choice_value, choice_operand, assign_value, assign_operand, comma_operand, one_integer, no_arguments, argument_in, arguments_in, extra_arguments, given_size, given_operand, behind_extra, function_call, drawn_or_called, callable_call, call_node}
 use Rattle.c_elab_expr.specs.Typing.{bare_line, used_on, callee, is_used, called, is_wanted, type_name, operand_size, typed, typed_arguments, lengths, operand_by, operand}
 use Rattle.told_lines.specs.TypedLines.{InPlace, InExpression, InStructure, InArguments}
 use Rattle.told_lines.specs.TreeLines.{InTree, InTrees}
@@ -50,7 +50,7 @@ module _ (P : ℕ → Type 0) where
 
   place_lined : (e : Expression) → InE e → Holds (InPlace P) (place_of e)
   place_lined (cores.constant line t bits) h = tt
-  place_lined (cores.read p) h = h
+  place_lined (cores.read t p) h = h
   place_lined (cores.convert to e) h = tt
   place_lined (cores.sign line op e) h = tt
   place_lined (cores.is_zero line e) h = tt
@@ -58,9 +58,9 @@ module _ (P : ℕ → Type 0) where
   place_lined (cores.compare line op a b) h = tt
   place_lined (cores.logical line op a b) h = tt
   place_lined (cores.choice line test a b) h = tt
-  place_lined (cores.assign line p e) h = tt
-  place_lined (cores.update line p op t e) h = tt
-  place_lined (cores.step line p op before) h = tt
+  place_lined (cores.assign line t p e) h = tt
+  place_lined (cores.update line t p op u e) h = tt
+  place_lined (cores.step line t p op before) h = tt
   place_lined (cores.comma line a b) h = tt
   place_lined (cores.assertion line e) h = tt
   place_lined (cores.assumption line e) h = tt
@@ -69,7 +69,20 @@ module _ (P : ℕ → Type 0) where
   place_lined (cores.discard line e) h = tt
   place_lined (cores.discard_structure a) h = tt
   place_lined (cores.call line f w t args) h = tt
-  place_lined (cores.function_name line f) h = tt
+  place_lined (cores.function_name line) h = tt
+  place_lined (cores.size_of_value line bits e) h = tt
+  place_lined (cores.size_of_structure line bits a) h = tt
+  place_lined (cores.address line p) h = tt
+  place_lined (cores.sum line a e n swapped) h = tt
+  place_lined (cores.distance line a b n) h = tt
+  place_lined (cores.relation line op a b) h = tt
+  place_lined (cores.pointer_update line p n e) h = tt
+  place_lined (cores.pointer_step line p n before) h = tt
+  place_lined (cores.allocate line e) h = tt
+  place_lined (cores.allocate_zeroed line a b) h = tt
+  place_lined (cores.release line e) h = tt
+  place_lined (cores.exit line e) h = tt
+  place_lined (cores.abort line) h = tt
 
   target_lined : (is_const : Bool) (e : Expression) → InE e → Holds (InPlace P) (target_of is_const e)
   target_lined true e h = tt
@@ -154,17 +167,15 @@ module _ (P : ℕ → Type 0) where
   InOperand (object line v offset t readonly) = P line
   InOperand (structure t a) = InStructure P a
 
-  place_is : (v : Home) (line : ℕ) (t : IntegerType) (offset : ℕ) → P line → InPlace P (number_place v line t offset)
-  place_is (homes.Variable v) line t offset k = k
-  place_is (homes.Object n) line t offset k = k
+  place_is : (v : Home) (line offset : ℕ) → P line → InPlace P (home_place v line offset)
+  place_is (homes.Variable v) line offset k = k
+  place_is (homes.Object n) line offset k = k
 
   held_lined : (v : Home) (line offset size : ℕ) → P line → InStructure P (held_value v line offset size)
-  held_lined (homes.Variable v) line offset size k = k
-  held_lined (homes.Object n) line offset size k = k
+  held_lined v line offset size k = place_is v line offset k
 
-  put_lined : (v : Home) (line offset : ℕ) (a : Structure) → P line → InStructure P a → InStructure P (put_value v line offset a)
-  put_lined (homes.Variable v) line offset a k h = (k, h)
-  put_lined (homes.Object n) line offset a k h = (k, h)
+  put_lined : (line at : ℕ) (v : Home) (offset : ℕ) (a : Structure) → P line → P at → InStructure P a → InStructure P (put_value line at v offset a)
+  put_lined line at v offset a k l h = (k, place_is v at offset l, h)
 
   computed_good : (node : Node) → Good (InExpression P) node → Good InOperand (computed node)
   computed_good node h = bind (InExpression P) InOperand node _ h (λ e g. ok _ _ g)
@@ -194,7 +205,7 @@ module _ (P : ℕ → Type 0) where
 
   place_operand_lined : (line : ℕ) (v : Home) (offset : ℕ) (t : CType) (readonly : Bool) → P line → InOperand (place_operand line v offset t readonly)
   place_operand_lined line v offset ctypes.void readonly k = k
-  place_operand_lined line v offset (ctypes.integer t) readonly k = place_is v line t offset k
+  place_operand_lined line v offset (ctypes.integer t) readonly k = place_is v line offset k
   place_operand_lined line v offset (ctypes.aggregate p) readonly k = k
   place_operand_lined line v offset (ctypes.array element n) readonly k = k
 
@@ -286,7 +297,7 @@ module _ (P : ℕ → Type 0) where
   assign_operand_good s line op (value p readonly) y k h g = assign_value_good readonly line op p y k h g
   assign_operand_good s line None (object at v offset t readonly) y k h g =
       bind (InStructure P) _ (required 8 (record_value s.records.done t y)) _ (needs (InStructure P) 8 (record_value s.records.done t y) (record_lined s.records.done t y g)) (λ a l.
-      good_either InOperand (readonly || (members_in s.members t).constant) _ _ (fails _ _) (ok _ _ (put_lined v line offset a k l)))
+      good_either InOperand (readonly || (members_in s.members t).constant) _ _ (fails _ _) (ok _ _ (put_lined line at v offset a k h l)))
   assign_operand_good s line None (structure t a) y k h g = pass _ (required 8 (record_value s.records.done t y)) _ (λ b. fails _ _)
   assign_operand_good s line (Some op) (object at v offset t readonly) y k h g = fails _ _
   assign_operand_good s line (Some op) (structure t a) y k h g = fails _ _
@@ -409,9 +420,15 @@ module _ (P : ℕ → Type 0) where
   called_good s wanted None xs k h = fails _ _
   called_good s wanted (Some m) xs k h = call_node_good s m.0 wanted m.1 xs k h
 
-  operand_size_good : (line : ℕ) (done : List Completed) (o : Option (List (List ℕ))) (typing : Result Operand Fault) → P line → Good InOperand (operand_size line done o typing)
-  operand_size_good line done (Some parts) typing k = ok _ _ k
-  operand_size_good line done None typing k = pass _ typing _ (λ x. pass _ (on_line line (operand_bytes done x)) _ (λ n. ok _ _ k))
+  -- the operand of `sizeof` stays
+  sized_lined : (done : List Completed) (line n : ℕ) (x : Operand) → P line → InOperand x → InOperand (sized_operand done line n x)
+  sized_lined done line n (value e readonly) k h = (k, h)
+  sized_lined done line n (object at v offset t readonly) k h = (k, held_lined v at offset (size_of done t) h)
+  sized_lined done line n (structure t a) k h = (k, h)
+
+  operand_size_good : (line : ℕ) (done : List Completed) (o : Option (List (List ℕ))) (typing : Result Operand Fault) → P line → Good InOperand typing → Good InOperand (operand_size line done o typing)
+  operand_size_good line done (Some parts) typing k h = ok _ _ k
+  operand_size_good line done None typing k h = bind InOperand InOperand typing _ h (λ x g. pass InOperand (on_line line (operand_bytes done x)) _ (λ n. ok InOperand _ (sized_lined done line n x k g)))
 
   mutual
     typed_good : (s : Scoped) (w : Bool) (e : Tree) → InTree P e → Good InOperand (typed s w e)
@@ -424,7 +441,7 @@ module _ (P : ℕ → Type 0) where
     typed_good s w (cast line parts d e) h =
         pass InOperand (type_name s parts d (lengths s d)) _ (λ t.
         bind InOperand InOperand (used_on (bare_line e) (typed s (is_wanted t) e)) _ (used_on_good (bare_line e) (typed s (is_wanted t) e) (typed_good s (is_wanted t) e h.1)) (λ x g. on InOperand line (cast_operand s.records.done line t x) (cast_operand_good s.records.done line t x h.0 g)))
-    typed_good s w (sizeof_expr line e) h = operand_size_good line s.records.done (strings_of e) (typed s true e) h
+    typed_good s w (sizeof_expr line e) h = operand_size_good line s.records.done (strings_of e) (typed s true e) h.0 (typed_good s true e h.1)
     typed_good s w (sizeof_type line parts d) h = pass InOperand (type_name s parts d (lengths s d)) _ (λ t. pass InOperand (on_line line (type_size s.records.done t)) _ (λ n. ok InOperand _ h))
     typed_good s w (step line op e) h = bind InOperand InOperand (used_on (bare_line e) (typed s true e)) _ (used_on_good (bare_line e) (typed s true e) (typed_good s true e h.1)) (λ x g. on InOperand (first_line e) (postfix_operand line op x) (postfix_operand_good line op x h.0 g))
     typed_good s w (member line e n) h = bind InOperand InOperand (used_on (bare_line e) (typed s true e)) _ (used_on_good (bare_line e) (typed s true e) (typed_good s true e h.1)) (λ x g. on InOperand (first_line e) (member_node s line x n) (member_good s line x n h.0 g))

@@ -58,7 +58,7 @@ module _ (P : ℕ → Type 0) where
           let u = t.second in
           let v = u.second in
           (subst P spelled.is.line (front _ _ tokens spelled all), tree_lined e v.rest v.behind (after _ _ u.right v (right _ _ t.right u (right _ _ spelled.rest t (after _ _ tokens spelled all)))))
-      tree_lined (sizeof_expr line e) tokens spelled all = subst P spelled.is.line (front _ _ tokens spelled all)
+      tree_lined (sizeof_expr line e) tokens spelled all = (subst P spelled.is.line (front _ _ tokens spelled all), tree_lined e spelled.rest spelled.behind (after _ _ tokens spelled all))
       tree_lined (sizeof_type line parts d) tokens spelled all = subst P spelled.is.line (front _ _ tokens spelled all)
       tree_lined (step line op e) tokens spelled all =
           let t = spelled.second in (subst P t.is.line (lone _ spelled.right t (right _ _ tokens spelled all)), tree_lined e spelled.left spelled.first (left _ _ tokens spelled all))

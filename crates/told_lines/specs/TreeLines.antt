@@ -16,7 +16,7 @@ module _ (P : ℕ → Type 0) where
     InTree (parens line e) = P line × InTree e
     InTree (unary line op e) = P line × InTree e
     InTree (cast line parts d e) = P line × InTree e
-    InTree (sizeof_expr line e) = P line
+    InTree (sizeof_expr line e) = P line × InTree e
     InTree (sizeof_type line parts d) = P line
     InTree (step line op e) = P line × InTree e
     InTree (member line e n) = P line × InTree e

@@ -1,8 +1,6 @@
 -- The lines that the parts of a typed file carry.
 use Rattle.std.specs.Prelude.{ℕ, ◌≤◌, List, [], ◌∷◌, Option, Some, None}
-use Rattle.core_tree.specs.declared.expression.Place.{Place}
-use Rattle.core_tree.specs.declared.expression.Place.TheVariants.{Variable, Object}
-use Rattle.core_tree.specs.Trees.{Expression, constant, read, convert, sign, is_zero, arithmetic, compare, logical, choice, assign, update, step, comma, assertion, assumption, draw, part, discard, discard_structure, call, function_name, Structure, copy, load, choose, put, store, follow, section, list, string, give, Parts, no_part, number_part, structure_part, Arguments, no_argument, number_argument, structure_argument, Statement, block, if_then, if_else, evaluate, returns, returns_structure, returns_nothing, for_loop, do_loop, switch, breaks, continues, jumps, stray, Items, done, declares, initializes, initializes_structure, does, label, case_at, default_at, Procedure, Static, TypedFile}
+use Rattle.core_tree.specs.Trees.{Place, variable_at, object_at, literal_at, pointed, arrow, member, element, subscript, Expression, constant, read, convert, sign, is_zero, arithmetic, compare, logical, choice, assign, update, step, comma, assertion, assumption, draw, part, discard, discard_structure, call, function_name, size_of_value, size_of_structure, address, sum, distance, relation, pointer_update, pointer_step, allocate, allocate_zeroed, release, exit, abort, Structure, copy, choose, put, follow, section, list, string, give, Parts, no_part, number_part, structure_part, Arguments, no_argument, number_argument, structure_argument, Statement, block, if_then, if_else, evaluate, returns, returns_structure, returns_nothing, for_loop, do_loop, switch, breaks, continues, jumps, stray, Items, done, declares, initializes, initializes_structure, does, label, case_at, default_at, Procedure, Static, TypedFile}
 
 -- the lines of files count from 1
 abbrev pub IsLine : ℕ → Type 0
@@ -10,14 +8,20 @@ IsLine line = 1 ≤ line
 
 -- each line that stands in a part has the property
 module _ (P : ℕ → Type 0) where
-  abbrev pub InPlace : Place → Type 0
-  InPlace (Variable line t v offset) = P line
-  InPlace (Object line t k offset) = P line
-
   abbrev mutual
+    pub InPlace : Place → Type 0
+    InPlace (variable_at line v offset) = P line
+    InPlace (object_at line k offset) = P line
+    InPlace (literal_at line k) = P line
+    InPlace (pointed line e) = P line × InExpression e
+    InPlace (arrow line e offset) = P line × InExpression e
+    InPlace (member line p offset) = P line × InPlace p
+    InPlace (element line p e size whole swapped) = P line × InPlace p × InExpression e
+    InPlace (subscript line a e size swapped) = P line × InExpression a × InExpression e
+
     pub InExpression : Expression → Type 0
     InExpression (constant line t bits) = P line
-    InExpression (read p) = InPlace p
+    InExpression (read t p) = InPlace p
     InExpression (convert to e) = InExpression e
     InExpression (sign line op e) = P line × InExpression e
     InExpression (is_zero line e) = P line × InExpression e
@@ -25,9 +29,9 @@ module _ (P : ℕ → Type 0) where
     InExpression (compare line op a b) = P line × InExpression a × InExpression b
     InExpression (logical line op a b) = P line × InExpression a × InExpression b
     InExpression (choice line test a b) = P line × InExpression test × InExpression a × InExpression b
-    InExpression (assign line p e) = P line × InPlace p × InExpression e
-    InExpression (update line p op t e) = P line × InPlace p × InExpression e
-    InExpression (step line p op before) = P line × InPlace p
+    InExpression (assign line t p e) = P line × InPlace p × InExpression e
+    InExpression (update line t p op u e) = P line × InPlace p × InExpression e
+    InExpression (step line t p op before) = P line × InPlace p
     InExpression (comma line a b) = P line × InExpression a × InExpression b
     InExpression (assertion line e) = P line × InExpression e
     InExpression (assumption line e) = P line × InExpression e
@@ -36,14 +40,25 @@ module _ (P : ℕ → Type 0) where
     InExpression (discard line e) = P line × InExpression e
     InExpression (discard_structure a) = InStructure a
     InExpression (call line f used t args) = P line × InArguments args
-    InExpression (function_name line f) = P line
+    InExpression (function_name line) = P line
+    InExpression (size_of_value line bits e) = P line × InExpression e
+    InExpression (size_of_structure line bits a) = P line × InStructure a
+    InExpression (address line p) = P line × InPlace p
+    InExpression (sum line a e n swapped) = P line × InExpression a × InExpression e
+    InExpression (distance line a b n) = P line × InExpression a × InExpression b
+    InExpression (relation line op a b) = P line × InExpression a × InExpression b
+    InExpression (pointer_update line p n e) = P line × InPlace p × InExpression e
+    InExpression (pointer_step line p n before) = P line × InPlace p
+    InExpression (allocate line e) = P line × InExpression e
+    InExpression (allocate_zeroed line a b) = P line × InExpression a × InExpression b
+    InExpression (release line e) = P line × InExpression e
+    InExpression (exit line e) = P line × InExpression e
+    InExpression (abort line) = P line
 
     pub InStructure : Structure → Type 0
-    InStructure (copy line v offset size) = P line
-    InStructure (load line k offset size) = P line
+    InStructure (copy p size) = InPlace p
     InStructure (choose line test a b) = P line × InExpression test × InStructure a × InStructure b
-    InStructure (put line v offset a) = P line × InStructure a
-    InStructure (store line k offset a) = P line × InStructure a
+    InStructure (put line p a) = P line × InPlace p × InStructure a
     InStructure (follow line e a) = P line × InExpression e × InStructure a
     InStructure (section line offset size a) = P line × InStructure a
     InStructure (list line size ps) = P line × InParts ps

@@ -1,30 +1,36 @@
 -- Small steps do what the tree means: each silent step keeps what follows, and less work is left.
-use Rattle.std.specs.Prelude.{◌≡◌, ◌<◌, ◌≤◌, ◌+◌, ◌-◌, ◌==◌, drop, length, slice_index, slice_get, ◌++◌, ℕ, zero, suc, Bool, true, false, List, [], ◌∷◌, Option, Some, None, if◌then◌else◌}
+use Rattle.std.specs.Prelude.{◌≡◌, ◌<◌, ◌≤◌, ◌+◌, ◌*◌, ◌-◌, ◌==◌, drop, take, length, slice_index, slice_get, ◌++◌, ℕ, zero, suc, ℤ, pos, nat_le, Bool, true, false, List, [], ◌∷◌, Option, Some, None, if◌then◌else◌}
 use Rattle.std.proofs.Common.{refl, arith, sym, subst, ap, ◌∙◌}
 use Rattle.words.specs.declared.check.Class.{Class}
-use Rattle.words.specs.declared.check.Class.TheVariants.{Assertion, Return, Unwind, Recursion}
-use Rattle.c_types.specs.declared.integers.IntegerType.TheVariants.{Int}
-use Rattle.c_types.specs.Integers.{promoted}
-use Rattle.core_tree.specs.declared.expression.Place.{Place}
-use Rattle.core_tree.specs.declared.expression.Place.TheVariants.{Variable, Object}
+use Rattle.words.specs.declared.check.Class.TheVariants.{Assertion, Return, Unwind, Recursion, Bounds, Pointer, MallocLimit}
+use Rattle.c_types.specs.declared.integers.IntegerType.{IntegerType}
+use Rattle.c_types.specs.declared.integers.IntegerType.TheVariants.{Int, UnsignedLong}
+use Rattle.c_types.specs.Integers.{bytes, promoted}
 use Rattle.core_tree.specs.declared.operators.ArithmeticOperator.{ArithmeticOperator}
-use Rattle.core_tree.specs.declared.operators.StepOperator.{StepOperator}
 use Rattle.core_tree.specs.Trees as trees
-use Rattle.core_tree.specs.Trees.{Expression, constant, read, convert, sign, is_zero, arithmetic, compare, logical, choice, assign, update, step, comma, assertion, assumption, draw, part, discard, discard_structure, call, function_name, Structure, copy, load, choose, put, store, follow, section, list, string, give, Parts, no_part, number_part, structure_part, Arguments, no_argument, number_argument, structure_argument, Statement, block, if_then, if_else, evaluate, Items, done, declares, initializes, initializes_structure, does, label, case_at, default_at, Procedure}
-use Rattle.core_tree.specs.Typed.{place_type}
+use Rattle.core_tree.specs.Trees.{Place, variable_at, object_at, literal_at, pointed, arrow, member, element, subscript, Expression, constant, read, convert, sign, is_zero, arithmetic, compare, logical, choice, assign, update, step, comma, assertion, assumption, draw, part, discard, discard_structure, call, function_name, size_of_value, size_of_structure, address, sum, distance, relation, pointer_update, pointer_step, allocate, allocate_zeroed, release, exit, abort, Structure, copy, choose, put, follow, section, list, string, give, Parts, no_part, number_part, structure_part, Arguments, no_argument, number_argument, structure_argument, Statement, block, if_then, if_else, evaluate, Items, done, declares, initializes, initializes_structure, does, label, case_at, default_at}
 use Rattle.core_tree.specs.Operations.{is_true, truth_bits, converted, arithmetic_check, sign_check}
+use Rattle.actions.specs.declared.action.Action.{Action}
+use Rattle.actions.specs.declared.action.Action.TheVariants.{Draw, Free, Exit}
 use Rattle.actions.specs.declared.action.Answer.{Answer}
 use Rattle.actions.specs.declared.action.Next.{Next}
 use Rattle.actions.specs.declared.action.Next.TheVariants.{Ended, Blocked, Broken}
 use Rattle.actions.specs.Behaviour.{Behaviour, accepts, shape_of, has_shape, word_64}
-use Rattle.c_values.specs.Variables.{Variables, zeros, first_variables}
-use Rattle.c_meaning.specs.Meaning.{Given, nothing, number, structure, Running, Code, running_at, enters, opened, total, activation, passed, number_type, decides, final, ask_in, has_case, has_default, in_switch, in_function, enter, frame, at_case, at_default, unless_broken, eval, eval_structure, exec, exec_body, tested, at_end}
+use Rattle.actions.specs.Pointer.{object_of, offset_of}
+use Rattle.c_values.specs.Pointers.{pointer_at, in_range, offset_by}
+use Rattle.c_values.specs.Variables.{Variables, low_bytes, zeros, block_of, put_bytes}
+use Rattle.c_meaning.specs.Meaning as meaning
+use Rattle.c_meaning.specs.Meaning.{Given, nothing, number, structure, Running, Exits, Code, place_line, size_of, home_of, variable_of, range_class, sizes_of, body_of, variables_of, running_in, enters, opened, total, activation, passed, number_type, decides, final, ask_in, has_case, has_default, in_switch, leaving, enter, leave, at_case, at_default, unless_broken, reads, writes, eval, eval_structure, exec, exec_body, tested, at_end}
 use Rattle.c_values.specs.Numbers.{TypedNumber, typed}
-use Rattle.c_tasks.specs.Items.{top, rest, second, Active, active, closed, back, running_of, calls_of, Wanted, wants_number, wants_structure, wants_end, line_of, Handed, given_by, values_under, structures_under, blocks_on, Loop, loop_of, Item, evaluates, converts, signs, negates, operates, compares, decides_on, tests, chooses, retypes, stores, combines, increments, drops, passes, asserts, assumes, evaluates_structure, picks, discards, discards_structure, chooses_structure, puts, stores_structure, passes_structure, cuts, lists, places_number, places_structure, runs, branches, divides, enters as enters_items, goes_on, initial, initial_structure, fills, gathers, adds_number, resumes, hands, gets, turns, retests, repeats, loops, selects, switches, ending, ended, State, state, sizes_at, from, receives, exits_of, rounds_of, behaves}
-use Rattle.c_interp.specs.Work.{work, structure_work, statement_work, items_work, entry_work, part_work, turns_work, defined_work, body_work, call_work_of, activation_work, total_work, weight}
-use Rattle.c_interp.specs.inner.Cuts.{closed_opened, total_opened, break_at, continue_at, jump_at, return_at, case_is, default_is, case_less, default_less, break_less, continue_less, jump_less, return_less}
-use Rattle.c_tasks.specs.Steps.{Move, silent, asks, breaks, blocks, ends, part_items, behind_case, behind_default, unless_stopped, move_read, move_write, move_expression, move_structure, move_parts, move_statement, move_fill, move_entry, move_items, move_turn, move_test, move_body, move_function, move_call, move_arguments, move_given, move_item, move}
+use Rattle.c_tasks.specs.Items.{top, rest, second, top_bytes, Active, active, closed, back, running_of, calls_of, base, index_number, Wanted, wants_number, wants_structure, wants_end, line_of, Way, by_break, by_continue, by_jump, by_return, given_by, values_under, structures_under, blocks_on, Loop, loop_of, Item, evaluates, converts, signs, negates, operates, compares, decides_on, tests, chooses, retypes, drops, passes, asserts, assumes, locates, reaches, elements, loads, stores, rewrites, updates, combines, steps, increments, looks, lands, shifts, paces, advances, arrives, measures, orders, claims, tries, admits, draws, makes, releases, quits, evaluates_structure, picks, discards, discards_structure, chooses_structure, copies, stores_structure, passes_structure, cuts, lists, places_number, places_structure, runs, branches, divides, enters as enters_items, goes_on, ends_block, leaves, fills, settles, initial, initial_structure, dies, enters_parameters, ends_parameters, leaves_parameters, gathers, adds_number, resumes, goes_out, gets, turns, retests, repeats, loops, selects, switches, strays, ending, ended, State, state, from, receives, exits_of, rounds_of, behaves}
+use Rattle.c_interp.specs.Work.{work, structure_work, statement_work, items_work, entry_work, leave_work, part_work, turns_work, body_work, call_work_of, activation_work, total_work, weight}
+use Rattle.c_interp.specs.inner.Cuts.{closed_opened, total_opened, break_at, continue_at, jump_at, return_at, case_is, default_is, case_less, default_less, break_less, continue_less, jump_less, return_less, blocks_fewer}
+use Rattle.c_tasks.specs.Steps.{Move, silent, asks, breaks, blocks, ends, part_items, behind_case, behind_default, without_sizes, unless_stopped, move_bytes, move_put, move_pointer, move_place, move_expression, move_structure, move_parts, move_statement, move_fill, move_entry, move_settle, move_initial, move_death, move_end, move_parameters, move_last, move_claim, move_try, move_admission, move_draw, move_items, move_turn, move_test, move_body, move_call, move_arguments, move_given, move_item, move}
 use Rattle.c_interp.specs.Small.{stepped_on, settled, settle, next_of, answered_by, bounded}
+
+same_zero : (b : Bool) → ◌≡◌ {A = ℕ} 0 (if b then 0 else 0)
+same_zero true = refl
+same_zero false = refl
 
 module _ (code : Code) (first : Bool) where
   -- what a move has to do with what a state means
@@ -40,32 +46,97 @@ module _ (code : Code) (first : Bool) where
   checked None line s t e w = (e, w)
   checked (Some class) line s t e w = e
 
-  meets_read : (p : Place) (is : List Item) (r : Active) (xs : List TypedNumber) (bs : List (List ℕ)) (vs : Variables) → Meets (state (evaluates (read p) ∷ is) r xs bs vs) (move_read code first true p is r xs bs vs)
-  meets_read (Variable line t v offset) is r xs bs vs = (refl, omega arith)
-  meets_read (Object line t k offset) is r xs bs vs = refl
+  -- a test decides between two silent steps, a silent step and a break, and an action and a silent step
+  deciding : (b : Bool) (s t u : State) → behaves code first s ≡ (if b then behaves code first t else behaves code first u) → weight code t < weight code s → weight code u < weight code s → Meets s (silent (if b then t else u))
+  deciding true s t u e p q = (e, p)
+  deciding false s t u e p q = (e, q)
 
-  meets_write : (p : Place) (line : ℕ) (is : List Item) (r : Active) (xs : List TypedNumber) (bs : List (List ℕ)) (vs : Variables) → Meets (state (stores line p ∷ is) r xs bs vs) (move_write code first true p line is r xs bs vs)
-  meets_write (Variable at t v offset) line is r xs bs vs = (refl, omega arith)
-  meets_write (Object at t k offset) line is r xs bs vs = refl
+  ranging : (b : Bool) (class : Class) (line : ℕ) (s t : State) → behaves code first s ≡ (if b then behaves code first t else final (Broken class line s.active.function)) → weight code t < weight code s → Meets s (if b then silent t else breaks class line)
+  ranging true class line s t e w = (e, w)
+  ranging false class line s t e w = e
+
+  asking : (b : Bool) (action : Action) (line : ℕ) (s : State) (follows : Answer → State) (t : State) → behaves code first s ≡ (if b then ask_in s.active.function action line (λ a. behaves code first (follows a)) else behaves code first t) → weight code t < weight code s →
+      Meets s (if b then asks action line follows else silent t)
+  asking true action line s follows t e w = e
+  asking false action line s follows t e w = (e, w)
+
+  skipping : (b : Bool) (action : Action) (line : ℕ) (s t : State) (follows : Answer → State) → behaves code first s ≡ (if b then behaves code first t else ask_in s.active.function action line (λ a. behaves code first (follows a))) → weight code t < weight code s →
+      Meets s (if b then silent t else asks action line follows)
+  skipping true action line s t follows e w = (e, w)
+  skipping false action line s t follows e w = e
+
+  -- ---- places
+
+  module _ (js : List Item) (r : Active) (ys : List TypedNumber) (cs : List (List ℕ)) (vs : Variables) where
+    abbrev here : State
+    here = state js r ys cs vs
+
+    meets_bytes : (o : Option ℕ) (at count line : ℕ) (next : List ℕ → State) → behaves code first here ≡ reads (running_of code r) o at count line vs (λ found. behaves code first (next found)) → ((found : List ℕ) → weight code (next found) < weight code here) →
+        Meets here (move_bytes code first true o at count line r vs next)
+    meets_bytes (Some v) at count line next e w =
+        ranging (nat_le (offset_of at + count) (size_of (running_of code r) v)) Bounds line here (next (take count (drop (offset_of at) (block_of vs v)))) e (w (take count (drop (offset_of at) (block_of vs v))))
+    meets_bytes None at count line next e w = e
+
+    meets_put : (o : Option ℕ) (at : ℕ) (new : List ℕ) (line : ℕ) (next : Variables → State) → behaves code first here ≡ writes (running_of code r) o at new line vs (λ now. behaves code first (next now)) → ((now : Variables) → weight code (next now) < weight code here) →
+        Meets here (move_put code first true o at new line r vs next)
+    meets_put (Some v) at new line next e w = ranging (nat_le (offset_of at + length new) (size_of (running_of code r) v)) Bounds line here (next (put_bytes vs v (offset_of at) new)) e (w (put_bytes vs v (offset_of at) new))
+    meets_put None at new line next e w = e
+
+    meets_pointer : (is_element : Bool) (p size : ℕ) (index stride : ℤ) (line : ℕ) (next : ℕ → State) → behaves code first here ≡ meaning.lands (running_of code r) is_element p size index stride line (λ q. behaves code first (next q)) → ((q : ℕ) → weight code (next q) < weight code here) →
+        Meets here (move_pointer code first true is_element p size index stride line next)
+    meets_pointer is_element p size index stride line next e w =
+        let offset = offset_by (offset_of p) index stride in
+        ranging (in_range offset size) (range_class is_element) line here (next (pointer_at p offset)) e (w (pointer_at p offset))
+
+    meets_initial : (home : Option ℕ) (v : ℕ) (new : List ℕ) (line : ℕ) (next : Variables → State) → behaves code first here ≡ meaning.initial (running_of code r) home v new line vs (λ now. behaves code first (next now)) → ((now : Variables) → weight code (next now) < weight code here) →
+        Meets here (move_initial code first true home v new line r vs next)
+    meets_initial None v new line next e w = (e, w (put_bytes vs v 0 new))
+    meets_initial (Some h) v new line next e w = e
+
+  meets_place : (p : Place) (is : List Item) (r : Active) (xs : List TypedNumber) (bs : List (List ℕ)) (vs : Variables) → Meets (state (locates p ∷ is) r xs bs vs) (move_place code first true p is r xs bs vs)
+  meets_place (variable_at line v offset) is r xs bs vs = (refl, omega arith)
+  meets_place (object_at line k offset) is r xs bs vs = (refl, omega arith)
+  meets_place (literal_at line k) is r xs bs vs = (refl, omega arith)
+  meets_place (pointed line e) is r xs bs vs = (refl, omega arith)
+  meets_place (arrow line e offset) is r xs bs vs = (refl, omega arith)
+  meets_place (member line p offset) is r xs bs vs = (refl, omega arith)
+  meets_place (element line p e size whole true) is r xs bs vs = (refl, omega arith)
+  meets_place (element line p e size whole false) is r xs bs vs = (refl, omega arith)
+  meets_place (subscript line a e size true) is r xs bs vs = (refl, omega arith)
+  meets_place (subscript line a e size false) is r xs bs vs = (refl, omega arith)
 
   -- the value of a step is the new number, or the old one
-  meets_step : (line : ℕ) (p : Place) (op : StepOperator) (before : Bool) (is : List Item) (r : Active) (xs : List TypedNumber) (bs : List (List ℕ)) (vs : Variables) →
-      Meets (state (evaluates (step line p op before) ∷ is) r xs bs vs) (move_expression code first true (step line p op before) is r xs bs vs)
-  meets_step line p op true is r xs bs vs = (refl, omega arith)
-  meets_step line p op false is r xs bs vs = (refl, omega arith)
+  meets_steps : (line : ℕ) (t : IntegerType) (p : Place) (op : ArithmeticOperator) (before : Bool) (is : List Item) (r : Active) (xs : List TypedNumber) (bs : List (List ℕ)) (vs : Variables) →
+      Meets (state (steps line t p op before ∷ is) r xs bs vs) (move_item code first true (steps line t p op before) is r xs bs vs)
+  meets_steps line t p op true is r xs bs vs =
+      meets_bytes (steps line t p op true ∷ is) r xs bs vs (variable_of (running_of code r) p) (top xs).bits (bytes t) (place_line p) _ refl (λ found. omega arith)
+  meets_steps line t p op false is r xs bs vs =
+      meets_bytes (steps line t p op false ∷ is) r xs bs vs (variable_of (running_of code r) p) (top xs).bits (bytes t) (place_line p) _ refl (λ found. omega arith)
 
-  meets_increment : (line : ℕ) (p : Place) (op : ArithmeticOperator) (before : Bool) (is : List Item) (r : Active) (xs : List TypedNumber) (bs : List (List ℕ)) (vs : Variables) →
-      Meets (state (increments line p op before ∷ is) r xs bs vs) (move_item code first true (increments line p op before) is r xs bs vs)
-  meets_increment line p op true is r xs bs vs =
-      let u = promoted (place_type p) in
-      checked (arithmetic_check op u u (converted (place_type p) u (top xs).bits) 1) line (state (increments line p op true ∷ is) r xs bs vs) (state (stores line p ∷ is) r _ _ _) refl (omega arith)
-  meets_increment line p op false is r xs bs vs =
-      let u = promoted (place_type p) in
-      checked (arithmetic_check op u u (converted (place_type p) u (top xs).bits) 1) line (state (increments line p op false ∷ is) r xs bs vs) (state (stores line p ∷ drops ∷ is) r _ _ _) refl (omega arith)
+  meets_increment : (line : ℕ) (t : IntegerType) (p : Place) (op : ArithmeticOperator) (before : Bool) (at : ℕ) (is : List Item) (r : Active) (xs : List TypedNumber) (bs : List (List ℕ)) (vs : Variables) →
+      Meets (state (increments line t p op before at ∷ is) r xs bs vs) (move_item code first true (increments line t p op before at) is r xs bs vs)
+  meets_increment line t p op true at is r xs bs vs =
+      let u = promoted t in
+      checked (arithmetic_check op u u (converted t u (top xs).bits) 1) line (state (increments line t p op true at ∷ is) r xs bs vs) (state (rewrites line t p at ∷ is) r _ _ _) refl (omega arith)
+  meets_increment line t p op false at is r xs bs vs =
+      let u = promoted t in
+      checked (arithmetic_check op u u (converted t u (top xs).bits) 1) line (state (increments line t p op false at ∷ is) r xs bs vs) (state (rewrites line t p at ∷ drops ∷ is) r _ _ _) refl (omega arith)
+
+  meets_paces : (line : ℕ) (p : Place) (n : ℤ) (before : Bool) (is : List Item) (r : Active) (xs : List TypedNumber) (bs : List (List ℕ)) (vs : Variables) →
+      Meets (state (paces line p n before ∷ is) r xs bs vs) (move_item code first true (paces line p n before) is r xs bs vs)
+  meets_paces line p n true is r xs bs vs =
+      meets_bytes (paces line p n true ∷ is) r xs bs vs (variable_of (running_of code r) p) (top xs).bits (bytes UnsignedLong) (place_line p) _ refl (λ found. omega arith)
+  meets_paces line p n false is r xs bs vs =
+      meets_bytes (paces line p n false ∷ is) r xs bs vs (variable_of (running_of code r) p) (top xs).bits (bytes UnsignedLong) (place_line p) _ refl (λ found. omega arith)
+
+  meets_arrives : (line : ℕ) (p : Place) (n : ℤ) (before : Bool) (at : ℕ) (is : List Item) (r : Active) (xs : List TypedNumber) (bs : List (List ℕ)) (vs : Variables) →
+      Meets (state (arrives line p n before at ∷ is) r xs bs vs) (move_item code first true (arrives line p n before at) is r xs bs vs)
+  meets_arrives line p n true at is r xs bs vs = meets_pointer (arrives line p n true at ∷ is) r xs bs vs false (second xs).bits (top xs).bits (pos 1) n line (λ q. state (rewrites line UnsignedLong p at ∷ is) r (typed UnsignedLong q ∷ rest (rest xs)) bs vs) refl (λ q. omega arith)
+  meets_arrives line p n false at is r xs bs vs = meets_pointer (arrives line p n false at ∷ is) r xs bs vs false (second xs).bits (top xs).bits (pos 1) n line (λ q. state (rewrites line UnsignedLong p at ∷ drops ∷ is) r (typed UnsignedLong q ∷ rest xs) bs vs) refl (λ q. omega arith)
 
   meets_expression : (e : Expression) (is : List Item) (r : Active) (xs : List TypedNumber) (bs : List (List ℕ)) (vs : Variables) → Meets (state (evaluates e ∷ is) r xs bs vs) (move_expression code first true e is r xs bs vs)
   meets_expression (constant line t bits) is r xs bs vs = (refl, omega arith)
-  meets_expression (read p) is r xs bs vs = meets_read p is r xs bs vs
+  meets_expression (read t p) is r xs bs vs = (refl, omega arith)
   meets_expression (convert to e) is r xs bs vs = (refl, omega arith)
   meets_expression (sign line op e) is r xs bs vs = (refl, omega arith)
   meets_expression (is_zero line e) is r xs bs vs = (refl, omega arith)
@@ -73,25 +144,37 @@ module _ (code : Code) (first : Bool) where
   meets_expression (compare line op a b) is r xs bs vs = (refl, omega arith)
   meets_expression (logical line op a b) is r xs bs vs = (refl, omega arith)
   meets_expression (choice line test a b) is r xs bs vs = (refl, omega arith)
-  meets_expression (assign line p e) is r xs bs vs = (refl, omega arith)
-  meets_expression (update line p op t e) is r xs bs vs = (refl, omega arith)
-  meets_expression (step line p op before) is r xs bs vs = meets_step line p op before is r xs bs vs
+  meets_expression (assign line t p e) is r xs bs vs = (refl, omega arith)
+  meets_expression (update line t p op u e) is r xs bs vs = (refl, omega arith)
+  meets_expression (step line t p op before) is r xs bs vs = (refl, omega arith)
   meets_expression (comma line a b) is r xs bs vs = (refl, omega arith)
   meets_expression (assertion line e) is r xs bs vs = (refl, omega arith)
   meets_expression (assumption line e) is r xs bs vs = (refl, omega arith)
+  meets_expression (draw line t) is r xs bs vs = refl
   meets_expression (part line t offset a) is r xs bs vs = (refl, omega arith)
   meets_expression (discard line e) is r xs bs vs = (refl, omega arith)
   meets_expression (discard_structure a) is r xs bs vs = (refl, omega arith)
   meets_expression (call line f used t args) is r xs bs vs = (refl, omega arith)
-  meets_expression (function_name line f) is r xs bs vs = (refl, omega arith)
-  meets_expression (draw line t) is r xs bs vs = refl
+  meets_expression (function_name line) is r xs bs vs = (refl, omega arith)
+  meets_expression (size_of_value line bits e) is r xs bs vs = (refl, omega arith)
+  meets_expression (size_of_structure line bits a) is r xs bs vs = (refl, omega arith)
+  meets_expression (address line p) is r xs bs vs = (refl, omega arith)
+  meets_expression (sum line a e n true) is r xs bs vs = (refl, omega arith)
+  meets_expression (sum line a e n false) is r xs bs vs = (refl, omega arith)
+  meets_expression (distance line a b n) is r xs bs vs = (refl, omega arith)
+  meets_expression (relation line op a b) is r xs bs vs = (refl, omega arith)
+  meets_expression (pointer_update line p n e) is r xs bs vs = (refl, omega arith)
+  meets_expression (pointer_step line p n before) is r xs bs vs = (refl, omega arith)
+  meets_expression (allocate line e) is r xs bs vs = (refl, omega arith)
+  meets_expression (allocate_zeroed line a b) is r xs bs vs = (refl, omega arith)
+  meets_expression (release line e) is r xs bs vs = (refl, omega arith)
+  meets_expression (exit line e) is r xs bs vs = (refl, omega arith)
+  meets_expression (abort line) is r xs bs vs = (refl, omega arith)
 
   meets_structure : (a : Structure) (is : List Item) (r : Active) (xs : List TypedNumber) (bs : List (List ℕ)) (vs : Variables) → Meets (state (evaluates_structure a ∷ is) r xs bs vs) (move_structure code first true a is r xs bs vs)
-  meets_structure (copy line v offset size) is r xs bs vs = (refl, omega arith)
-  meets_structure (load line k offset size) is r xs bs vs = refl
+  meets_structure (copy p size) is r xs bs vs = (refl, omega arith)
   meets_structure (choose line test a b) is r xs bs vs = (refl, omega arith)
-  meets_structure (put line v offset a) is r xs bs vs = (refl, omega arith)
-  meets_structure (store line k offset a) is r xs bs vs = (refl, omega arith)
+  meets_structure (put line p a) is r xs bs vs = (refl, omega arith)
   meets_structure (follow line e a) is r xs bs vs = (refl, omega arith)
   meets_structure (section line offset size a) is r xs bs vs = (refl, omega arith)
   meets_structure (list line size parts) is r xs bs vs = (refl, omega arith)
@@ -142,16 +225,16 @@ module _ (code : Code) (first : Bool) where
   -- ---- switches
 
   selecting : (b c : Bool) (items : Items) (x : ℕ) (s : State) (is : List Item) (r : Active) (xs : List TypedNumber) (bs : List (List ℕ)) (vs : Variables) →
-      behaves code first s ≡ (if b then enter (running_of code r) items vs (λ now. at_case (running_of code r) (calls_of code r) items x (in_switch (exits_of code first is r xs bs) (from code first is r xs bs)) now (from code first is r xs bs))
-      else (if c then enter (running_of code r) items vs (λ now. at_default (running_of code r) (calls_of code r) items (in_switch (exits_of code first is r xs bs) (from code first is r xs bs)) now (from code first is r xs bs)) else from code first is r xs bs vs)) →
-      weight code s ≡ entry_work (code.tests r.function) (call_work_of code r) items + items_work (code.tests r.function) (call_work_of code r) items + 2 + total_work code is r →
-      Meets s (silent (state (if b then enters_items items ∷ goes_on (behind_case x items) ∷ switches ∷ is else (if c then enters_items items ∷ goes_on (behind_default items) ∷ switches ∷ is else is)) r xs bs vs))
+      behaves code first s ≡ (if b then enter (running_of code r) items vs (λ now. at_case (running_of code r) (calls_of code r) items x (leaving (leave (running_of code r) items) (in_switch (exits_of code first is r xs bs) (from code first is r xs bs))) now (λ last. leave (running_of code r) items last (from code first is r xs bs last)))
+      else (if c then enter (running_of code r) items vs (λ now. at_default (running_of code r) (calls_of code r) items (leaving (leave (running_of code r) items) (in_switch (exits_of code first is r xs bs) (from code first is r xs bs))) now (λ last. leave (running_of code r) items last (from code first is r xs bs last))) else from code first is r xs bs vs)) →
+      weight code s ≡ entry_work (code.tests r.function) (call_work_of code r) items + items_work (code.tests r.function) (call_work_of code r) items + leave_work (code.tests r.function) (call_work_of code r) items + 2 + total_work code is r →
+      Meets s (silent (state (if b then enters_items items ∷ goes_on (behind_case x items) ∷ switches items ∷ is else (if c then enters_items items ∷ goes_on (behind_default items) ∷ switches items ∷ is else is)) r xs bs vs))
   selecting true c items x s is r xs bs vs e w =
       let less = case_less (code.tests r.function) (call_work_of code r) x items in
-      (e ∙ (λ i. enter (running_of code r) items vs (λ now. case_is (running_of code r) (calls_of code r) (in_switch (exits_of code first is r xs bs) (from code first is r xs bs)) now (from code first is r xs bs) x items i)), omega (arith, w, less))
+      (e ∙ (λ i. enter (running_of code r) items vs (λ now. case_is (running_of code r) (calls_of code r) (leaving (leave (running_of code r) items) (in_switch (exits_of code first is r xs bs) (from code first is r xs bs))) now (λ last. leave (running_of code r) items last (from code first is r xs bs last)) x items i)), omega (arith, w, less))
   selecting false true items x s is r xs bs vs e w =
       let less = default_less (code.tests r.function) (call_work_of code r) items in
-      (e ∙ (λ i. enter (running_of code r) items vs (λ now. default_is (running_of code r) (calls_of code r) (in_switch (exits_of code first is r xs bs) (from code first is r xs bs)) now (from code first is r xs bs) items i)), omega (arith, w, less))
+      (e ∙ (λ i. enter (running_of code r) items vs (λ now. default_is (running_of code r) (calls_of code r) (leaving (leave (running_of code r) items) (in_switch (exits_of code first is r xs bs) (from code first is r xs bs))) now (λ last. leave (running_of code r) items last (from code first is r xs bs last)) items i)), omega (arith, w, less))
   selecting false false items x s is r xs bs vs e w = (e, omega (arith, w))
 
   -- ---- calls
@@ -160,7 +243,7 @@ module _ (code : Code) (first : Bool) where
   abbrev goes_on_with : Wanted → List Item → Active → List TypedNumber → List (List ℕ) → Variables → Given → Behaviour
   goes_on_with want is r xs bs vs given = receives code first want r (λ ys cs. from code first is r ys cs vs) xs bs given
 
-  module _ (want : Wanted) (f : ℕ) (args : List (List ℕ)) (s : State) (is : List Item) (r : Active) (xs : List TypedNumber) (bs : List (List ℕ)) (vs : Variables) (active_is : s.active ≡ r) (h : (slice_index r.left f == 0) ≡ false) where
+  module _ (want : Wanted) (f count : ℕ) (args : List (List ℕ)) (few : length args ≤ count) (js : List Item) (ys : List TypedNumber) (cs : List (List ℕ)) (is : List Item) (r : Active) (xs : List TypedNumber) (bs : List (List ℕ)) (vs : Variables) (h : (slice_index r.left f == 0) ≡ false) where
     abbrev within : (function line : ℕ) → List (List ℕ) → (Given → Behaviour) → Behaviour
     within = activation code (total r.left) (opened r.left f) f
 
@@ -176,37 +259,29 @@ module _ (code : Code) (first : Bool) where
     same_work : activation_work code (total r.left) (opened r.left f) ≡ call_work_of code inner
     same_work = λ i. activation_work code (total_opened r.left f h i) (opened r.left f)
 
-    meets_body : (p : Procedure) (body : Option Statement) → slice_get code.functions f ≡ Some p → p.body ≡ body →
-        behaves code first s ≡ exec_body (running_at code f p) within body args (goes_on_with want is r xs bs vs) →
-        weight code s ≡ defined_work (code.tests f) (activation_work code (total r.left) (opened r.left f)) body + 1 + total_work code is r →
-        Meets s (move_body code first true want f args p.variables body is r xs bs vs)
-    meets_body p None k b e w = e
-    meets_body p (Some a) k b e w =
-        let run : running_at code f p ≡ running_of code inner = λ i. record { function = f; sizes = sizes_at (sym k i); tests = code.tests f; assertions = code.assertions } in
+    meets_body : (body : Option Statement) →
+        behaves code first (state js r ys cs vs) ≡ enters code r.function (line_of want) f body within args (goes_on_with want is r xs bs vs) →
+        weight code (state js r ys cs vs) ≡ 4 * count + body_work (code.tests f) (activation_work code (total r.left) (opened r.left f)) body + 1 + total_work code is r →
+        Meets (state js r ys cs vs) (move_body code first true want f args (sizes_of (variables_of (slice_get code.functions f))) body is r xs bs vs)
+    meets_body None e w = e
+    meets_body (Some a) e w =
         let here : total_work code is (back r.function inner) ≡ total_work code is r = λ i. total_work code is (sym same_active i) in
         let there : statement_work (code.tests f) (activation_work code (total r.left) (opened r.left f)) a ≡ statement_work (code.tests f) (call_work_of code inner) a = λ i. statement_work (code.tests f) (same_work i) a in (
-          e ∙ (λ i. exec (run i) (same_calls i) a (in_function (goes_on_with want is (same_active i) xs bs vs)) (args ++ first_variables (drop (length args) p.variables)) (λ after. goes_on_with want is (same_active i) xs bs vs nothing)),
-          omega (arith, w, here, there),
+          e ∙ (λ i. exec_body (running_in code f) (same_calls i) a args (goes_on_with want is (same_active i) xs bs vs)),
+          omega (arith, w, here, there, few),
         )
 
-    meets_function : (o : Option Procedure) → slice_get code.functions f ≡ o →
-        behaves code first s ≡ enters code f o within args (goes_on_with want is r xs bs vs) →
-        weight code s ≡ body_work (code.tests f) (activation_work code (total r.left) (opened r.left f)) o + 1 + total_work code is r →
-        Meets s (move_function code first true want f args o is r xs bs vs)
-    meets_function None k e w = e
-    meets_function (Some p) k e w = meets_body p p.body k refl e w
-
-  meets_call : (b : Bool) (want : Wanted) (f : ℕ) (args : List (List ℕ)) (js : List Item) (ys : List TypedNumber) (cs : List (List ℕ)) (is : List Item) (r : Active) (xs : List TypedNumber) (bs : List (List ℕ)) (vs : Variables) → (slice_index r.left f == 0) ≡ b →
+  meets_call : (b : Bool) (want : Wanted) (f count : ℕ) (args : List (List ℕ)) → length args ≤ count → (js : List Item) (ys : List TypedNumber) (cs : List (List ℕ)) (is : List Item) (r : Active) (xs : List TypedNumber) (bs : List (List ℕ)) (vs : Variables) → (slice_index r.left f == 0) ≡ b →
       behaves code first (state js r ys cs vs) ≡ (if b then passed code.assertions Recursion (line_of want) r.function
-      else enters code f (slice_get code.functions f) (activation code (total r.left) (opened r.left f) f) args (goes_on_with want is r xs bs vs)) →
-      weight code (state js r ys cs vs) ≡ (if b then 0 else body_work (code.tests f) (activation_work code (total r.left) (opened r.left f)) (slice_get code.functions f)) + 1 + total_work code is r →
-      Meets (state js r ys cs vs) (if b then (if code.assertions then breaks Recursion (line_of want) else blocks) else move_function code first true want f args (slice_get code.functions f) is r xs bs vs)
-  meets_call true want f args js ys cs is r xs bs vs h e w = stopped code.assertions Recursion (line_of want) (state js r ys cs vs) e
-  meets_call false want f args js ys cs is r xs bs vs h e w = meets_function want f args (state js r ys cs vs) is r xs bs vs refl h (slice_get code.functions f) refl e w
+      else enters code r.function (line_of want) f (body_of (slice_get code.functions f)) (activation code (total r.left) (opened r.left f) f) args (goes_on_with want is r xs bs vs)) →
+      weight code (state js r ys cs vs) ≡ 4 * count + (if b then 0 else body_work (code.tests f) (activation_work code (total r.left) (opened r.left f)) (body_of (slice_get code.functions f))) + 1 + total_work code is r →
+      Meets (state js r ys cs vs) (if b then (if code.assertions then breaks Recursion (line_of want) else blocks) else move_body code first true want f args (sizes_of (variables_of (slice_get code.functions f))) (body_of (slice_get code.functions f)) is r xs bs vs)
+  meets_call true want f count args few js ys cs is r xs bs vs h e w = stopped code.assertions Recursion (line_of want) (state js r ys cs vs) e
+  meets_call false want f count args few js ys cs is r xs bs vs h e w = meets_body want f count args few js ys cs is r xs bs vs h (body_of (slice_get code.functions f)) e w
 
   meets_arguments : (want : Wanted) (f count : ℕ) (args : Arguments) (is : List Item) (r : Active) (xs : List TypedNumber) (bs : List (List ℕ)) (vs : Variables) → Meets (state (gathers want f count args ∷ is) r xs bs vs) (move_arguments code first true want f count args is r xs bs vs)
   meets_arguments want f count no_argument is r xs bs vs =
-      meets_call (slice_index r.left f == 0) want f (blocks_on count bs) (gathers want f count no_argument ∷ is) xs bs is r xs (drop count bs) vs refl refl (omega arith)
+      meets_call (slice_index r.left f == 0) want f count (blocks_on count bs) (blocks_fewer count bs) (gathers want f count no_argument ∷ is) xs bs is r xs (drop count bs) vs refl refl (omega arith)
   meets_arguments want f count (number_argument e more) is r xs bs vs = (refl, omega arith)
   meets_arguments want f count (structure_argument a more) is r xs bs vs = (refl, omega arith)
 
@@ -239,10 +314,17 @@ module _ (code : Code) (first : Bool) where
   meets_statement (trees.for_loop line n start test last s) is r xs bs vs = meets_start start line n test last s is r xs bs vs
   meets_statement (trees.do_loop line n s test) is r xs bs vs = (refl, omega arith)
   meets_statement (trees.switch line e items) is r xs bs vs = (refl, omega arith)
-  meets_statement (trees.breaks line) is r xs bs vs = let e = break_less code is r in (break_at code first is r xs bs vs, omega (arith, e))
-  meets_statement (trees.continues line) is r xs bs vs = let e = continue_less code is r in (continue_at code first is r xs bs vs, omega (arith, e))
-  meets_statement (trees.jumps line n) is r xs bs vs = let e = jump_less code n is r in (jump_at code first n is r xs bs vs, omega (arith, e))
+  meets_statement (trees.breaks line) is r xs bs vs = (refl, omega arith)
+  meets_statement (trees.continues line) is r xs bs vs = (refl, omega arith)
+  meets_statement (trees.jumps line n) is r xs bs vs = (refl, omega arith)
   meets_statement (trees.stray line s) is r xs bs vs = (refl, omega arith)
+
+  -- a way out of statements
+  meets_out : (way : Way) (is : List Item) (r : Active) (xs : List TypedNumber) (bs : List (List ℕ)) (vs : Variables) → Meets (state (goes_out way ∷ is) r xs bs vs) (move_item code first true (goes_out way) is r xs bs vs)
+  meets_out by_break is r xs bs vs = let w = break_less code is r xs bs vs in (break_at code first is r xs bs vs, omega (arith, w))
+  meets_out by_continue is r xs bs vs = let w = continue_less code is r xs bs vs in (continue_at code first is r xs bs vs, omega (arith, w))
+  meets_out (by_jump n) is r xs bs vs = let w = jump_less code n is r xs bs vs in (jump_at code first n is r xs bs vs, omega (arith, w))
+  meets_out (by_return how) is r xs bs vs = let w = return_less code how is r xs bs vs in (return_at code first how is r xs bs vs, omega (arith, w))
 
   meets_entry : (items : Items) (is : List Item) (r : Active) (xs : List TypedNumber) (bs : List (List ℕ)) (vs : Variables) → Meets (state (enters_items items ∷ is) r xs bs vs) (move_entry code first true items is r xs bs vs)
   meets_entry done is r xs bs vs = (refl, omega arith)
@@ -270,11 +352,57 @@ module _ (code : Code) (first : Bool) where
   meets_fill zero line v offset is r xs bs vs = (refl, omega arith)
   meets_fill (suc k) line v offset is r xs bs vs = refl
 
-  -- ---- items that test a value
+  meets_settle : (home : Option ℕ) (line v : ℕ) (is : List Item) (r : Active) (xs : List TypedNumber) (bs : List (List ℕ)) (vs : Variables) → behaves code first (state (settles line v ∷ is) r xs bs vs) ≡ meaning.places (running_of code r) home line v vs (from code first is r xs bs) →
+      Meets (state (settles line v ∷ is) r xs bs vs) (move_settle code first true home line v is r xs bs vs)
+  meets_settle None line v is r xs bs vs e = (e, omega arith)
+  meets_settle (Some h) line v is r xs bs vs e = e
 
-  deciding : (b : Bool) (s t u : State) → behaves code first s ≡ (if b then behaves code first t else behaves code first u) → weight code t < weight code s → weight code u < weight code s → Meets s (silent (if b then t else u))
-  deciding true s t u e p q = (e, p)
-  deciding false s t u e p q = (e, q)
+  meets_death : (home : Option ℕ) (line v : ℕ) (is : List Item) (r : Active) (xs : List TypedNumber) (bs : List (List ℕ)) (vs : Variables) → behaves code first (state (dies line v ∷ is) r xs bs vs) ≡ meaning.dies (running_of code r) home line vs (from code first is r xs bs vs) →
+      Meets (state (dies line v ∷ is) r xs bs vs) (move_death code first true home line is r xs bs vs)
+  meets_death None line v is r xs bs vs e = (e, omega arith)
+  meets_death (Some h) line v is r xs bs vs e = e
+
+  meets_end : (items : Items) (is : List Item) (r : Active) (xs : List TypedNumber) (bs : List (List ℕ)) (vs : Variables) → Meets (state (leaves items ∷ is) r xs bs vs) (move_end code first true items is r xs bs vs)
+  meets_end done is r xs bs vs = (refl, omega arith)
+  meets_end (declares line v more) is r xs bs vs = (refl, omega arith)
+  meets_end (initializes line v is_drawn e more) is r xs bs vs = (refl, omega arith)
+  meets_end (initializes_structure line v is_drawn a more) is r xs bs vs = (refl, omega arith)
+  meets_end (does s more) is r xs bs vs = (refl, omega arith)
+  meets_end (label n more) is r xs bs vs = (refl, omega arith)
+  meets_end (case_at line t bits more) is r xs bs vs = (refl, omega arith)
+  meets_end (default_at line more) is r xs bs vs = (refl, omega arith)
+
+  meets_parameters : (count v : ℕ) (is : List Item) (r : Active) (xs : List TypedNumber) (bs : List (List ℕ)) (vs : Variables) → Meets (state (enters_parameters count v ∷ is) r xs bs vs) (move_parameters code first true count v is r xs bs vs)
+  meets_parameters zero v is r xs bs vs = (refl, omega arith)
+  meets_parameters (suc count) v is r xs bs vs = (refl, omega arith)
+
+  meets_last_parameters : (count v : ℕ) (is : List Item) (r : Active) (xs : List TypedNumber) (bs : List (List ℕ)) (vs : Variables) → Meets (state (leaves_parameters count v ∷ is) r xs bs vs) (move_last code first true count v is r xs bs vs)
+  meets_last_parameters zero v is r xs bs vs = (refl, omega arith)
+  meets_last_parameters (suc count) v is r xs bs vs = (refl, omega arith)
+
+  -- ---- objects that are allocated
+
+  meets_claim : (line : ℕ) (zeroed : Bool) (is : List Item) (r : Active) (xs : List TypedNumber) (bs : List (List ℕ)) (vs : Variables) → Meets (state (claims line zeroed ∷ is) r xs bs vs) (move_claim code first true line zeroed is r xs bs vs)
+  meets_claim line false is r xs bs vs = asking code.malloc_may_fail (Draw 1) line (state (claims line false ∷ is) r xs bs vs) _ (state (admits line false ∷ is) r xs bs vs) refl (omega arith)
+  meets_claim line true is r xs bs vs = asking code.malloc_may_fail (Draw 1) line (state (claims line true ∷ is) r xs bs vs) _ (state (admits line true ∷ is) r xs bs vs) refl (omega arith)
+
+  meets_try : (line : ℕ) (zeroed : Bool) (is : List Item) (r : Active) (xs : List TypedNumber) (bs : List (List ℕ)) (vs : Variables) → Meets (state (tries line zeroed ∷ is) r xs bs vs) (move_try code first true line zeroed is r xs bs vs)
+  meets_try line false is r xs bs vs =
+      deciding (is_true (top xs).bits) (state (tries line false ∷ is) r xs bs vs) (state is r (typed UnsignedLong 0 ∷ rest (rest xs)) bs vs) (state (admits line false ∷ is) r (rest xs) bs vs) refl (omega arith) (omega arith)
+  meets_try line true is r xs bs vs =
+      deciding (is_true (top xs).bits) (state (tries line true ∷ is) r xs bs vs) (state is r (typed UnsignedLong 0 ∷ rest (rest (rest xs))) bs vs) (state (admits line true ∷ is) r (rest xs) bs vs) refl (omega arith) (omega arith)
+
+  meets_admission : (line : ℕ) (zeroed : Bool) (is : List Item) (r : Active) (xs : List TypedNumber) (bs : List (List ℕ)) (vs : Variables) → Meets (state (admits line zeroed ∷ is) r xs bs vs) (move_admission code first true line zeroed is r xs bs vs)
+  meets_admission line false is r xs bs vs = ranging (nat_le (top xs).bits code.malloc_limit) MallocLimit line (state (admits line false ∷ is) r xs bs vs) (state (draws _ _ line ∷ is) r xs ([] ∷ bs) vs) refl (omega arith)
+  meets_admission line true is r xs bs vs =
+      let size = (second xs).bits * (top xs).bits in
+      ranging (nat_le size code.malloc_limit) MallocLimit line (state (admits line true ∷ is) r xs bs vs) (state (makes line ∷ is) r (typed UnsignedLong size ∷ rest (rest xs)) (zeros size ∷ bs) vs) refl (omega arith)
+
+  meets_draw : (words size line : ℕ) (is : List Item) (r : Active) (xs : List TypedNumber) (bs : List (List ℕ)) (vs : Variables) → Meets (state (draws words size line ∷ is) r xs bs vs) (move_draw code first true words size line is r xs bs vs)
+  meets_draw zero size line is r xs bs vs = (refl, omega arith)
+  meets_draw (suc k) size line is r xs bs vs = refl
+
+  -- ---- items that test a value
 
   choosing : (s : State) (b : Bool) (a c : Expression) (is : List Item) (r : Active) (ys : List TypedNumber) (bs : List (List ℕ)) (vs : Variables) →
       behaves code first s ≡ (if b then eval (running_of code r) (calls_of code r) a vs (λ x. from code first is r (typed (number_type a) x ∷ ys) bs) else eval (running_of code r) (calls_of code r) c vs (λ x. from code first is r (typed (number_type a) x ∷ ys) bs)) →
@@ -290,9 +418,9 @@ module _ (code : Code) (first : Bool) where
   choosing_structure s true a c is r ys bs vs e w = (e, omega arith)
   choosing_structure s false a c is r ys bs vs e w = (e, omega arith)
 
-  asserting : (s t : State) (b : Bool) (line : ℕ) → behaves code first s ≡ (if b then behaves code first t else final (Broken Assertion line s.active.function)) → weight code t < weight code s → Meets s (unless_stopped code first true (if b then None else Some Assertion) line t)
-  asserting s t true line e w = (e, w)
-  asserting s t false line e w = e
+  holding : (class : Class) (s t : State) (b : Bool) (line : ℕ) → behaves code first s ≡ (if b then behaves code first t else final (Broken class line s.active.function)) → weight code t < weight code s → Meets s (unless_stopped code first true (if b then None else Some class) line t)
+  holding class s t true line e w = (e, w)
+  holding class s t false line e w = e
 
   assuming : (s t : State) (b : Bool) → behaves code first s ≡ (if b then behaves code first t else final Blocked) → weight code t < weight code s → Meets s (if b then silent t else blocks)
   assuming s t true e w = (e, w)
@@ -321,21 +449,44 @@ module _ (code : Code) (first : Bool) where
   meets_item tests is r xs bs vs = (refl, omega arith)
   meets_item (chooses a b) is r xs bs vs = choosing (state (chooses a b ∷ is) r xs bs vs) (is_true (top xs).bits) a b is r (rest xs) bs vs refl refl
   meets_item (retypes t) is r xs bs vs = (refl, omega arith)
-  meets_item (stores line p) is r xs bs vs = meets_write p line is r xs bs vs
-  meets_item (combines line p op t) is r xs bs vs =
-      checked (arithmetic_check op t (second xs).type (converted (place_type p) t (top xs).bits) (second xs).bits) line (state (combines line p op t ∷ is) r xs bs vs) (state (stores line p ∷ is) r _ _ _) refl (omega arith)
-  meets_item (increments line p op before) is r xs bs vs = meets_increment line p op before is r xs bs vs
   meets_item drops is r xs bs vs = (refl, omega arith)
   meets_item (passes b) is r xs bs vs = (refl, omega arith)
-  meets_item (asserts line) is r xs bs vs = asserting (state (asserts line ∷ is) r xs bs vs) (state is r (typed Int 0 ∷ rest xs) bs vs) (is_true (top xs).bits) line refl (omega arith)
+  meets_item (asserts line) is r xs bs vs = holding Assertion (state (asserts line ∷ is) r xs bs vs) (state is r (typed Int 0 ∷ rest xs) bs vs) (is_true (top xs).bits) line refl (omega arith)
   meets_item assumes is r xs bs vs = assuming (state (assumes ∷ is) r xs bs vs) (state is r (typed Int 0 ∷ rest xs) bs vs) (is_true (top xs).bits) refl (omega arith)
+  meets_item (locates p) is r xs bs vs = meets_place p is r xs bs vs
+  meets_item (reaches offset) is r xs bs vs = (refl, omega arith)
+  meets_item (elements line size whole swapped) is r xs bs vs = meets_pointer (elements line size whole swapped ∷ is) r xs bs vs true (base swapped xs).bits whole (index_number swapped xs) (pos size) line (λ q. state is r (typed UnsignedLong q ∷ rest (rest xs)) bs vs) refl (λ q. omega arith)
+  meets_item (loads t p) is r xs bs vs = meets_bytes (loads t p ∷ is) r xs bs vs (variable_of (running_of code r) p) (top xs).bits (bytes t) (place_line p) _ refl (λ found. omega arith)
+  meets_item (stores line t p) is r xs bs vs = meets_put (stores line t p ∷ is) r xs bs vs (variable_of (running_of code r) p) (second xs).bits (low_bytes (bytes t) (top xs).bits) line _ refl (λ now. omega arith)
+  meets_item (rewrites line t p at) is r xs bs vs = meets_put (rewrites line t p at ∷ is) r xs bs vs (variable_of (running_of code r) p) at (low_bytes (bytes t) (top xs).bits) line _ refl (λ now. omega arith)
+  meets_item (updates line t p op u) is r xs bs vs = meets_bytes (updates line t p op u ∷ is) r xs bs vs (variable_of (running_of code r) p) (second xs).bits (bytes t) (place_line p) _ refl (λ found. omega arith)
+  meets_item (combines line t p op u) is r xs bs vs =
+      checked (arithmetic_check op u (second xs).type (converted t u (top xs).bits) (second xs).bits) line (state (combines line t p op u ∷ is) r xs bs vs) (state (stores line t p ∷ is) r _ _ _) refl (omega arith)
+  meets_item (steps line t p op before) is r xs bs vs = meets_steps line t p op before is r xs bs vs
+  meets_item (increments line t p op before at) is r xs bs vs = meets_increment line t p op before at is r xs bs vs
+  meets_item (looks line n is_element swapped) is r xs bs vs = refl
+  meets_item (lands line n is_element swapped) is r xs bs vs =
+      meets_pointer (lands line n is_element swapped ∷ is) r xs bs vs is_element (base swapped (rest xs)).bits (top xs).bits (index_number swapped (rest xs)) n line (λ q. state is r (typed UnsignedLong q ∷ rest (rest (rest xs))) bs vs) refl (λ q. omega arith)
+  meets_item (shifts line p n) is r xs bs vs = meets_bytes (shifts line p n ∷ is) r xs bs vs (variable_of (running_of code r) p) (second xs).bits (bytes UnsignedLong) (place_line p) _ refl (λ found. omega arith)
+  meets_item (paces line p n before) is r xs bs vs = meets_paces line p n before is r xs bs vs
+  meets_item (advances line p n before at) is r xs bs vs = refl
+  meets_item (arrives line p n before at) is r xs bs vs = meets_arrives line p n before at is r xs bs vs
+  meets_item (measures line n) is r xs bs vs = holding Pointer (state (measures line n ∷ is) r xs bs vs) (state is r _ bs vs) (object_of (second xs).bits == object_of (top xs).bits) line refl (omega arith)
+  meets_item (orders line op) is r xs bs vs = holding Pointer (state (orders line op ∷ is) r xs bs vs) (state is r _ bs vs) (object_of (second xs).bits == object_of (top xs).bits) line refl (omega arith)
+  meets_item (claims line zeroed) is r xs bs vs = meets_claim line zeroed is r xs bs vs
+  meets_item (tries line zeroed) is r xs bs vs = meets_try line zeroed is r xs bs vs
+  meets_item (admits line zeroed) is r xs bs vs = meets_admission line zeroed is r xs bs vs
+  meets_item (draws words size line) is r xs bs vs = meets_draw words size line is r xs bs vs
+  meets_item (makes line) is r xs bs vs = refl
+  meets_item (releases line) is r xs bs vs = skipping ((top xs).bits == 0) (Free (top xs).bits) line (state (releases line ∷ is) r xs bs vs) (state is r (typed Int 0 ∷ rest xs) bs vs) (λ a. state is r (typed Int 0 ∷ rest xs) bs vs) refl (omega arith)
+  meets_item (quits line) is r xs bs vs = λ i. ask_in r.function Exit line (λ a. final (Ended (word_64 (same_zero first i))))
   meets_item (evaluates_structure a) is r xs bs vs = meets_structure a is r xs bs vs
   meets_item (picks t offset) is r xs bs vs = (refl, omega arith)
   meets_item discards is r xs bs vs = (refl, omega arith)
   meets_item discards_structure is r xs bs vs = (refl, omega arith)
   meets_item (chooses_structure a b) is r xs bs vs = choosing_structure (state (chooses_structure a b ∷ is) r xs bs vs) (is_true (top xs).bits) a b is r (rest xs) bs vs refl refl
-  meets_item (puts v offset) is r xs bs vs = (refl, omega arith)
-  meets_item (stores_structure line k offset) is r xs bs vs = refl
+  meets_item (copies p size) is r xs bs vs = meets_bytes (copies p size ∷ is) r xs bs vs (variable_of (running_of code r) p) (top xs).bits size (place_line p) _ refl (λ found. omega arith)
+  meets_item (stores_structure line p) is r xs bs vs = meets_put (stores_structure line p ∷ is) r xs bs vs (variable_of (running_of code r) p) (top xs).bits (top_bytes bs) line _ refl (λ now. omega arith)
   meets_item (passes_structure a) is r xs bs vs = (refl, omega arith)
   meets_item (cuts offset size) is r xs bs vs = (refl, omega arith)
   meets_item (lists parts) is r xs bs vs = meets_parts parts is r xs bs vs
@@ -346,13 +497,20 @@ module _ (code : Code) (first : Bool) where
   meets_item (divides s t) is r xs bs vs = dividing (state (divides s t ∷ is) r xs bs vs) (is_true (top xs).bits) s t is r (rest xs) bs vs refl refl
   meets_item (enters_items items) is r xs bs vs = meets_entry items is r xs bs vs
   meets_item (goes_on items) is r xs bs vs = meets_items items is r xs bs vs
-  meets_item (initial v t) is r xs bs vs = (refl, omega arith)
-  meets_item (initial_structure v) is r xs bs vs = (refl, omega arith)
+  meets_item (ends_block items) is r xs bs vs = (refl, omega arith)
+  meets_item (leaves items) is r xs bs vs = meets_end items is r xs bs vs
   meets_item (fills words line v offset) is r xs bs vs = meets_fill words line v offset is r xs bs vs
+  meets_item (settles line v) is r xs bs vs = meets_settle (home_of (running_of code r) v) line v is r xs bs vs refl
+  meets_item (initial line v t) is r xs bs vs = meets_initial (initial line v t ∷ is) r xs bs vs (home_of (running_of code r) v) v (low_bytes (bytes t) (top xs).bits) line _ refl (λ now. omega arith)
+  meets_item (initial_structure line v) is r xs bs vs = meets_initial (initial_structure line v ∷ is) r xs bs vs (home_of (running_of code r) v) v (top_bytes bs) line _ refl (λ now. omega arith)
+  meets_item (dies line v) is r xs bs vs = meets_death (home_of (running_of code r) v) line v is r xs bs vs refl
+  meets_item (enters_parameters count v) is r xs bs vs = meets_parameters count v is r xs bs vs
+  meets_item (ends_parameters count) is r xs bs vs = (refl, omega arith)
+  meets_item (leaves_parameters count v) is r xs bs vs = meets_last_parameters count v is r xs bs vs
   meets_item (gathers want f count args) is r xs bs vs = meets_arguments want f count args is r xs bs vs
   meets_item (adds_number want f count t args) is r xs bs vs = (refl, omega arith)
   meets_item (resumes want caller saved) is r xs bs vs = (refl, omega arith)
-  meets_item (hands how) is r xs bs vs = let e = return_less code how is r xs bs in (return_at code first how is r xs bs, omega (arith, e))
+  meets_item (goes_out way) is r xs bs vs = meets_out way is r xs bs vs
   meets_item (gets want how) is r xs bs vs =
       meets_given want (given_by how xs bs) (gets want how ∷ is) xs bs is r (values_under how xs) (structures_under how bs) vs refl refl
   meets_item (turns n loop) is r xs bs vs = meets_turn code.assertions n loop is r xs bs vs refl
@@ -360,7 +518,8 @@ module _ (code : Code) (first : Bool) where
   meets_item (repeats n loop) is r xs bs vs = repeating (is_true (top xs).bits) n loop (state (repeats n loop ∷ is) r xs bs vs) is r (rest xs) bs vs refl refl
   meets_item (loops n loop) is r xs bs vs = meets_last loop.last n loop is r xs bs vs refl
   meets_item (selects items) is r xs bs vs = selecting (has_case items (top xs).bits) (has_default items) items (top xs).bits (state (selects items ∷ is) r xs bs vs) is r (rest xs) bs vs refl refl
-  meets_item switches is r xs bs vs = (refl, omega arith)
+  meets_item (switches items) is r xs bs vs = (refl, omega arith)
+  meets_item strays is r xs bs vs = refl
   meets_item (ending line x) is r xs bs vs = refl
   meets_item (ended x) is r xs bs vs = refl
 

@@ -1,15 +1,15 @@
--- What stands behind items that are cut back is where a statement goes on: its exits. Not more work is left there. An activation that is closed can be opened again.
-use Rattle.std.specs.Prelude.{◌≡◌, ◌≤◌, ◌+◌, ◌-◌, ◌==◌, ℕ, zero, suc, Bool, true, false, List, [], ◌∷◌, Option, Some, None, slice_index, slice_get, if◌then◌else◌}
-use Rattle.std.proofs.Common.{refl, arith, ap, sym, true≢false, ◌∙◌}
+-- Where a way out of statements leads is where a statement goes on: its exits. Less work is left there. An activation that is closed can be opened again.
+use Rattle.std.specs.Prelude.{◌≡◌, ◌≤◌, ◌+◌, ◌*◌, ◌-◌, ◌==◌, ℕ, zero, suc, Bool, true, false, List, [], ◌∷◌, ◌++◌, length, Option, Some, None, slice_index, slice_get, if◌then◌else◌}
+use Rattle.std.proofs.Common.{refl, arith, ap, sym, true≢false, length-append, ◌∙◌}
 use Rattle.words.specs.declared.check.Class.TheVariants.{Recursion}
 use Rattle.core_tree.specs.Trees.{Items, done, declares, initializes, initializes_structure, does, label, case_at, default_at}
 use Rattle.c_values.specs.Variables.{Variables}
 use Rattle.c_values.specs.Numbers.{TypedNumber}
 use Rattle.actions.specs.Behaviour.{Behaviour}
-use Rattle.c_meaning.specs.Meaning.{Running, Given, Exits, Code, passed, enters, total, opened, activation, exec_items, at_label, at_case, at_default}
-use Rattle.c_tasks.specs.Items.{Active, closed, running_of, calls_of, Handed, given_by, values_under, structures_under, Item, goes_on, loops, switches, resumes, from, exits_of, behaves}
+use Rattle.c_meaning.specs.Meaning.{Running, Given, Exits, Code, passed, body_of, enters, total, opened, activation, exec_items, at_label, at_case, at_default}
+use Rattle.c_tasks.specs.Items.{Active, closed, running_of, calls_of, Handed, by_break, by_continue, by_jump, by_return, given_by, values_under, structures_under, blocks_on, Item, goes_on, ends_block, ends_parameters, loops, switches, resumes, State, state, from, exits_of, behaves}
 use Rattle.c_interp.specs.Work.{items_work, call_work_of, total_work, weight}
-use Rattle.c_tasks.specs.Steps.{after_break, after_continue, behind_label, jumped, after_jump, behind_case, behind_default, returned}
+use Rattle.c_tasks.specs.Steps.{behind_label, jumped, out_of, behind_case, behind_default}
 
 -- ---- activations
 
@@ -29,10 +29,10 @@ total_opened (n ∷ left) (suc f) h = let e = total_opened left f h in omega (ar
 module _ (code : Code) where
   more_fuel : (b : Bool) (k : ℕ) (left : List ℕ) (caller f line : ℕ) (blocks : List (List ℕ)) (follows : Given → Behaviour) → (slice_index left f == 0) ≡ b →
       (b ≡ false → activation code k (opened left f) ≡ activation code (total left) (opened left f)) →
-      (if b then passed code.assertions Recursion line caller else enters code f (slice_get code.functions f) (activation code k (opened left f) f) blocks follows)
-      ≡ (if b then passed code.assertions Recursion line caller else enters code f (slice_get code.functions f) (activation code (total left) (opened left f) f) blocks follows)
+      (if b then passed code.assertions Recursion line caller else enters code caller line f (body_of (slice_get code.functions f)) (activation code k (opened left f) f) blocks follows)
+      ≡ (if b then passed code.assertions Recursion line caller else enters code caller line f (body_of (slice_get code.functions f)) (activation code (total left) (opened left f) f) blocks follows)
   more_fuel true k left caller f line blocks follows h e = refl
-  more_fuel false k left caller f line blocks follows h e = λ i. enters code f (slice_get code.functions f) (e refl i f) blocks follows
+  more_fuel false k left caller f line blocks follows h e = λ i. enters code caller line f (body_of (slice_get code.functions f)) (e refl i f) blocks follows
 
   pub fuel_enough : (fuel : ℕ) (left : List ℕ) → suc (total left) ≤ fuel → activation code fuel left ≡ activation code (suc (total left)) left
   fuel_enough zero left le = absurd (omega (arith, le))
@@ -45,31 +45,39 @@ module _ (code : Code) where
 
 module _ (code : Code) (first : Bool) where
   pub break_at : (is : List Item) (r : Active) (xs : List TypedNumber) (bs : List (List ℕ)) (vs : Variables) →
-      (let out = exits_of code first is r xs bs in out.breaks vs) ≡ from code first (after_break is) r xs bs vs
+      (let out = exits_of code first is r xs bs in out.breaks vs) ≡ behaves code first (out_of by_break is r xs bs vs)
   break_at [] r xs bs vs = refl
+  break_at (ends_block items ∷ is) r xs bs vs = refl
+  break_at (ends_parameters count ∷ is) r xs bs vs = refl
   break_at (loops n loop ∷ is) r xs bs vs = refl
-  break_at (switches ∷ is) r xs bs vs = refl
+  break_at (switches items ∷ is) r xs bs vs = refl
   break_at (resumes want caller saved ∷ is) r xs bs vs = refl
   break_at (_ ∷ is) r xs bs vs = break_at is r xs bs vs
 
   pub continue_at : (is : List Item) (r : Active) (xs : List TypedNumber) (bs : List (List ℕ)) (vs : Variables) →
-      (let out = exits_of code first is r xs bs in out.continues vs) ≡ from code first (after_continue is) r xs bs vs
+      (let out = exits_of code first is r xs bs in out.continues vs) ≡ behaves code first (out_of by_continue is r xs bs vs)
   continue_at [] r xs bs vs = refl
+  continue_at (ends_block items ∷ is) r xs bs vs = refl
+  continue_at (ends_parameters count ∷ is) r xs bs vs = refl
   continue_at (loops n loop ∷ is) r xs bs vs = refl
+  continue_at (switches items ∷ is) r xs bs vs = refl
   continue_at (resumes want caller saved ∷ is) r xs bs vs = refl
   continue_at (_ ∷ is) r xs bs vs = continue_at is r xs bs vs
 
   module _ (n : ℕ) (is : List Item) (r : Active) (xs : List TypedNumber) (bs : List (List ℕ)) (vs : Variables)
-      (further : (let out = exits_of code first is r xs bs in out.labels n vs) ≡ from code first (after_jump n is) r xs bs vs) where
+      (further : (let out = exits_of code first is r xs bs in out.labels n vs) ≡ behaves code first (out_of (by_jump n) is r xs bs vs)) where
+    abbrev behind_it : Option Items → State
+    behind_it o = jumped o (out_of (by_jump n) is r xs bs vs) (λ more. state (goes_on more ∷ is) r xs bs vs)
+
     abbrev LabelAt : Items → Type 0
     LabelAt items =
         at_label (running_of code r) (calls_of code r) items n (exits_of code first is r xs bs) vs (from code first is r xs bs)
-        ≡ from code first (jumped (behind_label n items) is (after_jump n is)) r xs bs vs
+        ≡ behaves code first (behind_it (behind_label n items))
 
     label_here : (b : Bool) (items : Items) → LabelAt items →
         (if b then exec_items (running_of code r) (calls_of code r) items (exits_of code first is r xs bs) vs (from code first is r xs bs)
         else at_label (running_of code r) (calls_of code r) items n (exits_of code first is r xs bs) vs (from code first is r xs bs))
-        ≡ from code first (jumped (if b then Some items else behind_label n items) is (after_jump n is)) r xs bs vs
+        ≡ behaves code first (behind_it (if b then Some items else behind_label n items))
     label_here true items e = refl
     label_here false items e = e
 
@@ -84,17 +92,23 @@ module _ (code : Code) (first : Bool) where
     label_at (default_at line more) = label_at more
 
   pub jump_at : (n : ℕ) (is : List Item) (r : Active) (xs : List TypedNumber) (bs : List (List ℕ)) (vs : Variables) →
-      (let out = exits_of code first is r xs bs in out.labels n vs) ≡ from code first (after_jump n is) r xs bs vs
+      (let out = exits_of code first is r xs bs in out.labels n vs) ≡ behaves code first (out_of (by_jump n) is r xs bs vs)
   jump_at n [] r xs bs vs = refl
+  jump_at n (ends_block items ∷ is) r xs bs vs = refl
+  jump_at n (ends_parameters count ∷ is) r xs bs vs = refl
   jump_at n (goes_on items ∷ is) r xs bs vs = label_at n is r xs bs vs (jump_at n is r xs bs vs) items
+  jump_at n (switches items ∷ is) r xs bs vs = refl
   jump_at n (resumes want caller saved ∷ is) r xs bs vs = refl
   jump_at n (_ ∷ is) r xs bs vs = jump_at n is r xs bs vs
 
-  pub return_at : (how : Handed) (is : List Item) (r : Active) (xs : List TypedNumber) (bs : List (List ℕ)) →
-      (let out = exits_of code first is r (values_under how xs) (structures_under how bs) in out.returns (given_by how xs bs)) ≡ behaves code first (returned how is r xs bs)
-  return_at how [] r xs bs = refl
-  return_at how (resumes want caller saved ∷ is) r xs bs = refl
-  return_at how (_ ∷ is) r xs bs = return_at how is r xs bs
+  pub return_at : (how : Handed) (is : List Item) (r : Active) (xs : List TypedNumber) (bs : List (List ℕ)) (vs : Variables) →
+      (let out = exits_of code first is r (values_under how xs) (structures_under how bs) in out.returns (given_by how xs bs) vs) ≡ behaves code first (out_of (by_return how) is r xs bs vs)
+  return_at how [] r xs bs vs = refl
+  return_at how (ends_block items ∷ is) r xs bs vs = refl
+  return_at how (ends_parameters count ∷ is) r xs bs vs = refl
+  return_at how (switches items ∷ is) r xs bs vs = refl
+  return_at how (resumes want caller saved ∷ is) r xs bs vs = refl
+  return_at how (_ ∷ is) r xs bs vs = return_at how is r xs bs vs
 
 -- ---- cases
 
@@ -153,43 +167,63 @@ module _ (tests call_work : ℕ → ℕ) where
   default_less (default_at line more) = omega arith
 
 module _ (code : Code) where
-  pub break_less : (is : List Item) (r : Active) → total_work code (after_break is) r ≤ total_work code is r
-  break_less [] r = omega arith
-  break_less (loops n loop ∷ is) r = omega arith
-  break_less (switches ∷ is) r = omega arith
-  break_less (resumes want caller saved ∷ is) r = omega arith
-  break_less (_ ∷ is) r = omega (arith, break_less is r)
+  pub break_less : (is : List Item) (r : Active) (xs : List TypedNumber) (bs : List (List ℕ)) (vs : Variables) → weight code (out_of by_break is r xs bs vs) ≤ total_work code is r
+  break_less [] r xs bs vs = omega arith
+  break_less (ends_block items ∷ is) r xs bs vs = omega arith
+  break_less (ends_parameters count ∷ is) r xs bs vs = omega arith
+  break_less (loops n loop ∷ is) r xs bs vs = omega arith
+  break_less (switches items ∷ is) r xs bs vs = omega arith
+  break_less (resumes want caller saved ∷ is) r xs bs vs = omega arith
+  break_less (_ ∷ is) r xs bs vs = let h = break_less is r xs bs vs in omega (arith, h)
 
-  pub continue_less : (is : List Item) (r : Active) → total_work code (after_continue is) r ≤ total_work code is r
-  continue_less [] r = omega arith
-  continue_less (loops n loop ∷ is) r = omega arith
-  continue_less (resumes want caller saved ∷ is) r = omega arith
-  continue_less (_ ∷ is) r = omega (arith, continue_less is r)
+  pub continue_less : (is : List Item) (r : Active) (xs : List TypedNumber) (bs : List (List ℕ)) (vs : Variables) → weight code (out_of by_continue is r xs bs vs) ≤ total_work code is r
+  continue_less [] r xs bs vs = omega arith
+  continue_less (ends_block items ∷ is) r xs bs vs = omega arith
+  continue_less (ends_parameters count ∷ is) r xs bs vs = omega arith
+  continue_less (loops n loop ∷ is) r xs bs vs = omega arith
+  continue_less (switches items ∷ is) r xs bs vs = omega arith
+  continue_less (resumes want caller saved ∷ is) r xs bs vs = omega arith
+  continue_less (_ ∷ is) r xs bs vs = let h = continue_less is r xs bs vs in omega (arith, h)
 
-  module _ (n : ℕ) (is further : List Item) (r : Active) (le : total_work code further r ≤ total_work code is r) where
+  module _ (n : ℕ) (is : List Item) (further : State) (r : Active) (xs : List TypedNumber) (bs : List (List ℕ)) (vs : Variables) (le : weight code further ≤ total_work code is r) where
+    abbrev reached : Option Items → State
+    reached o = jumped o further (λ more. state (goes_on more ∷ is) r xs bs vs)
+
     label_fewer : (b : Bool) (items : Items) →
-        total_work code (jumped (behind_label n items) is further) r ≤ items_work (code.tests r.function) (call_work_of code r) items + total_work code is r →
-        total_work code (jumped (if b then Some items else behind_label n items) is further) r ≤ items_work (code.tests r.function) (call_work_of code r) items + 1 + total_work code is r
+        weight code (reached (behind_label n items)) ≤ items_work (code.tests r.function) (call_work_of code r) items + total_work code is r →
+        weight code (reached (if b then Some items else behind_label n items)) ≤ items_work (code.tests r.function) (call_work_of code r) items + 1 + total_work code is r
     label_fewer true items h = omega arith
     label_fewer false items h = omega (arith, h)
 
-    label_less : (items : Items) → total_work code (jumped (behind_label n items) is further) r ≤ items_work (code.tests r.function) (call_work_of code r) items + total_work code is r
+    label_less : (items : Items) → weight code (reached (behind_label n items)) ≤ items_work (code.tests r.function) (call_work_of code r) items + total_work code is r
     label_less done = omega (arith, le)
-    label_less (declares line v more) = omega (arith, label_less more)
-    label_less (initializes line v is_drawn e more) = omega (arith, label_less more)
-    label_less (initializes_structure line v is_drawn a more) = omega (arith, label_less more)
-    label_less (does s more) = omega (arith, label_less more)
+    label_less (declares line v more) = let h = label_less more in omega (arith, h)
+    label_less (initializes line v is_drawn e more) = let h = label_less more in omega (arith, h)
+    label_less (initializes_structure line v is_drawn a more) = let h = label_less more in omega (arith, h)
+    label_less (does s more) = let h = label_less more in omega (arith, h)
     label_less (label m more) = label_fewer (m == n) more (label_less more)
-    label_less (case_at line t bits more) = omega (arith, label_less more)
-    label_less (default_at line more) = omega (arith, label_less more)
+    label_less (case_at line t bits more) = let h = label_less more in omega (arith, h)
+    label_less (default_at line more) = let h = label_less more in omega (arith, h)
 
-  pub jump_less : (n : ℕ) (is : List Item) (r : Active) → total_work code (after_jump n is) r ≤ total_work code is r
-  jump_less n [] r = omega arith
-  jump_less n (goes_on items ∷ is) r = label_less n is (after_jump n is) r (jump_less n is r) items
-  jump_less n (resumes want caller saved ∷ is) r = omega arith
-  jump_less n (_ ∷ is) r = omega (arith, jump_less n is r)
+  pub jump_less : (n : ℕ) (is : List Item) (r : Active) (xs : List TypedNumber) (bs : List (List ℕ)) (vs : Variables) → weight code (out_of (by_jump n) is r xs bs vs) ≤ total_work code is r
+  jump_less n [] r xs bs vs = omega arith
+  jump_less n (ends_block items ∷ is) r xs bs vs = omega arith
+  jump_less n (ends_parameters count ∷ is) r xs bs vs = omega arith
+  jump_less n (goes_on items ∷ is) r xs bs vs = label_less n is (out_of (by_jump n) is r xs bs vs) r xs bs vs (jump_less n is r xs bs vs) items
+  jump_less n (switches items ∷ is) r xs bs vs = omega arith
+  jump_less n (resumes want caller saved ∷ is) r xs bs vs = omega arith
+  jump_less n (_ ∷ is) r xs bs vs = let h = jump_less n is r xs bs vs in omega (arith, h)
 
-  pub return_less : (how : Handed) (is : List Item) (r : Active) (xs : List TypedNumber) (bs : List (List ℕ)) → weight code (returned how is r xs bs) ≤ total_work code is r
-  return_less how [] r xs bs = omega arith
-  return_less how (resumes want caller saved ∷ is) r xs bs = omega arith
-  return_less how (_ ∷ is) r xs bs = omega (arith, return_less how is r xs bs)
+  pub return_less : (how : Handed) (is : List Item) (r : Active) (xs : List TypedNumber) (bs : List (List ℕ)) (vs : Variables) → weight code (out_of (by_return how) is r xs bs vs) ≤ total_work code is r
+  return_less how [] r xs bs vs = omega arith
+  return_less how (ends_block items ∷ is) r xs bs vs = omega arith
+  return_less how (ends_parameters count ∷ is) r xs bs vs = omega arith
+  return_less how (switches items ∷ is) r xs bs vs = omega arith
+  return_less how (resumes want caller saved ∷ is) r xs bs vs = omega arith
+  return_less how (_ ∷ is) r xs bs vs = let h = return_less how is r xs bs vs in omega (arith, h)
+
+-- not more structure values are taken than there are
+pub blocks_fewer : (count : ℕ) (bs : List (List ℕ)) → length (blocks_on count bs) ≤ count
+blocks_fewer zero bs = omega arith
+blocks_fewer (suc n) [] = omega arith
+blocks_fewer (suc n) (b ∷ bs) = let h = blocks_fewer n bs in let e = length-append (blocks_on n bs) (b ∷ []) in omega (arith, h, e)

@@ -211,6 +211,6 @@ returns-clause-step c = λ rest.
     let made : CodeDefinition = record { number = c.in_ok-number.number; variables = c.take_variables.result; labels = c.len.result; body = c.in_ok-body.body } in
     definition_typed s last parts d body rest before c.push.new.self.items made
     (defined_so s parts d body outer base ds q f e1 e2 e3 c.begin.new.scope c.typed_body.new.scope c.len-outer.result (view_statement c.in_ok-body.body.value) is c.len-outer.ensures (sym (ap (λ (b : Stmt). typed_body_of (c.len-outer.result + 1) c.begin.new.scope (tree b)) c.deref-block.ensures) ∙ c.in_ok-body.ensures.gives)
-    c.leave.new.self c.end.new.scope last c.in_ok-number.number c.take_variables.result.items c.len.result c.in_ok-number.ensures.number c.leave.ensures c.end.ensures c.take_variables.ensures.ended c.take_variables.ensures.sizes
+    c.leave.new.self c.end.new.scope last c.in_ok-number.number c.take_variables.result.items c.len.result c.in_ok-number.ensures.number c.leave.ensures c.end.ensures c.take_variables.ensures.ended c.take_variables.ensures.variables
     (c.len.ensures ∙ ap (λ (ls : List (List ℕ)). length ls) c.in_ok-labels.ensures ∙ ap (λ (b : Stmt). length (labels_in (tree b))) c.deref-block.ensures))
     c.in_ok-push.ensures.items

@@ -1,8 +1,10 @@
-use Rattle.std.proofs.Common.{◌≡◌, List, map, sym, ap, ap₂, ◌∙◌}
+use Rattle.std.proofs.Common.{◌≡◌, ◌<◌, ◌^◌, ℕ, false, List, length, subst, arith, map, sym, ap, ap₂, ◌∙◌}
 use Rattle.std.proofs.lemmas.Result.{err_from_is_err_and}
 use Rattle.c_tree.specs.declared.statement.External.{External}
 use Rattle.c_tree.specs.Statements.{externals_of}
-use Rattle.core_tree.specs.Trees.{Procedure, view_functions, view_statics}
+use Rattle.core_tree.specs.Trees.{Procedure, view_functions, view_statics, view_literals}
+use Rattle.core_tree.specs.declared.functions.Literal.{Literal}
+use Rattle.core_tree.specs.Typed.{are_typed}
 use Rattle.c_scope.specs.declared.fault.TypingError.TheVariants as errors
 use Rattle.c_scope.specs.Scopes.{Scoped, first_scope}
 use Rattle.c_elab_flow.specs.Files.{static_of, with_bodies}
@@ -27,10 +29,14 @@ new-requires-clause-typed c =
     let noted : c.note_definitions.new.scope ≡ with_definitions first_scope ds =
     c.in_ok-note_definitions.ensures ∙ ap₂ (λ (t : Scoped) (ys : List External). with_definitions t (externals_of ys)) c.requires c.deref.ensures.value in
     let start = ap₂ (λ (t : Scoped) (ys : List External). typed_externals t (externals_of ys)) noted c.deref-2.ensures.value in
-    file_typed ds xs c.typed_externals.new.scope (view_functions c.give_bodies.new.functions.items) (view_statics c.in_ok-objects.objects.items)
+    ap (λ (ls : List Literal). are_typed (record { functions = view_functions c.give_bodies.new.functions.items; objects = view_statics c.in_ok-objects.objects.items; literals = view_literals ls; pointers = false })) c.no_literals.ensures
+    ∙ file_typed ds xs c.typed_externals.new.scope (view_functions c.give_bodies.new.functions.items) (view_statics c.in_ok-objects.objects.items)
     (sym start ∙ c.in_ok-definitions.ensures)
     (c.give_bodies.ensures ∙ ap (λ (fs : List Procedure). with_bodies fs xs) c.in_ok-functions.ensures)
     (c.in_ok-objects.ensures.are ∙ ap (λ (t : Scoped). map (static_of t.records.done) t.objects) c.leave.ensures) c.in_ok-objects.ensures.fit
+
+pub new-requires-clause-few_literals : goal.new-requires-clause-few_literals
+new-requires-clause-few_literals c = omega (arith, ap (λ (ls : List Literal). length ls) c.no_literals.ensures)
 
 pub new-requires-clause-standing : goal.new-requires-clause-standing
 new-requires-clause-standing c =

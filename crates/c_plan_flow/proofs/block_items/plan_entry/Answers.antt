@@ -20,8 +20,8 @@ returns-in-Initialize c =
     let n = c.in-Initialize in
     let more = items_of (drop (c.args.from + 1) is) in
     let split : items_of (drop c.args.from is) ≡ initializes n.line n.variable n.drawn (view n.value.value) more = search (rules, drop_more) in
-    let P : Items → Type 0 = λ js. PlansItem c.args.look.now (enters js) c.plan_initialized.result in
-    subst P (sym split) (c.plan_initialized.ensures (enters (initializes n.line n.variable n.drawn (view n.value.value) more)))
+    let P : Items → Type 0 = λ js. PlansItem c.args.look.now (enters js) c.plan_made.result in
+    subst P (sym split) (c.plan_made.ensures (enters (initializes n.line n.variable n.drawn (view n.value.value) more)))
 
 pub returns-in-InitializeStructure : goal.returns-in-InitializeStructure
 returns-in-InitializeStructure c =
@@ -29,5 +29,5 @@ returns-in-InitializeStructure c =
     let n = c.in-InitializeStructure in
     let more = items_of (drop (c.args.from + 1) is) in
     let split : items_of (drop c.args.from is) ≡ initializes_structure n.line n.variable n.drawn (view_structure n.value.value) more = search (rules, drop_more) in
-    let P : Items → Type 0 = λ js. PlansItem c.args.look.now (enters js) c.plan_initialized-in-InitializeStructure.result in
-    subst P (sym split) (c.plan_initialized-in-InitializeStructure.ensures (enters (initializes_structure n.line n.variable n.drawn (view_structure n.value.value) more)))
+    let P : Items → Type 0 = λ js. PlansItem c.args.look.now (enters js) c.plan_made-in-InitializeStructure.result in
+    subst P (sym split) (c.plan_made-in-InitializeStructure.ensures (enters (initializes_structure n.line n.variable n.drawn (view_structure n.value.value) more)))

@@ -10,7 +10,7 @@ pub name_of-requires : goal.name_of-requires
 name_of-requires c =
     let number = c.args.trace.check.function in
     subst (λ (core : CoreFile). (x : List ℕ) × (name_in (view_core core) number ≡ Some x) × (is_identifier x ≡ true)) (sym c.core.ensures.is)
-    (named c.requires.typed.0 (view_core c.args.file.now) c.args.bounds.now c.args.trace c.requires.typed.1 c.requires.broken)
+    (named c.requires.typed.0 (view_core c.args.file.now) c.args.bounds.now c.args.trace c.requires.typed.1 c.requires.program.1.in_profile c.requires.broken)
 
 pub returns-clause-failure : goal.returns-clause-failure
 returns-clause-failure c =
@@ -19,7 +19,7 @@ returns-clause-failure c =
     let limits = c.args.bounds.now in
     let name = c.in_ok-function.function.bytes.items in
     let found : name_in core t.check.function ≡ Some name = subst (λ (core : CoreFile). name_in (view_core core) t.check.function ≡ Some name) c.core.ensures.is c.in_ok-function.ensures in
-    let word = same_identifier core t.check.function name (named c.requires.typed.0 core limits t c.requires.typed.1 c.requires.broken) found in
+    let word = same_identifier core t.check.function name (named c.requires.typed.0 core limits t c.requires.typed.1 c.requires.program.1.in_profile c.requires.broken) found in
     let bytes = c.requires.program.0 in
     let program = c.requires.program.1 in
     let tree = program.is_tree in

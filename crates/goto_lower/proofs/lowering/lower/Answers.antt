@@ -2,7 +2,7 @@ use Rattle.std.proofs.Common.{◌≡◌, ◌<◌, ◌^◌, true, List, length, r
 use Rattle.std.proofs.lemmas.List.{length-map}
 use Rattle.core_tree.specs.declared.functions.Function.{Function}
 use Rattle.core_tree.specs.Trees.{CoreFile, view_function, view_functions, view_core}
-use Rattle.core_tree.specs.Typed.{are_typed}
+use Rattle.core_tree.specs.Typed.{are_typed, have_small}
 use Rattle.actions.specs.Behaviour.{Thread}
 use Rattle.c_meaning.specs.Source.{main_number, source_thread}
 use Rattle.goto_prog.specs.Nodes.{Routine, view_procedure, view_procedures, routines_fit}
@@ -36,7 +36,7 @@ new-requires c =
     let typed : are_typed (view_core file) ≡ true = subst (λ (f : CoreFile). are_typed (view_core f) ≡ true) c.core-core.ensures.is c.functions-functions.ensures.typed in
     record {
       within = omega (arith, main, below, made, ap length codes, codes_length 0 (view_functions file.functions));
-      fits = subst (λ (rs : List Routine). routines_fit rs ≡ true) (sym codes) (codes_fit (view_core file) typed);
+      fits = subst (λ (rs : List Routine). routines_fit rs ≡ true) (sym codes) (codes_fit (view_core file) c.requires.plain typed);
     }
 
 pub returns-clause-same : goal.returns-clause-same
@@ -46,7 +46,8 @@ returns-clause-same c =
     let main = c.number_of_main-main.ensures ∙ ap (λ (fs : List Function). main_number (view_functions fs)) same in
     let codes = c.in_ok-procedures.ensures ∙ ap (λ (fs : List Function). function_codes 0 (view_functions fs)) same in
     let typed : are_typed (view_core file) ≡ true = subst (λ (f : CoreFile). are_typed (view_core f) ≡ true) c.core-core.ensures.is c.functions-functions.ensures.typed in
+    let small : have_small (view_core file).functions ≡ true = subst (λ (f : CoreFile). have_small (view_core f).functions ≡ true) c.core-core.ensures.is c.functions-functions.ensures.small in
     λ bounds.
     (let thread : strict_thread c.new.result bounds ≡ function_thread (record { strict = true; functions = function_codes 0 (view_functions file.functions); limits = bounds }) true (main_number (view_functions file.functions)) =
     (λ i. strict_thread (c.new.ensures i) bounds) ∙ (λ i. function_thread (record { strict = true; functions = codes i; limits = bounds }) true (main i)) in
-    subst (λ (t : Thread). DoSame t (source_thread (view_core file) bounds)) (sym thread) (same_thread (view_core file) c.core-core.ensures.admitted typed bounds))
+    subst (λ (t : Thread). DoSame t (source_thread (view_core file) bounds)) (sym thread) (same_thread (view_core file) c.requires.plain c.core-core.ensures.admitted typed small bounds))

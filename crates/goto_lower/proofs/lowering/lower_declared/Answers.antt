@@ -7,6 +7,6 @@ returns c = λ i. record {
   line = c.args.function.now.line;
   registers = c.in_ok-one_register.ensures i;
   blocks = c.new.ensures.items i;
-  nodes = c.in_ok-blocking.ensures.forwards i;
+  nodes = c.in_ok-breaking.ensures.forwards i;
   startable = false;
 }

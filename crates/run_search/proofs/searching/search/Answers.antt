@@ -13,10 +13,10 @@ use Rattle.run_search.proofs.Formulas.{safe_without}
 use Rattle.run_search.proofs.searching.search.Goals as goal
 
 -- the runs of the file begin with the store of its code
-from_store : (core : TypedFile) (limits : Limits) (d : List Node) (f : Formula) (store : Objects) → store ≡ first_objects core.objects → IsFormula (first_world (source_thread core limits) store) d f → IsFormula (source_world core limits) d f
+from_store : (core : TypedFile) (limits : Limits) (d : List Node) (f : Formula) (store : Objects) → store ≡ first_objects core → IsFormula (first_world (source_thread core limits) store) d f → IsFormula (source_world core limits) d f
 from_store core limits d f store e is = subst (λ (objects : Objects). IsFormula (first_world (source_thread core limits) objects) d f) e is
 
-goal_from : (core : TypedFile) (limits : Limits) (d : List Node) (f : Formula) (store : Objects) → store ≡ first_objects core.objects → IsGoal (first_world (source_thread core limits) store) d f.goal (told_by d f.form)
+goal_from : (core : TypedFile) (limits : Limits) (d : List Node) (f : Formula) (store : Objects) → store ≡ first_objects core → IsGoal (first_world (source_thread core limits) store) d f.goal (told_by d f.form)
     → IsGoal (source_world core limits) d f.goal (told_by d f.form)
 goal_from core limits d f store e is = subst (λ (objects : Objects). IsGoal (first_world (source_thread core limits) objects) d f.goal (told_by d f.form)) e is
 

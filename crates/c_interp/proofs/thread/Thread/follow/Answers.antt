@@ -2,7 +2,7 @@ use Rattle.std.proofs.Common.{◌≡◌, refl, rules}
 use Rattle.c_tasks.specs.Steps.{silent}
 use Rattle.c_interp.specs.View.{state_of, next_move, after_change, after_cut}
 use Rattle.c_interp.proofs.Sound.{sound_kept}
-use Rattle.c_interp.proofs.Threads.{stepped_same, stepped_falls}
+use Rattle.c_interp.proofs.Threads.{stepped_same, stepped_falls, state_same}
 use Rattle.c_interp.proofs.thread.Thread.follow.Goals as goal
 
 pub apply-requires-clause-step : goal.apply-requires-clause-step
@@ -33,8 +33,8 @@ returns-in-Goes-clause-step c =
     let e : next_move o ≡ silent t = search rules in
     stepped_falls o c.apply.new.self t c.apply.ensures.program c.apply.ensures.state e
 
-pub cut-requires : goal.cut-requires
-cut-requires c =
+pub cut-requires-clause-sound : goal.cut-requires-clause-sound
+cut-requires-clause-sound c =
     let o = c.args.self.now in
     let t = after_cut o c.in-Cuts.cut in
     let e : next_move o ≡ silent t = search rules in
@@ -67,3 +67,6 @@ returns-in_ok-call-in-Calls-clause-step c =
     let t = state_of c.call.new.self in
     let e : next_move o ≡ silent t = search rules in
     stepped_falls o c.call.new.self t c.call.ensures.program refl e
+
+pub returns-in_err-call-in-Calls-clause-same : goal.returns-in_err-call-in-Calls-clause-same
+returns-in_err-call-in-Calls-clause-same c = state_same c.args.self.now c.call.new.self c.call.ensures.program c.in_err-call-in-Calls.ensures.err

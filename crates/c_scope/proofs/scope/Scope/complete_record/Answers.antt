@@ -7,7 +7,7 @@ use Rattle.c_types.specs.declared.types.RecordKind.{RecordKind}
 use Rattle.c_types.specs.Layouts.{is_completed, with_completed, kind_at}
 use Rattle.c_scope.specs.declared.members.MemberTable.{MemberTable}
 use Rattle.c_scope.specs.Members.{Members, view_fields, field_types, view_members, view_tables, members_by}
-use Rattle.c_scope.specs.Scopes.{Scoped, view_named, view_object_entry, view_linked, view_flow, are_there, are_complete, sizes_of}
+use Rattle.c_scope.specs.Scopes.{Scoped, view_named, view_object_entry, view_linked, view_flow, are_there, are_complete, variables_of}
 use Rattle.c_scope.specs.Places.{environment}
 use Rattle.c_scope.proofs.Variables.{variables_later}
 use Rattle.c_scope.proofs.scope.Scope.complete_record.Goals as goal
@@ -28,7 +28,7 @@ invariant_of-self-2 c =
       ap (λ (ks : List RecordKind). are_there (length variables) (length (map view_object_entry c.self.inside.objects.items)) (length (map view_named c.self.inside.types.items)) (length ks) (environment c.self.inside.bounds.items)) declared ∙ c.self.invariant.0,
       c.self.invariant.1,
       c.self.invariant.2,
-      c.self.invariant.3 ∙ sym later.1 ∙ ap (λ (ds : List Completed). sizes_of ds variables) (sym done),
+      c.self.invariant.3 ∙ sym later.1 ∙ ap (λ (ds : List Completed). variables_of ds variables) (sym done),
       c.self.invariant.4,
       ap (λ (ds : List Completed). are_complete ds variables) done ∙ later.0,
       omega (arith, long, records, same),

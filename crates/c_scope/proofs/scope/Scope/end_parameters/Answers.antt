@@ -1,10 +1,11 @@
 use Rattle.std.proofs.Common.{◌≡◌, ◌-◌, ℕ, length, List, map, take, drop, sym, ap, ap₂, ◌∙◌, arith}
 use Rattle.std.proofs.lemmas.List.{take-map, length-map, length-take-le}
+use Rattle.core_tree.specs.declared.functions.Variable.{Variable as CoreVariable}
 use Rattle.c_scope.specs.declared.scope.QualifiedType.{QualifiedType}
 use Rattle.c_scope.specs.Members.{view_tables}
-use Rattle.c_scope.specs.Scopes.{Named, Scoped, view_named, view_object_entry, view_linked, view_flow, are_there, are_complete, sizes_of}
+use Rattle.c_scope.specs.Scopes.{Named, Scoped, view_named, view_object_entry, view_linked, view_flow, are_there, are_complete, variables_of}
 use Rattle.c_scope.specs.Places.{environment}
-use Rattle.c_scope.proofs.Variables.{take_complete, take_sizes}
+use Rattle.c_scope.proofs.Variables.{take_complete, take_variables}
 use Rattle.c_scope.proofs.scope.Scope.end_parameters.Goals as goal
 
 pub invariant_of-self : goal.invariant_of-self
@@ -23,7 +24,7 @@ invariant_of-self c =
       ap (λ (k : ℕ). are_there k (length (map view_object_entry inside.objects.items)) (length (map view_named inside.types.items)) (length inside.layouts.declared) (environment inside.bounds.items)) long ∙ there,
       c.self.invariant.1,
       c.self.invariant.2,
-      c.truncate.ensures.items ∙ ap (λ (xs : List ℕ). take n xs) c.self.invariant.3 ∙ sym (take_sizes done (map view_named old) n) ∙ ap (sizes_of done) (sym few),
+      c.truncate.ensures.items ∙ ap (λ (xs : List CoreVariable). take n xs) c.self.invariant.3 ∙ sym (take_variables done (map view_named old) n) ∙ ap (variables_of done) (sym few),
       c.self.invariant.4,
       ap (are_complete done) few ∙ take_complete done (map view_named old) n c.self.invariant.5,
       c.self.invariant.6,

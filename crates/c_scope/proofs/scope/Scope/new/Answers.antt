@@ -4,7 +4,7 @@ use Rattle.c_types.specs.Types.{Records}
 use Rattle.c_scope.specs.declared.scope.Bound.{Bound}
 use Rattle.c_scope.specs.declared.scope.QualifiedType.{QualifiedType}
 use Rattle.c_scope.specs.Members.{Members, view_members}
-use Rattle.c_scope.specs.Scopes.{Named, view_named, view_object_entry, are_there, are_complete, sizes_of}
+use Rattle.c_scope.specs.Scopes.{Named, view_named, view_object_entry, are_there, are_complete, variables_of}
 use Rattle.c_scope.specs.Places.{environment, place_in, hidden_in, hidden_of}
 use Rattle.c_scope.proofs.scope.Scope.new.Goals as goal
 
@@ -21,7 +21,7 @@ invariant_of-result c =
           (length c.in_ok-built_in_layouts.field-0.declared) (environment bs)) bounds,
       (λ tags name. c.new-2.ensures tags name ∙ sym (ap (λ (bs : List Bound). place_in tags (environment bs) name) bounds)),
       ap hidden_of bounds ∙ sym (ap (λ (bs : List Bound). hidden_in (environment bs)) bounds),
-      c.new-4.ensures.items ∙ sym (ap (λ (vs : List QualifiedType). sizes_of done (map view_named vs)) variables),
+      c.new-4.ensures.items ∙ sym (ap (λ (vs : List QualifiedType). variables_of done (map view_named vs)) variables),
       subst (λ (ts : List Named). 9 ≤ length ts) (sym c.in_ok-built_in_types.ensures) (omega arith),
       ap (λ (vs : List QualifiedType). are_complete done (map view_named vs)) variables,
       omega (arith, long, one, records),

@@ -80,7 +80,7 @@ structure-returns-in_ok-register-in-String t c =
 pub structure-returns-in_ok-structure-in-Choice-2 : goal.structure-returns-in_ok-structure-in-Choice-2
 structure-returns-in_ok-structure-in-Choice-2 t c =
     let h = choose_adds c.args.into c.args.at c.args.self.now c.expression.new.self c.reserve.new.self c.structure.new.self c.reserve-in-Choice.new.self c.land.new.self c.structure-in-Choice.new.self c.land-in-Choice.new.self
-    (view c.deref.result.now) (view_structure c.deref-in-Choice.result.now) (view_structure c.deref-in-Choice-2.result.now) c.in_ok-test-in-Choice.test c.in_ok-skip-in-Choice.skip c.in_ok-over-in-Choice.over c.in-Choice.line _ _
+    (view c.deref-in-Choice.result.now) (view_structure c.deref-in-Choice-2.result.now) (view_structure c.deref-in-Choice-3.result.now) c.in_ok-test-in-Choice.test c.in_ok-skip-in-Choice.skip c.in_ok-over-in-Choice.over c.in-Choice.line _ _
     c.in_ok-test-in-Choice.ensures c.in_ok-skip-in-Choice.ensures.code c.in_ok-skip-in-Choice.ensures.place c.in_ok-structure-in-Choice.ensures c.in_ok-over-in-Choice.ensures.code c.in_ok-over-in-Choice.ensures.place
     c.land.ensures c.in_ok-structure-in-Choice-2.ensures c.land-in-Choice.ensures in
     search (rules, h)

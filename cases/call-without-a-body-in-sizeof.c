@@ -1,0 +1,3 @@
+int f(void);
+int main(void){
+return sizeof(f());}
