@@ -1,5 +1,6 @@
 pub mod Largest
 pub mod TreeSums
+pub mod Parameters
 pub mod CallSums
 pub mod WalkSums
 pub mod Adding

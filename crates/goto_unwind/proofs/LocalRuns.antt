@@ -23,7 +23,7 @@ use Rattle.goto_prog.specs.CodeThread.{Listing, first_memory, starts}
 use Rattle.goto_prog.specs.Flat.{Flat, plain_thread, main_code}
 use Rattle.goto_prog.specs.Fine.{IsEnd}
 use Rattle.core_tree.specs.declared.refusal.Limit.TheVariants as limits
-use Rattle.goto_unwind.specs.Places.{places}
+use Rattle.goto_unwind.specs.Places.{places, objects}
 use Rattle.goto_unwind.specs.Counts.{Quantity, first_passed, passed, object_bytes}
 use Rattle.goto_unwind.specs.LocalRuns.{creates, allocates, count_on, MakesFew}
 
@@ -179,9 +179,12 @@ few_objects file bounds none =
     let q : Quantity = record { limit = limits.Places; most = 2000000; count = places file.functions bounds } in
     let t : Quantity = record { limit = limits.Threads; most = 64; count = 0 } in
     let a : Quantity = record { limit = limits.Actions; most = 4096; count = 0 } in
-    let o : Quantity = record { limit = limits.Objects; most = 8192; count = length file.objects + length file.literals } in
+    let o : Quantity = record { limit = limits.Objects; most = 8192; count = length file.objects + length file.literals + objects file.functions bounds } in
     let b : Quantity = record { limit = limits.ObjectBytes; most = 65536; count = object_bytes file } in
-    most (length file.objects + length file.literals) (fourth_within q t a o b none)
+    less (length file.objects + length file.literals) (objects file.functions bounds) (most (length file.objects + length file.literals + objects file.functions bounds) (fourth_within q t a o b none))
   where
     most : (n : ℕ) → nat_lt 8192 n ≡ false → n ≤ 8192
     most n h = grind (arith, nat_tests)
+
+    less : (n m : ℕ) → n + m ≤ 8192 → n ≤ 8192
+    less n m h = omega (arith, h)

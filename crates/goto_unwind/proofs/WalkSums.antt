@@ -7,7 +7,7 @@ use Rattle.goto_prog.specs.Structured.{opened}
 use Rattle.goto_prog.proofs.WalkerSteps.{set_back, sum_opened}
 use Rattle.goto_unwind.specs.declared.linear_count.Called.{Called}
 use Rattle.goto_unwind.specs.declared.walk.Visit.{Visit}
-use Rattle.goto_unwind.specs.Linear.{cut, Linear, calls_value, value, linear_of, linear_places, added, pending, calls_steps, linear_steps, steps_added, pending_steps, Walking, outcome, steps_left, opens, arrives, starting, walked_by, walked}
+use Rattle.goto_unwind.specs.Linear.{cut, Linear, calls_value, value, linear_of, linear_sum, added, pending, calls_steps, linear_steps, steps_added, pending_steps, Walking, outcome, steps_left, opens, arrives, starting, walked_by, walked}
 use Rattle.goto_unwind.proofs.TreeSums.{cut_times, cut_front, cut_back}
 
 abbrev or_value : {A : Type 0} → A → Option A → A
@@ -48,7 +48,7 @@ module _ (table : List Linear) where
   added_some : (left : List ℕ) (f : ℕ) → (slice_index left f == 0) ≡ false → added table left f ≡ value (added table (opened left f)) (linear_of table f)
   added_some left f more =
       some_test (slice_index left f == 0) 0 _ more
-      ∙ ap (λ k. value (linear_places table k (opened left f)) (linear_of table f)) (sum_opened left f (more_left (slice_index left f) more))
+      ∙ ap (λ k. value (linear_sum table k (opened left f)) (linear_of table f)) (sum_opened left f (more_left (slice_index left f) more))
 
   steps_none : (left : List ℕ) (f : ℕ) → (slice_index left f == 0) ≡ true → steps_added table left f ≡ 0
   steps_none left f none = none_test (slice_index left f == 0) 0 _ none
@@ -84,8 +84,8 @@ module _ (w : Walking) (f n : ℕ) where
 
   opens_outcome : (slice_index w.left f == 0) ≡ false → outcome (opens f n w) ≡ cut (w.counted + (n * A + Q))
   opens_outcome more =
-      ap (λ l. cut (cut (w.counted + cut (n * (linear_of w.table f).places)) + (n * V + pending w.table l w.visits))) set_again
-      ∙ by_parts w.counted n (linear_of w.table f).places V Q
+      ap (λ l. cut (cut (w.counted + cut (n * (linear_of w.table f).own)) + (n * V + pending w.table l w.visits))) set_again
+      ∙ by_parts w.counted n (linear_of w.table f).own V Q
       ∙ ap (λ a. cut (w.counted + (n * a + Q))) (sym (added_some w.table w.left f more))
     where
       by_parts : (c k p v q : ℕ) → cut (cut (c + cut (k * p)) + (k * v + q)) ≡ cut (c + (k * (p + v) + q))

@@ -5,7 +5,7 @@ use Rattle.core_tree.specs.declared.refusal.Limit.TheVariants.{Places, Threads, 
 use Rattle.core_tree.specs.Ranges.{Limits}
 use Rattle.core_tree.specs.Trees.{Procedure, TypedFile}
 use Rattle.core_tree.specs.Typed.{sizes_of_variables, sizes_of_objects}
-use Rattle.goto_unwind.specs.Places.{places}
+use Rattle.goto_unwind.specs.Places.{places, objects}
 use Rattle.goto_unwind.specs.declared.counting.Counts.{Counts}
 use Rattle.goto_unwind.specs.declared.unrolling.UnwindError.{UnwindError}
 use Rattle.goto_unwind.specs.declared.unrolling.UnwindError.TheVariants as errors
@@ -37,13 +37,13 @@ pub record Quantity : Type 0 where
   pub most : ℕ
   pub count : ℕ
 
--- what is counted, in the order in which it is told; there are no threads and actions yet, and no objects but the static ones and the literals
+-- what is counted, in the order in which it is told; there are no threads and actions yet
 abbrev pub quantities : TypedFile → Limits → List Quantity
 quantities file bounds =
     record { limit = Places; most = 2000000; count = places file.functions bounds }
     ∷ record { limit = Threads; most = 64; count = 0 }
     ∷ record { limit = Actions; most = 4096; count = 0 }
-    ∷ record { limit = Objects; most = 8192; count = length file.objects + length file.literals }
+    ∷ record { limit = Objects; most = 8192; count = length file.objects + length file.literals + objects file.functions bounds }
     ∷ []
 
 abbrev pub first_passed : List Quantity → Option Limit

@@ -1,9 +1,12 @@
--- How many places a function has, as a sum that is linear in what a call of each function adds; the numbers are cut behind the limit.
+-- How many places or objects a function has, as a sum that is linear in what a call of each function adds; the numbers are cut behind the limit of places.
 use Rattle.std.specs.Prelude.{ℕ, zero, suc, ◌+◌, ◌*◌, ◌-◌, ◌==◌, min, ◌≡◌, ◌||◌, replicate, length, slice_get, List, [], ◌∷◌, ◌++◌, drop, Option, Some, None, slice_index, slice_set, if◌then◌else◌}
+use Rattle.core_tree.specs.declared.functions.Variable.{Variable}
+use Rattle.core_tree.specs.declared.functions.PassedType.{PassedType}
 use Rattle.core_tree.specs.Ranges.{Limits}
 use Rattle.core_tree.specs.Trees.{call, function_name, give, Arguments, no_argument, number_argument, structure_argument, returns_structure, returns_nothing, for_loop, do_loop, switch, breaks, continues, jumps, stray, label, case_at, default_at, Place, variable_at, object_at, literal_at, pointed, arrow, member, element, subscript, Expression, constant, read, convert, sign, is_zero, arithmetic, compare, logical, choice, assign, update, step, comma, assertion, assumption, draw, part, discard, discard_structure, size_of_value, size_of_structure, address, sum, distance, relation, pointer_update, pointer_step, allocate, allocate_zeroed, release, exit, abort, Structure, copy, choose, put, follow, section, list, string, Parts, no_part, number_part, structure_part, Statement, block, if_then, if_else, evaluate, returns, Items, done, declares, initializes, initializes_structure, does, Procedure}
 use Rattle.goto_prog.specs.Structured.{tests_in, opened}
 use Rattle.goto_prog.specs.Walks.{total}
+use Rattle.goto_unwind.specs.Places.{Weights, place_weights, home_at}
 use Rattle.goto_unwind.specs.declared.linear_count.Called.{Called}
 use Rattle.goto_unwind.specs.declared.walk.Visit.{Visit}
 
@@ -11,21 +14,37 @@ use Rattle.goto_unwind.specs.declared.walk.Visit.{Visit}
 abbrev pub cut : ℕ → ℕ
 cut n = min n 2000001
 
--- so many places, and the calls of functions with how many times each of them counts
+-- what is counted, so much of that, and the calls of functions with how many times each of them counts
 pub record Linear : Type 0 where
-  pub places : ℕ
+  pub weights : Weights
+  pub own : ℕ
   pub calls : List Called
 
-abbrev pub nothing : Linear
-nothing = record { places = 0; calls = [] }
+abbrev pub nothing : Weights → Linear
+nothing w = record { weights = w; own = 0; calls = [] }
 
--- so many places more
+-- so many nodes more
 abbrev pub counted : ℕ → Linear → Linear
-counted n s = record { places = cut (s.places + n); calls = s.calls }
+counted n s = record { weights = s.weights; own = cut (s.own + cut (n * s.weights.node)); calls = s.calls }
+
+-- so many objects more that are made
+abbrev pub made : ℕ → Linear → Linear
+made n s = record { weights = s.weights; own = cut (s.own + cut (n * s.weights.object)); calls = s.calls }
+
+-- a variable that is one where it has an address
+abbrev pub home_made : ℕ → Option ℕ → Linear → Linear
+home_made n None s = s
+home_made n (Some h) s = made n s
+
+-- the first of these variables, as many as there are parameters
+abbrev pub parameters_made : ℕ → List PassedType → List Variable → Linear → Linear
+parameters_made n [] vs s = s
+parameters_made n (p ∷ ps) [] s = s
+parameters_made n (p ∷ ps) (v ∷ vs) s = parameters_made n ps vs (home_made n v.home s)
 
 -- a call more that counts so many times; one that counts 0 times is left out
 abbrev pub called : (function times : ℕ) → Linear → Linear
-called f n s = if n == 0 then s else record { places = s.places; calls = s.calls ++ record { callee = f; times = n } ∷ [] }
+called f n s = if n == 0 then s else record { weights = s.weights; own = s.own; calls = s.calls ++ record { callee = f; times = n } ∷ [] }
 
 -- ---- what a tree that counts so many times adds
 
@@ -70,8 +89,8 @@ abbrev mutual
   expression_linear n (relation line op a b) s = expression_linear n b (expression_linear n a (counted n s))
   expression_linear n (pointer_update line x i e) s = expression_linear n e (place_linear n x (counted n s))
   expression_linear n (pointer_step line x i before) s = place_linear n x (counted n s)
-  expression_linear n (allocate line e) s = expression_linear n e (counted n s)
-  expression_linear n (allocate_zeroed line a b) s = expression_linear n b (expression_linear n a (counted n s))
+  expression_linear n (allocate line e) s = expression_linear n e (made n (counted n s))
+  expression_linear n (allocate_zeroed line a b) s = expression_linear n b (expression_linear n a (made n (counted n s)))
   expression_linear n (release line e) s = expression_linear n e (counted n s)
   expression_linear n (exit line e) s = expression_linear n e (counted n s)
   expression_linear n (abort line) s = counted n s
@@ -96,13 +115,13 @@ abbrev mutual
   arguments_linear n (number_argument e rest) s = arguments_linear n rest (expression_linear n e s)
   arguments_linear n (structure_argument a rest) s = arguments_linear n rest (structure_linear n a s)
 
--- an expression that may be missing, and then counts so many
+-- an expression that may be missing, and then counts as so many nodes
 abbrev pub optional_linear : (times missing : ℕ) → Option Expression → Linear → Linear
 optional_linear n missing None s = counted missing s
 optional_linear n missing (Some e) s = expression_linear n e s
 
--- by how many times the test of each loop of the function may be evaluated
-module _ (tests : ℕ → ℕ) where
+-- by how many times the test of each loop of the function may be evaluated, and its variables
+module _ (tests : ℕ → ℕ) (variables : List Variable) where
   abbrev mutual
     pub statement_linear : (times : ℕ) → Statement → Linear → Linear
     statement_linear n (block items) s = items_linear n items (counted n s)
@@ -126,21 +145,21 @@ module _ (tests : ℕ → ℕ) where
 
     pub items_linear : (times : ℕ) → Items → Linear → Linear
     items_linear n done s = s
-    items_linear n (declares line v rest) s = items_linear n rest (counted n s)
-    items_linear n (initializes line v drawn e rest) s = items_linear n rest (expression_linear n e (counted n s))
-    items_linear n (initializes_structure line v drawn a rest) s = items_linear n rest (structure_linear n a (counted n s))
+    items_linear n (declares line v rest) s = items_linear n rest (home_made n (home_at variables v) (counted n s))
+    items_linear n (initializes line v drawn e rest) s = items_linear n rest (expression_linear n e (home_made n (home_at variables v) (counted n s)))
+    items_linear n (initializes_structure line v drawn a rest) s = items_linear n rest (structure_linear n a (home_made n (home_at variables v) (counted n s)))
     items_linear n (does a rest) s = items_linear n rest (statement_linear n a s)
     items_linear n (label k rest) s = items_linear n rest (counted n s)
     items_linear n (case_at line t bits rest) s = items_linear n rest (counted n s)
     items_linear n (default_at line rest) s = items_linear n rest (counted n s)
 
-abbrev pub body_linear : (tests : ℕ → ℕ) → Option Statement → Linear
-body_linear tests None = nothing
-body_linear tests (Some a) = statement_linear tests 1 a nothing
+abbrev pub body_linear : Weights → (tests : ℕ → ℕ) → Procedure → Option Statement → Linear
+body_linear w tests p None = nothing w
+body_linear w tests p (Some a) = statement_linear tests p.variables 1 a (parameters_made 1 p.parameters p.variables (nothing w))
 
--- a function's places
-abbrev pub function_linear : Limits → Procedure → Linear
-function_linear bounds f = body_linear (tests_in bounds.set bounds.unwind f.name) f.body
+-- what a function counts
+abbrev pub function_linear : Weights → Limits → Procedure → Linear
+function_linear w bounds f = body_linear w (tests_in bounds.set bounds.unwind f.name) f f.body
 
 -- ---- their sums
 
@@ -149,14 +168,14 @@ abbrev pub calls_value : (ℕ → ℕ) → List Called → ℕ
 calls_value calls [] = 0
 calls_value calls (c ∷ cs) = c.times * calls c.callee + calls_value calls cs
 
--- the places, where a call of each function adds so many
+-- the sum, where a call of each function adds so much
 abbrev pub value : (ℕ → ℕ) → Linear → ℕ
-value calls s = s.places + calls_value calls s.calls
+value calls s = s.own + calls_value calls s.calls
 
--- ---- over the places of all functions
+-- ---- over the sums of all functions
 
 abbrev pub or_nothing : Option Linear → Linear
-or_nothing None = nothing
+or_nothing None = nothing place_weights
 or_nothing (Some s) = s
 
 abbrev pub linear_of : List Linear → ℕ → Linear
@@ -164,12 +183,12 @@ linear_of table f = or_nothing (slice_get table f)
 
 module _ (table : List Linear) where
   -- what a call of each function adds, where so many activations of each may still be opened
-  abbrev pub linear_places : (fuel : ℕ) (left : List ℕ) → ℕ → ℕ
-  linear_places zero left f = 0
-  linear_places (suc fuel) left f = if slice_index left f == 0 then 0 else value (linear_places fuel (opened left f)) (linear_of table f)
+  abbrev pub linear_sum : (fuel : ℕ) (left : List ℕ) → ℕ → ℕ
+  linear_sum zero left f = 0
+  linear_sum (suc fuel) left f = if slice_index left f == 0 then 0 else value (linear_sum fuel (opened left f)) (linear_of table f)
 
   abbrev pub added : (left : List ℕ) → ℕ → ℕ
-  added left f = linear_places (suc (total left)) left f
+  added left f = linear_sum (suc (total left)) left f
 
   -- what is still to be added in activations, the innermost first: each has seen so many of its calls, and when it ends so many activations of its function may be opened again
   abbrev pub pending : (left : List ℕ) → List Visit → ℕ
@@ -213,7 +232,7 @@ opens f n w = record {
   table = w.table;
   left = opened w.left f;
   visits = record { function = f; left = slice_index w.left f; times = n; next = 0 } ∷ w.visits;
-  counted = cut (w.counted + cut (n * (linear_of w.table f).places));
+  counted = cut (w.counted + cut (n * (linear_of w.table f).own));
 }
 
 -- where one may be opened

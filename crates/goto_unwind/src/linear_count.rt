@@ -1,7 +1,8 @@
-//! Counts of places as sums: a function's own, and as many times those that it calls.
+//! Counts of places or objects as sums: a function's own, and as many times those that it calls.
 
 ghost use Rattle.std.specs.Prelude.{◌≡◌, ◌+◌, ◌*◌, OnOk};
-ghost use Rattle.goto_unwind.specs.Linear.{cut, nothing, counted, called};
+ghost use Rattle.goto_unwind.specs.Linear.{cut, nothing, counted, made, home_made, called};
+ghost use Rattle.goto_unwind.specs.Places.{place_weights, object_weights};
 
 use std::alloc::{AllocError, Global};
 use std::marker::Model;
@@ -16,10 +17,44 @@ pub(crate) struct Called {
     pub times: u32,
 }
 
-/// How many places a function has beside those that its calls add, and those calls.
+/// How many each node of a tree counts, and how many each object that is made.
+#[derive(Clone, Copy)]
+pub(crate) struct Weights {
+    node: u32,
+    object: u32,
+}
+
+impl Model for Weights {
+    ghost use Rattle.goto_unwind.specs.Places as definition;
+
+    ghost Value = { definition.Weights };
+
+    ghost view = { λ w. record { node = w.node; object = w.object } };
+
+    ghost inverse = { λ v. record { node = v.node; object = v.object } };
+}
+
+impl Weights {
+    /// Places: each node is one.
+    pub(crate) fn of_places() -> Weights
+        ensures { result ≡ place_weights }
+    {
+        Weights { node: 1, object: 0 }
+    }
+
+    /// Objects: each that is made is one.
+    pub(crate) fn of_objects() -> Weights
+        ensures { result ≡ object_weights }
+    {
+        Weights { node: 0, object: 1 }
+    }
+}
+
+/// How much a function counts beside what its calls add, and those calls.
 #[derive(Drop)]
 pub(crate) struct LinearCount {
-    places: u32,
+    weights: Weights,
+    own: u32,
     calls: Vec<Called>,
 }
 
@@ -28,7 +63,7 @@ impl Model for LinearCount {
 
     ghost Value = { Linear };
 
-    ghost view = { λ t. record { places = t.places; calls = t.calls.items } };
+    ghost view = { λ t. record { weights = t.weights; own = t.own; calls = t.calls.items } };
 }
 
 /// Two counts together, at most one more than the greatest number of places.
@@ -47,19 +82,20 @@ pub(crate) fn product(left: u32, right: u32) -> u32
 }
 
 impl LinearCount {
-    pub(crate) fn new(alloc: Global) -> LinearCount
-        ensures { result ≡ nothing }
+    pub(crate) fn new(alloc: Global, weights: Weights) -> LinearCount
+        ensures { result ≡ nothing weights }
     {
         LinearCount {
-            places: 0,
+            weights,
+            own: 0,
             calls: Vec::new(alloc),
         }
     }
 
-    pub(crate) fn places(&self) -> u32
-        ensures { result ≡ self.now.places }
+    pub(crate) fn own(&self) -> u32
+        ensures { result ≡ self.now.own }
     {
-        self.places
+        self.own
     }
 
     pub(crate) fn calls(&self) -> &[Called]
@@ -68,11 +104,27 @@ impl LinearCount {
         &self.calls
     }
 
-    /// So many places more.
+    /// So many nodes more.
     pub(crate) fn add(&mut self, count: u32)
         ensures { self.new ≡ counted count self.old }
     {
-        self.places = sum(self.places, count);
+        self.own = sum(self.own, product(count, self.weights.node));
+    }
+
+    /// So many objects more that are made.
+    pub(crate) fn make(&mut self, count: u32)
+        ensures { self.new ≡ made count self.old }
+    {
+        self.own = sum(self.own, product(count, self.weights.object));
+    }
+
+    /// So many times the object of a variable, where that has an address.
+    pub(crate) fn make_home(&mut self, home: Option<u32>, count: u32)
+        ensures { self.new ≡ home_made count home self.old }
+    {
+        if home.is_some() {
+            self.make(count);
+        }
     }
 
     /// A call more that counts so many times. One that counts 0 times is left out, so that no walk visits it.

@@ -1,14 +1,16 @@
-//! How many places typed trees have.
+//! How many places typed trees have, and how many objects they make.
 
 ghost use Rattle.std.specs.Prelude.{◌≡◌, IfOk, OnOk, option_map};
-ghost use Rattle.core_tree.specs.Trees.{view, boxed, view_place, view_structure, parts_of, with_part, arguments_of, with_argument, view_statement, boxed_statement, items_of, with_item};
+ghost use Rattle.core_tree.specs.Trees.{view, boxed, view_place, view_structure, parts_of, with_part, arguments_of, with_argument, view_statement, view_function, items_of, with_item};
 ghost use Rattle.goto_prog.specs.Structured.{tests_in};
-ghost use Rattle.goto_unwind.specs.Linear.{place_linear, expression_linear, structure_linear, parts_linear, arguments_linear, optional_linear, statement_linear, items_linear, body_linear, nothing};
+ghost use Rattle.goto_unwind.specs.Linear.{place_linear, expression_linear, structure_linear, parts_linear, arguments_linear, optional_linear, statement_linear, items_linear, parameters_made, function_linear};
+ghost use Rattle.goto_unwind.specs.Places.{home_at};
 
-use crate::linear_count::{LinearCount, product};
+use crate::linear_count::{LinearCount, Weights, product};
 use crate::loop_bounds::tests;
 use core_tree::{
-    Bounds, CoreArgument, CoreExpr, CoreItem, CorePart, CoreStatement, CoreStructure, Place,
+    Bounds, CoreArgument, CoreExpr, CoreItem, CorePart, CoreStatement, CoreStructure, Function,
+    PassedType, Place, Variable,
 };
 use std::alloc::{AllocError, Global};
 
@@ -194,10 +196,12 @@ pub(crate) fn expression(
         }
         CoreExpr::Allocate { size, .. } => {
             linear_count.add(times);
+            linear_count.make(times);
             expression(linear_count, size, times)
         }
         CoreExpr::AllocateZeroed { count, size, .. } => {
             linear_count.add(times);
+            linear_count.make(times);
             expression(linear_count, count, times)?;
             expression(linear_count, size, times)
         }
@@ -351,26 +355,27 @@ pub(crate) fn statement(
     linear_count: &mut LinearCount,
     bounds: &Bounds,
     name: &[u8],
+    variables: &[Variable],
     code: &CoreStatement,
     times: u32,
 ) -> Result<(), AllocError>
-    ensures { OnOk result (linear_count.new ≡ statement_linear (tests_in bounds.now.set bounds.now.unwind name.now) times (view_statement code.now) linear_count.old) }
+    ensures { OnOk result (linear_count.new ≡ statement_linear (tests_in bounds.now.set bounds.now.unwind name.now) variables.now times (view_statement code.now) linear_count.old) }
 {
     match code {
         CoreStatement::Block { items } => {
             linear_count.add(times);
-            items_of_block(linear_count, bounds, name, items, times)
+            items_of_block(linear_count, bounds, name, variables, items, times)
         }
         CoreStatement::If { test, yes, .. } => {
             linear_count.add(times);
             expression(linear_count, test, times)?;
-            statement(linear_count, bounds, name, yes, times)
+            statement(linear_count, bounds, name, variables, yes, times)
         }
         CoreStatement::IfElse { test, yes, no, .. } => {
             linear_count.add(times);
             expression(linear_count, test, times)?;
-            statement(linear_count, bounds, name, yes, times)?;
-            statement(linear_count, bounds, name, no, times)
+            statement(linear_count, bounds, name, variables, yes, times)?;
+            statement(linear_count, bounds, name, variables, no, times)
         }
         CoreStatement::Evaluate { expression: value } => {
             linear_count.add(times);
@@ -402,7 +407,7 @@ pub(crate) fn statement(
             let tested = product(times, count);
             optional(linear_count, test, tested, tested)?;
             let round = product(times, count.saturating_sub(1));
-            statement(linear_count, bounds, name, body, round)?;
+            statement(linear_count, bounds, name, variables, body, round)?;
             optional(linear_count, last, round, 0)
         }
         CoreStatement::Do {
@@ -413,13 +418,13 @@ pub(crate) fn statement(
         } => {
             linear_count.add(times);
             let round = product(times, tests(bounds, name, *number));
-            statement(linear_count, bounds, name, body, round)?;
+            statement(linear_count, bounds, name, variables, body, round)?;
             expression(linear_count, test, round)
         }
         CoreStatement::Switch { value, items, .. } => {
             linear_count.add(times);
             expression(linear_count, value, times)?;
-            items_of_block(linear_count, bounds, name, items, times)
+            items_of_block(linear_count, bounds, name, variables, items, times)
         }
         CoreStatement::Break { .. } => {
             linear_count.add(times);
@@ -438,7 +443,7 @@ pub(crate) fn statement(
             ..
         } => {
             linear_count.add(times);
-            statement(linear_count, bounds, name, labelled, times)
+            statement(linear_count, bounds, name, variables, labelled, times)
         }
     }
 }
@@ -448,13 +453,14 @@ fn items_of_block(
     linear_count: &mut LinearCount,
     bounds: &Bounds,
     name: &[u8],
+    variables: &[Variable],
     items: &[CoreItem],
     times: u32,
 ) -> Result<(), AllocError>
-    ensures { OnOk result (linear_count.new ≡ items_linear (tests_in bounds.now.set bounds.now.unwind name.now) times (items_of items.now) linear_count.old) }
+    ensures { OnOk result (linear_count.new ≡ items_linear (tests_in bounds.now.set bounds.now.unwind name.now) variables.now times (items_of items.now) linear_count.old) }
 {
     for item in items {
-        item_of_block(linear_count, bounds, name, item, times)?;
+        item_of_block(linear_count, bounds, name, variables, item, times)?;
     }
     Ok(())
 }
@@ -464,26 +470,38 @@ fn item_of_block(
     linear_count: &mut LinearCount,
     bounds: &Bounds,
     name: &[u8],
+    variables: &[Variable],
     item: &CoreItem,
     times: u32,
 ) -> Result<(), AllocError>
-    ensures { OnOk result ((rest : _) → items_linear (tests_in bounds.now.set bounds.now.unwind name.now) times rest linear_count.new ≡ items_linear (tests_in bounds.now.set bounds.now.unwind name.now) times (with_item item.now rest) linear_count.old) }
+    ensures { OnOk result ((rest : _) → items_linear (tests_in bounds.now.set bounds.now.unwind name.now) variables.now times rest linear_count.new ≡ items_linear (tests_in bounds.now.set bounds.now.unwind name.now) variables.now times (with_item item.now rest) linear_count.old) }
 {
     match item {
-        CoreItem::Declare { .. } => {
+        CoreItem::Declare { variable, .. } => {
             linear_count.add(times);
+            linear_count.make_home(home(variables, *variable), times);
             Ok(())
         }
-        CoreItem::Initialize { value, .. } => {
+        CoreItem::Initialize {
+            variable,
+            value,
+            ..
+        } => {
             linear_count.add(times);
+            linear_count.make_home(home(variables, *variable), times);
             expression(linear_count, value, times)
         }
-        CoreItem::InitializeStructure { value, .. } => {
+        CoreItem::InitializeStructure {
+            variable,
+            value,
+            ..
+        } => {
             linear_count.add(times);
+            linear_count.make_home(home(variables, *variable), times);
             structure(linear_count, value, times)
         }
         CoreItem::Statement { statement: code } => {
-            statement(linear_count, bounds, name, code, times)
+            statement(linear_count, bounds, name, variables, code, times)
         }
         CoreItem::Label { .. } => {
             linear_count.add(times);
@@ -500,18 +518,46 @@ fn item_of_block(
     }
 }
 
-/// The places of the body of the function with this name, which may be missing.
-pub(crate) fn body(
+// The variable that holds the address of a variable, where that has one.
+fn home(variables: &[Variable], variable: u32) -> Option<u32>
+    ensures { result ≡ home_at variables.now variable }
+{
+    match variables.get(variable as usize) {
+        Some(found) => found.home,
+        None => None,
+    }
+}
+
+// The first of these variables, as many as there are parameters, where they have addresses.
+fn parameters(linear_count: &mut LinearCount, parameters: &[PassedType], variables: &[Variable])
+    ensures { linear_count.new ≡ parameters_made 1 parameters.now variables.now linear_count.old }
+{
+    for place in 0..parameters.len().min(variables.len()) {
+        linear_count.make_home(variables[place].home, 1);
+    }
+}
+
+/// What a function counts, whose body may be missing.
+pub(crate) fn function(
     alloc: Global,
     bounds: &Bounds,
-    name: &[u8],
-    code: &Option<Box<CoreStatement>>,
+    function: &Function,
+    weights: Weights,
 ) -> Result<LinearCount, AllocError>
-    ensures { IfOk result (λ t. t ≡ body_linear (tests_in bounds.now.set bounds.now.unwind name.now) (option_map boxed_statement code.now)) }
+    ensures { IfOk result (λ t. t ≡ function_linear weights bounds.now (view_function function.now)) }
 {
-    let mut linear_count = LinearCount::new(alloc);
-    if let Some(found) = code {
-        statement(&mut linear_count, bounds, name, found, 1)?;
+    let mut linear_count = LinearCount::new(alloc, weights);
+    if let Some(found) = &function.body {
+        let variables = function.variables.as_slice();
+        parameters(&mut linear_count, &function.parameters, variables);
+        statement(
+            &mut linear_count,
+            bounds,
+            &function.name.bytes,
+            variables,
+            found,
+            1,
+        )?;
     }
     Ok(linear_count)
 }

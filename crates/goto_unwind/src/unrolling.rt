@@ -11,7 +11,7 @@ ghost use Rattle.goto_unwind.specs.LocalRuns.{MakesFew};
 ghost use Rattle.goto_unwind.specs.Program.{starts_none, unrolled};
 ghost use Rattle.goto_unwind.specs.declared.unrolling.UnwindError.TheVariants as errors;
 
-use crate::counting::file_places;
+use crate::counting::{file_objects, file_places};
 use crate::linear_count::MOST_PLACES;
 use crate::objects::{MOST_OBJECT_BYTES, MOST_OBJECTS, object_bytes};
 use crate::unroller::unrolled_main;
@@ -61,8 +61,7 @@ pub fn passed_limit(
     if file_places(alloc, core.functions(), bounds)? > MOST_PLACES {
         return Ok(Some(Limit::Places));
     }
-    let objects = core.objects().len().saturating_add(core.literals().len());
-    Ok(if objects > MOST_OBJECTS as usize {
+    Ok(if file_objects(alloc, core, bounds)? > MOST_OBJECTS {
         Some(Limit::Objects)
     } else if object_bytes(core) > MOST_OBJECT_BYTES {
         Some(Limit::ObjectBytes)

@@ -76,12 +76,12 @@ impl<'a> Walk<'a> {
         }
     }
 
-    // The places of a function beside those that its calls add.
-    fn places(&self, function: u32) -> u32
-        ensures { result ≡ (linear_of self.now.table function).places }
+    // What a function counts beside what its calls add.
+    fn own(&self, function: u32) -> u32
+        ensures { result ≡ (linear_of self.now.table function).own }
     {
         match self.table.get(function as usize) {
-            Some(linear_count) => linear_count.places(),
+            Some(linear_count) => linear_count.own(),
             None => 0,
         }
     }
@@ -111,11 +111,11 @@ impl<'a> Walk<'a> {
         self.visits.pop()
     }
 
-    // So many places more.
-    fn count(&mut self, places: u32)
-        ensures { self.new ≡ record self.old { counted = cut (self.old.counted + places) } }
+    // So much more.
+    fn count(&mut self, more: u32)
+        ensures { self.new ≡ record self.old { counted = cut (self.old.counted + more) } }
     {
-        self.counted = sum(self.counted, places);
+        self.counted = sum(self.counted, more);
     }
 
     // Opens an activation that counts so many times.
@@ -124,7 +124,7 @@ impl<'a> Walk<'a> {
         ensures { OnOk result (self.new ≡ opens function times self.old) }
     {
         let left = self.left(function);
-        self.count(product(times, self.places(function)));
+        self.count(product(times, self.own(function)));
         self.set_left(function, left - 1);
         self.push(Visit {
             function,
@@ -200,10 +200,10 @@ impl<'a> Walk<'a> {
     }
 }
 
-/// How many places a call of a function adds while no activation is open, where so many activations of each
+/// How much a call of a function adds while no activation is open, where so many activations of each
 /// may be open: at most one more than the greatest number.
 #[tactic(auto, using(crate::proofs::WalkSums::first_outcome))]
-pub(crate) fn places(
+pub(crate) fn whole(
     alloc: Global,
     table: &[LinearCount],
     activations: u32,

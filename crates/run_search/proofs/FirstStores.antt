@@ -20,7 +20,7 @@ use Rattle.actions.specs.ByteList.{are_bytes}
 use Rattle.actions.proofs.ByteLists.{are_bytes-take, are_bytes-drop}
 use Rattle.actions.specs.StoredObject.{StoredObject}
 use Rattle.c_meaning.specs.Source.{target_number, with_addresses, first_object, literal_object, numbered, first_objects, are_small_objects, are_small_literals, are_storable}
-use Rattle.goto_unwind.specs.Places.{places}
+use Rattle.goto_unwind.specs.Places.{places, objects}
 use Rattle.goto_unwind.specs.Counts.{largest, sizes_of_literals, object_bytes, passed}
 use Rattle.guarded_ssa.specs.Accesses.{HoldsBytes, AreObjects}
 use Rattle.report.proofs.Both.{and_both}
@@ -156,13 +156,17 @@ all_short (text ∷ literals) most h =
     let others = all_short literals most (omega (arith, h)) in
     λ k. here k && others k
 
+less : (n m : ℕ) → n + m ≤ 8192 → n ≤ 8192
+less n m h = omega (arith, h)
+
 pub storable : (core : TypedFile) (limits : Limits) → passed core limits ≡ None → are_storable core ≡ true
 storable core limits h =
     let count = length core.objects + length core.literals in
     let places_fit = not_passed (nat_lt 2000000 (places core.functions limits)) Places _ h in
-    let objects_fit = not_passed (nat_lt 8192 count) Objects _ places_fit.1 in
+    let made = objects core.functions limits in
+    let objects_fit = not_passed (nat_lt 8192 (count + made)) Objects _ places_fit.1 in
     let bytes_fit = not_passed (nat_lt 65536 (object_bytes core)) ObjectBytes None objects_fit.1 in
-    let few = most_true count 8192 (at_most count 8192 objects_fit.0) in
+    let few = most_true count 8192 (less count made (at_most (count + made) 8192 objects_fit.0)) in
     let most = at_most (object_bytes core) 65536 bytes_fit.0 in
     let small = all_small core.objects 65536 (omega (arith, most)) in
     let short = all_short core.literals 65536 (omega (arith, most)) in

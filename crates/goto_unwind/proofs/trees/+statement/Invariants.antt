@@ -6,4 +6,4 @@ use Rattle.goto_unwind.proofs.trees.+statement.Given as goal
 
 abbrev pub invariant-items_of_block-loop-item : goal.invariant-items_of_block-loop-item
 invariant-items_of_block-loop-item l =
-    items_linear (tests_in l.bounds.set l.bounds.unwind l.name) l.times (items_of (drop l.item-index l.items)) l.linear_count ≡ items_linear (tests_in l.bounds.set l.bounds.unwind l.name) l.times (items_of l.items) l.initial.linear_count
+    items_linear (tests_in l.bounds.set l.bounds.unwind l.name) l.variables l.times (items_of (drop l.item-index l.items)) l.linear_count ≡ items_linear (tests_in l.bounds.set l.bounds.unwind l.name) l.variables l.times (items_of l.items) l.initial.linear_count
