@@ -2,7 +2,7 @@
 
 // Programs with functions, loops, switches and jumps: their runs on the machines of all stages, and their places.
 
-use crate::machines::{admitted, outcomes_under, outcomes_within};
+use crate::machines::{admitted, admitted_with_homes, outcomes_under, outcomes_within};
 use core_tree::{Bounds, LoopBound, Name};
 use goto_unwind::count;
 use interleave::Outcome;
@@ -293,7 +293,7 @@ fn ending(check: Option<(Class, u32, u32)>) -> Outcome {
 fn wrong_run(alloc: Global, rows: &[Run]) -> Result<Option<usize>, Fail> {
     for (i, (text, unwind, word, check)) in rows.iter().enumerate() {
         let found = outcomes_within(alloc, text.as_bytes(), &[*word, 0, 0], *unwind)?;
-        if found != [ending(*check); 4] {
+        if found != [ending(*check); 6] {
             return Ok(Some(i));
         }
     }
@@ -363,6 +363,62 @@ fn wrong_count(alloc: Global, rows: &[(&str, u32, u32)]) -> Result<Option<usize>
     Ok(None)
 }
 
+// Texts, bounds for loops and calls, and how many objects they make where each variable has an address, with their static ones.
+const OBJECTS: [(&str, u32, u32); 10] = [
+    ("int main(void){return 0;}", 1, 0),
+    ("int x;int main(void){int y=1;return y;}", 1, 2),
+    ("int main(void){{int x;}{int y;}return 0;}", 1, 2),
+    (
+        "int f(int a){int b=a;return b;}int main(void){return f(1)+f(2);}",
+        1,
+        4,
+    ),
+    (
+        "int main(void){for(int i=0;i<2;i++){int y=i;}return 0;}",
+        3,
+        3,
+    ),
+    (
+        "int main(void){for(int i=0;i<2;i++){int y=i;}return 0;}",
+        1,
+        1,
+    ),
+    ("int main(void){do{int y=1;}while(0);return 0;}", 2, 2),
+    ("void f(int n){if(n)f(n-1);}int main(void){f(3);}", 3, 3),
+    ("int main(void){switch(1){int z;case 1:;}return 0;}", 1, 1),
+    (
+        "void g(void){int a;int b;}void f(void){g();g();g();g();g();g();g();g();}void e(void){f();f();f();f();f();f();f();f();}int main(void){for(;;){e();}}",
+        65,
+        8_192,
+    ),
+];
+
+// The objects of a text where each variable has an address.
+fn objects_of(alloc: Global, text: &str, unwind: u32) -> Result<u32, Fail> {
+    if unwind == 0 || unwind > 1_000 {
+        return Err(Fail::from("no bound"));
+    }
+    let bounds = Bounds::new(unwind, Vec::new(alloc), true, 1, false);
+    let file = admitted_with_homes(alloc, text.as_bytes(), 1)?;
+    Ok(count(alloc, &file, &bounds)?.objects)
+}
+
+// The first row that counts other objects.
+fn wrong_objects(alloc: Global, rows: &[(&str, u32, u32)]) -> Result<Option<usize>, Fail> {
+    for (i, (text, unwind, objects)) in rows.iter().enumerate() {
+        if objects_of(alloc, text, *unwind)? != *objects {
+            return Ok(Some(i));
+        }
+    }
+    Ok(None)
+}
+
+#[test]
+fn objects_are_counted(rt: HostRuntime) -> Result<(), Fail> {
+    assert_eq!(rt; wrong_objects(rt.alloc(), &OBJECTS)?, None);
+    Ok(())
+}
+
 #[test]
 fn places_are_counted(rt: HostRuntime) -> Result<(), Fail> {
     assert_eq!(rt; wrong_count(rt.alloc(), &PLACES)?, None);
@@ -394,7 +450,7 @@ fn loops_have_bounds_of_their_own(rt: HostRuntime) -> Result<(), Fail> {
         let bounds = loop_bounds(alloc, function)?;
         let wanted = ending(Some((class, line, 0)));
         let found = outcomes_under(alloc, text, &[0], &bounds)?;
-        assert!(rt; found == [wanted; 4], "line {line}");
+        assert!(rt; found == [wanted; 6], "line {line}");
     }
     Ok(())
 }

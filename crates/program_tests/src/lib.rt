@@ -5,6 +5,8 @@
 #[cfg(test)]
 mod flow_tests;
 #[cfg(test)]
+mod homes;
+#[cfg(test)]
 mod machines;
 #[cfg(test)]
 mod run_tests;

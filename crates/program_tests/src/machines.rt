@@ -2,6 +2,9 @@
 
 // Runs of C text on the machine of the typed source and on those of its flat code.
 
+ghost use Rattle.std.specs.Prelude.{◌≤◌};
+
+use crate::homes::with_homes;
 use actions::{Machine, Store};
 use c_elab_decl::elaborate;
 use c_interp::run;
@@ -9,7 +12,7 @@ use c_lexer::lex;
 use c_meaning::are_storable;
 use c_parse_decl::parse;
 use c_profile::{Admitted, admit};
-use core_tree::Bounds;
+use core_tree::{Bounds, Core};
 use goto_checks::insert;
 use goto_lower::lower;
 use goto_prog::{PlainThread, StrictThread, UnrolledThread};
@@ -18,17 +21,35 @@ use interleave::{Inputs, Outcome, Schedule, System, Turn, Words};
 use std::alloc::{AllocError, Global};
 use std::test::Fail;
 
-// The typed file of a text.
-pub fn admitted(alloc: Global, text: &[u8]) -> Result<Admitted, Fail> {
+// The typed tree of a text.
+fn elaborated(alloc: Global, text: &[u8]) -> Result<Core, Fail> {
     if text.len() > 10_000_000 {
         return Err(Fail::from("too long"));
     }
     let tokens = lex(alloc, text)?;
     let file = parse(alloc, &tokens)?;
-    let core = elaborate(alloc, &file)?;
+    Ok(elaborate(alloc, &file)?)
+}
+
+fn kept(alloc: Global, core: Core) -> Result<Admitted, Fail> {
     match admit(alloc, core) {
         Ok(file) => Ok(file),
         Err(_) => Err(Fail::from("outside of the profile")),
+    }
+}
+
+// The typed file of a text.
+pub fn admitted(alloc: Global, text: &[u8]) -> Result<Admitted, Fail> {
+    kept(alloc, elaborated(alloc, text)?)
+}
+
+// The same with an address for each variable whose number in its function is a multiple of this.
+pub fn admitted_with_homes(alloc: Global, text: &[u8], every: usize) -> Result<Admitted, Fail>
+    requires { 1 ≤ every }
+{
+    match with_homes(alloc, elaborated(alloc, text)?, every)? {
+        Some(core) => kept(alloc, core),
+        None => Err(Fail::from("not typed with homes")),
     }
 }
 
@@ -60,18 +81,48 @@ fn words_of(alloc: Global, ints: &[i32]) -> Result<Words, AllocError> {
     Ok(Words::new(words))
 }
 
-// The inputs of thread 0, and 24 turns of it.
+// The inputs of thread 0, and turns of it.
 #[derive(Drop)]
 struct Script {
     inputs: Inputs,
     schedule: Schedule,
 }
 
-fn script_of(alloc: Global, ints: &[i32]) -> Result<Script, AllocError> {
+fn script_of(alloc: Global, ints: &[i32], turns: usize) -> Result<Script, AllocError> {
     let mut inputs = Inputs::new(alloc);
     inputs.insert(0, words_of(alloc, ints)?)?;
-    let schedule = Schedule::new(vec![in alloc; 0; 24]?);
+    let schedule = Schedule::new(vec![in alloc; 0; turns]?);
     Ok(Script { inputs, schedule })
+}
+
+// How the run of a file's source ends.
+fn source_outcome(
+    alloc: Global,
+    file: &Admitted,
+    bounds: &Bounds,
+    script: &Script,
+) -> Result<Outcome, Fail> {
+    if !are_storable(file) || script.schedule.as_slice().len() > 1_000 {
+        return Err(Fail::from("too large"));
+    }
+    Ok(run(alloc, file, bounds, &script.inputs, &script.schedule)?)
+}
+
+// How the runs of a text's source end where each variable has an address, and where every second one has, in
+// turns enough to make and end these objects and for each of their accesses.
+fn outcomes_with_homes(
+    alloc: Global,
+    text: &[u8],
+    ints: &[i32],
+    bounds: &Bounds,
+) -> Result<[Outcome; 2], Fail> {
+    let script = script_of(alloc, ints, 400)?;
+    let all = admitted_with_homes(alloc, text, 1)?;
+    let some = admitted_with_homes(alloc, text, 2)?;
+    Ok([
+        source_outcome(alloc, &all, bounds, &script)?,
+        source_outcome(alloc, &some, bounds, &script)?,
+    ])
 }
 
 // How the runs of a file's strict, its checked and its unrolled code end.
@@ -101,24 +152,19 @@ fn code_outcomes(
 }
 
 // How the runs of a text end that draw these ints, in 24 turns of thread 0, under these bounds: the source's,
-// and those of its strict, its checked and its unrolled code.
+// those of its strict, its checked and its unrolled code, and the source's where variables have an address.
 pub fn outcomes_under(
     alloc: Global,
     text: &[u8],
     ints: &[i32],
     bounds: &Bounds,
-) -> Result<[Outcome; 4], Fail> {
+) -> Result<[Outcome; 6], Fail> {
     let file = admitted(alloc, text)?;
-    if !are_storable(&file) {
-        return Err(Fail::from("too large objects"));
-    }
-    let script = script_of(alloc, ints)?;
-    if script.schedule.as_slice().len() > 24 {
-        return Err(Fail::from("too many turns"));
-    }
-    let source = run(alloc, &file, bounds, &script.inputs, &script.schedule)?;
+    let script = script_of(alloc, ints, 24)?;
+    let source = source_outcome(alloc, &file, bounds, &script)?;
     let [strict, plain, unrolled] = code_outcomes(alloc, &file, bounds, &script)?;
-    Ok([source, strict, plain, unrolled])
+    let [all, some] = outcomes_with_homes(alloc, text, ints, bounds)?;
+    Ok([source, strict, plain, unrolled, all, some])
 }
 
 // The same, where each loop's test may be evaluated so many times at an arrival and each function may have so
@@ -128,7 +174,7 @@ pub fn outcomes_within(
     text: &[u8],
     ints: &[i32],
     bound: u32,
-) -> Result<[Outcome; 4], Fail> {
+) -> Result<[Outcome; 6], Fail> {
     if bound == 0 || bound > 1_000 {
         return Err(Fail::from("no bound"));
     }
@@ -137,6 +183,6 @@ pub fn outcomes_within(
 }
 
 // The same, where each loop's test may be evaluated once and each function has one activation.
-pub fn outcomes(alloc: Global, text: &[u8], ints: &[i32]) -> Result<[Outcome; 4], Fail> {
+pub fn outcomes(alloc: Global, text: &[u8], ints: &[i32]) -> Result<[Outcome; 6], Fail> {
     outcomes_within(alloc, text, ints, 1)
 }
