@@ -10,6 +10,8 @@ pub mod After
 pub mod Whole
 pub mod Cut
 pub mod Lined
+pub mod Around
+pub mod Grouped
 pub mod Noted
 pub mod Keeping
 pub mod Finite

@@ -1,11 +1,10 @@
 -- What is known of macros: it stays so while the output grows, and what a body that is done became is known too.
-use Rattle.std.proofs.Common.{◌≡◌, ◌≤◌, ◌+◌, ◌-◌, ℕ, List, [], ◌∷◌, ◌++◌, map, reverse, length, take, drop, Bool, true, false, not, ◌||◌, ◌&&◌, cond, Option, Some, None, refl, sym, ap, subst, ◌∙◌, arith}
+use Rattle.std.proofs.Common.{◌≡◌, ◌⊎◌, inl, inr, ◌≤◌, ◌+◌, ◌-◌, ℕ, List, [], ◌∷◌, ◌++◌, map, reverse, length, take, drop, Bool, true, false, not, ◌||◌, cond, Option, Some, None, refl, sym, ap, subst, ◌∙◌, arith}
 use Rattle.std.specs.Prelude.{is_some, if◌then◌else◌}
 use Rattle.std.specs.List.{list_any, list_all}
 use Rattle.std.specs.Str.{bytes_eq}
 use Rattle.std.proofs.lemmas.List.{append_assoc, append-nil, append_cancel_right, drop-append-le, take-append-le, length-append, length-drop, map-append, reverse-append}
 use Rattle.std.proofs.Math.Seq.{drop-append_seam, take-length}
-use Rattle.std.proofs.lemmas.Slice.Eq.{bytes_eq-Decides}
 use Rattle.c_token.specs.declared.token.Token.{Token}
 use Rattle.c_token.specs.Spelling.{text_of}
 use Rattle.c_pre.specs.Macros.{Macros, body_for, placed, Replacing, done, stays, replaced, Becomes, IsReplacedBy}
@@ -13,10 +12,11 @@ use Rattle.c_pre.specs.Views.{Entries, macros_in}
 use Rattle.c_pre.specs.Waiting.{Waiting, outer, rest_of, rests_of, Waits, Leads}
 use Rattle.c_pre.specs.declared.known.Span.{Span}
 use Rattle.c_pre.specs.declared.replacing.Rest.{Rest}
-use Rattle.c_pre.specs.Known.{Spans, with_span, Findings, findings, piece, is_top, or_else, known_at, Covers, Agree, Likewise, Apart, Fits, Remembers, Alone, RemembersAlone, Recollects, is_settled, Began, Opened, Stands}
+use Rattle.c_pre.specs.Known.{Spans, with_span, Groups, Findings, findings, piece, is_top, is_upto, may_reach, is_held, or_else, known_at, Covers, Agree, Likewise, Closed, Apart, Fits, Remembers, Alone, RemembersAlone, Recollects, Follows, Sorted, IsGroup, Held, Holds, Regroups, Began, Opened, Stands}
 use Rattle.c_pre.proofs.Once.{becomes_once}
 use Rattle.c_pre.proofs.Totals.{entries_wait, for_cases}
 use Rattle.c_pre.proofs.Leading.{leads_as, stays_as, replaced_as, done_as}
+use Rattle.c_pre.proofs.Around.{same_name, both, First, sorted_apart, replaced_apart, apart_self}
 
 -- steps one after the other
 leads_more : (bytes : List ℕ) (macros : Macros) (r0 : List Waiting) (n0 : List (List ℕ)) (r1 : List Waiting) (n1 : List (List ℕ)) (r2 : List Waiting) (n2 : List (List ℕ)) (a b : List Token) →
@@ -75,41 +75,76 @@ opened_step bytes now macros r q rs (n ∷ ns) r2 n2 out given l s o lead =
 abbrev pub Leading : List ℕ → Entries → (List ℕ → Bool) → List Waiting → List (List ℕ) → List Waiting → List (List ℕ) → List Token → Type 0
 Leading bytes es used rests names new_rests new_names given = is_top names ≡ false → Likewise used es (λ other. Leads bytes other rests names new_rests new_names given)
 
-pub stands_stays : (bytes : List ℕ) (es : Entries) (f : Findings) (r q : Rest) (rs new : List Rest) (ns : List (List ℕ)) (out given out2 : List Token) →
-    Stands bytes es f (r ∷ rs) ns out → new ≡ q ∷ rs → q.line ≡ r.line → q.start ≡ r.start → out2 ≡ out ++ given →
+-- the tokens behind one are held if all are
+held_behind : (bytes : List ℕ) (macros : Macros) (groups : Groups) (n : List ℕ) (all : List Token) (t : Token) (ts : List Token) → all ≡ t ∷ ts → Held bytes macros groups n all → Held bytes macros groups n ts
+held_behind bytes macros groups n all t ts e held k g =
+    (both (is_held bytes macros groups k t) (list_all (is_held bytes macros groups k) ts) (subst (λ (xs : List Token). list_all (is_held bytes macros groups k) xs ≡ true) e (held k g))).1
+
+holds_moved : (bytes : List ℕ) (macros : Macros) (groups : Groups) (r q : Rest) (rs : List Rest) (ns : List (List ℕ)) (t : Token) → r.tokens.now ≡ t ∷ q.tokens.now → q.group ≡ r.group → q.outer ≡ r.outer →
+    Holds bytes macros groups (r ∷ rs) ns → Holds bytes macros groups (q ∷ rs) ns
+holds_moved bytes macros groups r q rs [] t front g o h = tt
+holds_moved bytes macros groups r q rs (n ∷ ns) t front g o (i, j, held, h) = (
+  subst (λ (x : Option ℕ). IsGroup groups x (n ∷ ns)) (sym g) i,
+  subst (λ (x : Option ℕ). IsGroup groups x ns) (sym o) j,
+  held_behind bytes macros groups n r.tokens.now t q.tokens.now front held,
+  h,
+)
+
+pub stands_stays : (bytes : List ℕ) (es : Entries) (f : Findings) (r q : Rest) (rs new : List Rest) (ns : List (List ℕ)) (t : Token) (out given out2 : List Token) →
+    Stands bytes es f (r ∷ rs) ns out → new ≡ q ∷ rs → r.tokens.now ≡ t ∷ q.tokens.now → q.line ≡ r.line → q.start ≡ r.start → q.group ≡ r.group → q.outer ≡ r.outer → out2 ≡ out ++ given →
     Leading bytes es f.used (rest_of r ∷ map rest_of rs) ns (map rest_of new) ns given → Stands bytes es f new ns out2
-stands_stays bytes es f r q rs new ns out given out2 (o, apart) e l s g lead = (all, apart) where
-  all : (other : Entries) → Agree f.used (macros_in es) (macros_in other) → Opened bytes (macros_in es) (macros_in other) new ns (map rest_of new) ns out2
-  all other a =
-      let moved = opened_step bytes (macros_in es) (macros_in other) r q rs ns (map rest_of new) ns out given l s (o other a) (λ nested. lead nested other a) in
-      let with_rests = subst (λ (xs : List Rest). Opened bytes (macros_in es) (macros_in other) xs ns (map rest_of new) ns (out ++ given)) (sym e) moved in
-      subst (λ (xs : List Token). Opened bytes (macros_in es) (macros_in other) new ns (map rest_of new) ns xs) (sym g) with_rests
+stands_stays bytes es f r q rs new ns t out given out2 (o, sorted, held) e front l s gr ou g lead =
+    (all, sorted, subst (λ (xs : List Rest). Holds bytes (macros_in es) f.groups xs ns) (sym e) (holds_moved bytes (macros_in es) f.groups r q rs ns t front gr ou held)) where
+      all : (other : Entries) → Agree f.used (macros_in es) (macros_in other) → Opened bytes (macros_in es) (macros_in other) new ns (map rest_of new) ns out2
+      all other a =
+          let moved = opened_step bytes (macros_in es) (macros_in other) r q rs ns (map rest_of new) ns out given l s (o other a) (λ nested. lead nested other a) in
+          let with_rests = subst (λ (xs : List Rest). Opened bytes (macros_in es) (macros_in other) xs ns (map rest_of new) ns (out ++ given)) (sym e) moved in
+          subst (λ (xs : List Token). Opened bytes (macros_in es) (macros_in other) new ns (map rest_of new) ns xs) (sym g) with_rests
 
-same_name : (a b : List ℕ) → bytes_eq a b ≡ true → a ≡ b
-same_name a b e = (bytes_eq-Decides a b).0 e
+-- the macros are of the groups that they are in
+pub closed_here : (bytes : List ℕ) (es : Entries) (f : Findings) (out : List Token) → Recollects bytes es f out → Closed bytes (macros_in es) f.groups
+closed_here bytes es f out h = (h es (λ name u. refl)).0
 
-or_either : (a b : Bool) → (a || b) ≡ true → a ≡ false → b ≡ true
-or_either true b e f = cc
-or_either false b e f = e
+-- a token that is held and a macro's is of that group or an earlier one
+held_macro : (macros : Macros) (groups : Groups) (k : ℕ) (name : List ℕ) (body : List Token) → macros name ≡ Some body → (is_upto k (groups name) || not (is_some (macros name))) ≡ true → is_upto k (groups name) ≡ true
+held_macro macros groups k name body m e = by (is_upto k (groups name)) (ap (λ (o : Option (List Token)). is_upto k (groups name) || not (is_some o)) (sym m) ∙ e) where
+  by : (b : Bool) → (b || false) ≡ true → b ≡ true
+  by true e = refl
+  by false e = cc
 
-apart_enter : (known : Spans) (name : List ℕ) (names : List (List ℕ)) → known name ≡ None → Apart known names → Apart known (name ∷ names)
-apart_enter known name names none apart x e = by (bytes_eq x name) refl where
-  by : (b : Bool) → bytes_eq x name ≡ b → known x ≡ None
-  by true same = ap known (same_name x name same) ∙ none
-  by false other = apart x (or_either (bytes_eq x name) (list_any (bytes_eq x) names) e other)
+-- a macro whose name stands in an open body is of no later group
+follows_held : (bytes : List ℕ) (macros : Macros) (groups : Groups) (name : List ℕ) (body : List Token) (r : Rest) (rs : List Rest) (ns : List (List ℕ)) (t : Token) (ts : List Token) → r.tokens.now ≡ t ∷ ts → name ≡ text_of bytes t →
+    macros name ≡ Some body → Holds bytes macros groups (r ∷ rs) ns → Follows groups name ns
+follows_held bytes macros groups name body r rs [] t ts front same m h = tt
+follows_held bytes macros groups name body r rs (n ∷ ns) t ts front same m (i, j, held, h) = λ k g.
+    let all = subst (λ (xs : List Token). list_all (is_held bytes macros groups k) xs ≡ true) front (held k g) in
+    let first = (both (is_held bytes macros groups k t) (list_all (is_held bytes macros groups k) ts) all).0 in
+    held_macro macros groups k name body m (subst (λ (x : List ℕ). (is_upto k (groups x) || not (is_some (macros x))) ≡ true) (sym same) first)
 
-apart_leave : (known : Spans) (name : List ℕ) (names : List (List ℕ)) → Apart known (name ∷ names) → Apart known names
-apart_leave known name names apart x e = apart x (or_true (bytes_eq x name) (list_any (bytes_eq x) names) e) where
-  or_true : (a b : Bool) → b ≡ true → (a || b) ≡ true
-  or_true true b e = refl
-  or_true false b e = e
+-- its body is held as those that are open
+holds_opens : (bytes : List ℕ) (macros : Macros) (groups : Groups) (name : List ℕ) (body : List Token) (p r q : Rest) (rs : List Rest) (ns : List (List ℕ)) (t : Token) → Closed bytes macros groups → r.tokens.now ≡ t ∷ q.tokens.now →
+    q.group ≡ r.group → q.outer ≡ r.outer → macros name ≡ Some body → p.tokens.now ≡ body → p.group ≡ groups name → p.outer ≡ r.group → Holds bytes macros groups (r ∷ rs) ns → Holds bytes macros groups (p ∷ (q ∷ rs)) (name ∷ ns)
+holds_opens bytes macros groups name body p r q rs ns t closed front g o m at pg po h = (
+  (λ k e. pg ∙ e),
+  subst (λ (x : Option ℕ). IsGroup groups x ns) (sym po) (inner ns h),
+  (λ k e. closed name k p.tokens.now e (m ∙ ap (λ (b : List Token). Some b) (sym at))),
+  holds_moved bytes macros groups r q rs ns t front g o h,
+) where
+  inner : (ns : List (List ℕ)) → Holds bytes macros groups (r ∷ rs) ns → IsGroup groups r.group ns
+  inner [] h = tt
+  inner (n ∷ ns) h = h.0
 
-pub stands_opens : (bytes : List ℕ) (es : Entries) (f : Findings) (r q : Rest) (rs middle new : List Rest) (ns new_names : List (List ℕ)) (name : List ℕ) (body : List Token) (line : ℕ) (p : Rest) (out : List Token) →
-    Stands bytes es f (r ∷ rs) ns out → middle ≡ q ∷ rs → q.line ≡ r.line → q.start ≡ r.start → new ≡ p ∷ middle → rest_of p ≡ (body, Some line) → p.start ≡ length out →
-    new_names ≡ name ∷ ns → macros_in es name ≡ Some body → f.within name ≡ None →
+pub stands_opens : (bytes : List ℕ) (es : Entries) (f : Findings) (r q : Rest) (rs middle new : List Rest) (ns new_names : List (List ℕ)) (name : List ℕ) (body : List Token) (line : ℕ) (p : Rest) (t : Token) (out : List Token) →
+    Recollects bytes es f out → Stands bytes es f (r ∷ rs) ns out → middle ≡ q ∷ rs → r.tokens.now ≡ t ∷ q.tokens.now → name ≡ text_of bytes t → q.line ≡ r.line → q.start ≡ r.start → q.group ≡ r.group → q.outer ≡ r.outer →
+    new ≡ p ∷ middle → rest_of p ≡ (body, Some line) → p.start ≡ length out → p.group ≡ f.groups name → p.outer ≡ r.group → new_names ≡ name ∷ ns → macros_in es name ≡ Some body →
     Leading bytes es f.used (rest_of r ∷ map rest_of rs) ns (map rest_of new) new_names [] → Stands bytes es f new new_names out
-stands_opens bytes es f r q rs middle new ns new_names name body line p out (o, apart) e l s g at b names m none lead =
-    let standing : Stands bytes es f (p ∷ middle) (name ∷ ns) out = (all, apart_enter f.within name ns none apart) in
+stands_opens bytes es f r q rs middle new ns new_names name body line p t out rec (o, sorted, held) e front same l s gr ou g at b pg po names m lead =
+    let standing : Stands bytes es f (p ∷ middle) (name ∷ ns) out = (
+      all,
+      (follows_held bytes (macros_in es) f.groups name body r rs ns t q.tokens.now front same m held, sorted),
+      subst (λ (xs : List Rest). Holds bytes (macros_in es) f.groups (p ∷ xs) (name ∷ ns)) (sym e)
+          (holds_opens bytes (macros_in es) f.groups name body p r q rs ns t (closed_here bytes es f out rec) front gr ou m (ap (λ (w : Waiting). w.0) at) pg po held),
+    ) in
     let with_names = subst (λ (xs : List (List ℕ)). Stands bytes es f (p ∷ middle) xs out) (sym names) standing in
     subst (λ (xs : List Rest). Stands bytes es f xs new_names out) (sym g) with_names where
       rest_line : p.line ≡ Some line
@@ -146,7 +181,7 @@ stands_opens bytes es f r q rs middle new ns new_names name body line p out (o, 
 -- an open body whose rest is done
 stands_left : (bytes : List ℕ) (es : Entries) (f : Findings) (r : Rest) (rs : List Rest) (n : List ℕ) (ns : List (List ℕ)) (out : List Token) → r.tokens.now ≡ [] →
     Stands bytes es f (r ∷ rs) (n ∷ ns) out → Stands bytes es f rs ns out
-stands_left bytes es f r rs n ns out none (o, apart) = ((λ other a. all other a (o other a)), apart_leave f.within n ns apart) where
+stands_left bytes es f r rs n ns out none (o, (follows, sorted), (i, j, held, holds)) = ((λ other a. all other a (o other a)), sorted, holds) where
   ends : (macros : Macros) → Leads bytes macros (rest_of r ∷ map rest_of rs) (n ∷ ns) (map rest_of rs) ns []
   ends macros found w = (
     [],
@@ -185,71 +220,6 @@ became bytes es r rs n ns body line given none lead =
           let fronts : given ≡ front = append_cancel_right given front found (e ∙ ap (λ (xs : List Token). front ++ xs) (sym same)) in
           subst (λ (xs : List Token). IsReplacedBy bytes (macros_in es) (n ∷ ns) (Some line) body xs) (sym fronts) x
 
--- what settled tokens become
-abbrev of : Option Span → Token → List Token → List Token
-of None t out = t ∷ []
-of (Some span) t out = piece span out
-
-abbrev pieces : List ℕ → Spans → List Token → List Token → List Token
-pieces bytes known out [] = []
-pieces bytes known out (t ∷ ts) = of (known (text_of bytes t)) t out ++ pieces bytes known out ts
-
-both : (a b : Bool) → (a && b) ≡ true → (a ≡ true) × (b ≡ true)
-both true b e = (refl, e)
-both false b e = cc
-
--- a token of the body of own that stays there, or of which it is known what it becomes
-abbrev is_plain : List ℕ → Macros → Spans → List ℕ → Token → Bool
-is_plain bytes macros known own t = is_some (known (text_of bytes t)) || (bytes_eq (text_of bytes t) own || not (is_some (macros (text_of bytes t))))
-
-no_body : (macros : Macros) (own : List ℕ) (names : List (List ℕ)) (name : List ℕ) → (bytes_eq name own || not (is_some (macros name))) ≡ true → body_for macros (own ∷ names) name ≡ None
-no_body macros own names name h = by (bytes_eq name own) h (list_any (bytes_eq name) names) (macros name) h where
-  none : (o : Option (List Token)) → not (is_some o) ≡ true → o ≡ None
-  none None h = refl
-  none (Some body) h = cc
-
-  by : (b : Bool) → (b || not (is_some (macros name))) ≡ true → (c : Bool) (o : Option (List Token)) → (b || not (is_some o)) ≡ true → cond (b || c) None o ≡ None
-  by true h c o k = refl
-  by false h true o k = refl
-  by false h false o k = none o k
-
-settles : (bytes : List ℕ) (macros : Macros) (known : Spans) (own : List ℕ) (out : List Token) → Remembers bytes macros known out → (ts : List Token) → list_all (is_plain bytes macros known own) ts ≡ true →
-    (names : List (List ℕ)) → Apart known (own ∷ names) → (line : ℕ) → IsReplacedBy bytes macros (own ∷ names) (Some line) ts (map (placed (Some line)) (pieces bytes known out ts))
-settles bytes macros known own out h [] all names apart line = (done, refl)
-settles bytes macros known own out h (t ∷ ts) all names apart line =
-    let parts = both (is_plain bytes macros known own t) (list_all (is_plain bytes macros known own) ts) all in
-    by (known (text_of bytes t)) refl (settles bytes macros known own out h ts parts.1 names apart line) parts.0 where
-      rest : List Token
-      rest = pieces bytes known out ts
-
-      by : (o : Option Span) → known (text_of bytes t) ≡ o → IsReplacedBy bytes macros (own ∷ names) (Some line) ts (map (placed (Some line)) rest) →
-          (is_some o || (bytes_eq (text_of bytes t) own || not (is_some (macros (text_of bytes t))))) ≡ true →
-          IsReplacedBy bytes macros (own ∷ names) (Some line) (t ∷ ts) (map (placed (Some line)) (of o t out ++ rest))
-      by None e (how, b) settled = (stays how, (no_body macros own names (text_of bytes t) settled, (map (placed (Some line)) rest, b, refl)))
-      by (Some span) e (how, b) settled = with_fit ((h (text_of bytes t) span e).1 (own ∷ names) apart line) where
-        with_fit : (body : List Token) × (body_for macros (own ∷ names) (text_of bytes t) ≡ Some body)
-            × IsReplacedBy bytes macros (text_of bytes t ∷ (own ∷ names)) (Some line) body (map (placed (Some line)) (piece span out)) →
-            IsReplacedBy bytes macros (own ∷ names) (Some line) (t ∷ ts) (map (placed (Some line)) (piece span out ++ rest))
-        with_fit (body, m, (inside, x)) =
-            (replaced inside how, (body, m, (map (placed (Some line)) (piece span out), map (placed (Some line)) rest, x, b, map-append (placed (Some line)) (piece span out) rest)))
-
--- tokens that are settled are so with all tables that replace the used names alike
-plain_likewise : (bytes : List ℕ) (now other : Macros) (f : Findings) (own : List ℕ) → Agree f.used now other → (ts : List Token) → list_all (is_settled bytes now f own) ts ≡ true → list_all (is_plain bytes other f.within own) ts ≡ true
-plain_likewise bytes now other f own a [] all = refl
-plain_likewise bytes now other f own a (t ∷ ts) all =
-    let parts = both (is_settled bytes now f own t) (list_all (is_settled bytes now f own) ts) all in
-    let here = by (is_some (f.within (text_of bytes t))) (bytes_eq (text_of bytes t) own) (f.used (text_of bytes t)) refl parts.0 in
-    ap (λ (b : Bool). b && list_all (is_plain bytes other f.within own) ts) here ∙ plain_likewise bytes now other f own a ts parts.1 where
-      by : (k o u : Bool) → f.used (text_of bytes t) ≡ u → (k || (o || (u && not (is_some (now (text_of bytes t)))))) ≡ true → (k || (o || not (is_some (other (text_of bytes t))))) ≡ true
-      by true o u e h = refl
-      by false true u e h = refl
-      by false false true e h = sym (ap (λ (x : Option (List Token)). not (is_some x)) (a (text_of bytes t) e)) ∙ h
-      by false false false e h = cc
-
-placed_again : (line other : ℕ) (ts : List Token) → map (placed (Some line)) (map (placed (Some other)) ts) ≡ map (placed (Some line)) ts
-placed_again line other [] = refl
-placed_again line other (t ∷ ts) = ap (λ (xs : List Token). placed (Some line) t ∷ xs) (placed_again line other ts)
-
 -- on another line the same tokens come
 becomes_on : (bytes : List ℕ) (macros : Macros) (line other : ℕ) (how : Replacing) (within : List (List ℕ)) (ts found : List Token) →
     Becomes bytes macros within (Some line) how ts found → Becomes bytes macros within (Some other) how ts (map (placed (Some other)) found)
@@ -281,10 +251,10 @@ piece_more span out given few =
     ap (λ (xs : List Token). take span.length xs) (drop-append-le span.start out given (omega (arith, few)))
     ∙ take-append-le span.length (drop span.start out) given (omega (arith, few, length-drop span.start out))
 
-remembers_more : (bytes : List ℕ) (macros : Macros) (known : Spans) (out given : List Token) → Remembers bytes macros known out → Remembers bytes macros known (out ++ given)
-remembers_more bytes macros known out given h name span is =
+remembers_more : (bytes : List ℕ) (macros : Macros) (groups : Groups) (known : Spans) (out given : List Token) → Remembers bytes macros groups known out → Remembers bytes macros groups known (out ++ given)
+remembers_more bytes macros groups known out given h name span is =
     let old = h name span is in
-    (omega (arith, old.0, length-append out given), subst (λ (xs : List Token). Fits bytes macros known name xs) (sym (piece_more span out given old.0)) old.1)
+    (omega (arith, old.0, length-append out given), (old.1.0, old.1.1, subst (λ (xs : List Token). Fits bytes macros groups old.1.0 name xs) (sym (piece_more span out given old.0)) old.1.2))
 
 alone_more : (bytes : List ℕ) (now other : Macros) (known : Spans) (out given : List Token) → RemembersAlone bytes now other known out → RemembersAlone bytes now other known (out ++ given)
 alone_more bytes now other known out given h name span is same =
@@ -294,72 +264,41 @@ alone_more bytes now other known out given h name span is same =
 pub recollects_more : (bytes : List ℕ) (es : Entries) (f : Findings) (out given new : List Token) → new ≡ out ++ given → Recollects bytes es f out → Recollects bytes es f new
 recollects_more bytes es f out given new e h =
     let more : Recollects bytes es f (out ++ given) =
-    λ other a. (remembers_more bytes (macros_in other) f.within out given (h other a).0, alone_more bytes (macros_in es) (macros_in other) f.outside out given (h other a).1) in
+    λ other a. ((h other a).0, remembers_more bytes (macros_in other) f.groups f.within out given (h other a).1, alone_more bytes (macros_in es) (macros_in other) f.outside out given (h other a).2) in
     subst (λ (xs : List Token). Recollects bytes es f xs) (sym e) more
 
 -- and while more names are used
-pub recollects_used : (bytes : List ℕ) (es : Entries) (within outside : Spans) (used more : List ℕ → Bool) (out : List Token) → Covers used more → Recollects bytes es (findings within outside used) out →
-    Recollects bytes es (findings within outside more) out
-recollects_used bytes es within outside used more out c h = λ other a. h other (λ name u. a name (c name u))
+pub recollects_used : (bytes : List ℕ) (es : Entries) (within : Spans) (groups : Groups) (outside : Spans) (used more : List ℕ → Bool) (out : List Token) → Covers used more → Recollects bytes es (findings within groups outside used) out →
+    Recollects bytes es (findings within groups outside more) out
+recollects_used bytes es within groups outside used more out c h = λ other a. h other (λ name u. a name (c name u))
 
-pub stands_used : (bytes : List ℕ) (es : Entries) (within outside : Spans) (used more : List ℕ → Bool) (rests : List Rest) (names : List (List ℕ)) (out : List Token) → Covers used more →
-    Stands bytes es (findings within outside used) rests names out → Stands bytes es (findings within outside more) rests names out
-stands_used bytes es within outside used more rests names out c (o, apart) = ((λ other a. o other (λ name u. a name (c name u))), apart)
-
-with_none : (x n : List ℕ) (span : Span) (known : Spans) → with_span n (Some span) known x ≡ None → (bytes_eq x n ≡ false) × (known x ≡ None)
-with_none x n span known e = by (bytes_eq x n) refl e where
-  by : (b : Bool) → bytes_eq x n ≡ b → cond b (Some span) (known x) ≡ None → (bytes_eq x n ≡ false) × (known x ≡ None)
-  by true f g = cc
-  by false f g = (f, g)
-
-apart_fewer : (n : List ℕ) (span : Span) (known : Spans) (names : List (List ℕ)) → Apart (with_span n (Some span) known) names → Apart known names
-apart_fewer n span known names apart x e = (with_none x n span known (apart x e)).1
-
-outside_of : (n : List ℕ) (span : Span) (known : Spans) (names : List (List ℕ)) → Apart (with_span n (Some span) known) names → list_any (bytes_eq n) names ≡ false
-outside_of n span known names apart = by (list_any (bytes_eq n) names) refl where
-  by : (b : Bool) → list_any (bytes_eq n) names ≡ b → list_any (bytes_eq n) names ≡ false
-  by true e = let none = with_none n n span known (apart n e) in let here = (bytes_eq-Decides n n).1 refl in cc
-  by false e = e
-
-apart_note : (n : List ℕ) (span : Span) (known : Spans) (names : List (List ℕ)) → list_any (bytes_eq n) names ≡ false → Apart known names → Apart (with_span n (Some span) known) names
-apart_note n span known names out apart x e = by (bytes_eq x n) refl where
-  by : (b : Bool) → bytes_eq x n ≡ b → cond b (Some span) (known x) ≡ None
-  by true same = let there : list_any (bytes_eq n) names ≡ true = ap (λ (k : List ℕ). list_any (bytes_eq k) names) (sym (same_name x n same)) ∙ e in cc
-  by false other = apart x e
+pub stands_used : (bytes : List ℕ) (es : Entries) (within : Spans) (groups : Groups) (outside : Spans) (used more : List ℕ → Bool) (rests : List Rest) (names : List (List ℕ)) (out : List Token) → Covers used more →
+    Stands bytes es (findings within groups outside used) rests names out → Stands bytes es (findings within groups outside more) rests names out
+stands_used bytes es within groups outside used more rests names out c (o, sorted, held) = ((λ other a. o other (λ name u. a name (c name u))), sorted, held)
 
 -- the tokens since a start
 piece_since : (span : Span) (start : ℕ) (out : List Token) → span.start ≡ start → span.length ≡ length out - start → piece span out ≡ drop start out
 piece_since span start out s l =
     ap (λ (i : ℕ). take span.length (drop i out)) s ∙ ap (λ (i : ℕ). take i (drop start out)) (l ∙ sym (length-drop start out)) ∙ take-length (drop start out)
 
--- a body of settled tokens became what it becomes within all names that aren't known
-noted : (bytes : List ℕ) (macros : Macros) (known : Spans) (n : List ℕ) (ns : List (List ℕ)) (body : List Token) (line start : ℕ) (out : List Token) → Remembers bytes macros known out →
-    macros n ≡ Some body → list_all (is_plain bytes macros known n) body ≡ true → Apart known (n ∷ ns) → known n ≡ None → start ≤ length out →
-    IsReplacedBy bytes macros (n ∷ ns) (Some line) body (drop start out) → (span : Span) → span.start ≡ start → span.length ≡ length out - start →
-    (span.start + span.length ≤ length out) × Fits bytes macros (with_span n (Some span) known) n (piece span out)
-noted bytes macros known n ns body line start out h m all apart none few is span s l = (omega (arith, s, l, few), fit) where
-  fit : Fits bytes macros (with_span n (Some span) known) n (piece span out)
-  fit names away other =
-      let free = outside_of n span known names away in
-      let given : drop start out ≡ map (placed (Some line)) (pieces bytes known out body) =
-      replaced_one bytes macros (n ∷ ns) (Some line) body (drop start out) (map (placed (Some line)) (pieces bytes known out body)) is (settles bytes macros known n out h body all ns apart line) in
-      let tokens : map (placed (Some other)) (piece span out) ≡ map (placed (Some other)) (pieces bytes known out body) =
-      ap (λ (xs : List Token). map (placed (Some other)) xs) (piece_since span start out s l ∙ given) ∙ placed_again other line (pieces bytes known out body) in
-      let here = settles bytes macros known n out h body all names (apart_enter known n names none (apart_fewer n span known names away)) other in (
-        body,
-        ap (λ (b : Bool). cond b None (macros n)) free ∙ m,
-        subst (λ (xs : List Token). IsReplacedBy bytes macros (n ∷ names) (Some other) body xs) (sym tokens) here,
-      )
+-- what a body became it becomes within all names of later groups and of none
+fits_note : (bytes : List ℕ) (macros : Macros) (groups : Groups) (k : ℕ) (n : List ℕ) (ns : List (List ℕ)) (body : List Token) (line : ℕ) (tokens : List Token) → Closed bytes macros groups → groups n ≡ Some k → macros n ≡ Some body →
+    Apart groups k ns → IsReplacedBy bytes macros (n ∷ ns) (Some line) body tokens → Fits bytes macros groups k n tokens
+fits_note bytes macros groups k n ns body line tokens closed g m apart is names away other = (
+  body,
+  ap (λ (b : Bool). cond b None (macros n)) (apart_self groups k n names g away) ∙ m,
+  replaced_apart bytes macros groups k n body ns names other (map (placed (Some other)) tokens) closed g m apart away (replaced_on bytes macros line other (n ∷ ns) body tokens is),
+)
 
-remembers_note : (bytes : List ℕ) (macros : Macros) (known : Spans) (n : List ℕ) (span : Span) (out : List Token) → Remembers bytes macros known out →
-    (span.start + span.length ≤ length out) × Fits bytes macros (with_span n (Some span) known) n (piece span out) → Remembers bytes macros (with_span n (Some span) known) out
-remembers_note bytes macros known n span out h new x other e = by (bytes_eq x n) refl e where
-  by : (b : Bool) → bytes_eq x n ≡ b → cond b (Some span) (known x) ≡ Some other → (other.start + other.length ≤ length out) × Fits bytes macros (with_span n (Some span) known) x (piece other out)
+remembers_note : (bytes : List ℕ) (macros : Macros) (groups : Groups) (known : Spans) (n : List ℕ) (span : Span) (k : ℕ) (out : List Token) → Remembers bytes macros groups known out → span.start + span.length ≤ length out →
+    groups n ≡ Some k → Fits bytes macros groups k n (piece span out) → Remembers bytes macros groups (with_span n (Some span) known) out
+remembers_note bytes macros groups known n span k out h few g fits x other e = by (bytes_eq x n) refl e where
+  by : (b : Bool) → bytes_eq x n ≡ b → cond b (Some span) (known x) ≡ Some other → (other.start + other.length ≤ length out) × ((j : ℕ) × (groups x ≡ Some j) × Fits bytes macros groups j x (piece other out))
   by true same f =
       let spans : span ≡ other = cc in
-      let here = subst (λ (k : List ℕ). (span.start + span.length ≤ length out) × Fits bytes macros (with_span n (Some span) known) k (piece span out)) (sym (same_name x n same)) new in
-      subst (λ (s : Span). (s.start + s.length ≤ length out) × Fits bytes macros (with_span n (Some span) known) x (piece s out)) spans here
-  by false apart f = let old = h x other f in (old.0, λ names away line. old.1 names (apart_fewer n span known names away) line)
+      let here = subst (λ (y : List ℕ). (span.start + span.length ≤ length out) × ((j : ℕ) × (groups y ≡ Some j) × Fits bytes macros groups j y (piece span out))) (sym (same_name x n same)) (few, (k, g, fits)) in
+      subst (λ (s : Span). (s.start + s.length ≤ length out) × ((j : ℕ) × (groups x ≡ Some j) × Fits bytes macros groups j x (piece s out))) spans here
+  by false apart f = h x other f
 
 alone_note : (bytes : List ℕ) (now macros : Macros) (known : Spans) (n : List ℕ) (span : Span) (out : List Token) → RemembersAlone bytes now macros known out →
     (macros n ≡ now n → (span.start + span.length ≤ length out) × Alone bytes macros n (piece span out)) → RemembersAlone bytes now macros (with_span n (Some span) known) out
@@ -415,31 +354,59 @@ macro_of macros ns name body e = (for_cases macros ns name body (sym e)).1
 abbrev pub Repeats : List ℕ → Macros → List (List ℕ) → List ℕ → List Token → Type 0
 Repeats bytes macros ns name tokens = (line : ℕ) → (body : List Token) × (body_for macros ns name ≡ Some body) × IsReplacedBy bytes macros (name ∷ ns) (Some line) body (map (placed (Some line)) tokens)
 
--- what is known of a name is so here
-repeats_here : (bytes : List ℕ) (es : Entries) (f : Findings) (ns : List (List ℕ)) (out : List Token) (name : List ℕ) (span : Span) → Recollects bytes es f out → Apart f.within ns → known_at f (is_top ns) name ≡ Some span →
-    Repeats bytes (macros_in es) ns name (piece span out)
-repeats_here bytes es f ns out name span h apart k = by ns apart (f.within name) refl k where
-  all : Remembers bytes (macros_in es) f.within out × RemembersAlone bytes (macros_in es) (macros_in es) f.outside out
-  all = h es (λ name u. refl)
+-- a place within names that a group's macros don't reach
+first_apart : (groups : Groups) (k : ℕ) (g : Option ℕ) (ns : List (List ℕ)) → IsGroup groups g ns → may_reach (Some k) g ≡ false → First groups k ns
+first_apart groups k g [] i far = tt
+first_apart groups k g (n ∷ ns) i far = by (groups n) refl where
+  by : (o : Option ℕ) → groups n ≡ o → is_upto k o ≡ false
+  by None e = refl
+  by (Some j) e = ap (is_upto k) (sym (i j e)) ∙ far
 
-  by : (ns : List (List ℕ)) → Apart f.within ns → (o : Option Span) → f.within name ≡ o → or_else o (if is_top ns then f.outside name else None) ≡ Some span → Repeats bytes (macros_in es) ns name (piece span out)
-  by ns apart (Some other) e k =
-      let same : other ≡ span = cc in
-      subst (λ (s : Span). Repeats bytes (macros_in es) ns name (piece s out)) same (λ line. (all.0 name other e).1 ns apart line)
-  by [] apart None e k = λ line. (all.1 name span k refl).1 line
-  by (n ∷ ns) apart None e k = cc
+group_inside : (bytes : List ℕ) (macros : Macros) (groups : Groups) (r : Rest) (rs : List Rest) (ns : List (List ℕ)) → Holds bytes macros groups (r ∷ rs) ns → IsGroup groups r.group ns
+group_inside bytes macros groups r rs [] h = tt
+group_inside bytes macros groups r rs (n ∷ ns) h = h.0
+
+-- what is known of a name within others
+known_within : (reach : Bool) (within outside : Option Span) (span : Span) → or_else (if reach then None else within) (if false then outside else None) ≡ Some span → (reach ≡ false) × (within ≡ Some span)
+known_within true within outside span e = cc
+known_within false None outside span e = cc
+known_within false (Some other) outside span e = (refl, e)
+
+-- what is known of a name outside others
+known_outside : (reach : Bool) (within outside : Option Span) (span : Span) → or_else (if reach then None else within) (if true then outside else None) ≡ Some span → (within ≡ Some span) ⊎ (outside ≡ Some span)
+known_outside true within outside span e = inr e
+known_outside false None outside span e = inr e
+known_outside false (Some other) outside span e = inl e
+
+within_repeats : (bytes : List ℕ) (macros : Macros) (groups : Groups) (known : Spans) (ns : List (List ℕ)) (out : List Token) (name : List ℕ) (span : Span) → Remembers bytes macros groups known out → known name ≡ Some span →
+    ((k : ℕ) → groups name ≡ Some k → Apart groups k ns) → Repeats bytes macros ns name (piece span out)
+within_repeats bytes macros groups known ns out name span h k apart line = let is = h name span k in is.1.2 ns (apart is.1.0 is.1.1) line
+
+no_names : (groups : Groups) (k : ℕ) → Apart groups k []
+no_names groups k x e = cc
+
+-- the names are apart from those of a group that doesn't reach them
+apart_here : (bytes : List ℕ) (macros : Macros) (groups : Groups) (g : Option ℕ) (name : List ℕ) (ns : List (List ℕ)) → Sorted groups ns → IsGroup groups g ns → may_reach (groups name) g ≡ false → (k : ℕ) → groups name ≡ Some k → Apart groups k ns
+apart_here bytes macros groups g name ns sorted i far k e = sorted_apart groups k ns sorted (first_apart groups k g ns i (ap (λ (o : Option ℕ). may_reach o g) (sym e) ∙ far))
+
+-- what is known of a name is so here
+repeats_here : (bytes : List ℕ) (es : Entries) (f : Findings) (g : Option ℕ) (ns : List (List ℕ)) (out : List Token) (name : List ℕ) (span : Span) → Recollects bytes es f out → Sorted f.groups ns → IsGroup f.groups g ns →
+    known_at f (is_top ns) g name ≡ Some span → Repeats bytes (macros_in es) ns name (piece span out)
+repeats_here bytes es f g [] out name span h sorted i k = by (known_outside (may_reach (f.groups name) g) (f.within name) (f.outside name) span k) where
+  by : (f.within name ≡ Some span) ⊎ (f.outside name ≡ Some span) → Repeats bytes (macros_in es) [] name (piece span out)
+  by (inl e) = within_repeats bytes (macros_in es) f.groups f.within [] out name span (h es (λ x u. refl)).1 e (λ j s. no_names f.groups j)
+  by (inr e) = λ line. ((h es (λ x u. refl)).2 name span e refl).1 line
+repeats_here bytes es f g (n ∷ ns) out name span h sorted i k =
+    let known = known_within (may_reach (f.groups name) g) (f.within name) (f.outside name) span k in
+    within_repeats bytes (macros_in es) f.groups f.within (n ∷ ns) out name span (h es (λ x u. refl)).1 known.1 (apart_here bytes (macros_in es) f.groups g name (n ∷ ns) sorted i known.0)
 
 -- and with all tables that replace the used names alike, if something is being replaced
-repeats_likewise : (bytes : List ℕ) (es : Entries) (f : Findings) (ns : List (List ℕ)) (out : List Token) (name : List ℕ) (span : Span) → Recollects bytes es f out → Apart f.within ns → known_at f (is_top ns) name ≡ Some span →
-    is_top ns ≡ false → Likewise f.used es (λ other. Repeats bytes other ns name (piece span out))
-repeats_likewise bytes es f ns out name span h apart k nested other a = by ns apart nested (f.within name) refl k where
-  by : (ns : List (List ℕ)) → Apart f.within ns → is_top ns ≡ false → (o : Option Span) → f.within name ≡ o → or_else o (if is_top ns then f.outside name else None) ≡ Some span →
-      Repeats bytes (macros_in other) ns name (piece span out)
-  by ns apart nested (Some one) e k =
-      let same : one ≡ span = cc in
-      subst (λ (s : Span). Repeats bytes (macros_in other) ns name (piece s out)) same (λ line. ((h other a).0 name one e).1 ns apart line)
-  by [] apart nested None e k = cc
-  by (n ∷ ns) apart nested None e k = cc
+repeats_likewise : (bytes : List ℕ) (es : Entries) (f : Findings) (g : Option ℕ) (ns : List (List ℕ)) (out : List Token) (name : List ℕ) (span : Span) → Recollects bytes es f out → Sorted f.groups ns → IsGroup f.groups g ns →
+    known_at f (is_top ns) g name ≡ Some span → is_top ns ≡ false → Likewise f.used es (λ other. Repeats bytes other ns name (piece span out))
+repeats_likewise bytes es f g [] out name span h sorted i k nested other a = cc
+repeats_likewise bytes es f g (n ∷ ns) out name span h sorted i k nested other a =
+    let known = known_within (may_reach (f.groups name) g) (f.within name) (f.outside name) span k in
+    within_repeats bytes (macros_in other) f.groups f.within (n ∷ ns) out name span (h other a).1 known.1 (apart_here bytes (macros_in es) f.groups g name (n ∷ ns) sorted i known.0)
 
 -- a token of which it is known what it becomes
 repeats : (bytes : List ℕ) (macros : Macros) (line : Option ℕ) (t : Token) (ts : List Token) (rs : List Waiting) (ns : List (List ℕ)) (tokens : List Token) →
@@ -466,28 +433,26 @@ lead_repeats bytes macros r q rs new ns t ts found p given front at e is g fits 
     (subst (λ (ws : List Waiting). Leads bytes macros ((t ∷ ts, r.line) ∷ map rest_of rs) ns ws ns (map (placed (Some (placed r.line t).line)) found)) (sym rests) lead))
 
 pub turn_repeats : (bytes : List ℕ) (es : Entries) (f : Findings) (r q : Rest) (rs new : List Rest) (ns : List (List ℕ)) (t : Token) (ts out : List Token) (span : Span) (p : Token) (given : List Token) → r.tokens.now ≡ t ∷ ts →
-    rest_of q ≡ (ts, r.line) → new ≡ q ∷ rs → p ≡ placed r.line t → known_at f (is_top ns) (text_of bytes t) ≡ Some span → given ≡ piece span out → Recollects bytes es f out → Stands bytes es f (r ∷ rs) ns out →
+    rest_of q ≡ (ts, r.line) → new ≡ q ∷ rs → p ≡ placed r.line t → known_at f (is_top ns) r.group (text_of bytes t) ≡ Some span → given ≡ piece span out → Recollects bytes es f out → Stands bytes es f (r ∷ rs) ns out →
     Leads bytes (macros_in es) (rest_of r ∷ map rest_of rs) ns (map rest_of new) ns (map (placed (Some p.line)) given)
 turn_repeats bytes es f r q rs new ns t ts out span p given front at e is k g h s =
-    lead_repeats bytes (macros_in es) r q rs new ns t ts (piece span out) p given front at e is g (repeats_here bytes es f ns out (text_of bytes t) span h s.1 k)
+    lead_repeats bytes (macros_in es) r q rs new ns t ts (piece span out) p given front at e is g
+    (repeats_here bytes es f r.group ns out (text_of bytes t) span h s.1 (group_inside bytes (macros_in es) f.groups r rs ns s.2) k)
 
 pub all_repeat : (bytes : List ℕ) (es : Entries) (f : Findings) (r q : Rest) (rs new : List Rest) (ns : List (List ℕ)) (t : Token) (ts out : List Token) (span : Span) (p : Token) (given : List Token) → r.tokens.now ≡ t ∷ ts →
-    rest_of q ≡ (ts, r.line) → new ≡ q ∷ rs → p ≡ placed r.line t → known_at f (is_top ns) (text_of bytes t) ≡ Some span → given ≡ piece span out → Recollects bytes es f out → Stands bytes es f (r ∷ rs) ns out →
+    rest_of q ≡ (ts, r.line) → new ≡ q ∷ rs → p ≡ placed r.line t → known_at f (is_top ns) r.group (text_of bytes t) ≡ Some span → given ≡ piece span out → Recollects bytes es f out → Stands bytes es f (r ∷ rs) ns out →
     Leading bytes es f.used (rest_of r ∷ map rest_of rs) ns (map rest_of new) ns (map (placed (Some p.line)) given)
 all_repeat bytes es f r q rs new ns t ts out span p given front at e is k g h s nested other a =
-    lead_repeats bytes (macros_in other) r q rs new ns t ts (piece span out) p given front at e is g (repeats_likewise bytes es f ns out (text_of bytes t) span h s.1 k nested other a)
+    lead_repeats bytes (macros_in other) r q rs new ns t ts (piece span out) p given front at e is g
+    (repeats_likewise bytes es f r.group ns out (text_of bytes t) span h s.1 (group_inside bytes (macros_in es) f.groups r rs ns s.2) k nested other a)
 
 -- the text is done
 pub close_text : (bytes : List ℕ) (es : Entries) (f : Findings) (rs new : List Rest) (names : List (List ℕ)) (out : List Token) → names ≡ [] → new ≡ rs → Stands bytes es f new names out
 close_text bytes es f rs new names out e g =
-    subst (λ (ns : List (List ℕ)). Stands bytes es f new ns out) (sym e) ((λ other a. opened_none bytes (macros_in es) (macros_in other) new (map rest_of new) [] out), (λ x h. cc))
-
--- a body is done
-pub close_body : (bytes : List ℕ) (es : Entries) (f : Findings) (r : Rest) (rs new : List Rest) (names : List (List ℕ)) (n : List ℕ) (ns : List (List ℕ)) (out : List Token) → r.tokens.now ≡ [] →
-    Stands bytes es f (r ∷ rs) names out → names ≡ n ∷ ns → new ≡ rs → Stands bytes es f new ns out
-close_body bytes es f r rs new names n ns out none s e g =
-    subst (λ (xs : List Rest). Stands bytes es f xs ns out) (sym g)
-    (stands_left bytes es f r rs n ns out none (subst (λ (xs : List (List ℕ)). Stands bytes es f (r ∷ rs) xs out) e s))
+    subst (λ (ns : List (List ℕ)). Stands bytes es f new ns out) (sym e) ((λ other a. opened_none bytes (macros_in es) (macros_in other) new (map rest_of new) [] out), tt, holds_none new) where
+      holds_none : (xs : List Rest) → Holds bytes (macros_in es) f.groups xs []
+      holds_none [] = tt
+      holds_none (x ∷ xs) = tt
 
 -- the body that is done became the tokens since its start
 done_with : (bytes : List ℕ) (es other : Entries) (r : Rest) (rs : List Rest) (n : List ℕ) (ns : List (List ℕ)) (out : List Token) → r.tokens.now ≡ [] →
@@ -495,42 +460,58 @@ done_with : (bytes : List ℕ) (es other : Entries) (r : Rest) (rs : List Rest) 
     (line : ℕ) × (body : List Token) × (macros_in es n ≡ Some body) × (r.start ≤ length out) × IsReplacedBy bytes (macros_in other) (n ∷ ns) (Some line) body (drop r.start out)
 done_with bytes es other r rs n ns out none ((line, body, l, m, few, lead), o) = (line, body, m, few, became bytes other r (map rest_of rs) n ns body line (drop r.start out) none lead)
 
--- a body is done, and it is noted what it became within all names that aren't known
-note_within : (bytes : List ℕ) (es : Entries) (f : Findings) (r : Rest) (rs : List Rest) (n : List ℕ) (ns : List (List ℕ)) (out : List Token) (span : Span) (body : List Token) → r.tokens.now ≡ [] →
-    Recollects bytes es f out → Stands bytes es f (r ∷ rs) (n ∷ ns) out → f.used n ≡ true → macros_in es n ≡ Some body → list_all (is_settled bytes (macros_in es) f n) body ≡ true →
-    span.start ≡ r.start → span.length ≡ length out - r.start → Recollects bytes es (findings (with_span n (Some span) f.within) f.outside f.used) out
-note_within bytes es f r rs n ns out span body none h (o, apart) marked m all at l other a = by (done_with bytes es other r rs n ns out none (o other a)) where
-  here : list_any (bytes_eq n) (n ∷ ns) ≡ true
-  here = ap (λ (b : Bool). b || list_any (bytes_eq n) ns) ((bytes_eq-Decides n n).1 refl)
+-- a body is done, and it is noted what it became within all names of later groups
+note_within : (bytes : List ℕ) (es : Entries) (f : Findings) (r : Rest) (rs : List Rest) (n : List ℕ) (ns : List (List ℕ)) (out : List Token) (span : Span) (k : ℕ) → r.tokens.now ≡ [] → Recollects bytes es f out →
+    Likewise f.used es (λ other. Opened bytes (macros_in es) other (r ∷ rs) (n ∷ ns) (rest_of r ∷ map rest_of rs) (n ∷ ns) out) → f.groups n ≡ Some k → f.used n ≡ true → Apart f.groups k ns →
+    span.start ≡ r.start → span.length ≡ length out - r.start → Recollects bytes es (findings (with_span n (Some span) f.within) f.groups f.outside f.used) out
+note_within bytes es f r rs n ns out span k none h o g marked apart at l other a = by (done_with bytes es other r rs n ns out none (o other a)) where
+  by : (line : ℕ) × (body : List Token) × (macros_in es n ≡ Some body) × (r.start ≤ length out) × IsReplacedBy bytes (macros_in other) (n ∷ ns) (Some line) body (drop r.start out) →
+      Closed bytes (macros_in other) f.groups × Remembers bytes (macros_in other) f.groups (with_span n (Some span) f.within) out × RemembersAlone bytes (macros_in es) (macros_in other) f.outside out
+  by (line, body, m, few, is) =
+      let old = h other a in
+      let fits = fits_note bytes (macros_in other) f.groups k n ns body line (drop r.start out) old.0 g (sym (a n marked) ∙ m) apart is in
+      let since = subst (λ (xs : List Token). Fits bytes (macros_in other) f.groups k n xs) (sym (piece_since span r.start out at l)) fits in
+      (old.0, remembers_note bytes (macros_in other) f.groups f.within n span k out old.1 (omega (arith, at, l, few)) g since, old.2)
 
-  by : (line : ℕ) × (one : List Token) × (macros_in es n ≡ Some one) × (r.start ≤ length out) × IsReplacedBy bytes (macros_in other) (n ∷ ns) (Some line) one (drop r.start out) →
-      Remembers bytes (macros_in other) (with_span n (Some span) f.within) out × RemembersAlone bytes (macros_in es) (macros_in other) f.outside out
-  by (line, one, mo, few, is) =
-      let same : one ≡ body = let two = sym mo ∙ m in cc in
-      let became_body = subst (λ (b : List Token). IsReplacedBy bytes (macros_in other) (n ∷ ns) (Some line) b (drop r.start out)) same is in
-      let plain = plain_likewise bytes (macros_in es) (macros_in other) f n a body all in
-      let fits = noted bytes (macros_in other) f.within n ns body line r.start out (h other a).0 (sym (a n marked) ∙ m) plain apart (apart n here) few became_body span at l in
-      (remembers_note bytes (macros_in other) f.within n span out (h other a).0 fits, (h other a).1)
+-- what stands behind a body that is done, with other groups
+pub close_regrouped : (bytes : List ℕ) (es : Entries) (f f1 : Findings) (r : Rest) (rs : List Rest) (names : List (List ℕ)) (n : List ℕ) (ns : List (List ℕ)) (out : List Token) → r.tokens.now ≡ [] →
+    Stands bytes es f (r ∷ rs) names out → names ≡ n ∷ ns → f1.used ≡ f.used → Regroups bytes (macros_in es) f.groups f1.groups ns → Stands bytes es f1 rs ns out
+close_regrouped bytes es f f1 r rs names n ns out none s e used (sorted, holds, group) =
+    let left = stands_left bytes es f r rs n ns out none (subst (λ (xs : List (List ℕ)). Stands bytes es f (r ∷ rs) xs out) e s) in
+    (subst (λ (u : List ℕ → Bool). Likewise u es (λ other. Opened bytes (macros_in es) other rs ns (map rest_of rs) ns out)) (sym used) left.0, sorted left.1, holds rs left.2)
 
-pub close_within : (bytes : List ℕ) (es : Entries) (f f2 : Findings) (r : Rest) (rs new : List Rest) (names : List (List ℕ)) (n : List ℕ) (ns : List (List ℕ)) (out : List Token) (span : Span) → r.tokens.now ≡ [] →
-    Recollects bytes es f out → Stands bytes es f (r ∷ rs) names out → names ≡ n ∷ ns → new ≡ rs → list_any (bytes_eq n) ns ≡ false → f.used n ≡ true →
-    (body : List Token) × (macros_in es n ≡ Some body) × (list_all (is_settled bytes (macros_in es) f n) body ≡ true) → span.start ≡ r.start → span.length ≡ length out - r.start →
-    f2 ≡ findings (with_span n (Some span) f.within) f.outside f.used → Recollects bytes es f2 out × Stands bytes es f2 new ns out
-close_within bytes es f f2 r rs new names n ns out span none h s e g free marked (body, m, all) at l k =
+-- the group of the name outside the body that is done
+outer_group : (bytes : List ℕ) (es : Entries) (f f1 : Findings) (r : Rest) (rs : List Rest) (n : List ℕ) (ns : List (List ℕ)) (out : List Token) → Stands bytes es f (r ∷ rs) (n ∷ ns) out →
+    Regroups bytes (macros_in es) f.groups f1.groups ns → IsGroup f1.groups r.outer ns
+outer_group bytes es f f1 r rs n ns out (o, sorted, (i, j, held, h)) (s, holds, group) = group r.outer j
+
+opened_used : (bytes : List ℕ) (es : Entries) (f f1 : Findings) (r : Rest) (rs : List Rest) (names : List (List ℕ)) (n : List ℕ) (ns : List (List ℕ)) (out : List Token) → Stands bytes es f (r ∷ rs) names out → names ≡ n ∷ ns → f1.used ≡ f.used →
+    Likewise f1.used es (λ other. Opened bytes (macros_in es) other (r ∷ rs) (n ∷ ns) (rest_of r ∷ map rest_of rs) (n ∷ ns) out)
+opened_used bytes es f f1 r rs names n ns out s e used =
     let standing = subst (λ (xs : List (List ℕ)). Stands bytes es f (r ∷ rs) xs out) e s in
-    let left = stands_left bytes es f r rs n ns out none standing in
-    let behind : Stands bytes es (findings (with_span n (Some span) f.within) f.outside f.used) new ns out =
-    subst (λ (xs : List Rest). Stands bytes es (findings (with_span n (Some span) f.within) f.outside f.used) xs ns out) (sym g) (left.0, apart_note n span f.within ns free left.1) in (
-      subst (λ (x : Findings). Recollects bytes es x out) (sym k) (note_within bytes es f r rs n ns out span body none h standing marked m all at l),
-      subst (λ (x : Findings). Stands bytes es x new ns out) (sym k) behind,
-    )
+    subst (λ (u : List ℕ → Bool). Likewise u es (λ other. Opened bytes (macros_in es) other (r ∷ rs) (n ∷ ns) (rest_of r ∷ map rest_of rs) (n ∷ ns) out)) (sym used) standing.0
+
+has_group : (o g : Option ℕ) → may_reach o g ≡ false → (k : ℕ) × (o ≡ Some k)
+has_group None g e = cc
+has_group (Some k) g e = (k, refl)
+
+pub close_within : (bytes : List ℕ) (es : Entries) (f f1 f2 : Findings) (r : Rest) (rs : List Rest) (names : List (List ℕ)) (n : List ℕ) (ns : List (List ℕ)) (out : List Token) (span : Span) → r.tokens.now ≡ [] →
+    Recollects bytes es f1 out → Stands bytes es f (r ∷ rs) names out → names ≡ n ∷ ns → f1.used ≡ f.used → Regroups bytes (macros_in es) f.groups f1.groups ns → may_reach (f1.groups n) r.outer ≡ false → f1.used n ≡ true →
+    span.start ≡ r.start → span.length ≡ length out - r.start → f2 ≡ findings (with_span n (Some span) f1.within) f1.groups f1.outside f1.used → Recollects bytes es f2 out × Stands bytes es f2 rs ns out
+close_within bytes es f f1 f2 r rs names n ns out span none h s e used regroups far marked at l k =
+    let behind = close_regrouped bytes es f f1 r rs names n ns out none s e used regroups in
+    let group = has_group (f1.groups n) r.outer far in
+    let standing = subst (λ (xs : List (List ℕ)). Stands bytes es f (r ∷ rs) xs out) e s in
+    let apart = apart_here bytes (macros_in es) f1.groups r.outer n ns behind.1 (outer_group bytes es f f1 r rs n ns out standing regroups) far group.0 group.1 in
+    let noted = note_within bytes es f1 r rs n ns out span group.0 none h (opened_used bytes es f f1 r rs names n ns out s e used) group.1 marked apart at l in
+    (subst (λ (x : Findings). Recollects bytes es x out) (sym k) noted, subst (λ (x : Findings). Stands bytes es x rs ns out) (sym k) behind)
 
 -- a body is done outside others, and it is noted what it became
 note_alone : (bytes : List ℕ) (es : Entries) (f : Findings) (r : Rest) (rs : List Rest) (n : List ℕ) (out : List Token) (span : Span) → r.tokens.now ≡ [] →
-    Recollects bytes es f out → Stands bytes es f (r ∷ rs) (n ∷ []) out → span.start ≡ r.start → span.length ≡ length out - r.start →
-    Recollects bytes es (findings f.within (with_span n (Some span) f.outside) f.used) out
-note_alone bytes es f r rs n out span none h (o, apart) at l other a =
-    ((h other a).0, alone_note bytes (macros_in es) (macros_in other) f.outside n span out (h other a).1 (λ own. by own (done_with bytes es other r rs n [] out none (o other a)))) where
+    Recollects bytes es f out → Likewise f.used es (λ other. Opened bytes (macros_in es) other (r ∷ rs) (n ∷ []) (rest_of r ∷ map rest_of rs) (n ∷ []) out) → span.start ≡ r.start → span.length ≡ length out - r.start →
+    Recollects bytes es (findings f.within f.groups (with_span n (Some span) f.outside) f.used) out
+note_alone bytes es f r rs n out span none h o at l other a =
+    ((h other a).0, (h other a).1, alone_note bytes (macros_in es) (macros_in other) f.outside n span out (h other a).2 (λ own. by own (done_with bytes es other r rs n [] out none (o other a)))) where
       by : macros_in other n ≡ macros_in es n →
           (line : ℕ) × (body : List Token) × (macros_in es n ≡ Some body) × (r.start ≤ length out) × IsReplacedBy bytes (macros_in other) (n ∷ []) (Some line) body (drop r.start out) →
           (span.start + span.length ≤ length out) × Alone bytes (macros_in other) n (piece span out)
@@ -544,15 +525,14 @@ note_alone bytes es f r rs n out span none h (o, apart) at l other a =
         ),
       )
 
-pub close_alone : (bytes : List ℕ) (es : Entries) (f f2 : Findings) (r : Rest) (rs new : List Rest) (names : List (List ℕ)) (n : List ℕ) (ns : List (List ℕ)) (out : List Token) (span : Span) → r.tokens.now ≡ [] →
-    Recollects bytes es f out → Stands bytes es f (r ∷ rs) names out → names ≡ n ∷ ns → is_top ns ≡ true → new ≡ rs → span.start ≡ r.start → span.length ≡ length out - r.start →
-    f2 ≡ findings f.within (with_span n (Some span) f.outside) f.used → Recollects bytes es f2 out × Stands bytes es f2 new ns out
-close_alone bytes es f f2 r rs new names n [] out span none h s e top g at l k =
-    let standing = subst (λ (xs : List (List ℕ)). Stands bytes es f (r ∷ rs) xs out) e s in (
-      subst (λ (x : Findings). Recollects bytes es x out) (sym k) (note_alone bytes es f r rs n out span none h standing at l),
-      close_text bytes es f2 rs new [] out refl g,
-    )
-close_alone bytes es f f2 r rs new names n (m ∷ ns) out span none h s e top g at l k = cc
+pub close_alone : (bytes : List ℕ) (es : Entries) (f f1 f2 : Findings) (r : Rest) (rs : List Rest) (names : List (List ℕ)) (n : List ℕ) (ns : List (List ℕ)) (out : List Token) (span : Span) → r.tokens.now ≡ [] →
+    Recollects bytes es f1 out → Stands bytes es f (r ∷ rs) names out → names ≡ n ∷ ns → f1.used ≡ f.used → is_top ns ≡ true → span.start ≡ r.start → span.length ≡ length out - r.start →
+    f2 ≡ findings f1.within f1.groups (with_span n (Some span) f1.outside) f1.used → Recollects bytes es f2 out × Stands bytes es f2 rs ns out
+close_alone bytes es f f1 f2 r rs names n [] out span none h s e used top at l k = (
+  subst (λ (x : Findings). Recollects bytes es x out) (sym k) (note_alone bytes es f1 r rs n out span none h (opened_used bytes es f f1 r rs names n [] out s e used) at l),
+  close_text bytes es f2 rs rs [] out refl refl,
+)
+close_alone bytes es f f1 f2 r rs names n (m ∷ ns) out span none h s e used top at l k = cc
 
 pub stands_pop : (bytes : List ℕ) (es : Entries) (f : Findings) (old popped : List Rest) (r : Rest) (names : List (List ℕ)) (out : List Token) → old ≡ popped ++ r ∷ [] → Stands bytes es f (reverse old) names out →
     Stands bytes es f (r ∷ reverse popped) names out

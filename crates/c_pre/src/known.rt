@@ -1,13 +1,10 @@
 //! What macros became, and for how long it is known.
 
 ghost use Rattle.std.specs.Prelude.{◌≡◌, [], true, ℕ, List, Some, None, IfOk, OnOk};
-ghost use Rattle.std.specs.List.{list_all};
-ghost use Rattle.c_token.specs.declared.token.Token.{Token};
 ghost use Rattle.c_pre.specs.Macros.{with_body};
 ghost use Rattle.c_pre.specs.Views.{Entries, macros_in};
-ghost use Rattle.c_pre.specs.Known.{spans_in, with_span, is_in, findings_of, piece, known_at, is_settled, Covers, Keeps, Forgets};
+ghost use Rattle.c_pre.specs.Known.{spans_in, with_span, groups_in, is_in, is_upto, may_reach, findings_of, piece, known_at, Covers, Keeps, Forgets};
 
-use crate::directive::{split, text_at};
 use crate::macros::{Macros, body_of};
 use c_token::Token;
 use indexmap::{IndexMap, IndexSet};
@@ -23,12 +20,16 @@ pub struct Span {
 /// The tokens that names became. A name of which nothing is known any more keeps its entry, without a span.
 pub type Spans = IndexMap<Vec<u8>, Option<Span>>;
 
+/// The groups of names, numbered in the order in which they came to be: in the bodies of a group's macros stand names of that
+/// group and of earlier ones, and names of no macro.
+pub type Groups = IndexMap<Vec<u8>, usize>;
+
 /// What macros became, as long as the macros on which it rests stay the same.
 #[derive(Drop)]
 pub struct Known {
-    /// The tokens that a macro becomes within all others that aren't known here: those that became some within another one,
-    /// and met no name but their own that was being replaced.
+    /// The tokens that a macro of a group becomes within all macros of later groups and of none.
     pub within: Spans,
+    pub groups: Groups,
     /// The tokens that a macro becomes where nothing is being replaced.
     pub outside: Spans,
     /// The names that were met in the bodies of macros.
@@ -39,9 +40,11 @@ pub struct Known {
 pub fn nothing(alloc: Global) -> Known
     ensures within { result.within.entries ≡ [] }
     ensures outside { result.outside.entries ≡ [] }
+    ensures groups { result.groups.entries ≡ [] }
 {
     Known {
         within: IndexMap::new(alloc),
+        groups: IndexMap::new(alloc),
         outside: IndexMap::new(alloc),
         used: IndexSet::new(alloc),
     }
@@ -57,19 +60,47 @@ fn span_of(spans: &Spans, name: &[u8]) -> Option<Span>
     }
 }
 
-/// Where the tokens stand that a name becomes: where nothing is being replaced, if top, or within others.
-pub fn span_at(known: &Known, top: bool, name: &[u8]) -> Option<Span>
-    ensures { result ≡ known_at (findings_of known.now) top name.now }
+/// The group of a name, if it has one.
+pub fn group_of(groups: &Groups, name: &[u8]) -> Option<usize>
+    ensures { result ≡ groups_in groups.now.entries name.now }
 {
-    match span_of(&known.within, name) {
-        Some(span) => Some(span),
-        None => {
-            if top {
-                span_of(&known.outside, name)
-            } else {
-                None
-            }
+    groups.get(name).copied()
+}
+
+/// Whether a group is this one or an earlier one.
+pub fn is_upto(group: usize, other: Option<usize>) -> bool
+    ensures { result ≡ is_upto group other }
+{
+    match other {
+        None => false,
+        Some(other) => other <= group,
+    }
+}
+
+/// Whether a name of the second group may stand below one of the first.
+pub fn may_reach(group: Option<usize>, other: Option<usize>) -> bool
+    ensures { result ≡ may_reach group other }
+{
+    match group {
+        None => true,
+        Some(group) => is_upto(group, other),
+    }
+}
+
+/// Where the tokens stand that a name becomes: where nothing is being replaced, if top, or within others, the innermost of which
+/// has this group.
+pub fn span_at(known: &Known, top: bool, innermost: Option<usize>, name: &[u8]) -> Option<Span>
+    ensures { result ≡ known_at (findings_of known.now) top innermost name.now }
+{
+    if !may_reach(group_of(&known.groups, name), innermost) {
+        if let Some(span) = span_of(&known.within, name) {
+            return Some(span);
         }
+    }
+    if top {
+        span_of(&known.outside, name)
+    } else {
+        None
     }
 }
 
@@ -150,51 +181,4 @@ pub fn piece(alloc: Global, out: &[Token], span: Span) -> Result<Vec<Token>, All
         all.push(*token)?;
     }
     Ok(all)
-}
-
-/// Whether a token of the body of a macro, own, stays there as it is, or it is known what it becomes.
-fn is_settled<'a>(
-    bytes: &[u8],
-    macros: &Macros<'a>,
-    known: &Known,
-    own: &[u8],
-    token: Token,
-) -> bool
-    ensures { result ≡ is_settled bytes.now (macros_in macros.now.entries) (findings_of known.now) own.now token }
-{
-    let name = text_at(bytes, token);
-    span_of(&known.within, name).is_some()
-        || name == own
-        || (is_used(&known.used, name) && !body_of(macros, name).is_some())
-}
-
-/// Whether each of the tokens is settled.
-fn are_settled<'a>(
-    bytes: &[u8],
-    macros: &Macros<'a>,
-    known: &Known,
-    own: &[u8],
-    tokens: &[Token],
-) -> bool
-    ensures { result ≡ list_all (is_settled bytes.now (macros_in macros.now.entries) (findings_of known.now) own.now) tokens.now }
-{
-    let mut rest = tokens;
-    while let Some((token, behind)) = split(rest) {
-        if !is_settled(bytes, macros, known, own, token) {
-            return false;
-        }
-        rest = behind;
-    }
-    true
-}
-
-/// Whether each token of a macro's body is settled.
-pub fn is_complete<'a>(bytes: &[u8], macros: &Macros<'a>, known: &Known, name: &[u8]) -> bool
-    ensures { result ≡ true → (body : List Token) × (macros_in macros.now.entries name.now ≡ Some body)
-        × (list_all (is_settled bytes.now (macros_in macros.now.entries) (findings_of known.now) name.now) body ≡ true) }
-{
-    match body_of(macros, name) {
-        None => false,
-        Some(body) => are_settled(bytes, macros, known, name, body.tokens),
-    }
 }

@@ -6,11 +6,13 @@ mod conditional;
 mod directive;
 mod error;
 mod expanding;
+mod grouping;
 mod header;
 mod known;
 mod lines;
 mod macros;
 mod replacing;
+mod watching;
 
 pub use error::PreError;
 pub use expanding::{an_expansion, expand, one_expansion};

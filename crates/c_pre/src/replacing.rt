@@ -1,21 +1,23 @@
 //! Replacing macros by their bodies (C11 6.10.3.4).
 
 ghost use Rattle.std.specs.Prelude.{◌≡◌, ◌≢◌, ◌<◌, ◌≤◌, ◌+◌, ◌++◌, ◌∷◌, [], true, false, ℕ, List, Some, None, length, map, reverse, option_map, IfErr, IsSome, MatchOption, OnOk};
-ghost use Rattle.std.specs.List.{list_any, list_all};
+ghost use Rattle.std.specs.List.{list_any};
 ghost use Rattle.std.specs.Str.{bytes_eq};
 ghost use Rattle.c_token.specs.declared.token.Token.{Token};
 ghost use Rattle.c_token.specs.Spelling.{text_of};
 ghost use Rattle.c_pre.specs.Macros.{placed, body_for, IsReplacedBy};
 ghost use Rattle.c_pre.specs.Views.{tokens_of, macros_in};
 ghost use Rattle.c_pre.specs.Waiting.{Waits, names_of, outer, rest_of, rests_of, Leads};
-ghost use Rattle.c_pre.specs.Known.{Covers, is_in, findings_of, is_top, known_at, is_settled, Recollects, Stands};
+ghost use Rattle.c_pre.specs.Known.{Covers, is_in, findings_of, is_top, may_reach, known_at, Keeps, Regroups, Recollects, Stands};
 ghost use Rattle.c_pre.specs.declared.error.PreError.TheVariants.{TooMany, Memory};
 
 use crate::directive::{split, text_at};
 use crate::error::PreError;
-use crate::known::{Known, Span, is_complete, is_used, mark, note, piece, span_at};
+use crate::grouping::gather;
+use crate::known::{Known, Span, group_of, is_used, mark, may_reach, note, piece, span_at};
 use crate::lines::Line;
 use crate::macros::{Macros, body_of};
+use crate::watching::{Watch, unwatched};
 use c_token::Token;
 use indexmap::IndexSet;
 use std::alloc::{AllocError, Global};
@@ -30,6 +32,10 @@ pub struct Rest<'a> {
     pub line: Option<u32>,
     /// Where in the output the tokens begin that the body becomes.
     pub start: usize,
+    /// The group of the macro that has the body, if it is of one.
+    pub group: Option<usize>,
+    /// The group of the macro in whose body its name stood.
+    pub outer: Option<usize>,
 }
 
 /// The text that is being replaced, with the macros within whose bodies the replacing is.
@@ -39,6 +45,8 @@ pub struct Replacing<'a> {
     pub rests: Vec<Rest<'a>>,
     /// The names of the macros that have these bodies, the innermost last.
     pub names: IndexSet<Vec<u8>>,
+    /// Which of them were met within themselves.
+    pub watch: Watch,
 }
 
 /// A token of a macro's body has the line of the macro's name in the text.
@@ -88,20 +96,48 @@ fn leave(names: &mut IndexSet<Vec<u8>>) -> Option<Vec<u8>>
     names.pop()
 }
 
-/// Whether what a name became is the same within all names that aren't known: it is none that is being replaced, it was met in
-/// the body of a macro, and each token of its body is settled.
-fn is_final<'a>(
+/// Whether what a name became is the same within all names of later groups and of none, where the innermost has this group: it
+/// is of an earlier one, and was met in the body of a macro.
+fn is_final(known: &Known, outer: Option<usize>, name: &[u8]) -> bool
+    ensures { result ≡ true → (may_reach ((findings_of known.now).groups name.now) outer ≡ false) × ((findings_of known.now).used name.now ≡ true) }
+{
+    !may_reach(group_of(&known.groups, name), outer) && is_used(&known.used, name)
+}
+
+/// Notes that a name is met, if it is one of those that are being replaced.
+fn meet(watch: &mut Watch, names: &IndexSet<Vec<u8>>, name: &[u8]) {
+    if let Some(place) = names.get_index_of(name) {
+        watch.meet(place);
+    }
+}
+
+/// A name is replaced, and these are left. It is a group with those that were met within it, if none of these was.
+fn gather_met<'a>(
+    alloc: Global,
     bytes: &[u8],
     macros: &Macros<'a>,
-    known: &Known,
+    known: &mut Known,
     names: &IndexSet<Vec<u8>>,
+    watch: &mut Watch,
     name: &[u8],
-) -> bool
-    ensures { result ≡ true → (list_any (bytes_eq name.now) (names_of names.now.keys) ≡ false) × ((findings_of known.now).used name.now ≡ true)
-        × ((body : List Token) × (macros_in macros.now.entries name.now ≡ Some body)
-        × (list_all (is_settled bytes.now (macros_in macros.now.entries) (findings_of known.now) name.now) body ≡ true)) }
+) -> Result<(), AllocError>
+    ensures used { OnOk result ((findings_of known.new).used ≡ (findings_of known.old).used) }
+    ensures keeps { OnOk result (Keeps bytes.now macros.now.entries (findings_of known.old) macros.now.entries (findings_of known.new)) }
+    ensures regroups { OnOk result (Regroups bytes.now (macros_in macros.now.entries) (findings_of known.old).groups (findings_of known.new).groups (names_of names.now.keys)) }
 {
-    !is_within(names, name) && is_used(&known.used, name) && is_complete(bytes, macros, known, name)
+    match watch.finish(names.len()) {
+        None => watch.wait(alloc, name),
+        Some(mark) => {
+            if is_top(names) {
+                watch.forget(mark);
+                return Ok(());
+            }
+            let members = watch.since(mark);
+            gather(alloc, bytes, macros, known, names, members, name)?;
+            watch.forget(mark);
+            Ok(())
+        }
+    }
 }
 
 /// Notes a name as one that was met in the body of a macro, if something is being replaced.
@@ -186,7 +222,7 @@ impl<'a> Replacing<'a> {
     ) -> Result<(), PreError>
         requires few { length out.old.items ≤ 200000 }
         requires front { rest.tokens.now ≡ token ∷ behind.now }
-        requires known { known_at (findings_of known.now) (is_top (names_of self.old.names.keys)) (text_of bytes.now token) ≡ Some span }
+        requires known { known_at (findings_of known.now) (is_top (names_of self.old.names.keys)) rest.group (text_of bytes.now token) ≡ Some span }
         requires recollects { Recollects bytes.now macros.now.entries (findings_of known.now) out.old.items }
         requires stands { Stands bytes.now macros.now.entries (findings_of known.now) (rest ∷ reverse self.old.rests.items) (names_of self.old.names.keys) out.old.items }
         ensures goes { OnOk result ((given : List Token) × (out.new.items ≡ out.old.items ++ given)
@@ -205,6 +241,8 @@ impl<'a> Replacing<'a> {
                 tokens: behind,
                 line: rest.line,
                 start: rest.start,
+                group: rest.group,
+                outer: rest.outer,
             },
         )?;
         let tokens = piece(alloc, out, span)?;
@@ -229,7 +267,7 @@ impl<'a> Replacing<'a> {
     ) -> Result<(), PreError>
         requires few { length out.old.items ≤ 200000 }
         requires front { rest.tokens.now ≡ token ∷ behind.now }
-        requires unknown { (findings_of known.now).within (text_of bytes.now token) ≡ None }
+        requires recollects { Recollects bytes.now macros.now.entries (findings_of known.now) out.old.items }
         requires marked { is_top (names_of self.old.names.keys) ≡ false → (findings_of known.now).used (text_of bytes.now token) ≡ true }
         requires stands { Stands bytes.now macros.now.entries (findings_of known.now) (rest ∷ reverse self.old.rests.items) (names_of self.old.names.keys) out.old.items }
         ensures goes { OnOk result ((given : List Token) × (out.new.items ≡ out.old.items ++ given)
@@ -249,14 +287,21 @@ impl<'a> Replacing<'a> {
                 tokens: behind,
                 line: rest.line,
                 start: rest.start,
+                group: rest.group,
+                outer: rest.outer,
             },
         )?;
         match body_for(macros, &self.names, name) {
-            None => match give(out, placed) {
-                Ok(()) => Ok(()),
-                Err(error) => Err(error),
-            },
+            None => {
+                meet(&mut self.watch, &self.names, name);
+                match give(out, placed) {
+                    Ok(()) => Ok(()),
+                    Err(error) => Err(error),
+                }
+            }
             Some(body) => {
+                let group = group_of(&known.groups, name);
+                self.watch.start()?;
                 enter(alloc, &mut self.names, name)?;
                 put(
                     &mut self.rests,
@@ -264,6 +309,8 @@ impl<'a> Replacing<'a> {
                         tokens: body.tokens,
                         line: Some(placed.line),
                         start: out.len(),
+                        group,
+                        outer: rest.group,
                     },
                 )?;
                 Ok(())
@@ -274,6 +321,7 @@ impl<'a> Replacing<'a> {
     /// A rest is done: the innermost name is replaced. It is noted what it became, if that is the same each time.
     fn close(
         &mut self,
+        alloc: Global,
         bytes: &[u8],
         macros: &Macros<'a>,
         known: &mut Known,
@@ -290,6 +338,15 @@ impl<'a> Replacing<'a> {
         match leave(&mut self.names) {
             None => Ok(()),
             Some(name) => {
+                gather_met(
+                    alloc,
+                    bytes,
+                    macros,
+                    known,
+                    &self.names,
+                    &mut self.watch,
+                    &name,
+                )?;
                 let span = Span {
                     start: rest.start,
                     length: out.len().saturating_sub(rest.start),
@@ -298,7 +355,7 @@ impl<'a> Replacing<'a> {
                     note(&mut known.outside, name, Some(span))?;
                     return Ok(());
                 }
-                if !is_final(bytes, macros, known, &self.names, &name) {
+                if !is_final(known, rest.outer, &name) {
                     return Ok(());
                 }
                 note(&mut known.within, name, Some(span))?;
@@ -332,12 +389,12 @@ impl<'a> Replacing<'a> {
     {
         match split(rest.tokens) {
             None => {
-                self.close(bytes, macros, known, rest, out)?;
+                self.close(alloc, bytes, macros, known, rest, out)?;
                 Ok(())
             }
             Some((token, behind)) => {
                 let name = text_at(bytes, token);
-                match span_at(known, is_top(&self.names), name) {
+                match span_at(known, is_top(&self.names), rest.group, name) {
                     Some(span) => match self.repeat(
                         alloc, bytes, macros, known, span, rest, token, behind, out,
                     ) {
@@ -377,6 +434,7 @@ pub fn replace<'a>(
     let mut replacing = Replacing {
         rests: Vec::new(alloc),
         names: IndexSet::new(alloc),
+        watch: unwatched(alloc),
     };
     put(
         &mut replacing.rests,
@@ -384,6 +442,8 @@ pub fn replace<'a>(
             tokens: text,
             line: None,
             start: 0,
+            group: None,
+            outer: None,
         },
     )?;
     for _ in 0..u64::MAX {

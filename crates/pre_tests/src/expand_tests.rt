@@ -86,6 +86,16 @@ const REPLACEMENTS: &str = "\
 #define A Q$A$#define Q A 2$A Q@2: Q 4: A 2 Q 2
 #define N 3$int a[N];@2: int a [ 3 ] ;";
 
+// The same. Macros in a circle: within others, at each of their names, and where one of them changes.
+const CIRCLES: &str = "\
+#define a b$#define b c$#define c a$a b c@4: a b c
+#define a b x$#define b a y$#define c a c b$#define d c a$d c a b@5: a y x c b x y a y x a y x c b x y a y x b x y
+#define a b$#define b c$#define c a$#define p a b c$#define q p c b a$q p@6: a b c c b a a b c
+#define a b x$#define b a y$#define c a b$c$#undef b$#define b z$c@4: a y x b x y 7: z x z
+#define a b$#define c a$c$#define b c d$c a@3: b 5: c d a d
+#define s s 1$#define t s s$#define u t s t$u u@4: s 1 s 1 s 1 s 1 s 1 s 1 s 1 s 1 s 1 s 1
+#define a b$#define b a c$#define c$#define d a b$d$#undef c$#define c b$d@5: a b 8: a b b b";
+
 // The same. Conditionals (C11 6.10.1), and skipped parts (6.10p4).
 const CONDITIONALS: &str = "\
 #ifdef A$x$#endif$y@4: y
@@ -150,12 +160,13 @@ LLONG_MAX@2: 9223372036854775807LL
 ULLONG_MAX@2: 18446744073709551615ULL";
 
 // The tables of whole files.
-const FILES: [&str; 7] = [
+const FILES: [&str; 8] = [
     PLAIN,
     EFFECTLESS,
     OTHERS,
     DEFINITIONS,
     REPLACEMENTS,
+    CIRCLES,
     CONDITIONALS,
     INCLUDES,
 ];
@@ -295,6 +306,33 @@ fn macros_are_not_expanded_anew_at_each_use(rt: HostRuntime) -> Result<(), Fail>
     assert_eq!(rt; count(alloc, none.as_str())?, 0);
     let each = chained(alloc, 999, 1, "x", 1_000)?;
     assert_eq!(rt; count(alloc, each.as_str())?, 1_000);
+    Ok(())
+}
+
+/// A file in which so many macros name each other in a circle, and so many others the one before them and one of the circle; the
+/// last of these is used.
+fn circled(alloc: Global, names: u32, others: u32) -> Result<String, AllocError> {
+    let mut file = String::from_str(alloc, "#define m0 x\n#define c0 c1")?;
+    for name in 1..names {
+        let next = u64::from(name) + 1;
+        file.push_str(format!(in alloc; "\n#define c{name} c{next}")?.as_str())?;
+    }
+    file.push_str(format!(in alloc; "\n#define c{names} c0")?.as_str())?;
+    for other in 0..others {
+        let next = u64::from(other) + 1;
+        file.push_str(format!(in alloc; "\n#define m{next} m{other} c0")?.as_str())?;
+    }
+    file.push_str(format!(in alloc; "\nm{others}")?.as_str())?;
+    Ok(file)
+}
+
+#[test]
+fn circles_are_not_expanded_anew_within_each_macro(rt: HostRuntime) -> Result<(), Fail> {
+    let alloc = rt.alloc();
+    let few = circled(alloc, 1, 2)?;
+    assert_eq!(rt; outcome(alloc, few.as_str())?.as_str(), "6: x c0 c0");
+    let many = circled(alloc, 20_000, 20_000)?;
+    assert_eq!(rt; count(alloc, many.as_str())?, 20_001);
     Ok(())
 }
 

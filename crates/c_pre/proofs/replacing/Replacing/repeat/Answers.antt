@@ -18,8 +18,8 @@ returns-in-Ok-clause-goes c = (
 
 pub returns-in-Ok-clause-stands : goal.returns-in-Ok-clause-stands
 returns-in-Ok-clause-stands c =
-    stands_stays c.args.bytes.now c.args.macros.now.entries (findings_of c.args.known.now) c.args.rest _ (reverse c.args.self.now.rests.items) (reverse c.put.new.rests.items) (names_of c.args.self.now.names.keys) c.args.out.now.items
-    (map (placed (Some c.placed-placed.result.line)) c.deref-2.result.now) c.give_all.new.out.items c.requires.stands c.in_ok-put.ensures refl refl c.in-Ok.ensures.given
+    stands_stays c.args.bytes.now c.args.macros.now.entries (findings_of c.args.known.now) c.args.rest _ (reverse c.args.self.now.rests.items) (reverse c.put.new.rests.items) (names_of c.args.self.now.names.keys) c.args.token c.args.out.now.items
+    (map (placed (Some c.placed-placed.result.line)) c.deref-2.result.now) c.give_all.new.out.items c.requires.stands c.in_ok-put.ensures c.requires.front refl refl refl refl c.in-Ok.ensures.given
     (all_repeat c.args.bytes.now c.args.macros.now.entries (findings_of c.args.known.now) c.args.rest _ (reverse c.args.self.now.rests.items) (reverse c.put.new.rests.items) (names_of c.args.self.now.names.keys) c.args.token
     c.args.behind.now c.args.out.now.items c.args.span c.placed-placed.result c.deref-2.result.now c.requires.front refl c.in_ok-put.ensures c.placed-placed.ensures c.requires.known
     (c.deref-2.ensures.value ∙ c.in_ok-tokens.ensures ∙ ap (λ (xs : List Token). piece c.args.span xs) c.deref.ensures.value) c.requires.recollects c.requires.stands)

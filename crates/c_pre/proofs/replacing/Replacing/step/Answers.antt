@@ -3,7 +3,7 @@ use Rattle.std.proofs.lemmas.List.{append-nil}
 use Rattle.c_pre.specs.Views.{macros_in}
 use Rattle.c_pre.specs.Waiting.{names_of}
 use Rattle.c_token.specs.declared.token.Token.{Token}
-use Rattle.c_pre.specs.Known.{spans_in, is_in, findings, findings_of, Recollects, Stands}
+use Rattle.c_pre.specs.Known.{spans_in, groups_in, is_in, findings, findings_of, Recollects, Stands}
 use Rattle.c_pre.proofs.Noted.{step_closes, recollects_more, recollects_used, stands_used}
 use Rattle.c_pre.proofs.replacing.Replacing.step.Goals as goal
 
@@ -37,13 +37,20 @@ returns-in-Ok-turn-clause-recollects c =
     let goes = c.in-Ok-turn.ensures.goes in
     let known = c.args.known.now in
     let within = spans_in known.within.entries in
+    let groups = groups_in known.groups.entries in
     let outside = spans_in known.outside.entries in
     let more = is_in c.mark_within.new.used.keys in
-    recollects_more c.args.bytes.now c.args.macros.now.entries (findings within outside more) c.args.out.now.items goes.0 c.turn.new.out.items goes.1
-    (recollects_used c.args.bytes.now c.args.macros.now.entries within outside (is_in known.used.keys) more c.args.out.now.items c.in_ok-mark_within-in-None-span_at.ensures.others c.requires.recollects)
+    recollects_more c.args.bytes.now c.args.macros.now.entries (findings within groups outside more) c.args.out.now.items goes.0 c.turn.new.out.items goes.1
+    (recollects_used c.args.bytes.now c.args.macros.now.entries within groups outside (is_in known.used.keys) more c.args.out.now.items c.in_ok-mark_within-in-None-span_at.ensures.others c.requires.recollects)
 
 pub turn-requires-clause-stands : goal.turn-requires-clause-stands
 turn-requires-clause-stands c =
     let known = c.args.known.now in
-    stands_used c.args.bytes.now c.args.macros.now.entries (spans_in known.within.entries) (spans_in known.outside.entries) (is_in known.used.keys) (is_in c.mark_within.new.used.keys)
+    stands_used c.args.bytes.now c.args.macros.now.entries (spans_in known.within.entries) (groups_in known.groups.entries) (spans_in known.outside.entries) (is_in known.used.keys) (is_in c.mark_within.new.used.keys)
     (c.args.rest ∷ reverse c.args.self.now.rests.items) (names_of c.args.self.now.names.keys) c.args.out.now.items c.in_ok-mark_within-in-None-span_at.ensures.others c.requires.stands
+
+pub turn-requires-clause-recollects : goal.turn-requires-clause-recollects
+turn-requires-clause-recollects c =
+    let known = c.args.known.now in
+    recollects_used c.args.bytes.now c.args.macros.now.entries (spans_in known.within.entries) (groups_in known.groups.entries) (spans_in known.outside.entries) (is_in known.used.keys) (is_in c.mark_within.new.used.keys)
+    c.args.out.now.items c.in_ok-mark_within-in-None-span_at.ensures.others c.requires.recollects

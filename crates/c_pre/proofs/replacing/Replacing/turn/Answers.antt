@@ -1,4 +1,4 @@
-use Rattle.std.proofs.Common.{[], ◌∷◌, reverse, refl, sym, ap, ◌∙◌}
+use Rattle.std.proofs.Common.{[], ◌∷◌, reverse, refl, sym, ◌∙◌}
 use Rattle.std.proofs.lemmas.List.{append-nil}
 use Rattle.c_pre.specs.Views.{macros_in}
 use Rattle.c_pre.specs.Waiting.{names_of}
@@ -16,8 +16,8 @@ returns-in-Ok-clause-goes c = (
 
 pub returns-in-Ok-clause-stands : goal.returns-in-Ok-clause-stands
 returns-in-Ok-clause-stands c =
-    stands_stays c.args.bytes.now c.args.macros.now.entries (findings_of c.args.known.now) c.args.rest _ (reverse c.args.self.now.rests.items) (reverse c.put.new.rests.items) (names_of c.args.self.now.names.keys) c.args.out.now.items
-    (c.placed-placed.result ∷ []) c.give.new.out.items c.requires.stands c.in_ok-put.ensures refl refl c.in-Ok.ensures.given
+    stands_stays c.args.bytes.now c.args.macros.now.entries (findings_of c.args.known.now) c.args.rest _ (reverse c.args.self.now.rests.items) (reverse c.put.new.rests.items) (names_of c.args.self.now.names.keys) c.args.token c.args.out.now.items
+    (c.placed-placed.result ∷ []) c.give.new.out.items c.requires.stands c.in_ok-put.ensures c.requires.front refl refl refl refl c.in-Ok.ensures.given
     (all_stay c.args.bytes.now c.args.macros.now.entries (findings_of c.args.known.now).used c.args.rest _ (reverse c.args.self.now.rests.items) (reverse c.put.new.rests.items) (names_of c.args.self.now.names.keys) c.args.token c.args.behind.now
     c.text_at-name.result.now c.placed-placed.result c.requires.front refl c.in_ok-put.ensures c.text_at-name.ensures c.in-None.ensures.body c.placed-placed.ensures c.requires.marked)
 
@@ -46,9 +46,8 @@ pub returns-in_ok-put-in-Some-clause-stands : goal.returns-in_ok-put-in-Some-cla
 returns-in_ok-put-in-Some-clause-stands c =
     let ns = names_of c.args.self.now.names.keys in
     stands_opens c.args.bytes.now c.args.macros.now.entries (findings_of c.args.known.now) c.args.rest _ (reverse c.args.self.now.rests.items) (reverse c.put.new.rests.items) (reverse c.put-in-Some.new.rests.items) ns
-    (names_of c.enter.new.names.keys) c.text_at-name.result.now c.in-Some.body.tokens.now c.placed-placed.result.line _ c.args.out.now.items c.requires.stands c.in_ok-put.ensures refl refl c.in_ok-put-in-Some.ensures refl
-    (c.len.ensures ∙ c.args.out.now.ok.0) c.in_ok-enter-in-Some.ensures (macro_of (macros_in c.args.macros.now.entries) ns c.text_at-name.result.now c.in-Some.body.tokens.now c.in-Some.ensures.body)
-    (ap (findings_of c.args.known.now).within c.text_at-name.ensures ∙ c.requires.unknown)
+    (names_of c.enter.new.names.keys) c.text_at-name.result.now c.in-Some.body.tokens.now c.placed-placed.result.line _ c.args.token c.args.out.now.items c.requires.recollects c.requires.stands c.in_ok-put.ensures c.requires.front c.text_at-name.ensures refl refl refl refl
+    c.in_ok-put-in-Some.ensures refl (c.len.ensures ∙ c.args.out.now.ok.0) c.group_of-group.ensures refl c.in_ok-enter-in-Some.ensures (macro_of (macros_in c.args.macros.now.entries) ns c.text_at-name.result.now c.in-Some.body.tokens.now c.in-Some.ensures.body)
     (all_open c.args.bytes.now c.args.macros.now.entries (findings_of c.args.known.now).used c.args.rest _ _ (reverse c.args.self.now.rests.items) (reverse c.put.new.rests.items) (reverse c.put-in-Some.new.rests.items) ns
     (names_of c.enter.new.names.keys) c.args.token c.args.behind.now c.in-Some.body.tokens.now c.text_at-name.result.now c.placed-placed.result c.requires.front refl c.in_ok-put.ensures refl c.in_ok-put-in-Some.ensures
     c.text_at-name.ensures c.in-Some.ensures.body c.placed-placed.ensures c.in_ok-enter-in-Some.ensures c.requires.marked)
