@@ -7,7 +7,6 @@ ghost use Rattle.std.specs.Prelude.{◌≡◌, [], true, IfOk, IfSome};
 ghost use Rattle.actions.specs.Behaviour.{shape_of, has_shape, accepts};
 ghost use Rattle.c_interp.specs.View.{thread_of};
 
-use crate::reading::Unread;
 use crate::row_tests::admitted;
 use actions::{Action, Answer, Bytes, Machine, Next, Object};
 use c_interp::Thread;
@@ -15,6 +14,7 @@ use c_profile::Admitted;
 use core_tree::Bounds;
 use std::alloc::{AllocError, Global};
 use std::test::*;
+use tree_notation::Unread;
 use words::Word;
 
 // Rows "ACTIONS@C TEXT@TREE": each action with its line, `K.O` for byte O of object K; a write is the `first` one of an initializer.

@@ -5,10 +5,6 @@
 #[cfg(test)]
 mod action_tests;
 #[cfg(test)]
-mod flow;
-#[cfg(test)]
-mod reading;
+mod count_tests;
 #[cfg(test)]
 mod row_tests;
-#[cfg(test)]
-mod vocabulary;

@@ -5,7 +5,6 @@
 // comes there. Where the class is `none` no check breaks, and the turn is that of a further `assert(0)` at the end of the last
 // function, in a line of its own; where it is `stop` such an assertion isn't reached. The C text is what the tree stands for.
 
-use crate::reading::{Reading, Unread};
 use c_interp::run;
 use c_meaning::are_storable;
 use c_profile::{Admitted, admit};
@@ -13,6 +12,7 @@ use core_tree::Bounds;
 use interleave::{Inputs, Outcome, Schedule, Words};
 use std::alloc::{AllocError, Global};
 use std::test::*;
+use tree_notation::{Unread, tree_of};
 use words::{Check, Class};
 
 // Accesses and subscripts: null, invalid-pointer, lifetime, bounds, readonly, in this order.
@@ -237,11 +237,7 @@ const STARTS: &str = "\
 
 // The typed file of a tree, which keeps the profile.
 pub fn admitted(alloc: Global, tree: &str) -> Result<Admitted, Unread> {
-    let mut reading = Reading::new(alloc);
-    for word in tree.split(' ') {
-        reading.read_word(word)?;
-    }
-    match admit(alloc, reading.file()?) {
+    match admit(alloc, tree_of(alloc, tree)?) {
         Ok(file) => Ok(file),
         Err(_) => Err(Unread::Untyped),
     }

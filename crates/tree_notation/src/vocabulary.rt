@@ -35,7 +35,7 @@ use core_tree::{
 impl<'a> Reading<'a> {
     // ---- places
 
-    pub fn read_place(&mut self, word: &str) -> Result<bool, Unread> {
+    pub(crate) fn read_place(&mut self, word: &str) -> Result<bool, Unread> {
         let line = self.line;
         if word == "*" {
             let pointer = self.pop()?;
@@ -150,7 +150,7 @@ impl<'a> Reading<'a> {
 
     // ---- expressions
 
-    pub fn read_number(&mut self, word: &str) -> Result<bool, Unread> {
+    pub(crate) fn read_number(&mut self, word: &str) -> Result<bool, Unread> {
         let line = self.line;
         if let Some(text) = word.strip_suffix("ul") {
             if let Some(bits) = text.parse::<u64>().ok() {
@@ -176,7 +176,7 @@ impl<'a> Reading<'a> {
     }
 
     // A word with the name of a type.
-    pub fn read_typed(&mut self, word: &str) -> Result<bool, Unread> {
+    pub(crate) fn read_typed(&mut self, word: &str) -> Result<bool, Unread> {
         if let Some(type_) = integer_type(word) {
             let place = self.pop_place()?;
             self.push(CoreExpr::Read { type_, place })?;
@@ -245,7 +245,7 @@ impl<'a> Reading<'a> {
         })
     }
 
-    pub fn read_arithmetic(&mut self, word: &str) -> Result<bool, Unread> {
+    pub(crate) fn read_arithmetic(&mut self, word: &str) -> Result<bool, Unread> {
         let line = self.line;
         if let Some(operator) = arithmetic(word) {
             let (left, right) = self.pop_pair(false)?;
@@ -341,7 +341,7 @@ impl<'a> Reading<'a> {
 
     // ---- sums, differences and relations of pointers
 
-    pub fn read_pointer(&mut self, word: &str) -> Result<bool, Unread> {
+    pub(crate) fn read_pointer(&mut self, word: &str) -> Result<bool, Unread> {
         let line = self.line;
         if let Some(text) = word.strip_prefix("p~") {
             let (left, right) = self.pop_pair(false)?;
@@ -415,7 +415,7 @@ impl<'a> Reading<'a> {
 
     // ---- calls
 
-    pub fn read_call(&mut self, word: &str) -> Result<bool, Unread> {
+    pub(crate) fn read_call(&mut self, word: &str) -> Result<bool, Unread> {
         match word.strip_suffix("()") {
             Some(name) => {
                 let function = self.function(name).ok_or(Unread::Word)?;
@@ -458,7 +458,7 @@ impl<'a> Reading<'a> {
 
     // ---- structure values
 
-    pub fn read_structure(&mut self, word: &str) -> Result<bool, Unread> {
+    pub(crate) fn read_structure(&mut self, word: &str) -> Result<bool, Unread> {
         let line = self.line;
         if let Some(text) = word.strip_prefix('@') {
             let place = self.pop_place()?;

@@ -5,7 +5,7 @@ use c_types::IntegerType;
 use core_tree::{CoreItem, CoreStatement};
 
 impl<'a> Reading<'a> {
-    pub fn read_word(&mut self, word: &'a str) -> Result<(), Unread> {
+    pub(crate) fn read_word(&mut self, word: &'a str) -> Result<(), Unread> {
         if self.read_block(word)?
             || self.read_statement(word)?
             || self.read_item(word)?

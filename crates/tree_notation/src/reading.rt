@@ -19,13 +19,14 @@ use core_tree::{
 use std::alloc::{AllocError, AllocFailed, Global};
 use std::mem;
 
-// Why no tree is read.
+/// Why no tree is read.
 #[derive(Debug, Drop)]
 pub enum Unread {
-    // No such word, or nothing before it that it works on.
+    /// No such word, or nothing before it that it works on.
     Word,
-    // The tree isn't typed.
+    /// The tree isn't typed.
     Untyped,
+    /// There was no memory.
     Memory,
 }
 
@@ -43,27 +44,27 @@ impl<T: Drop> From<AllocFailed<T>> for Unread {
 
 // The functions so far, of the last one what is read, and what waits for a word that works on it.
 #[derive(Drop)]
-pub struct Reading<'a> {
-    pub alloc: Global,
-    pub line: u32,
-    pub functions: Vec<Function>,
-    pub objects: Vec<StaticObject>,
-    pub literals: Vec<Literal>,
-    pub function_names: Vec<&'a str>,
-    pub names: Vec<&'a str>,
-    pub variables: Vec<Variable>,
-    pub parameters: Vec<PassedType>,
-    pub gives: Option<PassedType>,
-    pub function_line: u32,
-    pub loops: u32,
-    pub expressions: Vec<Box<CoreExpr>>,
-    pub places: Vec<Box<Place>>,
-    pub structures: Vec<Box<CoreStructure>>,
-    pub blocks: Vec<Vec<CoreItem>>,
+pub(crate) struct Reading<'a> {
+    pub(crate) alloc: Global,
+    pub(crate) line: u32,
+    pub(crate) functions: Vec<Function>,
+    pub(crate) objects: Vec<StaticObject>,
+    pub(crate) literals: Vec<Literal>,
+    pub(crate) function_names: Vec<&'a str>,
+    pub(crate) names: Vec<&'a str>,
+    pub(crate) variables: Vec<Variable>,
+    pub(crate) parameters: Vec<PassedType>,
+    pub(crate) gives: Option<PassedType>,
+    pub(crate) function_line: u32,
+    pub(crate) loops: u32,
+    pub(crate) expressions: Vec<Box<CoreExpr>>,
+    pub(crate) places: Vec<Box<Place>>,
+    pub(crate) structures: Vec<Box<CoreStructure>>,
+    pub(crate) blocks: Vec<Vec<CoreItem>>,
 }
 
 impl<'a> Reading<'a> {
-    pub fn new(alloc: Global) -> Reading<'a> {
+    pub(crate) fn new(alloc: Global) -> Reading<'a> {
         Reading {
             alloc,
             line: 1,
@@ -86,38 +87,38 @@ impl<'a> Reading<'a> {
 
     // ---- what waits
 
-    pub fn push(&mut self, node: CoreExpr) -> Result<(), Unread> {
+    pub(crate) fn push(&mut self, node: CoreExpr) -> Result<(), Unread> {
         let node = Box::new(self.alloc, node)?;
         self.expressions.push(node)?;
         Ok(())
     }
 
-    pub fn pop(&mut self) -> Result<Box<CoreExpr>, Unread> {
+    pub(crate) fn pop(&mut self) -> Result<Box<CoreExpr>, Unread> {
         self.expressions.pop().ok_or(Unread::Word)
     }
 
-    pub fn push_place(&mut self, place: Place) -> Result<(), Unread> {
+    pub(crate) fn push_place(&mut self, place: Place) -> Result<(), Unread> {
         let place = Box::new(self.alloc, place)?;
         self.places.push(place)?;
         Ok(())
     }
 
-    pub fn pop_place(&mut self) -> Result<Box<Place>, Unread> {
+    pub(crate) fn pop_place(&mut self) -> Result<Box<Place>, Unread> {
         self.places.pop().ok_or(Unread::Word)
     }
 
-    pub fn push_structure(&mut self, value: CoreStructure) -> Result<(), Unread> {
+    pub(crate) fn push_structure(&mut self, value: CoreStructure) -> Result<(), Unread> {
         let value = Box::new(self.alloc, value)?;
         self.structures.push(value)?;
         Ok(())
     }
 
-    pub fn pop_structure(&mut self) -> Result<Box<CoreStructure>, Unread> {
+    pub(crate) fn pop_structure(&mut self) -> Result<Box<CoreStructure>, Unread> {
         self.structures.pop().ok_or(Unread::Word)
     }
 
     // An item stands next in the innermost block.
-    pub fn add(&mut self, item: CoreItem) -> Result<(), Unread> {
+    pub(crate) fn add(&mut self, item: CoreItem) -> Result<(), Unread> {
         match self.blocks.last_mut() {
             Some(items) => {
                 items.push(item)?;
@@ -127,13 +128,13 @@ impl<'a> Reading<'a> {
         }
     }
 
-    pub fn add_statement(&mut self, statement: CoreStatement) -> Result<(), Unread> {
+    pub(crate) fn add_statement(&mut self, statement: CoreStatement) -> Result<(), Unread> {
         let statement = Box::new(self.alloc, statement)?;
         self.add(CoreItem::Statement { statement })
     }
 
     // The statement before, which isn't an item of its block any more.
-    pub fn take_statement(&mut self) -> Result<Box<CoreStatement>, Unread> {
+    pub(crate) fn take_statement(&mut self) -> Result<Box<CoreStatement>, Unread> {
         match self.blocks.last_mut() {
             Some(items) => match items.pop() {
                 Some(CoreItem::Statement { statement }) => Ok(statement),
@@ -146,7 +147,7 @@ impl<'a> Reading<'a> {
     // ---- names
 
     // The variable with this name.
-    pub fn variable(&self, name: &str) -> Option<u32> {
+    pub(crate) fn variable(&self, name: &str) -> Option<u32> {
         for place in 0..self.names.len() {
             if self.names[place] == name {
                 return u32::try_from(place).ok();
@@ -156,7 +157,7 @@ impl<'a> Reading<'a> {
     }
 
     // The function with this name.
-    pub fn function(&self, name: &str) -> Option<u32> {
+    pub(crate) fn function(&self, name: &str) -> Option<u32> {
         for place in 0..self.function_names.len() {
             if self.function_names[place] == name {
                 return u32::try_from(place).ok();
@@ -167,7 +168,7 @@ impl<'a> Reading<'a> {
 
     // ---- the words of a file
 
-    pub fn read_file_word(&mut self, word: &'a str) -> Result<bool, Unread> {
+    pub(crate) fn read_file_word(&mut self, word: &'a str) -> Result<bool, Unread> {
         if word == "$" {
             self.line = self.line.saturating_add(1);
             return Ok(true);
@@ -337,7 +338,7 @@ impl<'a> Reading<'a> {
     }
 
     // The file of all that is read.
-    pub fn file(self) -> Result<Core, Unread> {
+    pub(crate) fn file(self) -> Result<Core, Unread> {
         core_of(self.functions, self.objects, self.literals, true).ok_or(Unread::Untyped)
     }
 }
@@ -347,11 +348,11 @@ fn home_at(has_address: bool) -> Option<u32> {
     if has_address { Some(0) } else { None }
 }
 
-pub fn number(text: &str) -> Result<u32, Unread> {
+pub(crate) fn number(text: &str) -> Result<u32, Unread> {
     text.parse::<u32>().ok().ok_or(Unread::Word)
 }
 
-pub fn integer_type(name: &str) -> Option<IntegerType> {
+pub(crate) fn integer_type(name: &str) -> Option<IntegerType> {
     let types = [
         ("bool", IntegerType::Bool),
         ("char", IntegerType::Char),
@@ -368,4 +369,13 @@ pub fn integer_type(name: &str) -> Option<IntegerType> {
         }
     }
     None
+}
+
+/// The typed file of a tree in words with a space between each two, in which forms over pointers may stand.
+pub fn tree_of(alloc: Global, tree: &str) -> Result<Core, Unread> {
+    let mut reading = Reading::new(alloc);
+    for word in tree.split(' ') {
+        reading.read_word(word)?;
+    }
+    reading.file()
 }
