@@ -11,7 +11,6 @@ use Rattle.c_scope.specs.declared.fault.Broken.{Broken}
 use Rattle.c_scope.specs.declared.fault.Broken.TheVariants as broken
 use Rattle.c_scope.specs.Faults.{◌>>=◌, Breaks, GivesNode}
 use Rattle.c_elab_base.specs.declared.derivations.Derived.{Derived as CodeDerived}
-use Rattle.c_elab_base.specs.Declarators.{same_ctype, same_types}
 use Rattle.c_elab_base.specs.Derivations.{Shape, Derived, counted, called, array_shape, function_shape, derived, view_derived, view_deriveds, suffixes_line, parameter_line}
 use Rattle.c_elab_base.proofs.Lists.{more_than_none}
 use Rattle.c_elab_base.proofs.Steps.{list_at}
@@ -41,18 +40,6 @@ pub shape_fails : (done : List Completed) (constant : Bool) (base : Shape) (ds :
 shape_fails done constant base ds n d e h is bad =
     breaks_on e (derived done constant base (view_derived d ∷ view_deriveds (drop (n + 1) ds))) (derived done constant base (view_deriveds ds))
     (λ rule g. derived_fails done constant base n ds rule (ap (derived done constant base) (list_at view_derived ds n d h is) ∙ g)) bad
-
--- ---- types of parameters
-
-and_false : (b : Bool) → (b && false) ≡ false
-and_false true = refl
-and_false false = refl
-
-pub other_count : (ts us : List Ty) → (length ts ≡ length us → ⊥) → same_types (views ts) (views us) ≡ false
-other_count [] [] h = absurd (h refl)
-other_count [] (u ∷ us) h = refl
-other_count (t ∷ ts) [] h = refl
-other_count (t ∷ ts) (u ∷ us) h = ap (λ (b : Bool). same_ctype (ctypes.view t) (ctypes.view u) && b) (other_count ts us (λ e. h (ap suc e))) ∙ and_false (same_ctype (ctypes.view t) (ctypes.view u))
 
 -- ---- lines
 
@@ -90,3 +77,5 @@ incomplete_size done ctypes.void h = refl
 incomplete_size done (ctypes.integer t) h = let none : ⊥ = cc in absurd none
 incomplete_size done (ctypes.aggregate p) h = none_completed done p h
 incomplete_size done (ctypes.array e k) h = times_none k (size_of done e) (incomplete_size done e h)
+incomplete_size done (ctypes.pointer t c) h = let none : ⊥ = cc in absurd none
+incomplete_size done (ctypes.function f) h = refl

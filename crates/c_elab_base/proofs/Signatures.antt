@@ -1,6 +1,6 @@
 -- The types of functions, which later declarations keep where calls depend on them: what is complete stays as large.
 use Rattle.std.proofs.Common.{◌≡◌, ◌≤◌, ◌*◌, ◌^◌, ℕ, zero, suc, Bool, true, false, List, [], ◌∷◌, ◌++◌, length, map, Option, Some, None, refl, ap, ap₂, sym, subst, ◌∙◌, arith}
-use Rattle.std.specs.Prelude.{nat_lt, slice_get, slice_set, option_map, if◌then◌else◌}
+use Rattle.std.specs.Prelude.{◌==◌, nat_lt, slice_get, slice_set, option_map, if◌then◌else◌}
 use Rattle.std.specs.List.{list_all}
 use Rattle.std.specs.Str.{bytes_eq}
 use Rattle.std.proofs.lemmas.Bool.{eqb-true}
@@ -20,6 +20,7 @@ use Rattle.core_tree.specs.declared.functions.PassedType.{PassedType}
 use Rattle.core_tree.specs.declared.functions.PassedType.TheVariants as passed
 use Rattle.core_tree.specs.Typed.{Sizes, Signature, same_given, given_as}
 use Rattle.c_scope.specs.Scopes.{Named, Linked, FunctionType, Callable, FunctionTable, Flow, Cases, Scoped, are_complete, variable_by, variables_of, linked_to, passed_as, given_by, signature_of, all_sizes, with_callable}
+use Rattle.c_scope.specs.Functions.{type_place, with_placed}
 use Rattle.c_scope.proofs.Variables.{both, and, complete_later}
 
 -- ---- what calls give
@@ -90,24 +91,32 @@ is_given done ctypes.void = true
 is_given done (ctypes.integer t) = true
 is_given done (ctypes.aggregate p) = is_complete done (ctypes.aggregate p)
 is_given done (ctypes.array e n) = is_complete done (ctypes.array e n)
+is_given done (ctypes.pointer t c) = true
+is_given done (ctypes.function f) = false
 
 pub given_kept : {older newer : List Completed} → Later older newer → (t : CType) → is_given older t ≡ true → is_given newer t ≡ true
 given_kept later ctypes.void h = refl
 given_kept later (ctypes.integer t) h = refl
 given_kept later (ctypes.aggregate p) h = (later.keeps (ctypes.aggregate p) h).0
 given_kept later (ctypes.array e n) h = (later.keeps (ctypes.array e n) h).0
+given_kept later (ctypes.pointer t c) h = refl
+given_kept later (ctypes.function f) h = h
 
 pub passed_kept : {older newer : List Completed} → Later older newer → (t : CType) → is_complete older t ≡ true → passed_as newer t ≡ passed_as older t
 passed_kept later ctypes.void h = refl
 passed_kept later (ctypes.integer t) h = refl
 passed_kept later (ctypes.aggregate p) h = ap passed.Structure (later.keeps (ctypes.aggregate p) h).1
 passed_kept later (ctypes.array e n) h = ap passed.Structure (later.keeps (ctypes.array e n) h).1
+passed_kept later (ctypes.pointer t c) h = refl
+passed_kept later (ctypes.function f) h = refl
 
 pub given_by_kept : {older newer : List Completed} → Later older newer → (t : CType) → is_given older t ≡ true → given_by newer t ≡ given_by older t
 given_by_kept later ctypes.void h = refl
 given_by_kept later (ctypes.integer t) h = refl
 given_by_kept later (ctypes.aggregate p) h = ap (λ (n : ℕ). Some (passed.Structure n)) (later.keeps (ctypes.aggregate p) h).1
 given_by_kept later (ctypes.array e n) h = ap (λ (n : ℕ). Some (passed.Structure n)) (later.keeps (ctypes.array e n) h).1
+given_by_kept later (ctypes.pointer t c) h = refl
+given_by_kept later (ctypes.function f) h = refl
 
 pub complete_kept : {older newer : List Completed} → Later older newer → (ts : List CType) → layouts.are_complete older ts ≡ true → layouts.are_complete newer ts ≡ true
 complete_kept later [] h = refl
@@ -271,7 +280,7 @@ goes_changed a k c d f done e same = record {
   later = later_refl done;
 }
 
-pub goes_typed : (a : FunctionTable) (t : FunctionType) (f : Flow) (done : List Completed) → Goes a (record a { types = a.types ++ t ∷ [] }) f f done done
+pub goes_typed : (a : FunctionTable) (t : FunctionType) (f : Flow) (done : List Completed) → Goes a (record a { types = with_placed a.types t }) f f done done
 goes_typed a t f done = record { named = λ name k e. e; all = λ k c e. (c, e, refl); gives = refl; switch = refl; later = later_refl done }
 
 -- ---- what holds of functions
@@ -309,6 +318,12 @@ types_more done (x ∷ fs) f h e =
     let parts = both (layouts.are_complete done x.parameters) (are_complete_types done fs) h in
     and (layouts.are_complete done x.parameters) (are_complete_types done (fs ++ f ∷ [])) parts.0 (types_more done fs f parts.1 e)
 
+types_placed : (done : List Completed) (fs : List FunctionType) (f : FunctionType) → are_complete_types done fs ≡ true → layouts.are_complete done f.parameters ≡ true → are_complete_types done (with_placed fs f) ≡ true
+types_placed done fs f h e = by (type_place fs f == length fs) where
+  by : (b : Bool) → are_complete_types done (if b then fs ++ f ∷ [] else fs) ≡ true
+  by true = types_more done fs f h e
+  by false = h
+
 have_changed : (done : List Completed) (all : List Callable) (k : ℕ) (c d : Callable) → slice_get all k ≡ Some c → d.type ≡ c.type → have_complete done all ≡ true → have_complete done (slice_set all k d) ≡ true
 have_changed done [] k c d e same h = refl
 have_changed done (x ∷ all) zero c d e same h =
@@ -326,8 +341,8 @@ pub called_changed : (done : List Completed) (a : FunctionTable) (k : ℕ) (c d 
     → Called done (record a { all = slice_set a.all k d }) f
 called_changed done a k c d f e same h = record { callables = have_changed done a.all k c d e same h.callables; types = h.types; gives = h.gives }
 
-pub called_typed : (done : List Completed) (a : FunctionTable) (t : FunctionType) (f : Flow) → Called done a f → layouts.are_complete done t.parameters ≡ true → Called done (record a { types = a.types ++ t ∷ [] }) f
-called_typed done a t f h e = record { callables = h.callables; types = types_more done a.types t h.types e; gives = h.gives }
+pub called_typed : (done : List Completed) (a : FunctionTable) (t : FunctionType) (f : Flow) → Called done a f → layouts.are_complete done t.parameters ≡ true → Called done (record a { types = with_placed a.types t }) f
+called_typed done a t f h e = record { callables = h.callables; types = types_placed done a.types t h.types e; gives = h.gives }
 
 -- the parameters of a function that is there
 pub parameters_at : (done : List Completed) (all : List Callable) (k : ℕ) (c : Callable) → have_complete done all ≡ true → slice_get all k ≡ Some c → layouts.are_complete done c.type.parameters ≡ true

@@ -1,12 +1,12 @@
 -- What declarators of typedefs and variables declare (C11 6.7.6, 6.7.8), apart from their initializers.
 use Rattle.std.specs.Prelude.{ℕ, ◌+◌, ◌==◌, ◌&&◌, ◌++◌, Bool, true, false, not, List, [], ◌∷◌, length, slice_get, Option, Some, None, Result, Ok, Err, if◌then◌else◌}
-use Rattle.c_types.specs.Integers.{same_integer}
-use Rattle.c_types.specs.Types.{CType, void, integer, aggregate, array, Completed}
+use Rattle.c_types.specs.Types.{CType, function, Completed}
 use Rattle.c_types.specs.Layouts.{is_complete}
 use Rattle.c_scope.specs.declared.meaning.Meaning.{Meaning}
 use Rattle.c_scope.specs.declared.meaning.Meaning.TheVariants.{Variable, Incomplete, Typedef}
-use Rattle.c_scope.specs.Scopes.{binding, Named, FunctionType, Callable, Scoped, function_number, function_numbered}
+use Rattle.c_scope.specs.Scopes.{binding, Named, FunctionType, Callable, Scoped, function_number}
 use Rattle.c_scope.specs.Faults.{◌>>=◌}
+use Rattle.c_scope.specs.Functions.{same_flag, same_ctype, same_function, type_place, with_placed}
 use Rattle.c_scope.specs.Types.{type_size}
 use Rattle.c_elab_base.specs.Derivations.{type_numbered}
 
@@ -22,17 +22,6 @@ type_parameters [] = 0
 type_parameters (t ∷ ts) = length t.parameters + type_parameters ts
 
 -- ---- typedefs (C11 6.7.8)
-
-abbrev pub same_ctype : CType → CType → Bool
-same_ctype void void = true
-same_ctype (integer t) (integer u) = same_integer t u
-same_ctype (aggregate m) (aggregate n) = m == n
-same_ctype (array e k) (array f l) = k == l && same_ctype e f
-same_ctype _ _ = false
-
-abbrev pub same_flag : Bool → Bool → Bool
-same_flag true b = b
-same_flag false b = not b
 
 -- a const type is another type (C11 6.2.5p26)
 abbrev pub is_named : Named → Option Named → Bool
@@ -56,18 +45,6 @@ with_typedef s name n = record s { bindings = binding name (Typedef (length s.ty
 
 -- ---- typedefs of function types
 
--- the same parameters, up to qualifiers
-abbrev pub same_types : List CType → List CType → Bool
-same_types [] [] = true
-same_types [] (u ∷ us) = false
-same_types (t ∷ ts) [] = false
-same_types (t ∷ ts) (u ∷ us) = same_ctype t u && same_types ts us
-
--- one function type (C11 6.7.6.3p15)
-abbrev pub same_function : FunctionType → FunctionType → Bool
-same_function f g =
-    same_flag f.gives.constant g.gives.constant && same_ctype f.gives.type g.gives.type && same_flag f.ellipsis g.ellipsis && same_types f.parameters g.parameters
-
 abbrev pub is_function_type : FunctionType → Option FunctionType → Bool
 is_function_type f None = false
 is_function_type f (Some g) = same_function f g
@@ -88,12 +65,12 @@ function_typedef_node s None made = made
 function_typedef_node s (Some m) (Ok f) = if is_typedef_of_function s f m then Ok f else Err 2
 function_typedef_node s (Some m) (Err rule) = Err 2
 
--- one more function type, and a name of it
+-- a function type that the file has, and a name of it
 abbrev pub with_function_type : Scoped → FunctionType → Scoped
-with_function_type s f = record s { functions = record s.functions { types = s.functions.types ++ f ∷ [] } }
+with_function_type s f = record s { functions = record s.functions { types = with_placed s.functions.types f } }
 
 abbrev pub with_function_typedef : Scoped → List ℕ → FunctionType → Scoped
-with_function_typedef s name f = with_typedef (with_function_type s f) name (record { type = function_numbered (length s.functions.types); constant = false })
+with_function_typedef s name f = with_typedef (with_function_type s f) name (record { type = function (type_place s.functions.types f); constant = false })
 
 -- ---- lengths and sizes
 

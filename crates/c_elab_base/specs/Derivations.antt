@@ -3,7 +3,7 @@ use Rattle.std.specs.Prelude.{ℕ, ◌||◌, Bool, true, false, List, [], ◌∷
 use Rattle.std.specs.List.{list_any, list_all}
 use Rattle.c_tree.specs.Declarations.{Full, full_unnamed, full_named, full_inside, FullSuffixes, full_end, full_bounded, full_open, full_empty, full_void, full_parameters, Parts, parts_line}
 use Rattle.c_tree.specs.Files.{full_is_empty}
-use Rattle.c_types.specs.Types.{CType, void, integer, aggregate, array, Completed, view}
+use Rattle.c_types.specs.Types.{CType, void, integer, aggregate, array, pointer, function as function_at, Completed, view}
 use Rattle.c_scope.specs.Scopes.{Named, FunctionType, FunctionTable, function_number, view_named, view_function_type}
 use Rattle.c_scope.specs.declared.functions.FunctionType.{FunctionType as CodeFunctionType}
 use Rattle.c_scope.specs.Faults.{◌>>=◌}
@@ -82,12 +82,16 @@ is_void void = true
 is_void (integer t) = false
 is_void (aggregate p) = false
 is_void (array e n) = false
+is_void (pointer t c) = false
+is_void (function_at f) = false
 
 abbrev pub is_array : CType → Bool
 is_array void = false
 is_array (integer t) = false
 is_array (aggregate p) = false
 is_array (array e n) = true
+is_array (pointer t c) = false
+is_array (function_at f) = false
 
 abbrev pub parameter_types : List Parameter → List CType
 parameter_types ps = map (λ (p : Parameter). p.type.type) ps

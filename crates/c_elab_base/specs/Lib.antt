@@ -5,3 +5,4 @@ pub mod Slots
 pub mod Declarators
 pub mod Tags
 pub mod Specifiers
+pub mod Layers

@@ -1,7 +1,7 @@
 -- The scopes of a file in which declarations stand (C11 6.2.1p4).
 use Rattle.std.specs.Prelude.{◌-◌, ℕ, Bool, true, false, List, length, take, Option, Some, None, if◌then◌else◌}
 use Rattle.c_scope.specs.declared.meaning.Meaning.{Meaning}
-use Rattle.c_scope.specs.declared.meaning.Meaning.TheVariants.{Variable, Object, Incomplete, Assert, Assume, Draw, Function, Typedef, Enumerator, Record, Enumeration}
+use Rattle.c_scope.specs.declared.meaning.Meaning.TheVariants.{Variable, Object, Incomplete, Assert, Assume, Draw, BuiltIn, Function, Typedef, Enumerator, Record, Enumeration}
 use Rattle.c_scope.specs.Scopes.{Environment, Scoped, built_in, meaning_of, tag_of, declares}
 use Rattle.c_elab_base.specs.declared.regions.Region.{Region}
 
@@ -17,6 +17,7 @@ is_built_in_function Incomplete = false
 is_built_in_function Assert = true
 is_built_in_function Assume = true
 is_built_in_function (Draw t) = true
+is_built_in_function (BuiltIn b) = true
 is_built_in_function (Function f) = false
 is_built_in_function (Typedef n) = false
 is_built_in_function (Enumerator bits) = false

@@ -2,7 +2,7 @@
 use Rattle.std.specs.Prelude.{ℕ, ◌*◌, ◌==◌, nat_lt, Bool, true, Option, Some, None, if◌then◌else◌}
 use Rattle.c_types.specs.declared.types.RecordKind.{RecordKind}
 use Rattle.c_types.specs.declared.types.RecordKind.TheVariants.{Struct, Union}
-use Rattle.c_types.specs.Types.{CType, void, integer, aggregate, array, Records}
+use Rattle.c_types.specs.Types.{CType, void, integer, aggregate, array, pointer, function, Records}
 use Rattle.c_types.specs.Layouts.{kind_at, size_of}
 use Rattle.c_scope.specs.Members.{member_in}
 
@@ -19,6 +19,8 @@ slot rs void i = None
 slot rs (integer t) i = None
 slot rs (aggregate p) i = if has_item (kind_at rs p) i then member_in rs.done (aggregate p) i else None
 slot rs (array element n) i = if nat_lt i n then Some (element, i * size_of rs.done element) else None
+slot rs (pointer t c) i = None
+slot rs (function f) i = None
 
 -- its type, where one item more has none
 abbrev pub slot_type : Option (CType × ℕ) → CType

@@ -132,6 +132,8 @@ pub fn is_void(type_: &Ty) -> bool
         Ty::Integer(_) => false,
         Ty::Record(_) => false,
         Ty::Array { .. } => false,
+        Ty::Pointer { .. } => false,
+        Ty::Function(_) => false,
     }
 }
 
@@ -143,6 +145,8 @@ fn is_array(type_: &Ty) -> bool
         Ty::Integer(_) => false,
         Ty::Record(_) => false,
         Ty::Array { .. } => true,
+        Ty::Pointer { .. } => false,
+        Ty::Function(_) => false,
     }
 }
 
@@ -195,10 +199,7 @@ pub fn function_named<'a>(type_: &Ty, scope: &'a Scope) -> Option<&'a FunctionTy
     ensures { option_map (λ t. view_function_type t.now) result ≡ type_numbered scope.now.functions (function_number (view type_.now)) }
 {
     match type_ {
-        Ty::Array { element, length } => match &**element {
-            Ty::Void => scope.functions().type_at(*length),
-            _ => None,
-        },
+        Ty::Function(number) => scope.functions().type_at(*number),
         _ => None,
     }
 }

@@ -19,9 +19,7 @@ pub use members::{
     typed_type_part, with_lone, with_member,
 };
 pub use names::Names;
-pub use naming::{
-    function_typedef_node, is_too_long, name_of, same_ctype, same_flag, same_function, typedef_node,
-};
+pub use naming::{function_typedef_node, is_too_long, name_of, typedef_node};
 pub use regions::{Region, Role, built_in_function, earlier, is_built_in_function};
 pub use sizes::{
     Object, complete_type, declare, declare_parameter, is_open, sized_type, state_lengths,

@@ -5,12 +5,15 @@ ghost use Rattle.c_types.specs.Types.{CType, view, views};
 ghost use Rattle.c_scope.specs.Scopes.{view_named, view_function_type};
 ghost use Rattle.c_elab_base.specs.Derivations.{view_made};
 ghost use Rattle.c_scope.specs.Faults.{Gives, on_line};
-ghost use Rattle.c_elab_base.specs.Declarators.{same_ctype, same_flag, is_named, is_typedef_of, typedef_node, same_types, same_function, is_typedef_of_function, function_typedef_node, function_parameters, type_parameters};
+ghost use Rattle.c_elab_base.specs.Declarators.{is_named, is_typedef_of, typedef_node, is_typedef_of_function, function_typedef_node, function_parameters, type_parameters};
 
 use crate::derivations::function_named;
-use c_scope::{FunctionType, Functions, Meaning, QualifiedType, Scope, TypingError};
+use c_scope::{
+    FunctionType, Functions, Meaning, QualifiedType, Scope, TypingError, same_ctype, same_flag,
+    same_function,
+};
 use c_tree::FullDeclarator;
-use c_types::{Ty, same};
+use c_types::Ty;
 
 // More types than this have no memory.
 const TYPES: usize = 0x7fff_ffff;
@@ -28,20 +31,6 @@ pub fn name_of(declarator: &FullDeclarator) -> &[u8]
         FullDeclarator::Named { name, .. } => &name.bytes,
         FullDeclarator::Inside { inner, .. } => name_of(inner),
     }
-}
-
-/// Whether two types are one.
-pub fn same_ctype(a: &Ty, b: &Ty) -> bool
-    ensures { result ≡ same_ctype (view a.now) (view b.now) }
-{
-    same(a, b)
-}
-
-/// Whether both hold or neither does, as `const` of two types.
-pub fn same_flag(a: bool, b: bool) -> bool
-    ensures { result ≡ same_flag a b }
-{
-    a == b
 }
 
 fn is_named(named: &QualifiedType, other: Option<&QualifiedType>) -> bool
@@ -93,33 +82,6 @@ pub fn typedef_node(
             Err(TypingError::Memory) => Err(TypingError::Memory),
         },
     }
-}
-
-// The same parameters, up to qualifiers.
-fn same_types(a: &[Ty], b: &[Ty]) -> bool
-    ensures { result ≡ same_types (views a.now) (views b.now) }
-{
-    if a.len() != b.len() {
-        return false;
-    }
-    let mut at = 0;
-    while at < a.len() {
-        if !same_ctype(&a[at], &b[at]) {
-            return false;
-        }
-        at += 1;
-    }
-    true
-}
-
-/// Whether two function types are one (C11 6.7.6.3p15).
-pub fn same_function(a: &FunctionType, b: &FunctionType) -> bool
-    ensures { result ≡ same_function (view_function_type a.now) (view_function_type b.now) }
-{
-    same_flag(a.constant, b.constant)
-        && same_ctype(&a.gives, &b.gives)
-        && same_flag(a.ellipsis, b.ellipsis)
-        && same_types(&a.parameters, &b.parameters)
 }
 
 // How many parameters the functions have. Those past what is counted are left out.

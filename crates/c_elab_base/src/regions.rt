@@ -31,7 +31,7 @@ pub fn is_built_in_function(meaning: Meaning) -> bool
     ensures { result ≡ is_built_in_function meaning }
 {
     match meaning {
-        Meaning::Assert | Meaning::Assume | Meaning::Draw { .. } => true,
+        Meaning::Assert | Meaning::Assume | Meaning::Draw { .. } | Meaning::BuiltIn { .. } => true,
         Meaning::Variable { .. }
         | Meaning::Object { .. }
         | Meaning::Incomplete

@@ -95,5 +95,7 @@ pub fn slot<'a>(
         Ty::Integer(_) => Ok(None),
         Ty::Record(place) => record_slot(*place, number, layouts),
         Ty::Array { element, length } => array_slot(element, *length, number, layouts),
+        Ty::Pointer { .. } => Ok(None),
+        Ty::Function(_) => Ok(None),
     }
 }

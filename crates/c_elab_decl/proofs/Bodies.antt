@@ -23,14 +23,14 @@ use Rattle.c_scope.specs.declared.meaning.Meaning.TheVariants.{Function}
 use Rattle.c_scope.specs.declared.fault.TypingError.{TypingError}
 use Rattle.c_scope.specs.Scopes.{Environment, binding, Named, Linked, FunctionType, Callable, FunctionTable, ObjectEntry, Scoped, is_there, are_there, first_scope, with_defined, variables_of, variables_in, sizes, sizes_of, object_entry_size, passed_as, given_by, linked_to}
 use Rattle.c_scope.specs.Faults.{◌>>=◌, Fault, Gives, on_line}
-use Rattle.c_elab_expr.specs.Operands.{given_size}
+use Rattle.c_operands.specs.Operands.{given_size}
 use Rattle.std.specs.Prelude.{OnOk}
 use Rattle.c_scope.proofs.Variables.{both, and, are_there_wider, complete_sized}
-use Rattle.c_elab_expr.proofs.Types.{one_integer_type}
 use Rattle.c_elab_expr.proofs.WellTyped.{Holds, bind, given, refused, on_same_line}
 use Rattle.c_elab_base.specs.Regions.{built_in_function, earlier}
 use Rattle.c_elab_base.specs.Derivations.{Parameter, Derived, called, Shape, object, function as function_shaped, shape_of, is_array, has_void, parameter_types, function_of, derived, Derivation, lengths, callable, function_made, derivation_by, derivation, full_line, have_names}
-use Rattle.c_elab_base.specs.Declarators.{same_ctype, same_flag, same_types, same_function}
+use Rattle.c_scope.specs.Functions.{same_ctype, same_flag, same_types, same_function}
+use Rattle.c_scope.proofs.Compared.{one_ctype}
 use Rattle.c_elab_base.specs.Specifiers.{Passed, are_several, inner_region, parted, named_parts}
 use Rattle.c_elab_type.specs.Specifiers.{typed_parts, typed_full, typed_parameters, typed_specifiers}
 use Rattle.c_elab_object.specs.Functions.{is_function_again, function_again, is_own_function, is_own_built_in, is_built_in_type, function_node, first_callable, callable_again, changed_callable, declared_callable, definition_node}
@@ -50,31 +50,12 @@ use Rattle.c_elab_decl.proofs.WellTyped.{ItemsDone, items_done}
 
 -- ---- types that are one
 
-pub same_type_is : (t u : CType) → same_ctype t u ≡ true → t ≡ u
-same_type_is ctypes.void ctypes.void h = refl
-same_type_is ctypes.void (ctypes.integer u) h = let none : ⊥ = cc in absurd none
-same_type_is ctypes.void (ctypes.aggregate n) h = let none : ⊥ = cc in absurd none
-same_type_is ctypes.void (ctypes.array f l) h = let none : ⊥ = cc in absurd none
-same_type_is (ctypes.integer t) ctypes.void h = let none : ⊥ = cc in absurd none
-same_type_is (ctypes.integer t) (ctypes.integer u) h = ap ctypes.integer (one_integer_type t u h)
-same_type_is (ctypes.integer t) (ctypes.aggregate n) h = let none : ⊥ = cc in absurd none
-same_type_is (ctypes.integer t) (ctypes.array f l) h = let none : ⊥ = cc in absurd none
-same_type_is (ctypes.aggregate m) ctypes.void h = let none : ⊥ = cc in absurd none
-same_type_is (ctypes.aggregate m) (ctypes.integer u) h = let none : ⊥ = cc in absurd none
-same_type_is (ctypes.aggregate m) (ctypes.aggregate n) h = ap ctypes.aggregate (eqb-true m n h)
-same_type_is (ctypes.aggregate m) (ctypes.array f l) h = let none : ⊥ = cc in absurd none
-same_type_is (ctypes.array e k) ctypes.void h = let none : ⊥ = cc in absurd none
-same_type_is (ctypes.array e k) (ctypes.integer u) h = let none : ⊥ = cc in absurd none
-same_type_is (ctypes.array e k) (ctypes.aggregate n) h = let none : ⊥ = cc in absurd none
-same_type_is (ctypes.array e k) (ctypes.array f l) h =
-    let parts = both (k == l) (same_ctype e f) h in ap₂ (λ (x : CType) (n : ℕ). ctypes.array x n) (same_type_is e f parts.1) (eqb-true k l parts.0)
-
 same_types_are : (ts us : List CType) → same_types ts us ≡ true → ts ≡ us
 same_types_are [] [] h = refl
 same_types_are [] (u ∷ us) h = let none : ⊥ = cc in absurd none
 same_types_are (t ∷ ts) [] h = let none : ⊥ = cc in absurd none
 same_types_are (t ∷ ts) (u ∷ us) h =
-    let parts = both (same_ctype t u) (same_types ts us) h in ap₂ (λ (x : CType) (xs : List CType). x ∷ xs) (same_type_is t u parts.0) (same_types_are ts us parts.1)
+    let parts = both (same_ctype t u) (same_types ts us) h in ap₂ (λ (x : CType) (xs : List CType). x ∷ xs) (one_ctype t u parts.0) (same_types_are ts us parts.1)
 
 -- types of one function: what it gives and takes
 pub record SameType (f g : FunctionType) : Type 0 where
@@ -89,7 +70,7 @@ same_function_is f g h =
     let a = both (same_flag f.gives.constant g.gives.constant && same_ctype f.gives.type g.gives.type && same_flag f.ellipsis g.ellipsis) (same_types f.parameters g.parameters) h in
     let b = both (same_flag f.gives.constant g.gives.constant && same_ctype f.gives.type g.gives.type) (same_flag f.ellipsis g.ellipsis) a.0 in
     let c = both (same_flag f.gives.constant g.gives.constant) (same_ctype f.gives.type g.gives.type) b.0 in
-    record { gives = same_type_is f.gives.type g.gives.type c.1; parameters = same_types_are f.parameters g.parameters a.1 }
+    record { gives = one_ctype f.gives.type g.gives.type c.1; parameters = same_types_are f.parameters g.parameters a.1 }
 
 -- ---- what goes on from one external declaration to the next
 
@@ -129,6 +110,8 @@ given_stays later ctypes.void h = refl
 given_stays later (ctypes.integer t) h = refl
 given_stays later (ctypes.aggregate p) h = (later.keeps (ctypes.aggregate p) h).0
 given_stays later (ctypes.array e n) h = (later.keeps (ctypes.array e n) h).0
+given_stays later (ctypes.pointer t c) h = refl
+given_stays later (ctypes.function f) h = h
 
 pub definition_later : (s t : Scoped) (x : Definition) → Onward s t → DefinitionDone s x → DefinitionDone t x
 definition_later s t x f d =
@@ -267,6 +250,8 @@ size_given done ctypes.void = λ n e. refl
 size_given done (ctypes.integer t) = λ n e. refl
 size_given done (ctypes.aggregate p) = λ n e. (complete_sized done (ctypes.aggregate p) n e).0
 size_given done (ctypes.array e k) = λ n h. (complete_sized done (ctypes.array e k) n h).0
+size_given done (ctypes.pointer t c) = λ n e. refl
+size_given done (ctypes.function f) = λ n h. (complete_sized done (ctypes.function f) n h).0
 
 pub type_done : (outer : Scoped) (base : Named) (d : Full) (ds : List Derived) (p : Passed)
     → Holds (TypeDone p.scope (name_of d) p.parameters p.scope.records.done (made_by (derivation p.scope.functions p.scope.records.done base ds))) (definition_type outer base d ds p)
@@ -411,6 +396,8 @@ passed_bytes done ctypes.void = refl
 passed_bytes done (ctypes.integer t) = eq-eqb (bytes t) (bytes t) refl
 passed_bytes done (ctypes.aggregate p) = eq-eqb (size_of done (ctypes.aggregate p)) (size_of done (ctypes.aggregate p)) refl
 passed_bytes done (ctypes.array e n) = eq-eqb (size_of done (ctypes.array e n)) (size_of done (ctypes.array e n)) refl
+passed_bytes done (ctypes.pointer t c) = refl
+passed_bytes done (ctypes.function f) = refl
 
 have_first : (done : List Completed) (ps : List Parameter) (more : List ℕ) → have_parameters (sizes_of done (map (λ (q : Parameter). q.type) ps) ++ more) (map (passed_as done) (parameter_types ps)) ≡ true
 have_first done [] [] = refl

@@ -8,7 +8,7 @@ use Rattle.core_tree.specs.Trees as cores
 use Rattle.c_scope.specs.declared.fault.TypingError.{TypingError}
 use Rattle.c_scope.specs.Scopes.{Cases, Flow, Scoped}
 use Rattle.c_scope.specs.Faults.{◌>>=◌, Fault, Fails, on_line}
-use Rattle.c_elab_expr.specs.Operands.{Operand, number, dropped}
+use Rattle.c_operands.specs.Operands.{Operand, number, dropped}
 use Rattle.c_elab_expr.specs.Typing.{operand}
 use Rattle.c_types.specs.declared.integers.IntegerType.{IntegerType}
 use Rattle.c_elab_flow.specs.Nodes.{Around, in_loop, with_loop, with_label, with_cases, part_ignored, part_tested, test_node, case_node, default_node, label_node}

@@ -6,12 +6,12 @@ use Rattle.c_types.specs.declared.integers.IntegerType.{IntegerType}
 use Rattle.c_types.specs.Types.{CType, Completed}
 use Rattle.c_types.specs.Types as ctypes
 use Rattle.c_scope.specs.declared.meaning.Meaning.{Meaning}
-use Rattle.c_scope.specs.declared.meaning.Meaning.TheVariants.{Variable, Object, Incomplete, Assert, Assume, Draw, Function, Typedef, Enumerator, Record, Enumeration}
+use Rattle.c_scope.specs.declared.meaning.Meaning.TheVariants.{Variable, Object, Incomplete, Assert, Assume, Draw, BuiltIn, Function, Typedef, Enumerator, Record, Enumeration}
 use Rattle.c_scope.specs.Scopes.{FunctionType, Callable, Scoped, meaning_of}
 use Rattle.c_scope.specs.Faults.{◌>>=◌, Fault, on_line}
 use Rattle.c_scope.specs.Types.{Said, nothing_specified, with_part, with_parts, specified_type, array_of, declared_line, parts_line}
 use Rattle.c_elab_expr.specs.Strings.{strings_of}
-use Rattle.c_elab_expr.specs.Operands.{Operand, value, object, structure, OperandNode, used, function_node, name_node, member_node, assign_operand, arguments_in, extra_arguments, given_size, given_operand, behind_extra, function_call, drawn_or_called, callable_call, call_node}
+use Rattle.c_operands.specs.Operands.{Operand, value, object, structure, OperandNode, used, function_node, name_node, member_node, assign_operand, arguments_in, extra_arguments, given_size, given_operand, behind_extra, function_call, drawn_or_called, callable_call, call_node}
 use Rattle.c_elab_expr.specs.Typing.{bare_line, used_on, callee, is_used, called, is_wanted, type_name, operand_size, bound, typed, typed_arguments, lengths, suffix_lengths, operand_by}
 use Rattle.c_elab_base.proofs.Signatures.{is_given, closed_gives, closed_type, closed, closed_scope}
 
@@ -43,6 +43,8 @@ not_given done ctypes.void h = let none : ⊥ = cc in absurd none
 not_given done (ctypes.integer t) h = let none : ⊥ = cc in absurd none
 not_given done (ctypes.aggregate p) h = rw h refl
 not_given done (ctypes.array e n) h = rw h refl
+not_given done (ctypes.pointer t c) h = let none : ⊥ = cc in absurd none
+not_given done (ctypes.function f) h = refl
 
 abbrev behind_size : List Completed → (line f : ℕ) → Bool → FunctionType → List Operand → Result ℕ ℕ → OperandNode
 behind_size done line f wanted t xs r = do
@@ -84,6 +86,7 @@ module _ (s : Scoped) where
   node_keeps line wanted Assert xs = keep_same _
   node_keeps line wanted Assume xs = keep_same _
   node_keeps line wanted (Draw t) xs = keep_same _
+  node_keeps line wanted (BuiltIn b) xs = keep_same _
   node_keeps line wanted (Function f) xs =
       subst (λ (o : Option Callable). Keeps (call_node s line wanted (Function f) xs) (callable_call s.records.done line f wanted o xs)) (sym (get_closed s.records.done s.functions.all f))
       (callable_keeps s.records.done line f wanted (slice_get s.functions.all f) xs)
@@ -110,6 +113,7 @@ module _ (s : Scoped) where
   name_keeps line (Some Assert) = keep_same _
   name_keeps line (Some Assume) = keep_same _
   name_keeps line (Some (Draw t)) = keep_same _
+  name_keeps line (Some (BuiltIn b)) = keep_same _
   name_keeps line (Some (Function f)) =
       subst (λ (o : Option Callable). Keeps (name_node s line (Some (Function f))) (function_node line f o)) (sym (get_closed s.records.done s.functions.all f)) (function_keeps line f (slice_get s.functions.all f))
   name_keeps line (Some (Typedef n)) = keep_same _

@@ -14,7 +14,7 @@ use Rattle.core_tree.specs.Trees.{Expression, Procedure, Static, Structure}
 use Rattle.core_tree.specs.Trees as cores
 use Rattle.c_scope.specs.Scopes.{Callable, Cases, FunctionType, Named, Scoped, first_scope}
 use Rattle.c_scope.specs.Faults.{required, ◌>>=◌, Fault, fault, on_line}
-use Rattle.c_elab_expr.specs.Operands.{Operand, dropped, number, record_value}
+use Rattle.c_operands.specs.Operands.{Operand, dropped, number, record_value}
 use Rattle.c_elab_expr.specs.Typing.{operand, operand_by}
 use Rattle.c_scope.proofs.Variables.{and, both}
 use Rattle.c_elab_expr.proofs.WellTyped.{Holds, bind, given, on_same_line, refused}
@@ -144,6 +144,8 @@ nothing_stands p line ctypes.void = given (λ c. stands p c ≡ true) _ refl
 nothing_stands p line (ctypes.integer t) = refused (λ c. stands p c ≡ true) _
 nothing_stands p line (ctypes.aggregate q) = refused (λ c. stands p c ≡ true) _
 nothing_stands p line (ctypes.array element n) = refused (λ c. stands p c ≡ true) _
+nothing_stands p line (ctypes.pointer t c) = refused (λ c. stands p c ≡ true) _
+nothing_stands p line (ctypes.function f) = refused (λ c. stands p c ≡ true) _
 
 return_stands : (p : Standing) (older : List Completed) (line : ℕ) (t : CType) (x : Operand) → Holds (λ c. stands p c ≡ true) (return_node older line t x)
 return_stands p older line ctypes.void x = refused (λ c. stands p c ≡ true) _
@@ -151,6 +153,8 @@ return_stands p older line (ctypes.integer t) x = bind (λ (e : Expression). Uni
 return_stands p older line (ctypes.aggregate q) x =
     bind (λ (a : Structure). Unit {0}) (λ c. stands p c ≡ true) (required 8 (record_value older (ctypes.aggregate q) x)) _ (trivially _) (λ a _. given (λ c. stands p c ≡ true) _ refl)
 return_stands p older line (ctypes.array element n) x = refused (λ c. stands p c ≡ true) _
+return_stands p older line (ctypes.pointer t c) x = refused (λ c. stands p c ≡ true) _
+return_stands p older line (ctypes.function f) x = refused (λ c. stands p c ≡ true) _
 
 -- the number of a name's first label is below how many there are
 below_first : (n k : ℕ) → Some 0 ≡ Some k → nat_lt k (suc n) ≡ true

@@ -17,7 +17,7 @@ use Rattle.core_tree.specs.Trees as cores
 use Rattle.c_scope.specs.declared.fault.TypingError.{TypingError}
 use Rattle.c_scope.specs.Scopes.{Cases, Environment, Scoped}
 use Rattle.c_scope.specs.Faults.{◌>>=◌, Fault, Fails, Gives, on_line}
-use Rattle.c_elab_expr.specs.Operands.{Operand}
+use Rattle.c_operands.specs.Operands.{Operand}
 use Rattle.c_elab_expr.specs.Typing.{operand}
 use Rattle.c_elab_type.specs.Declarators.{Typed}
 use Rattle.c_elab_type.specs.Steps.{prepend}

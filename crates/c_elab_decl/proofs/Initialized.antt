@@ -19,12 +19,12 @@ use Rattle.core_tree.specs.Trees.{Expression, Structure, Parts}
 use Rattle.core_tree.specs.Trees as cores
 use Rattle.core_tree.specs.Typed.{type_of, Sizes, is_typed, is_structure, are_parts, fits_at}
 use Rattle.core_tree.specs.Typed as typings
-use Rattle.c_elab_expr.specs.declared.operands.Home.{Home}
-use Rattle.c_elab_expr.specs.declared.operands.Home.TheVariants as homes
+use Rattle.c_operands.specs.declared.operands.Home.{Home}
+use Rattle.c_operands.specs.declared.operands.Home.TheVariants as homes
 use Rattle.c_scope.specs.Scopes.{Scoped}
 use Rattle.c_scope.specs.Faults.{fault, required, on_line}
-use Rattle.c_elab_expr.specs.Nodes.{integer, as_type}
-use Rattle.c_elab_expr.specs.Operands.{Operand, value, object, structure, held_value, is_home, number, same_record, record_value, is_typed_operand}
+use Rattle.c_operands.specs.Nodes.{integer, as_type}
+use Rattle.c_operands.specs.Operands.{Operand, value, object, structure, held_value, is_home, number, same_record, record_value, is_typed_operand}
 use Rattle.c_elab_expr.specs.Texts.{text_bytes, bytes_of}
 use Rattle.c_elab_expr.specs.Typing.{operand, operand_by}
 use Rattle.c_scope.proofs.Variables.{both, and}
@@ -80,6 +80,8 @@ FineList s ctypes.void a = ⊥
 FineList s (ctypes.integer t) a = ⊥
 FineList s (ctypes.aggregate p) a = FineStructure s (size_of s.records.done (ctypes.aggregate p)) a
 FineList s (ctypes.array element n) a = FineStructure s (size_of s.records.done (ctypes.array element n)) a
+FineList s (ctypes.pointer t c) a = ⊥
+FineList s (ctypes.function f) a = ⊥
 
 abbrev pub FineMade : Scoped → CType → Made → Type 0
 FineMade s t (single x) = FineOperand s x
@@ -105,6 +107,8 @@ one_record p ctypes.void h = let none : ⊥ = cc in absurd none
 one_record p (ctypes.integer t) h = let none : ⊥ = cc in absurd none
 one_record p (ctypes.aggregate q) h = ap ctypes.aggregate (sym (eqb-true p q h))
 one_record p (ctypes.array element n) h = let none : ⊥ = cc in absurd none
+one_record p (ctypes.pointer t c) h = let none : ⊥ = cc in absurd none
+one_record p (ctypes.function f) h = let none : ⊥ = cc in absurd none
 
 held_size : (v : Home) (line offset size : ℕ) → typings.size_of (held_value v line offset size) ≡ size
 held_size (homes.Variable v) line offset size = refl
@@ -153,6 +157,8 @@ character_size done (ctypes.integer types.LongLong) h = let none : ⊥ = cc in a
 character_size done (ctypes.integer types.UnsignedLongLong) h = let none : ⊥ = cc in absurd none
 character_size done (ctypes.aggregate p) h = let none : ⊥ = cc in absurd none
 character_size done (ctypes.array element n) h = let none : ⊥ = cc in absurd none
+character_size done (ctypes.pointer t c) h = let none : ⊥ = cc in absurd none
+character_size done (ctypes.function f) h = let none : ⊥ = cc in absurd none
 
 times_one : (n size : ℕ) → size ≡ 1 → n * size ≡ n
 times_one n size h = rw h (omega arith)
@@ -185,6 +191,8 @@ value_fine s ctypes.void x there o h = refused (FineValue s ctypes.void) 12
 value_fine s (ctypes.integer t) x there o h = scalar_fine s t x h
 value_fine s (ctypes.aggregate p) x there o h = record_node_fine s p x h
 value_fine s (ctypes.array element n) x there o h = array_node_fine s element n x there o h
+value_fine s (ctypes.pointer t c) x there o h = refused (FineValue s (ctypes.pointer t c)) 8
+value_fine s (ctypes.function f) x there o h = refused (FineValue s (ctypes.function f)) 12
 
 pub initial_value_fine : (object_entry : Bool) (s : Scoped) (t : CType) (x : Made) → There s → IsObject s.records.done t → FineMade s t x
     → Holds (FineValue s t) (initial_value object_entry s.records.done t x)
@@ -245,12 +253,16 @@ May done ctypes.void = Unit {0}
 May done (ctypes.integer t) = Unit {0}
 May done (ctypes.aggregate p) = IsObject done (ctypes.aggregate p)
 May done (ctypes.array element n) = IsObject done (ctypes.array element n)
+May done (ctypes.pointer t c) = Unit {0}
+May done (ctypes.function f) = Unit {0}
 
 pub may : (done : List Completed) (t : CType) → IsObject done t → May done t
 may done ctypes.void o = tt
 may done (ctypes.integer t) o = tt
 may done (ctypes.aggregate p) o = o
 may done (ctypes.array element n) o = o
+may done (ctypes.pointer t c) o = tt
+may done (ctypes.function f) o = tt
 
 slot_may : (s : Scoped) (t : CType) (i : ℕ) → There s → May s.records.done t → May s.records.done (slot_type (slot s.records t i))
 slot_may s ctypes.void i there o = tt
@@ -263,6 +275,8 @@ slot_may s (ctypes.array element n) i there o = by (slot s.records (ctypes.array
   by : (x : Option (CType × ℕ)) → ((y : CType × ℕ) → x ≡ Some y → Lies s.records.done (ctypes.array element n) y) → May s.records.done (slot_type x)
   by None lies = tt
   by (Some y) lies = may s.records.done y.0 (lies y refl).object
+slot_may s (ctypes.pointer t c) i there o = tt
+slot_may s (ctypes.function f) i there o = tt
 
 -- no braces around items are an item too many's
 of_scalar : (s : Scoped) (t : IntegerType) (x : Made) → FineMade s ctypes.void x → FineMade s (ctypes.integer t) x
@@ -280,11 +294,34 @@ only_scalar s t line [] h = refused (FineMade s (ctypes.integer t)) (fault line 
 only_scalar s t line (x ∷ []) h = given (FineMade s (ctypes.integer t)) x (of_scalar s t x h.0)
 only_scalar s t line (x ∷ y ∷ rest) h = refused (FineMade s (ctypes.integer t)) (fault line 12)
 
+of_pointer : (s : Scoped) (t : CType) (c : Bool) (x : Made) → FineMade s ctypes.void x → FineMade s (ctypes.pointer t c) x
+of_pointer s t c (single x) h = h
+of_pointer s t c (text line bs) h = h
+of_pointer s t c (listed a) h = absurd h
+
+only_pointer : (s : Scoped) (t : CType) (c : Bool) (line : ℕ) (xs : List Made) → ItemsFine s (ctypes.pointer t c) 0 xs
+    → Holds (FineMade s (ctypes.pointer t c)) (on_line line (required 12 (only xs)))
+only_pointer s t c line [] h = refused (FineMade s (ctypes.pointer t c)) (fault line 12)
+only_pointer s t c line (x ∷ []) h = given (FineMade s (ctypes.pointer t c)) x (of_pointer s t c x h.0)
+only_pointer s t c line (x ∷ y ∷ rest) h = refused (FineMade s (ctypes.pointer t c)) (fault line 12)
+
+of_function : (s : Scoped) (f : ℕ) (x : Made) → FineMade s ctypes.void x → FineMade s (ctypes.function f) x
+of_function s f (single x) h = h
+of_function s f (text line bs) h = h
+of_function s f (listed a) h = absurd h
+
+only_function : (s : Scoped) (f line : ℕ) (xs : List Made) → ItemsFine s (ctypes.function f) 0 xs → Holds (FineMade s (ctypes.function f)) (on_line line (required 12 (only xs)))
+only_function s f line [] h = refused (FineMade s (ctypes.function f)) (fault line 12)
+only_function s f line (x ∷ []) h = given (FineMade s (ctypes.function f)) x (of_function s f x h.0)
+only_function s f line (x ∷ y ∷ rest) h = refused (FineMade s (ctypes.function f)) (fault line 12)
+
 braced_fine : (object_entry : Bool) (s : Scoped) (t : CType) (line : ℕ) (xs : List Made) → There s → May s.records.done t → ItemsFine s t 0 xs → Holds (FineMade s t) (braced object_entry line s.records t xs)
 braced_fine object_entry s ctypes.void line xs there o h = only_fine s line xs h
 braced_fine object_entry s (ctypes.integer t) line xs there o h = only_scalar s t line xs h
 braced_fine object_entry s (ctypes.aggregate p) line xs there o h = λ m e. let d = list_fine object_entry s (ctypes.aggregate p) line xs there o h m e in subst (FineMade s (ctypes.aggregate p)) (sym d.1) d.2
 braced_fine object_entry s (ctypes.array element n) line xs there o h = λ m e. let d = list_fine object_entry s (ctypes.array element n) line xs there o h m e in subst (FineMade s (ctypes.array element n)) (sym d.1) d.2
+braced_fine object_entry s (ctypes.pointer t c) line xs there o h = only_pointer s t c line xs h
+braced_fine object_entry s (ctypes.function f) line xs there o h = only_function s f line xs h
 
 -- the bytes of a string have 8 bits
 low_bytes : (bs : List ℕ) → list_all (λ b. nat_lt b 256) (map (λ b. b % 256) bs) ≡ true

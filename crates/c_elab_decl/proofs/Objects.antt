@@ -5,7 +5,7 @@ use Rattle.std.specs.Option.{option_and_then}
 use Rattle.std.proofs.lemmas.Bool.{and_parts}
 use Rattle.std.proofs.lemmas.Option.{same_Some}
 use borrow.Author.Tests.{ltb-true}
-use Rattle.c_types.specs.Types.{CType, void, integer, aggregate, array, Completed, Records}
+use Rattle.c_types.specs.Types.{CType, void, integer, aggregate, array, pointer, function, Completed, Records}
 use Rattle.c_types.specs.Layouts.{is_complete, is_sized, are_complete, are_sized, size_of, kind_at, completed_at, members_of, record_layout, IsBuilt}
 use Rattle.c_types.proofs.Kept.{none_members, some_members}
 use Rattle.c_types.proofs.Records.{stands}
@@ -85,3 +85,5 @@ slot_lies rs built (array element n) i x o h = by (nat_lt i n) refl h where
   by : (b : Bool) → nat_lt i n ≡ b → (if b then Some (element, i * size_of rs.done element) else None) ≡ Some x → Lies rs.done (array element n) x
   by true less e = subst (Lies rs.done (array element n)) (same_Some (element, i * size_of rs.done element) x e) (element_lies rs.done element n i o (ltb-true i n less))
   by false less e = let none : ⊥ = cc in absurd none
+slot_lies rs built (pointer t c) i x o h = let none : ⊥ = cc in absurd none
+slot_lies rs built (function f) i x o h = let none : ⊥ = cc in absurd none

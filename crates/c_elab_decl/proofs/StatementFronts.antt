@@ -23,7 +23,7 @@ use Rattle.c_elab_expr.specs.Typing.{operand}
 use Rattle.c_elab_base.specs.declared.regions.Region.{Region}
 use Rattle.c_elab_type.specs.Declarators.{Typed, in_front}
 use Rattle.c_elab_type.specs.Steps.{prepend, items_first}
-use Rattle.c_elab_expr.specs.Operands.{Operand}
+use Rattle.c_operands.specs.Operands.{Operand}
 use Rattle.c_elab_object.specs.DeclaratorLists.{typed_declaration, typed_outside}
 use Rattle.c_elab_flow.specs.declared.files.Definition.{Definition as CodeDefinition}
 use Rattle.c_elab_flow.specs.Nodes.{Around, in_loop, in_switch, with_loop, with_switch, switch_type}

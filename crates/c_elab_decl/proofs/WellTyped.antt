@@ -24,11 +24,11 @@ use Rattle.core_tree.specs.Typed as typings
 use Rattle.c_values.specs.Numbers.{TypedNumber}
 use Rattle.c_scope.specs.declared.meaning.Meaning.{Meaning}
 use Rattle.c_scope.specs.declared.meaning.Meaning.TheVariants.{Incomplete}
-use Rattle.c_elab_expr.specs.declared.operands.Home.TheVariants as homes
+use Rattle.c_operands.specs.declared.operands.Home.TheVariants as homes
 use Rattle.c_scope.specs.Scopes.{Named, Flow, Cases, Scoped, sizes, given_by}
 use Rattle.c_scope.specs.Faults.{◌>>=◌, required, Fault, fault, on_line}
-use Rattle.c_elab_expr.specs.Nodes.{as_type}
-use Rattle.c_elab_expr.specs.Operands.{Operand, value, object, structure, number, record_value, dropped, constant_in}
+use Rattle.c_operands.specs.Nodes.{as_type}
+use Rattle.c_operands.specs.Operands.{Operand, value, object, structure, number, record_value, dropped, constant_in}
 use Rattle.c_scope.specs.Types.{array_of}
 use Rattle.c_elab_expr.specs.Typing.{operand, operand_by}
 use Rattle.c_scope.proofs.Variables.{both, and}
@@ -375,12 +375,16 @@ return_done s line (ctypes.aggregate p) x e h =
     ap (λ (o : Option PassedType). same_given o (Some (passed.Structure (typings.size_of a)))) (gives_here s zs (ctypes.aggregate p) e g) ∙ eq-eqb size (typings.size_of a) (sym k.size) in
     and _ _ given_back (structure_grows (own_sizes s) zs a g k.good)))
 return_done s line (ctypes.array element n) x e h = refused (Returns s) 8
+return_done s line (ctypes.pointer t c) x e h = refused (Returns s) 8
+return_done s line (ctypes.function f) x e h = refused (Returns s) 8
 
 nothing_done : (s : Scoped) (line : ℕ) (t : CType) → s.flow.gives ≡ t → Holds (Returns s) (return_nothing_node line t)
 nothing_done s line ctypes.void e = given (Returns s) (cores.returns_nothing line) (λ there zs g. ap (λ (o : Option PassedType). same_given o None) (gives_here s zs ctypes.void e g))
 nothing_done s line (ctypes.integer t) e = refused (Returns s) 16
 nothing_done s line (ctypes.aggregate p) e = refused (Returns s) 16
 nothing_done s line (ctypes.array element n) e = refused (Returns s) 16
+nothing_done s line (ctypes.pointer t c) e = refused (Returns s) 16
+nothing_done s line (ctypes.function f) e = refused (Returns s) 16
 
 -- a statement that declares nothing
 plain_done : (s : Scoped) (r : Result cores.Statement Fault) → Holds (Returns s) r → Holds (StatementDone s) (r >>= λ c. Ok (c, s))

@@ -6,7 +6,7 @@ use Rattle.c_tree.specs.Statements.{Statement, block, if_then, if_else, evaluate
 use Rattle.core_tree.specs.Trees as cores
 use Rattle.c_scope.specs.Scopes.{Scoped}
 use Rattle.c_scope.specs.Faults.{◌>>=◌, Fault, fault, on_line}
-use Rattle.c_elab_expr.specs.Operands.{Operand, number, dropped}
+use Rattle.c_operands.specs.Operands.{Operand, number, dropped}
 use Rattle.c_elab_expr.specs.Typing.{operand_by, operand}
 use Rattle.c_elab_base.specs.declared.regions.Region.{Region}
 use Rattle.c_elab_type.specs.Declarators.{Typed, in_front}

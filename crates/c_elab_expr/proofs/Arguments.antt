@@ -4,7 +4,7 @@ use Rattle.std.proofs.lemmas.List.{append_assoc, drop_more}
 use Rattle.c_tree.specs.declared.expr.Expr.{Expr}
 use Rattle.c_tree.specs.Tree.{Tree, Trees, call}
 use Rattle.c_tree.specs.Tree.{view as tree, views_of as trees}
-use Rattle.c_elab_expr.specs.Operands.{Operand}
+use Rattle.c_operands.specs.Operands.{Operand}
 use Rattle.c_scope.specs.declared.meaning.Meaning.{Meaning}
 use Rattle.c_scope.specs.declared.fault.TypingError.{TypingError}
 use Rattle.c_scope.specs.declared.fault.TypingError.TheVariants as errors

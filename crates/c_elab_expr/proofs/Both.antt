@@ -2,7 +2,7 @@
 use Rattle.std.proofs.Common.{◌≡◌, ℕ, List, Result, Ok, Err, refl, ap, sym, ◌∙◌}
 use Rattle.c_types.specs.Types.{Completed}
 use Rattle.c_scope.specs.Faults.{◌>>=◌, Fault, on_line}
-use Rattle.c_elab_expr.specs.Operands.{Operand, OperandNode, comma_operand}
+use Rattle.c_operands.specs.Operands.{Operand, OperandNode, comma_operand}
 use Rattle.c_elab_expr.specs.Typing.{both, node_on_both, comma_of}
 
 -- what is made of two

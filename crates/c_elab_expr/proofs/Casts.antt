@@ -6,7 +6,7 @@ use Rattle.c_tree.specs.Tree.{view_type_part, view_declarator}
 use Rattle.c_types.specs.Types.{CType}
 use Rattle.c_scope.specs.Scopes.{Scoped}
 use Rattle.c_scope.specs.Faults.{◌>>=◌, Fault, on_line}
-use Rattle.c_elab_expr.specs.Operands.{Operand, cast_operand}
+use Rattle.c_operands.specs.Operands.{Operand, cast_operand}
 use Rattle.c_elab_expr.specs.Typing.{type_name, node_on, size_of_named, is_wanted, typed, operand_by, lengths}
 
 -- the type of a type name in memory

@@ -7,3 +7,4 @@ pub mod Both
 pub mod Passing
 pub mod Types
 pub mod WellTyped
+pub mod UsedOperands

@@ -5,9 +5,9 @@ use Rattle.c_types.specs.Types.{Completed, views, view as type_view}
 use Rattle.c_types.specs.declared.types.Ty.{Ty}
 use Rattle.core_tree.specs.declared.expression.CoreArgument.{CoreArgument}
 use Rattle.core_tree.specs.Trees.{Expression, Arguments, with_argument, arguments_of}
-use Rattle.c_elab_expr.specs.declared.operands.CoreOperand.{CoreOperand}
+use Rattle.c_operands.specs.declared.operands.CoreOperand.{CoreOperand}
 use Rattle.c_scope.specs.Faults.{◌>>=◌}
-use Rattle.c_elab_expr.specs.Operands.{Operand, value, view_operand, turned, comma_operand, argument_in, arguments_in, behind_extra}
+use Rattle.c_operands.specs.Operands.{Operand, value, view_operand, turned, comma_operand, argument_in, arguments_in, behind_extra}
 
 -- the last in memory comes first
 pub turned_last : (xs : List CoreOperand) (x : CoreOperand) → turned (xs ++ x ∷ []) ≡ view_operand x ∷ turned xs

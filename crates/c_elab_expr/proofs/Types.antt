@@ -10,7 +10,7 @@ use Rattle.c_types.specs.Integers.{rank, width, is_signed, number_of, promoted, 
 use Rattle.core_tree.specs.declared.operators.ArithmeticOperator.{ArithmeticOperator}
 use Rattle.core_tree.specs.Trees.{Expression, convert}
 use Rattle.core_tree.specs.Typed.{Sizes, type_of, is_integer, is_promoted, is_shift, are_operands, is_typed}
-use Rattle.c_elab_expr.specs.Nodes.{as_type, left_type, right_type}
+use Rattle.c_operands.specs.Nodes.{as_type, left_type, right_type}
 use Rattle.c_scope.proofs.Variables.{and}
 
 -- ---- types are one where their numbers are

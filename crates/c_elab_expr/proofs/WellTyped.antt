@@ -16,6 +16,7 @@ use Rattle.c_tree.specs.Tree.{Tree, Trees, constant, character, strings, name, p
 use Rattle.c_types.specs.declared.integers.IntegerType.{IntegerType}
 use Rattle.c_types.specs.declared.types.ValueType.{ValueType}
 use Rattle.c_types.specs.declared.types.ValueType.TheVariants.{Void, Integer}
+use Rattle.c_types.specs.declared.integers.IntegerType.TheVariants as types
 use Rattle.c_types.specs.Integers.{width, bytes, promoted, common_type, same_type}
 use Rattle.core_tree.specs.declared.operators.ArithmeticOperator.{ArithmeticOperator}
 use Rattle.core_tree.specs.declared.operators.Comparison.{Comparison}
@@ -33,14 +34,14 @@ use Rattle.core_tree.specs.Trees as cores
 use Rattle.core_tree.specs.Typed.{Sizes, Signature, type_of, is_integer, is_promoted, are_operands, is_within, is_place, is_typed, is_structure, are_arguments, same_given, given_as, gives_this}
 use Rattle.core_tree.specs.Typed as typed_trees
 use Rattle.c_scope.specs.declared.meaning.Meaning.{Meaning}
-use Rattle.c_scope.specs.declared.meaning.Meaning.TheVariants.{Variable, Object, Incomplete, Assert, Assume, Draw, Function, Typedef, Enumerator, Record, Enumeration}
-use Rattle.c_elab_expr.specs.declared.operands.Home.{Home}
-use Rattle.c_elab_expr.specs.declared.operands.Home.TheVariants as homes
+use Rattle.c_scope.specs.declared.meaning.Meaning.TheVariants.{Variable, Object, Incomplete, Assert, Assume, Draw, BuiltIn, Function, Typedef, Enumerator, Record, Enumeration}
+use Rattle.c_operands.specs.declared.operands.Home.{Home}
+use Rattle.c_operands.specs.declared.operands.Home.TheVariants as homes
 use Rattle.c_scope.specs.Members.{found, members_in, part_at}
 use Rattle.c_scope.specs.Scopes.{Named, ObjectEntry, Callable, Scoped, meaning_of, sizes_of, object_at, is_incomplete, object_entry_size, passed_as, given_by, signature_of, all_sizes}
 use Rattle.c_scope.specs.Faults.{◌>>=◌, required, Fault, on_line}
-use Rattle.c_elab_expr.specs.Nodes.{Node, integer_of, integer, as_type, place_of, target_of, constant_type, constant_node, character_node, size_node, discarded, cast_node, sign_node, not_node, step_node, unary_node, postfix_node, left_type, right_type, arithmetic_node, compare_node, logical_node, binary_node, chosen, choice_node, assign_node, operator_of, update_node, assignment_node}
-use Rattle.c_elab_expr.specs.Operands.{Operand, value, object, structure, home_place, held_value, put_value, is_home, computed, valued, number, same_record, record_value, dropped, is_array, used, place_operand, variable_node, object_entry_node, function_node, name_node, part_operand, member_node, operand_bytes, sized_operand, cast_record, cast_operand, unary_operand, postfix_operand, binary_operand, choice_record, choice_value, choice_operand, assign_record, assign_value, assign_operand, comma_operand, one_integer, no_arguments, argument_in, arguments_in, extra_arguments, given_size, given_operand, behind_extra, function_call, drawn_or_called, callable_call, assertion_call, assumption_call, call_node, is_typed_operand}
+use Rattle.c_operands.specs.Nodes.{Node, integer_of, integer, as_type, place_of, target_of, constant_type, constant_node, character_node, size_node, discarded, cast_node, sign_node, not_node, step_node, unary_node, postfix_node, left_type, right_type, arithmetic_node, compare_node, logical_node, binary_node, chosen, choice_node, assign_node, operator_of, update_node, assignment_node}
+use Rattle.c_operands.specs.Operands.{Operand, value, object, structure, home_place, held_value, put_value, is_home, computed, valued, number, same_record, record_value, dropped, is_array, used, place_operand, variable_node, object_entry_node, function_node, name_node, part_operand, member_node, operand_bytes, sized_operand, cast_record, cast_operand, unary_operand, postfix_operand, binary_operand, choice_record, choice_value, choice_operand, assign_record, assign_value, assign_operand, comma_operand, one_integer, no_arguments, argument_in, arguments_in, extra_arguments, given_size, given_operand, behind_extra, function_call, drawn_or_called, callable_call, assertion_call, assumption_call, call_node, is_typed_operand}
 use Rattle.c_scope.specs.Types.{type_size}
 use Rattle.c_elab_expr.specs.Strings.{strings_of, strings_length}
 use Rattle.c_elab_expr.specs.Typing.{bare_line, sized, used_on, callee, is_used, called, is_wanted, type_name, operand_size, typed, typed_arguments, operand_by, lengths}
@@ -131,7 +132,11 @@ one_record (ctypes.aggregate p) ctypes.void h = let none : ⊥ = cc in absurd no
 one_record (ctypes.aggregate p) (ctypes.integer t) h = let none : ⊥ = cc in absurd none
 one_record (ctypes.aggregate p) (ctypes.aggregate q) h = ap ctypes.aggregate (eqb-true p q h)
 one_record (ctypes.aggregate p) (ctypes.array element n) h = let none : ⊥ = cc in absurd none
+one_record (ctypes.aggregate p) (ctypes.pointer t c) h = let none : ⊥ = cc in absurd none
+one_record (ctypes.aggregate p) (ctypes.function f) h = let none : ⊥ = cc in absurd none
 one_record (ctypes.array element n) u h = let none : ⊥ = cc in absurd none
+one_record (ctypes.pointer t c) u h = let none : ⊥ = cc in absurd none
+one_record (ctypes.function f) u h = let none : ⊥ = cc in absurd none
 
 -- what lies in a part lies in the whole
 part_in : (xs : List ℕ) (v offset at n m : ℕ) → at + m ≤ offset + n → is_within xs v offset n ≡ true → is_within xs v at m ≡ true
@@ -193,6 +198,8 @@ module _ (scope : Scoped) where
   cast_good line (ctypes.integer t) e h = bind (λ u. type_of e ≡ Integer u) Good (integer 7 e) _ (integer_is 7 e) (λ u is. given Good _ (and _ _ (ap is_integer is) h))
   cast_good line (ctypes.aggregate p) e h = refused Good 7
   cast_good line (ctypes.array element n) e h = refused Good 7
+  cast_good line (ctypes.pointer t c) e h = bind (λ u. type_of e ≡ Integer u) Good (integer 7 e) _ (integer_is 7 e) (λ u is. given Good _ (and _ _ (ap is_integer is) h))
+  cast_good line (ctypes.function f) e h = refused Good 7
 
   -- ---- operators
 
@@ -378,6 +385,8 @@ module _ (scope : Scoped) where
   place_fits line v offset (ctypes.integer t) k h = home_is v line offset (bytes t) ∙ h
   place_fits line v offset (ctypes.aggregate p) k h = h
   place_fits line v offset (ctypes.array element n) k h = h
+  place_fits line v offset (ctypes.pointer t c) k h = home_is v line offset 8 ∙ h
+  place_fits line v offset (ctypes.function f) k h = h
 
   -- a whole variable
   variable_within : (done : List Completed) (variables : List Named) (v : ℕ) (n : Named) → slice_get variables v ≡ Some n → is_within (sizes_of done variables) v 0 (size_of done n.type) ≡ true
@@ -440,6 +449,7 @@ module _ (scope : Scoped) where
   name_fits line (Some Assert) = refused Fits 7
   name_fits line (Some Assume) = refused Fits 7
   name_fits line (Some (Draw t)) = refused Fits 7
+  name_fits line (Some (BuiltIn b)) = refused Fits 7
   name_fits line (Some (Function f)) = function_fits line f (slice_get scope.functions.all f)
   name_fits line (Some (Typedef n)) = refused Fits 7
   name_fits line (Some (Enumerator bits)) = given Fits _ (character_good line bits)
@@ -453,6 +463,8 @@ module _ (scope : Scoped) where
   record_cast_fits (ctypes.integer t) x h = refused Fits 7
   record_cast_fits (ctypes.aggregate p) x h = refused Fits 7
   record_cast_fits (ctypes.array element n) x h = refused Fits 7
+  record_cast_fits (ctypes.pointer t c) x h = refused Fits 7
+  record_cast_fits (ctypes.function f) x h = refused Fits 7
 
   cast_fits : (line : ℕ) (t : CType) (x : Operand) → Fits x → Holds Fits (cast_operand scope.records.done line t x)
   cast_fits line t (value e k) h = computed_fits (cast_node line t e) (cast_good line t e h)
@@ -581,6 +593,8 @@ module _ (scope : Scoped) where
       bind (GoodStructure (ctypes.aggregate p)) (Takes (ctypes.aggregate p)) (required 8 (record_value scope.records.done (ctypes.aggregate p) x)) _ (record_good 8 (ctypes.aggregate p) x h) (λ a g.
       given (Takes (ctypes.aggregate p)) _ (structure_taken p a g))
   argument_takes (ctypes.array element n) x h = refused (Takes (ctypes.array element n)) 8
+  argument_takes (ctypes.pointer t c) x h = refused (Takes (ctypes.pointer t c)) 8
+  argument_takes (ctypes.function f) x h = refused (Takes (ctypes.function f)) 8
 
   arguments_taken : (ts : List CType) (xs : List Operand) → AllFit xs → Holds (Taken ts) (arguments_in scope.records.done ts xs)
   arguments_taken [] xs h = given (Taken []) _ (record { good = refl; others = h })
@@ -669,6 +683,8 @@ module _ (scope : Scoped) where
     part_value_fits line offset (ctypes.integer t) a h le = and _ _ (le-leb (offset + bytes t) (typed_trees.size_of a) le) h
     part_value_fits line offset (ctypes.aggregate p) a h le = section_fits line offset (ctypes.aggregate p) a h le
     part_value_fits line offset (ctypes.array element n) a h le = section_fits line offset (ctypes.array element n) a h le
+    part_value_fits line offset (ctypes.pointer t c) a h le = and _ _ (le-leb (offset + 8) (typed_trees.size_of a) le) h
+    part_value_fits line offset (ctypes.function f) a h le = section_fits line offset (ctypes.function f) a h le
 
     value_part_fits : (line : ℕ) (t : CType) (a : Structure) (path : List ℕ) (o : Option (ℕ × CType)) → GoodStructure t a
         → part_at scope.records.done 0 t path ≡ o → Holds Fits (required 11 o >>= λ part. Ok (part_operand scope.records.done line part.0 part.1 a))
@@ -716,6 +732,9 @@ module _ (scope : Scoped) where
           and _ _ (and _ _ (any_used wanted) (gives (Some (passed.Integer u)) (ctypes.integer u) is (same_integer_refl u))) fit
       given_fits wanted (ctypes.aggregate p) is n e = given_structure wanted (ctypes.aggregate p) refl is n e
       given_fits wanted (ctypes.array element k) is n e = given_structure wanted (ctypes.array element k) refl is n e
+      given_fits wanted (ctypes.pointer u k) is n e =
+          and _ _ (and _ _ (any_used wanted) (gives (Some (passed.Integer types.UnsignedLong)) (ctypes.pointer u k) is refl)) fit
+      given_fits wanted (ctypes.function g) is n e = given_structure wanted (ctypes.function g) refl is n e
 
     function_call_fits : (line f : ℕ) (wanted : Bool) (c : Callable) (xs : List Operand) → slice_get scope.functions.all f ≡ Some c → AllFit xs
         → Holds Fits (function_call scope.records.done line f wanted c.type xs)
@@ -745,6 +764,7 @@ module _ (scope : Scoped) where
     call_fits line wanted Assume xs h =
         computed_fits (assumption_call line xs) (bind GoodNumber Good (one_integer xs) _ (argument_good xs h) (λ a n. given Good _ (and _ _ n.integral n.good)))
     call_fits line wanted (Draw t) xs h = computed_fits (no_arguments xs (cores.draw line t)) (draw_good xs _ refl)
+    call_fits line wanted (BuiltIn b) xs h = refused Fits 10
     call_fits line wanted (Function f) xs h = callable_fits line f wanted (slice_get scope.functions.all f) xs refl h
     call_fits line wanted (Typedef n) xs h = refused Fits 10
     call_fits line wanted (Enumerator bits) xs h = refused Fits 10

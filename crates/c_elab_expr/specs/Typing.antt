@@ -9,11 +9,11 @@ use Rattle.c_types.specs.Types.{CType, Completed}
 use Rattle.c_types.specs.Types as ctypes
 use Rattle.c_scope.specs.Scopes.{Scoped, meaning_of}
 use Rattle.c_scope.specs.Types.{nothing_specified, with_parts, specified_type, parts_line, declared_line, array_of, type_size}
-use Rattle.c_elab_expr.specs.Constants.{stated_length}
+use Rattle.c_operands.specs.Constants.{stated_length}
 use Rattle.c_elab_expr.specs.Strings.{strings_of, strings_length}
 use Rattle.c_scope.specs.Faults.{◌>>=◌, required, Fault, fault, on_line, Fails}
-use Rattle.c_elab_expr.specs.Nodes.{constant_node, character_node, size_node}
-use Rattle.c_elab_expr.specs.Operands.{Operand, value, OperandNode, used, name_node, member_node, operand_bytes, sized_operand, constant_in, cast_operand, unary_operand, postfix_operand, binary_operand, choice_operand, assign_operand, comma_operand, call_node}
+use Rattle.c_operands.specs.Nodes.{constant_node, character_node, size_node}
+use Rattle.c_operands.specs.Operands.{Operand, value, OperandNode, used, name_node, member_node, operand_bytes, sized_operand, constant_in, cast_operand, unary_operand, postfix_operand, binary_operand, choice_operand, assign_operand, comma_operand, call_node}
 
 -- the line of an expression's first token without the parentheses around it
 abbrev pub bare_line : Tree → ℕ
@@ -73,6 +73,8 @@ is_wanted ctypes.void = false
 is_wanted (ctypes.integer t) = true
 is_wanted (ctypes.aggregate p) = true
 is_wanted (ctypes.array element n) = true
+is_wanted (ctypes.pointer t c) = true
+is_wanted (ctypes.function f) = true
 
 -- The type of a type name, whose specifiers are a node and whose declarator, with these typed bounds, is the next.
 abbrev pub type_name : Scoped → List TypePart → Declared → Result (List (Option ℕ)) Fault → Result CType Fault

@@ -5,13 +5,14 @@ ghost use Rattle.c_types.specs.Types.{views, view as type_view};
 ghost use Rattle.c_types.specs.Layouts.{size_of};
 ghost use Rattle.core_tree.specs.Trees.{call, draw, give, boxed, with_argument, arguments_of};
 ghost use Rattle.c_scope.specs.Scopes.{view_function_type};
-ghost use Rattle.c_elab_expr.specs.Operands.{value, structure, view_operand, turned, one_integer, no_arguments, argument_in, arguments_in, extra_arguments, given_size, given_operand, behind_extra, function_call, callable_call, assertion_call, assumption_call, call_node};
+ghost use Rattle.c_operands.specs.Operands.{value, structure, view_operand, turned, one_integer, no_arguments, argument_in, arguments_in, extra_arguments, given_size, given_operand, behind_extra, function_call, callable_call, assertion_call, assumption_call, call_node};
 ghost use Rattle.c_scope.specs.Faults.{GivesNode};
 ghost use Rattle.c_elab_expr.specs.Typing.{called};
 
-use crate::nodes::{as_type, in_box, structure_in_box};
-use crate::operands::{CoreOperand, bytes_of, computed, made, number, record_value};
-use crate::operators::comma_operand;
+use c_operands::{
+    CoreOperand, as_type, bytes_of, comma_operand, computed, in_box, made, number, record_value,
+    structure_in_box,
+};
 use c_scope::{Broken, FunctionType, Meaning, Scope, type_size};
 use c_types::{IntegerType, Layouts, Ty, ValueType};
 use core_tree::{CoreArgument, CoreExpr, CoreStructure};
@@ -70,6 +71,8 @@ fn argument_in(
         }
         Ty::Void => Err(Broken::Rule { rule: 8 }),
         Ty::Array { .. } => Err(Broken::Rule { rule: 8 }),
+        Ty::Pointer { .. } => Err(Broken::Rule { rule: 8 }),
+        Ty::Function(_) => Err(Broken::Rule { rule: 8 }),
     }
 }
 
@@ -196,6 +199,17 @@ fn given_operand(
         Ty::Array { .. } => given_structure(
             alloc, line, function, wanted, type_, arguments, layouts,
         ),
+        Ty::Pointer { .. } => given_value(
+            alloc,
+            line,
+            function,
+            wanted,
+            ValueType::Integer(IntegerType::UnsignedLong),
+            arguments,
+        ),
+        Ty::Function(_) => given_structure(
+            alloc, line, function, wanted, type_, arguments, layouts,
+        ),
     }
 }
 
@@ -317,6 +331,7 @@ fn call_node(
         Meaning::Variable { .. }
         | Meaning::Object { .. }
         | Meaning::Incomplete
+        | Meaning::BuiltIn { .. }
         | Meaning::Typedef { .. }
         | Meaning::Enumerator { .. }
         | Meaning::Record { .. }

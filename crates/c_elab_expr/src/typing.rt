@@ -5,24 +5,20 @@ ghost use Rattle.c_tree.specs.Tree.{first_line, view_name, view_type_part, view_
 ghost use Rattle.c_tree.specs.Tree.{view as tree, views_of as trees};
 ghost use Rattle.c_types.specs.Types.{CType, view as type_view};
 ghost use Rattle.c_elab_expr.specs.Strings.{strings_of, strings_length};
-ghost use Rattle.c_elab_expr.specs.Nodes.{constant_node, character_node};
-ghost use Rattle.c_elab_expr.specs.Operands.{Operand, value as number_operand, view_operand, is_typed_operand, name_node, member_node, cast_operand, unary_operand, postfix_operand, binary_operand, choice_operand, assign_operand};
+ghost use Rattle.c_operands.specs.Nodes.{constant_node, character_node};
+ghost use Rattle.c_operands.specs.Operands.{Operand, value as number_operand, view_operand, is_typed_operand, name_node, member_node, cast_operand, unary_operand, postfix_operand, binary_operand, choice_operand, assign_operand};
 ghost use Rattle.c_scope.specs.Scopes.{meaning_of};
 ghost use Rattle.c_scope.specs.Types.{type_size};
 ghost use Rattle.c_scope.specs.Faults.{Gives, GivesNode, on_line, Fault};
 ghost use Rattle.c_elab_expr.specs.Typing.{Adds, bare_line, sized, used_on, node_on, both, node_on_both, comma_of, size_of_named, call_of, no_function, callee, called, is_main, is_used, bound, type_name, operand_size, is_wanted, typed, typed_arguments, operand_by, operand, lengths, suffix_lengths};
 
 use crate::calls::called;
-use crate::constants::stated_length;
-use crate::nodes::{character_node, constant_node, size_node};
-use crate::operands::{
-    CoreOperand, constant_in, made, member_node, name_node, operand_bytes, sized_operand, used,
-};
-use crate::operators::{
-    assign_operand, binary_operand, cast_operand, choice_operand, comma_operand, postfix_operand,
-    unary_operand,
-};
 use crate::strings::{strings_length, strings_of};
+use c_operands::{
+    CoreOperand, assign_operand, binary_operand, cast_operand, character_node, choice_operand,
+    comma_operand, constant_in, constant_node, made, member_node, name_node, operand_bytes,
+    postfix_operand, size_node, sized_operand, stated_length, unary_operand, used,
+};
 use c_scope::{
     Broken, Meaning, Scope, TypingError, array_type, declared_line, parts_type, type_size,
 };
@@ -310,6 +306,8 @@ fn is_wanted(type_: &Ty) -> bool
         Ty::Integer(_) => true,
         Ty::Record(_) => true,
         Ty::Array { .. } => true,
+        Ty::Pointer { .. } => true,
+        Ty::Function(_) => true,
     }
 }
 

@@ -4,7 +4,7 @@ use Rattle.c_types.specs.declared.integers.IntegerType.{IntegerType}
 use Rattle.c_values.specs.Numbers.{TypedNumber}
 use Rattle.c_scope.specs.Scopes.{Cases, Scoped}
 use Rattle.c_scope.specs.Faults.{◌>>=◌, required, fault, on_line}
-use Rattle.c_elab_expr.specs.Operands.{Operand, constant_in}
+use Rattle.c_operands.specs.Operands.{Operand, constant_in}
 use Rattle.c_elab_flow.specs.Nodes.{case_of_switch, case_node, default_node}
 use Rattle.c_elab_flow.specs.Steps.{CaseOf, CaseStep, DefaultOf, DefaultStep}
 

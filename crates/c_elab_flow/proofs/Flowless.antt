@@ -3,7 +3,7 @@ use Rattle.std.proofs.Common.{◌≡◌, Bool, true, false, Result, Ok, Err, ref
 use Rattle.c_tree.specs.Tree.{Tree, Trees, Declared, Suffixes, unnamed, named, inside, no_suffix, bounded, unbounded, constant, character, strings, name, parens, unary, cast, sizeof_expr, sizeof_type, step, member, binary, choice, assign, comma, call, none, more}
 use Rattle.c_scope.specs.Scopes.{Flow, Scoped}
 use Rattle.c_scope.specs.Faults.{◌>>=◌, Fault, on_line}
-use Rattle.c_elab_expr.specs.Operands.{Operand, cast_operand}
+use Rattle.c_operands.specs.Operands.{Operand, cast_operand}
 use Rattle.c_elab_expr.specs.Typing.{bare_line, used_on, type_name, is_wanted, typed, typed_arguments, lengths, suffix_lengths, operand_by}
 
 bind_same : {A B : Type 0} (r q : Result A Fault) (g h : A → Result B Fault) → r ≡ q → ((x : A) → g x ≡ h x) → (r >>= g) ≡ (q >>= h)

@@ -8,15 +8,15 @@ use Rattle.c_types.specs.declared.integers.IntegerType.TheVariants as types
 use Rattle.c_types.specs.declared.types.ValueType.{ValueType}
 use Rattle.c_types.specs.declared.types.ValueType.TheVariants.{Void, Integer}
 use Rattle.c_types.specs.Integers.{promoted}
-use Rattle.c_types.specs.Types.{CType, void, integer, aggregate, array, Completed}
+use Rattle.c_types.specs.Types.{CType, void, integer, aggregate, array, pointer, function, Completed}
 use Rattle.core_tree.specs.Operations.{converted}
 use Rattle.core_tree.specs.Typed.{type_of}
 use Rattle.core_tree.specs.Trees as cores
 use Rattle.c_values.specs.Numbers.{TypedNumber}
 use Rattle.c_scope.specs.Scopes.{Cases, Scoped}
 use Rattle.c_scope.specs.Faults.{◌>>=◌, required, Fault, on_line}
-use Rattle.c_elab_expr.specs.Nodes.{as_type}
-use Rattle.c_elab_expr.specs.Operands.{Operand, value, object, structure, number, dropped, record_value, constant_in}
+use Rattle.c_operands.specs.Nodes.{as_type}
+use Rattle.c_operands.specs.Operands.{Operand, value, object, structure, number, dropped, record_value, constant_in}
 use Rattle.c_elab_expr.specs.Typing.{operand_by, operand}
 use Rattle.c_elab_flow.specs.declared.nodes.Around.{Around as CodeAround}
 use Rattle.c_elab_flow.specs.Jumps.{label_number}
@@ -80,12 +80,16 @@ return_node rs line (aggregate p) x = do
   a ← required 8 (record_value rs (aggregate p) x)
   Ok (cores.returns_structure line a)
 return_node rs line (array element n) x = Err 8
+return_node rs line (pointer t c) x = Err 8
+return_node rs line (function f) x = Err 8
 
 abbrev pub return_nothing_node : ℕ → CType → Result cores.Statement ℕ
 return_nothing_node line void = Ok (cores.returns_nothing line)
 return_nothing_node line (integer t) = Err 16
 return_nothing_node line (aggregate p) = Err 16
 return_nothing_node line (array element n) = Err 16
+return_nothing_node line (pointer t c) = Err 16
+return_nothing_node line (function f) = Err 16
 
 -- ---- switches (C11 6.8.4.2)
 

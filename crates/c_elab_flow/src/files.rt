@@ -11,7 +11,7 @@ ghost use Rattle.c_elab_flow.specs.Held.{view_definitions};
 
 use c_elab_base::object_bytes;
 use c_scope::{Callable, ObjectEntry, Scope, is_incomplete};
-use c_types::{Layouts, MOST_BYTES, Ty};
+use c_types::{IntegerType, Layouts, MOST_BYTES, Ty};
 use core_tree::{CoreStatement, Function, Name, PassedType, StaticObject, Variable};
 use std::alloc::{AllocError, Global};
 
@@ -126,6 +126,7 @@ fn passed_as(type_: &Ty, layouts: &Layouts) -> Result<PassedType, AllocError>
     match type_ {
         Ty::Void => Ok(PassedType::Structure(0)),
         Ty::Integer(integer) => Ok(PassedType::Integer(*integer)),
+        Ty::Pointer { .. } => Ok(PassedType::Integer(IntegerType::UnsignedLong)),
         other => Ok(PassedType::Structure(known_bytes(other, layouts)?)),
     }
 }

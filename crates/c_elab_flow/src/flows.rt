@@ -5,10 +5,10 @@ ghost use Rattle.c_types.specs.Types.{view as type_view};
 ghost use Rattle.c_scope.specs.Scopes.{view_cases, view_flow, no_flow};
 ghost use Rattle.c_scope.specs.Faults.{on_line};
 ghost use Rattle.c_elab_flow.specs.Steps.{CaseAmong, CaseOf, CaseStep, DefaultOf, DefaultStep};
-ghost use Rattle.c_elab_expr.specs.Operands.{view_operand};
+ghost use Rattle.c_operands.specs.Operands.{view_operand};
 ghost use Rattle.c_elab_flow.specs.Nodes.{with_loop, with_label, with_switch, switch_type, case_in, case_of_switch, case_node, default_node};
 
-use c_elab_expr::{CoreOperand, constant_in};
+use c_operands::{CoreOperand, constant_in};
 use c_scope::{Cases, Flow, Scope, TypingError};
 use c_types::{IntegerType, Ty, ValueType, promote};
 use c_values::Number;

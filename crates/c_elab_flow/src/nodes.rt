@@ -6,13 +6,14 @@ ghost use Rattle.core_tree.specs.Trees.{boxed, boxed_statement, view_statement, 
 ghost use Rattle.core_tree.specs.Trees as cores;
 ghost use Rattle.c_scope.specs.Scopes.{Scoped};
 ghost use Rattle.c_scope.specs.Faults.{Gives, fault, on_line};
-ghost use Rattle.c_elab_expr.specs.Operands.{view_operand};
+ghost use Rattle.c_operands.specs.Operands.{view_operand};
 ghost use Rattle.c_elab_flow.specs.Nodes.{view_around, in_loop, in_switch, part_ignored, part_tested, test_node, return_node, return_nothing_node, switch_value, label_node, jump_node, block_on, evaluated, returned, if_on, if_else_on, while_on, do_on, for_on, switch_on, case_on, default_on};
 
 use crate::flows::{add_case, add_default, switch_type};
 use crate::jumps::Labels;
 use crate::places::{number_on, record_on};
-use c_elab_expr::{CoreOperand, as_type, dropped, ignored, operand};
+use c_elab_expr::{ignored, operand};
+use c_operands::{CoreOperand, as_type, dropped};
 use c_scope::{Scope, TypingError};
 use c_tree::{Expr, Name};
 use c_types::Ty;
@@ -111,7 +112,9 @@ fn return_value(
             let value = record_on(alloc, gives, value, scope.layouts(), line, 8)?;
             Ok(Box::new(alloc, CoreStatement::ReturnStructure { line, value })?)
         }
-        Ty::Array { .. } => Err(TypingError::Typing { line, rule: 8 }),
+        Ty::Array { .. } | Ty::Pointer { .. } | Ty::Function(_) => {
+            Err(TypingError::Typing { line, rule: 8 })
+        }
     }
 }
 

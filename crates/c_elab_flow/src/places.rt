@@ -3,9 +3,9 @@
 ghost use Rattle.c_types.specs.Types.{view as type_view};
 ghost use Rattle.core_tree.specs.Trees.{boxed, view_structure};
 ghost use Rattle.c_scope.specs.Faults.{required, Gives, on_line};
-ghost use Rattle.c_elab_expr.specs.Operands.{view_operand, number, record_value};
+ghost use Rattle.c_operands.specs.Operands.{view_operand, number, record_value};
 
-use c_elab_expr::{CoreOperand, number, record_value};
+use c_operands::{CoreOperand, number, record_value};
 use c_scope::{Broken, TypingError};
 use c_types::{Layouts, Ty};
 use core_tree::{CoreExpr, CoreStructure};

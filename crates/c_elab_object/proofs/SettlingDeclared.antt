@@ -2,11 +2,12 @@
 use Rattle.std.proofs.Common.{◌≡◌, ◌≤◌, ◌+◌, ℕ, Bool, true, false, List, length, Option, Some, None, Result, Ok, Err, refl, ap, sym, ◌∙◌, arith}
 use Rattle.std.specs.Prelude.{◌&&◌, ◌||◌, not, is_some, slice_get, if◌then◌else◌}
 use Rattle.c_tree.specs.Declarations.{Initial, Full, Declarators, none_declared, declarator, name_of}
-use Rattle.c_types.specs.Types.{CType, Completed}
+use Rattle.c_types.specs.Types.{CType, function as function_at, Completed}
 use Rattle.c_scope.specs.declared.meaning.Meaning.{Meaning}
-use Rattle.c_scope.specs.declared.meaning.Meaning.TheVariants.{Variable, Incomplete, Object, Assert, Assume, Draw, Function, Typedef, Enumerator, Record, Enumeration}
-use Rattle.c_scope.specs.Scopes.{Named, FunctionType, ObjectEntry, Scoped, object_at, linked_to, built_in, is_known, object_entry_size, function_numbered}
+use Rattle.c_scope.specs.declared.meaning.Meaning.TheVariants.{Variable, Incomplete, Object, Assert, Assume, Draw, BuiltIn, Function, Typedef, Enumerator, Record, Enumeration}
+use Rattle.c_scope.specs.Scopes.{Named, FunctionType, ObjectEntry, Scoped, object_at, linked_to, built_in, is_known, object_entry_size}
 use Rattle.c_scope.specs.Faults.{on_line}
+use Rattle.c_scope.specs.Functions.{type_place}
 use Rattle.c_elab_expr.proofs.WellTyped.{Holds, bind, given, refused, on_same_line}
 use Rattle.c_elab_base.specs.declared.regions.Region.{Region}
 use Rattle.c_elab_base.specs.declared.regions.Role.{Role}
@@ -55,7 +56,7 @@ module _ (H : Type 0) (r : Region) (s : Scoped) (there : H → There s) where
       bind Has (SettlesIf H s) (on_line (full_line d) node) _ (on_same_line Has (full_line d) node (typedef_gives Has s (earlier r s (name_of d)) made (has_made made h))) (λ f takes.
       bind (λ (u : Unit {0}). Unit {0}) (SettlesIf H s) (no_initializer (full_line d) (with_function_typedef s (name_of d) f) i) _ (trivially _) (λ u _.
       let t = with_function_type s f in
-      let n : Named = record { type = function_numbered (length s.functions.types); constant = false } in
+      let n : Named = record { type = function_at (type_place s.functions.types f); constant = false } in
       given (SettlesIf H s) (with_typedef t (name_of d) n) (settles_on H s t (with_typedef t (name_of d) n) (function_type_settles H s f there takes) (typedef_settles t (name_of d) n))))
 
   typedef_by_settles : (base : Named) (d : Full) (i : Option Initial) (x : Derivation) → (H → DerivationFine s.records.done x) → Holds (SettlesIf H s) (typedef_by r s base d i x)
@@ -96,6 +97,7 @@ module _ (H : Type 0) (r : Region) (s : Scoped) (there : H → There s) where
   built_in_known t Assert h = refl
   built_in_known t Assume h = refl
   built_in_known t (Draw u) h = refl
+  built_in_known t (BuiltIn b) h = refl
   built_in_known t (Function f) h = refl
   built_in_known t (Typedef n) h = let none : ⊥ = cc in absurd none
   built_in_known t (Enumerator bits) h = refl

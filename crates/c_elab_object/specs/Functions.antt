@@ -4,21 +4,21 @@ use Rattle.std.specs.Str.{bytes_eq}
 use Rattle.c_tree.specs.Declarations.{Initial, Full, name_of}
 use Rattle.c_types.specs.declared.integers.IntegerType.{IntegerType}
 use Rattle.c_types.specs.Integers.{same_integer}
-use Rattle.c_types.specs.Types.{CType, void, integer, aggregate, array, Completed}
+use Rattle.c_types.specs.Types.{CType, void, integer, aggregate, array, pointer, function as function_at, Completed}
 use Rattle.c_scope.specs.declared.meaning.Meaning.{Meaning}
-use Rattle.c_scope.specs.declared.meaning.Meaning.TheVariants.{Variable, Object, Incomplete, Assert, Assume, Draw, Function, Typedef, Enumerator, Record, Enumeration}
+use Rattle.c_scope.specs.declared.meaning.Meaning.TheVariants.{Variable, Object, Incomplete, Assert, Assume, Draw, BuiltIn, Function, Typedef, Enumerator, Record, Enumeration}
 use Rattle.c_scope.specs.Scopes.{binding, FunctionType, Callable, FunctionTable, Scoped, linked_to, is_defined, with_callable}
 use Rattle.c_scope.specs.Faults.{◌>>=◌, Fault, on_line}
-use Rattle.c_elab_expr.specs.Operands.{given_size}
+use Rattle.c_operands.specs.Operands.{given_size}
 use Rattle.c_elab_base.specs.declared.regions.Region.{Region}
 use Rattle.c_elab_base.specs.Regions.{is_built_in_function, built_in_function, earlier}
 use Rattle.c_elab_base.specs.Derivations.{Parameter, full_line, name_line, have_names}
-use Rattle.c_elab_base.specs.Declarators.{same_function}
+use Rattle.c_scope.specs.Functions.{same_function}
 use Rattle.c_elab_type.specs.Initializers.{no_initializer}
 
 -- ---- built-in functions
 
--- an integer type is scalar
+-- integer types and pointers are scalar (C11 6.2.5p21)
 abbrev pub is_one_scalar : List CType → Bool
 is_one_scalar [] = false
 is_one_scalar (void ∷ ts) = false
@@ -26,18 +26,25 @@ is_one_scalar (integer t ∷ []) = true
 is_one_scalar (integer t ∷ u ∷ ts) = false
 is_one_scalar (aggregate p ∷ ts) = false
 is_one_scalar (array e n ∷ ts) = false
+is_one_scalar (pointer t c ∷ []) = true
+is_one_scalar (pointer t c ∷ u ∷ ts) = false
+is_one_scalar (function_at f ∷ ts) = false
 
 abbrev pub is_nothing : CType → Bool
 is_nothing void = true
 is_nothing (integer t) = false
 is_nothing (aggregate p) = false
 is_nothing (array e n) = false
+is_nothing (pointer t c) = false
+is_nothing (function_at f) = false
 
 abbrev pub is_integer_type : IntegerType → CType → Bool
 is_integer_type t void = false
 is_integer_type t (integer u) = same_integer t u
 is_integer_type t (aggregate p) = false
 is_integer_type t (array e n) = false
+is_integer_type t (pointer u c) = false
+is_integer_type t (function_at f) = false
 
 -- void, of any one scalar
 abbrev pub is_statement_type : FunctionType → Bool
@@ -59,6 +66,7 @@ is_built_in_type Incomplete f = false
 is_built_in_type Assert f = is_statement_type f
 is_built_in_type Assume f = is_statement_type f
 is_built_in_type (Draw t) f = is_draw_type t f
+is_built_in_type (BuiltIn b) f = false
 is_built_in_type (Function k) f = false
 is_built_in_type (Typedef n) f = false
 is_built_in_type (Enumerator bits) f = false
@@ -75,6 +83,8 @@ drawn_type void = None
 drawn_type (integer t) = Some t
 drawn_type (aggregate p) = None
 drawn_type (array e n) = None
+drawn_type (pointer t c) = None
+drawn_type (function_at f) = None
 
 -- the type of what a function draws: it has no definition, a name that begins `nondet_`, no parameters and an integer result
 abbrev pub draws_of : FunctionTable → List ℕ → FunctionType → Option IntegerType

@@ -1,7 +1,7 @@
 -- What declarators of objects that live as long as the program declare (C11 6.2.2, 6.2.4p3, 6.7.9, 6.9.2).
 use Rattle.std.specs.Prelude.{◌≡◌, ℕ, ◌+◌, ◌-◌, ◌==◌, ◌&&◌, ◌||◌, ◌++◌, Bool, true, false, not, List, [], ◌∷◌, length, slice_set, Option, Some, None, is_some, Result, Ok, Err, if◌then◌else◌}
 use Rattle.c_tree.specs.Declarations.{Initial, Full, name_of}
-use Rattle.c_types.specs.Types.{CType, void, integer, aggregate, array, Completed}
+use Rattle.c_types.specs.Types.{CType, void, integer, aggregate, array, pointer, function as function_at, Completed}
 use Rattle.c_scope.specs.declared.meaning.Meaning.{Meaning}
 use Rattle.c_scope.specs.declared.meaning.Meaning.TheVariants.{Object, Function}
 use Rattle.c_scope.specs.Scopes.{binding, Named, ObjectEntry, Scoped, object_at, linked_to}
@@ -11,7 +11,8 @@ use Rattle.c_elab_base.specs.declared.regions.Region.{Region}
 use Rattle.c_elab_base.specs.Regions.{earlier}
 use Rattle.c_elab_base.specs.Derivations.{full_line}
 use Rattle.c_elab_type.specs.Initializers.{Value, initial_bytes, initializer_of}
-use Rattle.c_elab_base.specs.Declarators.{same_ctype, same_flag, is_open, complete_type, sized_type}
+use Rattle.c_scope.specs.Functions.{same_ctype, same_flag}
+use Rattle.c_elab_base.specs.Declarators.{is_open, complete_type, sized_type}
 use Rattle.c_elab_type.specs.Declarators.{given_lengths}
 
 -- the type that a declarator gives an object, and whether it is an array of so many elements of that type as no declaration says so far, which only `extern` allows
@@ -40,6 +41,8 @@ is_array_of element void = false
 is_array_of element (integer t) = false
 is_array_of element (aggregate p) = false
 is_array_of element (array e n) = same_ctype element e
+is_array_of element (pointer t c) = false
+is_array_of element (function_at f) = false
 
 -- one type, where a length may be said by one of the two alone (C11 6.2.7)
 abbrev pub compatible : CType × Bool → CType × Bool → Bool

@@ -11,10 +11,13 @@ ghost use Rattle.c_elab_object.specs.Functions.{is_one_scalar, is_nothing, is_in
 
 use c_elab_base::{
     Parameter, Region, built_in_function, copied_function, earlier, full_line,
-    is_built_in_function, is_too_long, name_line, name_of, same_function,
+    is_built_in_function, is_too_long, name_line, name_of,
 };
 use c_elab_type::no_initializer;
-use c_scope::{Broken, Callable, FunctionType, Functions, Meaning, Scope, TypingError, type_size};
+use c_scope::{
+    Broken, Callable, FunctionType, Functions, Meaning, Scope, TypingError, same_function,
+    type_size,
+};
 use c_tree::{FullDeclarator, InitDeclarator};
 use c_types::{IntegerType, Layouts, Ty};
 use std::alloc::{AllocError, Global};
@@ -26,7 +29,7 @@ fn is_one_scalar(types: &[Ty]) -> bool
     ensures { result ≡ is_one_scalar (views types.now) }
 {
     match types {
-        [only] => matches!(only, Ty::Integer(_)),
+        [only] => matches!(only, Ty::Integer(_) | Ty::Pointer { .. }),
         _ => false,
     }
 }
@@ -78,6 +81,7 @@ fn is_built_in_type(meaning: Meaning, type_: &FunctionType) -> bool
         Meaning::Variable { .. }
         | Meaning::Object { .. }
         | Meaning::Incomplete
+        | Meaning::BuiltIn { .. }
         | Meaning::Function { .. }
         | Meaning::Typedef { .. }
         | Meaning::Enumerator { .. }

@@ -11,13 +11,11 @@ ghost use Rattle.c_elab_type.specs.Initializers.{view_value};
 ghost use Rattle.c_elab_object.specs.ObjectEntries.{object_entry_type, made_type, stated_type, is_array_of, compatible, is_again, may_again, is_stated_again, is_linked_to, linked_object, object_entry_node, declared_again, counted_by, element_of, IsObjectThere, with_object, added_object, changed_object, declared_object, initialized_object, may_define, function_or, earlier_linked, typed_object};
 ghost use Rattle.c_elab_object.specs.Settled.{is_settled};
 
-use c_elab_base::{
-    Region, complete_type, earlier, full_line, is_open, name_of, same_ctype, same_flag, sized_type,
-};
+use c_elab_base::{Region, complete_type, earlier, full_line, is_open, name_of, sized_type};
 use c_elab_type::{Value, give_lengths, initial_bytes, initializer_of};
 use c_scope::{
     Broken, Meaning, ObjectEntry, QualifiedType, Scope, TypingError, array_of, array_type,
-    element_type, element_type_on,
+    element_type, element_type_on, same_ctype, same_flag,
 };
 use c_tree::{FullDeclarator, InitDeclarator, Initializer};
 use c_types::Ty;

@@ -163,6 +163,8 @@ given_complete done ctypes.void h v = let none : ⊥ = cc in absurd none
 given_complete done (ctypes.integer t) h v = refl
 given_complete done (ctypes.aggregate p) h v = h
 given_complete done (ctypes.array e n) h v = h
+given_complete done (ctypes.pointer t c) h v = refl
+given_complete done (ctypes.function f) h v = let none : ⊥ = cc in absurd none
 
 neither : (a b : Bool) → (a || b) ≡ false → (a ≡ false) × (b ≡ false)
 neither true b h = let none : ⊥ = cc in absurd none
@@ -270,6 +272,8 @@ complete_given done ctypes.void h = refl
 complete_given done (ctypes.integer u) h = refl
 complete_given done (ctypes.aggregate p) h = h
 complete_given done (ctypes.array e n) h = h
+complete_given done (ctypes.pointer t c) h = refl
+complete_given done (ctypes.function f) h = h
 
 sized_passable : (done : List Completed) (t : CType) → Holds (Passable done) (sized_type done t)
 sized_passable done t = by (is_complete done t) (is_sized done t) refl refl where
@@ -286,6 +290,8 @@ plain_given done several ctypes.void = by several where
 plain_given done several (ctypes.integer t) = sized_passable done (ctypes.integer t)
 plain_given done several (ctypes.aggregate p) = sized_passable done (ctypes.aggregate p)
 plain_given done several (ctypes.array e n) = sized_passable done (ctypes.array e n)
+plain_given done several (ctypes.pointer t c) = sized_passable done (ctypes.pointer t c)
+plain_given done several (ctypes.function f) = sized_passable done (ctypes.function f)
 
 array_given : (done : List Completed) (base : CType) (ls : List (Option ℕ)) → Holds (Passable done) (array_parameter done base ls)
 array_given done base [] = refused _ 7

@@ -10,7 +10,7 @@ use Rattle.c_scope.specs.declared.meaning.Meaning.{Meaning}
 use Rattle.c_scope.specs.declared.meaning.Meaning.TheVariants.{Enumerator}
 use Rattle.c_scope.specs.Scopes.{binding, Scoped}
 use Rattle.c_scope.specs.Faults.{◌>>=◌, required, Fault, on_line}
-use Rattle.c_elab_expr.specs.Operands.{constant_in}
+use Rattle.c_operands.specs.Operands.{constant_in}
 use Rattle.c_elab_expr.specs.Typing.{operand}
 use Rattle.c_elab_base.specs.declared.regions.Region.{Region}
 use Rattle.c_elab_base.specs.Regions.{earlier}

@@ -4,7 +4,7 @@ use Rattle.c_tree.specs.Tree.{Tree, constant, character, strings, name, parens, 
 use Rattle.c_tree.specs.Declarations.{Initial, initial, braces, Initials, no_initial, initials}
 use Rattle.c_types.specs.declared.integers.IntegerType.{IntegerType}
 use Rattle.c_types.specs.declared.integers.IntegerType.TheVariants as types
-use Rattle.c_types.specs.Types.{CType, void, integer, aggregate, array, Completed, Records}
+use Rattle.c_types.specs.Types.{CType, void, integer, aggregate, array, pointer, function, Completed, Records}
 use Rattle.c_types.specs.Layouts.{size_of}
 use Rattle.core_tree.specs.declared.expression.CorePart.{CorePart}
 use Rattle.c_types.specs.Integers.{bytes}
@@ -13,11 +13,11 @@ use Rattle.c_values.specs.Variables.{low_bytes, put_at, zeros}
 use Rattle.core_tree.specs.Trees.{Expression, view, Structure, view_structure, copy, choose, put, follow, section, list, string, give, Parts, no_part, number_part, structure_part, parts_of}
 use Rattle.c_scope.specs.Scopes.{Scoped}
 use Rattle.c_scope.specs.Faults.{◌>>=◌, required, Fault, fault, on_line}
-use Rattle.c_elab_expr.specs.Nodes.{as_type}
+use Rattle.c_operands.specs.Nodes.{as_type}
 use Rattle.c_elab_expr.specs.Texts.{bytes_of}
 use Rattle.c_scope.specs.Types.{lower}
-use Rattle.c_elab_expr.specs.Operands.{Operand, view_operand, number, record_value, constant_in}
-use Rattle.c_elab_expr.specs.Constants.{constant_of}
+use Rattle.c_operands.specs.Operands.{Operand, view_operand, number, record_value, constant_in}
+use Rattle.c_operands.specs.Constants.{constant_of}
 use Rattle.c_elab_expr.specs.Typing.{operand}
 use Rattle.c_elab_type.specs.declared.items.Made.{Made as CodeMade}
 use Rattle.c_elab_type.specs.declared.items.Made.TheVariants as made
@@ -61,6 +61,8 @@ is_character (integer types.LongLong) = false
 is_character (integer types.UnsignedLongLong) = false
 is_character (aggregate p) = false
 is_character (array element n) = false
+is_character (pointer t c) = false
+is_character (function f) = false
 
 -- rules 8 and 12: the value in the type of a scalar, which a string isn't (C11 6.7.9p11)
 abbrev pub scalar_value : IntegerType → Made → Result Value ℕ
@@ -90,6 +92,8 @@ value_node done void x = Err 12
 value_node done (integer t) x = scalar_value t x
 value_node done (aggregate p) x = record_node done (aggregate p) x
 value_node done (array element n) x = array_node element n x
+value_node done (pointer t c) x = Err 8
+value_node done (function f) x = Err 12
 
 -- what is judged as a constant: an expression, since a string is one, and braces judge their own items
 abbrev pub is_constant : Made → Bool
@@ -138,6 +142,8 @@ braced object_entry line rs void xs = on_line line (required 12 (only xs))
 braced object_entry line rs (integer t) xs = on_line line (required 12 (only xs))
 braced object_entry line rs (aggregate p) xs = list_made object_entry line rs (aggregate p) xs
 braced object_entry line rs (array element n) xs = list_made object_entry line rs (array element n) xs
+braced object_entry line rs (pointer t c) xs = on_line line (required 12 (only xs))
+braced object_entry line rs (function f) xs = on_line line (required 12 (only xs))
 
 -- ---- initializers
 

@@ -2,11 +2,11 @@
 
 ghost use Rattle.std.specs.Prelude.{◌≡◌, [], IfOk, OnOk};
 ghost use Rattle.core_tree.specs.Trees.{Parts, view, view_structure, parts_of, with_part};
-ghost use Rattle.c_elab_expr.specs.Constants.{constant_of};
+ghost use Rattle.c_operands.specs.Constants.{constant_of};
 ghost use Rattle.c_elab_type.specs.Initializers.{view_value, bytes_of_number, put_far, structure_bytes, parts_bytes, initial_bytes};
 
 use crate::items::Value;
-use c_elab_expr::constant_of;
+use c_operands::constant_of;
 use c_values::low_bytes;
 use core_tree::{CoreExpr, CorePart, CoreStructure};
 use std::alloc::{AllocError, Global};

@@ -9,7 +9,8 @@ ghost use Rattle.c_scope.specs.Faults.{Gives, on_line};
 ghost use Rattle.c_elab_type.specs.Enumerations.{int_bits, given_bits, next_bits, enumerator_value, enumerator_node, typed_enumerator, typed_enumerators};
 
 use c_elab_base::{Region, earlier};
-use c_elab_expr::{constant_in, operand};
+use c_elab_expr::operand;
+use c_operands::constant_in;
 use c_scope::{Meaning, Scope, TypingError};
 use c_tree::{Enumerator, Expr};
 use c_types::IntegerType;

@@ -9,7 +9,7 @@ ghost use Rattle.c_elab_base.specs.Slots.{slot};
 ghost use Rattle.c_elab_type.specs.Initializers.{Value as SpecValue, view_made, view_value, view_found, only, is_character, scalar_value, record_node, array_node, value_node, is_constant, initial_value, joined, part_with, item_node, parts_from, list_made, braced};
 
 use c_elab_base::{object_bytes, slot};
-use c_elab_expr::{CoreOperand, as_type, constant_in, number, record_value};
+use c_operands::{CoreOperand, as_type, constant_in, number, record_value};
 use c_scope::{Broken, TypingError};
 use c_types::{IntegerType, Layouts, Ty};
 use core_tree::{CoreExpr, CorePart, CoreStructure};
@@ -130,6 +130,8 @@ fn value_node(alloc: Global, type_: &Ty, made: Made, layouts: &Layouts) -> Resul
         Ty::Integer(type_) => scalar_value(alloc, *type_, made),
         Ty::Record(_) => record_node(alloc, type_, made, layouts),
         Ty::Array { element, length } => array_node(alloc, element, *length, made),
+        Ty::Pointer { .. } => Err(Broken::Rule { rule: 8 }),
+        Ty::Function(_) => Err(Broken::Rule { rule: 12 }),
     }
 }
 
@@ -311,5 +313,7 @@ pub fn braced(
         Ty::Integer(_) => only_on(line, items),
         Ty::Record(_) => list_made(alloc, object_entry, line, type_, items, layouts),
         Ty::Array { .. } => list_made(alloc, object_entry, line, type_, items, layouts),
+        Ty::Pointer { .. } => only_on(line, items),
+        Ty::Function(_) => only_on(line, items),
     }
 }

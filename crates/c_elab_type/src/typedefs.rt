@@ -15,7 +15,6 @@ use c_scope::{FunctionType, QualifiedType, Scope, TypingError, array_type};
 use c_tree::InitDeclarator;
 use c_types::Ty;
 use std::alloc::Global;
-use std::rc::Rc;
 
 // More types than this have no memory.
 const TYPES: usize = 0x7fff_ffff;
@@ -74,12 +73,9 @@ pub fn typed_function_typedef(
     if is_too_long(scope.functions(), &type_) {
         return Err(TypingError::Memory);
     }
-    let number = scope.add_function_type(type_)?;
+    let number = scope.place_function_type(type_)?;
     let named = QualifiedType {
-        type_: Ty::Array {
-            element: Rc::new(alloc, Ty::Void)?,
-            length: number,
-        },
+        type_: Ty::Function(number),
         constant: false,
     };
     scope.declare_type(alloc, name, named)?;

@@ -6,3 +6,4 @@ pub mod Bindings
 pub mod Variables
 pub mod Arrays
 pub mod Parted
+pub mod Compared

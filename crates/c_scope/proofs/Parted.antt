@@ -5,7 +5,7 @@ use Rattle.std.specs.Option.{option_and_then}
 use Rattle.std.proofs.lemmas.Option.{same_Some}
 use Rattle.c_types.specs.declared.types.RecordKind.{RecordKind}
 use Rattle.c_types.specs.declared.types.RecordKind.TheVariants.{Struct, Union}
-use Rattle.c_types.specs.Types.{CType, void, integer, aggregate, array, Completed}
+use Rattle.c_types.specs.Types.{CType, void, integer, aggregate, array, pointer, function, Completed}
 use Rattle.c_types.specs.Layouts.{Layout, layout_of, record_layout, completed_at, members_of, size_with, size_of, alignment_with, padded, struct_offsets, struct_end, greatest_size, greatest_alignment, zeros, IsBuilt}
 use Rattle.c_types.proofs.Kept.{none_members, some_members}
 use Rattle.c_types.proofs.MemberLoops.{padded_grows, end_grows}
@@ -80,6 +80,8 @@ member_within done built (aggregate p) i m h =
     let parts = both_some (slice_get (members_of done p) i) (slice_get (record_layout done p).offsets i) m h in
     record_within done built p i m.1 m.0 parts.0 parts.1
 member_within done built (array e n) i m h = let none : ⊥ = cc in absurd none
+member_within done built (pointer t c) i m h = let none : ⊥ = cc in absurd none
+member_within done built (function f) i m h = let none : ⊥ = cc in absurd none
 
 abbrev Inside : List Completed → ℕ → CType → Option (ℕ × CType) → Type 0
 Inside done offset t o = (at : ℕ) (u : CType) → o ≡ Some (at, u) → at + size_of done u ≤ offset + size_of done t

@@ -4,12 +4,12 @@ use Rattle.std.specs.Prelude.{◌&&◌, nat_lt, nat_le, IfSome, if◌then◌else
 use Rattle.std.proofs.lemmas.List.{length-append, map-append}
 use borrow.Author.Tests.{ltb-true, lt-ltb, leb-true, le-leb}
 use Rattle.c_types.specs.declared.types.RecordKind.{RecordKind}
-use Rattle.c_types.specs.Types.{CType, void, integer, aggregate, array, Completed}
+use Rattle.c_types.specs.Types.{CType, void, integer, aggregate, array, pointer, function, Completed}
 use Rattle.c_types.specs.Layouts.{is_completed, is_complete, is_sized, size_of}
 use Rattle.c_types.proofs.Records.{same_type}
 use Rattle.core_tree.specs.declared.functions.Variable.{Variable as CoreVariable}
 use Rattle.c_scope.specs.declared.meaning.Meaning.{Meaning}
-use Rattle.c_scope.specs.declared.meaning.Meaning.TheVariants.{Variable, Object, Incomplete, Assert, Assume, Draw, Function, Typedef, Enumerator, Record, Enumeration}
+use Rattle.c_scope.specs.declared.meaning.Meaning.TheVariants.{Variable, Object, Incomplete, Assert, Assume, Draw, BuiltIn, Function, Typedef, Enumerator, Record, Enumeration}
 use Rattle.c_scope.specs.Scopes.{Named, ObjectEntry, Environment, is_called, meaning_in, is_there, are_there, are_complete, variable_by, variable_of, variables_of, sizes_of}
 use Rattle.c_scope.specs.Types.{type_size}
 
@@ -40,6 +40,7 @@ there_wider variables more objects further types others records greater Incomple
 there_wider variables more objects further types others records greater Assert k l h g e = refl
 there_wider variables more objects further types others records greater Assume k l h g e = refl
 there_wider variables more objects further types others records greater (Draw t) k l h g e = refl
+there_wider variables more objects further types others records greater (BuiltIn b) k l h g e = refl
 there_wider variables more objects further types others records greater (Function f) k l h g e = refl
 there_wider variables more objects further types others records greater (Typedef n) k l h g e = below n types others h e
 there_wider variables more objects further types others records greater (Enumerator bits) k l h g e = refl
@@ -122,6 +123,8 @@ complete_later done c (aggregate n) is = by (c.place == n) where
   by true = refl
   by false = is
 complete_later done c (array e k) is = complete_later done c e is
+complete_later done c (pointer t b) is = is
+complete_later done c (function f) is = is
 
 pub variables_later : (done : List Completed) (c : Completed) (variables : List Named) → is_completed done c.place ≡ false → are_complete done variables ≡ true
     → (are_complete (c ∷ done) variables ≡ true) × (variables_of (c ∷ done) variables ≡ variables_of done variables)

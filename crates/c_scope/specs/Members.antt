@@ -5,7 +5,7 @@ use Rattle.std.specs.List.{list_any}
 use Rattle.std.specs.Str.{bytes_eq}
 use Rattle.std.specs.Coded.{Coded, code_by, coded_ℕ, coded_bool, coded_list, coded×}
 use Rattle.std.specs.Global.{Global}
-use Rattle.c_types.specs.Types.{CType, void, integer, aggregate, array, Completed, view}
+use Rattle.c_types.specs.Types.{CType, void, integer, aggregate, array, pointer, function, Completed, view}
 use Rattle.c_types.specs.Layouts.{record_layout, members_of}
 use Rattle.c_scope.specs.declared.members.Field.{Field as CodeField}
 use Rattle.c_scope.specs.declared.members.Way.{Way}
@@ -51,6 +51,8 @@ members_in all void = no_members
 members_in all (integer t) = no_members
 members_in all (aggregate p) = get_or all p no_members
 members_in all (array element n) = record { named = []; constant = (members_in all element).constant }
+members_in all (pointer t c) = no_members
+members_in all (function f) = no_members
 
 -- a member of an anonymous one
 abbrev pub through : ℕ → Bool → Member → Member
@@ -99,6 +101,8 @@ member_in done void i = None
 member_in done (integer t) i = None
 member_in done (aggregate p) i = option_and_then (λ t. option_map (λ o. (t, o)) (slice_get (record_layout done p).offsets i)) (slice_get (members_of done p) i)
 member_in done (array element n) i = None
+member_in done (pointer t c) i = None
+member_in done (function f) i = None
 
 -- the offset and the type of the object at the end of a path of members, from an object at an offset on
 abbrev pub part_at : List Completed → ℕ → CType → List ℕ → Option (ℕ × CType)

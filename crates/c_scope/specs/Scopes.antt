@@ -15,7 +15,7 @@ use Rattle.core_tree.specs.declared.functions.PassedType.TheVariants as passed
 use Rattle.core_tree.specs.declared.functions.Variable.{Variable as CoreVariable}
 use Rattle.core_tree.specs.Typed.{Sizes, Signature, sizes_of_variables, homes_of}
 use Rattle.c_scope.specs.declared.meaning.Meaning.{Meaning}
-use Rattle.c_scope.specs.declared.meaning.Meaning.TheVariants.{Variable, Object, Incomplete, Assert, Assume, Draw, Function, Typedef, Enumerator, Record, Enumeration}
+use Rattle.c_scope.specs.declared.meaning.Meaning.TheVariants.{Variable, Object, Incomplete, Assert, Assume, Draw, BuiltIn, Function, Typedef, Enumerator, Record, Enumeration}
 use Rattle.c_scope.specs.declared.scope.QualifiedType.{QualifiedType}
 use Rattle.c_scope.specs.declared.scope.ObjectEntry.{ObjectEntry as CodeObjectEntry}
 use Rattle.c_scope.specs.declared.functions.FunctionType.{FunctionType as CodeFunctionType}
@@ -111,6 +111,7 @@ is_tag Incomplete = false
 is_tag Assert = false
 is_tag Assume = false
 is_tag (Draw t) = false
+is_tag (BuiltIn b) = false
 is_tag (Function f) = false
 is_tag (Typedef n) = false
 is_tag (Enumerator bits) = false
@@ -180,7 +181,7 @@ pub record Callable : Type 0 where
   pub defined : Bool
 
 -- The functions of a file: by number, in the order of their first declarators; their numbers by their names, each of which has
--- linkage (C11 6.2.2p5); the function types that typedefs name, by number; and the names of the functions that the file defines
+-- linkage (C11 6.2.2p5); the function types of the file by place, each once; and the names of the functions that the file defines
 -- somewhere.
 pub record FunctionTable : Type 0 where
   pub all : List Callable
@@ -255,18 +256,14 @@ no_flow = record { gives = ctypes.void; loops = 0; labels = 0; switch = None }
 abbrev pub first_scope : Scoped
 first_scope = record { bindings = []; types = built_in_types; records = built_in_records; members = built_in_members; variables = []; objects = []; linked = []; functions = no_functions; flow = no_flow }
 
--- A function type stands among the types as an array of void, which no object has: its length is the function type's number.
-abbrev pub function_numbered : ℕ → CType
-function_numbered n = ctypes.array ctypes.void n
-
+-- the place of a function's type among the function types of the file
 abbrev pub function_number : CType → Option ℕ
 function_number ctypes.void = None
 function_number (ctypes.integer t) = None
 function_number (ctypes.aggregate p) = None
-function_number (ctypes.array ctypes.void n) = Some n
-function_number (ctypes.array (ctypes.integer t) n) = None
-function_number (ctypes.array (ctypes.aggregate p) n) = None
-function_number (ctypes.array (ctypes.array e k) n) = None
+function_number (ctypes.array e n) = None
+function_number (ctypes.pointer t c) = None
+function_number (ctypes.function f) = Some f
 
 -- what a name means is there: a variable of the function, an object, a typedef's type, or a struct or union
 abbrev pub is_there : ℕ → ℕ → ℕ → ℕ → Meaning → Bool
@@ -276,6 +273,7 @@ is_there variables objects types records Incomplete = true
 is_there variables objects types records Assert = true
 is_there variables objects types records Assume = true
 is_there variables objects types records (Draw t) = true
+is_there variables objects types records (BuiltIn b) = true
 is_there variables objects types records (Function f) = true
 is_there variables objects types records (Typedef n) = nat_lt n types
 is_there variables objects types records (Enumerator bits) = true
@@ -337,18 +335,22 @@ object_entry_size done o = if is_incomplete done o then 0 else size_of done o.na
 
 -- ---- functions
 
--- a value of this type, as a call hands it over
+-- a value of this type, as a call hands it over: a pointer is a number of 64 bits
 abbrev pub passed_as : List Completed → CType → PassedType
 passed_as done ctypes.void = passed.Structure 0
 passed_as done (ctypes.integer t) = passed.Integer t
 passed_as done (ctypes.aggregate p) = passed.Structure (size_of done (ctypes.aggregate p))
 passed_as done (ctypes.array e n) = passed.Structure (size_of done (ctypes.array e n))
+passed_as done (ctypes.pointer t c) = passed.Integer types.UnsignedLong
+passed_as done (ctypes.function f) = passed.Structure 0
 
 abbrev pub given_by : List Completed → CType → Option PassedType
 given_by done ctypes.void = None
 given_by done (ctypes.integer t) = Some (passed_as done (ctypes.integer t))
 given_by done (ctypes.aggregate p) = Some (passed_as done (ctypes.aggregate p))
 given_by done (ctypes.array e n) = Some (passed_as done (ctypes.array e n))
+given_by done (ctypes.pointer t c) = Some (passed_as done (ctypes.pointer t c))
+given_by done (ctypes.function f) = Some (passed_as done (ctypes.function f))
 
 abbrev pub signature_of : List Completed → Callable → Signature
 signature_of done f = record { gives = given_by done f.type.gives.type; parameters = map (passed_as done) f.type.parameters }
@@ -386,6 +388,8 @@ integer_in ctypes.void = types.Int
 integer_in (ctypes.integer t) = t
 integer_in (ctypes.aggregate p) = types.Int
 integer_in (ctypes.array e n) = types.Int
+integer_in (ctypes.pointer t c) = types.Int
+integer_in (ctypes.function f) = types.Int
 
 abbrev pub coded_integer : Coded IntegerType
 coded_integer = code_by CType coded_type ctypes.integer integer_in (λ _. refl)

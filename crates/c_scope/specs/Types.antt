@@ -17,7 +17,7 @@ use Rattle.c_types.specs.Types.{CType, Completed, Records}
 use Rattle.c_types.specs.Types as ctypes
 use Rattle.c_types.specs.Layouts.{is_complete, is_sized, size_of, most_bytes, kind_at}
 use Rattle.c_scope.specs.declared.meaning.Meaning.{Meaning}
-use Rattle.c_scope.specs.declared.meaning.Meaning.TheVariants.{Variable, Object, Incomplete, Assert, Assume, Draw, Function, Typedef, Enumerator, Record, Enumeration}
+use Rattle.c_scope.specs.declared.meaning.Meaning.TheVariants.{Variable, Object, Incomplete, Assert, Assume, Draw, BuiltIn, Function, Typedef, Enumerator, Record, Enumeration}
 use Rattle.c_scope.specs.declared.specifiers.Specified.{Specified}
 use Rattle.c_scope.specs.Scopes.{Named, plain, Scoped, meaning_of, tag_of}
 use Rattle.c_scope.specs.Faults.{◌>>=◌, required}
@@ -146,6 +146,7 @@ typedef_of scope (Some Incomplete) = Err 1
 typedef_of scope (Some Assert) = Err 1
 typedef_of scope (Some Assume) = Err 1
 typedef_of scope (Some (Draw t)) = Err 1
+typedef_of scope (Some (BuiltIn b)) = Err 1
 typedef_of scope (Some (Function f)) = Err 1
 typedef_of scope (Some (Typedef n)) = required 1 (slice_get scope.types n)
 typedef_of scope (Some (Enumerator bits)) = Err 1
@@ -173,6 +174,7 @@ tag_type scope kind Incomplete = Err 18
 tag_type scope kind Assert = Err 18
 tag_type scope kind Assume = Err 18
 tag_type scope kind (Draw t) = Err 18
+tag_type scope kind (BuiltIn b) = Err 18
 tag_type scope kind (Function f) = Err 18
 tag_type scope kind (Typedef n) = Err 18
 tag_type scope kind (Enumerator bits) = Err 18

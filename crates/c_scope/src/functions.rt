@@ -1,8 +1,10 @@
 //! The functions of a file.
 
-ghost use Rattle.std.specs.Prelude.{◌≡◌, ◌<◌, ◌^◌, ◌∷◌, ◌++◌, [], None, length, slice_get, slice_set, option_map, IfOk, OnOk};
+ghost use Rattle.std.specs.Prelude.{◌≡◌, ◌≤◌, ◌<◌, ◌^◌, ◌∷◌, ◌++◌, [], None, length, map, slice_get, slice_set, option_map, IfOk, OnOk};
 ghost use Rattle.c_scope.specs.Scopes.{view_function_type, view_callable, linked_to, no_functions, is_defined, with_defined};
+ghost use Rattle.c_scope.specs.Functions.{type_place, with_placed};
 
+use crate::comparing::same_function;
 use c_types::{IntegerType, Ty};
 use indexmap::{IndexMap, IndexSet};
 use std::alloc::{AllocError, Global};
@@ -32,7 +34,7 @@ pub struct Callable {
 }
 
 /// The functions of a file: by number, in the order of their first declarators; their numbers by their names; the function types
-/// that typedefs name, by number; and the names of the functions that the file defines somewhere.
+/// of the file by place, each once; and the names of the functions that the file defines somewhere.
 #[derive(Drop)]
 pub struct Functions {
     all: Vec<Callable>,
@@ -114,29 +116,31 @@ impl Functions {
         self.all[number as usize] = function;
     }
 
-    /// How many function types typedefs name.
+    /// How many function types the file has so far.
     pub fn type_count(&self) -> usize
         ensures { result ≡ length self.now.types }
     {
         self.types.len()
     }
 
-    /// A function type that a typedef names, by its number.
+    /// A function type by its place.
     pub fn type_at(&self, number: u32) -> Option<&FunctionType>
         ensures { option_map (λ t. view_function_type t.now) result ≡ slice_get self.now.types number }
     {
         self.types.get(number as usize)
     }
 
-    /// One more function type that a typedef names, and its number.
-    pub fn add_type(&mut self, type_: FunctionType) -> Result<u32, AllocError>
+    /// The place of a function type among those of the file, of which it is one from now on.
+    pub fn place_type(&mut self, type_: FunctionType) -> Result<u32, AllocError>
         requires { length self.old.types < 2 ^ 32 }
-        ensures number { IfOk result (λ n. n ≡ length self.old.types) }
-        ensures added { OnOk result (self.new ≡ record self.old { types = self.old.types ++ view_function_type type_ ∷ [] }) }
+        ensures place { IfOk result (λ n. n ≡ type_place self.old.types (view_function_type type_)) }
+        ensures placed { OnOk result (self.new ≡ record self.old { types = with_placed self.old.types (view_function_type type_) }) }
     {
-        let number = self.types.len() as u32;
-        self.types.push(type_)?;
-        Ok(number)
+        let place = place_in(&self.types, &type_);
+        if place == self.types.len() {
+            self.types.push(type_)?;
+        }
+        Ok(place as u32)
     }
 
     /// Whether the file defines a function of this name somewhere.
@@ -154,4 +158,20 @@ impl Functions {
         self.defined.insert(own)?;
         Ok(())
     }
+}
+
+// The place of the first function type that is this one, or behind all.
+#[tactic(auto, using(crate::proofs::Compared::place_found, crate::proofs::Compared::place_more, crate::proofs::Compared::place_none))]
+fn place_in(types: &[FunctionType], type_: &FunctionType) -> usize
+    ensures place { result ≡ type_place (map view_function_type types.now) (view_function_type type_.now) }
+    ensures within { result ≤ length types.now }
+{
+    let mut place = 0;
+    while place < types.len() {
+        if same_function(&types[place], type_) {
+            return place;
+        }
+        place += 1;
+    }
+    place
 }

@@ -2,6 +2,7 @@
 #![tactic(auto)]
 
 mod built_ins;
+mod comparing;
 mod declarators;
 mod fault;
 mod flow;
@@ -14,6 +15,7 @@ mod specifiers;
 mod type_words;
 
 pub use built_ins::built_in;
+pub use comparing::{same_ctype, same_flag, same_function};
 pub use declarators::{
     array_of, array_type, declared_line, element_type, element_type_on, object_size, one_array,
     type_size,
@@ -21,7 +23,7 @@ pub use declarators::{
 pub use fault::{Broken, TypingError};
 pub use flow::{Cases, Flow};
 pub use functions::{Callable, FunctionType, Functions};
-pub use meaning::Meaning;
+pub use meaning::{BuiltInFunction, Meaning};
 pub use members::{Field, member_at, part_at};
 pub use scope::{ObjectEntry, QualifiedType, Scope, is_incomplete};
 pub use specifiers::{Specified, parts_type, tag_type, typedef_of};

@@ -5,6 +5,25 @@ ghost use Rattle.c_scope.specs.Scopes.{is_tag};
 
 use c_types::IntegerType;
 
+/// A function that has no body (C11 7.21.6.3, 7.22.3, 7.22.4).
+#[derive(Clone, Copy, PartialEq, Eq)]
+pub enum BuiltInFunction {
+    /// `malloc`, which gives an object of so many bytes.
+    Malloc,
+    /// `calloc`, which gives one of so many elements of so many bytes, which are 0.
+    Calloc,
+    /// `free`, which ends the lifetime of one.
+    Free,
+    /// `exit`, which ends the program.
+    Exit,
+    /// `abort`, which ends it too.
+    Abort,
+    /// `__CPROVER_assert`, which takes a scalar, and a text.
+    Check,
+    /// `printf`, which takes a text and any scalars, and gives a number from the inputs.
+    Print,
+}
+
 /// What a name or a tag means (C11 6.2.1, 6.2.3).
 #[derive(Clone, Copy, PartialEq, Eq)]
 pub enum Meaning {
@@ -20,6 +39,8 @@ pub enum Meaning {
     Assume,
     /// A function without parameters that gives a number of this type from the inputs.
     Draw { type_: IntegerType },
+    /// A function that each file may call without a declaration.
+    BuiltIn { function: BuiltInFunction },
     /// A function of the file, by its number.
     Function { function: u32 },
     /// A typedef, with its type's number in the scope.
@@ -45,6 +66,7 @@ impl Meaning {
             | Meaning::Assert
             | Meaning::Assume
             | Meaning::Draw { .. }
+            | Meaning::BuiltIn { .. }
             | Meaning::Function { .. }
             | Meaning::Typedef { .. }
             | Meaning::Enumerator { .. } => false,

@@ -137,6 +137,8 @@ fn table_in<'a>(type_: &Ty, tables: &'a [MemberTable]) -> Option<&'a MemberTable
         Ty::Void => None,
         Ty::Integer(_) => None,
         Ty::Array { .. } => None,
+        Ty::Pointer { .. } => None,
+        Ty::Function(_) => None,
     }
 }
 
@@ -199,6 +201,8 @@ pub fn is_constant_within(type_: &Ty, tables: &[MemberTable]) -> bool
             Ty::Array { element, .. } => inner = element,
             Ty::Void => return false,
             Ty::Integer(_) => return false,
+            Ty::Pointer { .. } => return false,
+            Ty::Function(_) => return false,
         }
     }
 }
@@ -276,6 +280,8 @@ pub fn member_at<'a>(type_: &Ty, number: u32, layouts: &'a Layouts) -> Option<(&
         Ty::Void => None,
         Ty::Integer(_) => None,
         Ty::Array { .. } => None,
+        Ty::Pointer { .. } => None,
+        Ty::Function(_) => None,
     }
 }
 

@@ -7,6 +7,7 @@ ghost use Rattle.c_scope.specs.Members.{view_fields, view_members, view_tables, 
 ghost use Rattle.c_scope.specs.Places.{place_in};
 ghost use Rattle.c_scope.specs.Scopes.{binding, view_object_entry, view_callable, view_function_type, view_flow, with_callable, with_defined, object_at, linked_to, is_incomplete, view_named, meaning_of, tag_of, declares, is_there, are_there, is_known, are_known, plain, built_in_types, built_in_records, built_in_members, first_scope, variables_in};
 ghost use Rattle.c_scope.specs.Scopes as scopes;
+ghost use Rattle.c_scope.specs.Functions.{type_place, with_placed};
 ghost use Rattle.c_scope.specs.Types.{type_size};
 
 use crate::built_ins::built_in;
@@ -286,13 +287,13 @@ impl Scope {
         self.functions.set(number, function);
     }
 
-    /// One more function type that a typedef names, and its number.
-    pub fn add_function_type(&mut self, type_: FunctionType) -> Result<u32, AllocError>
+    /// The place of a function type among those of the file, of which it is one from now on.
+    pub fn place_function_type(&mut self, type_: FunctionType) -> Result<u32, AllocError>
         requires { length self.old.functions.types < 2 ^ 32 }
-        ensures number { IfOk result (λ n. n ≡ length self.old.functions.types) }
-        ensures added { OnOk result (self.new ≡ record self.old { functions = record self.old.functions { types = self.old.functions.types ++ view_function_type type_ ∷ [] } }) }
+        ensures place { IfOk result (λ n. n ≡ type_place self.old.functions.types (view_function_type type_)) }
+        ensures placed { OnOk result (self.new ≡ record self.old { functions = record self.old.functions { types = with_placed self.old.functions.types (view_function_type type_) } }) }
     {
-        self.functions.add_type(type_)
+        self.functions.place_type(type_)
     }
 
     /// Notes that the file defines a function of this name.

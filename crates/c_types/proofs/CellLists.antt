@@ -9,7 +9,7 @@ use Rattle.c_types.specs.declared.types.Cell.{Cell}
 use Rattle.c_types.specs.declared.types.Ty.{Ty}
 use Rattle.c_types.specs.declared.types.Ty as codes
 use Rattle.c_types.specs.Integers.{bytes}
-use Rattle.c_types.specs.Types.{CType, view, void, integer, aggregate, array, Completed}
+use Rattle.c_types.specs.Types.{CType, view, void, integer, aggregate, array, pointer, function, Completed}
 use Rattle.c_types.specs.Layouts.{Layout, record_layout, layout_of, size_of, alignment_of, cells_of, size_with, alignment_with, cells_with, padded, shifted, repeated, struct_end, struct_cells, greatest_size, greatest_alignment, cells_of_size, is_sized, are_sized, completed_at, most_bytes, IsBuilt}
 use Rattle.c_types.specs.Fields.{IsRecord, Within}
 use Rattle.c_types.proofs.Kept.{small_record, none_layout}
@@ -68,6 +68,8 @@ within_type r all void = tt
 within_type r all (integer t) = (omega arith, tt)
 within_type r all (aggregate n) = all n
 within_type r all (array e k) = within_repeated k (size_with r e) (cells_with r e) (within_type r all e)
+within_type r all (pointer t c) = (omega arith, tt)
+within_type r all (function f) = tt
 
 within_struct : (r : ℕ → Layout) → ((n : ℕ) → Within (r n).size (r n).cells) → (from : ℕ) (ms : List CType) → Within (struct_end r from ms) (struct_cells r from ms)
 within_struct r all from [] = tt
@@ -121,6 +123,8 @@ small_sized done void built is = omega arith
 small_sized done (integer t) built is = small_integer t
 small_sized done (aggregate n) built is = small_record done n built
 small_sized done (array e k) built is = leb-true _ _ (and_parts _ _ is).1
+small_sized done (pointer t c) built is = omega arith
+small_sized done (function f) built is = omega arith
 
 -- ---- the walk over the members of a struct
 

@@ -5,7 +5,7 @@ use Rattle.std.proofs.lemmas.Option.{same_Some}
 use Rattle.c_types.specs.declared.types.RecordKind.{RecordKind}
 use Rattle.c_types.specs.declared.types.RecordKind.TheVariants.{Struct, Union}
 use Rattle.c_types.specs.declared.types.Cell.{Cell}
-use Rattle.c_types.specs.Types.{CType, void, integer, aggregate, array, Completed}
+use Rattle.c_types.specs.Types.{CType, void, integer, aggregate, array, pointer, function, Completed}
 use Rattle.c_types.specs.Layouts.{Layout, record_layout, layout_of, size_with, alignment_with, cells_with, padded, shifted, repeated, struct_end, struct_offsets, struct_cells, greatest_size, greatest_alignment, cells_of_size, is_completed, completed_at, is_complete, are_complete, is_sized, are_sized, fits, most_bytes, IsBuilt}
 use Rattle.c_types.specs.Fields.{IsRecord}
 
@@ -16,6 +16,8 @@ nesting_with r void = 0
 nesting_with r (integer t) = 0
 nesting_with r (aggregate n) = suc (r n)
 nesting_with r (array e k) = suc (nesting_with r e)
+nesting_with r (pointer t c) = 0
+nesting_with r (function f) = 0
 
 abbrev pub greatest_nesting : (ℕ → ℕ) → List CType → ℕ
 greatest_nesting r [] = 0
@@ -61,6 +63,8 @@ same_type older c (array e k) before there = let s = same_type older c e before 
   deep = ap suc s.deep;
   sized = ap₂ (λ (a : Bool) (x : ℕ). a && nat_le (k * x) most_bytes) s.sized s.size;
 }
+same_type older c (pointer t b) before there = record { size = refl; alignment = refl; cells = refl; deep = refl; sized = refl }
+same_type older c (function f) before there = record { size = refl; alignment = refl; cells = refl; deep = refl; sized = refl }
 
 -- ---- and of lists of types
 
@@ -150,6 +154,8 @@ still_complete older c void is = is
 still_complete older c (integer t) is = is
 still_complete older c (aggregate n) is = still_completed older c n is
 still_complete older c (array e k) is = still_complete older c e is
+still_complete older c (pointer t b) is = is
+still_complete older c (function f) is = is
 
 all_still_complete : (older : List Completed) (c : Completed) (ms : List CType) → are_complete older ms ≡ true → are_complete (c ∷ older) ms ≡ true
 all_still_complete older c [] is = refl

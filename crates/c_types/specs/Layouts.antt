@@ -6,11 +6,15 @@ use Rattle.c_types.specs.declared.types.Cell.{Cell}
 use Rattle.c_types.specs.declared.fault.LayoutError.{LayoutError}
 use Rattle.c_types.specs.declared.fault.LayoutError.TheVariants.{Incomplete, NoElements, TooLarge, Memory}
 use Rattle.c_types.specs.Integers.{bytes}
-use Rattle.c_types.specs.Types.{CType, void, integer, aggregate, array, Completed, Records}
+use Rattle.c_types.specs.Types.{CType, void, integer, aggregate, array, pointer, function, Completed, Records}
 
 -- no type has more bytes
 abbrev pub most_bytes : ℕ
 most_bytes = 2147483647
+
+-- the bytes of a pointer, and its alignment (System V ABI for AMD64, figure 3.1)
+abbrev pub pointer_bytes : ℕ
+pointer_bytes = 8
 
 -- how a struct or union lies in memory: its size and alignment in bytes, the offsets of its members in
 -- order, and its scalars in order of offset
@@ -22,12 +26,15 @@ pub record Layout : Type 0 where
 
 -- ---- a type, by the layouts of the structs and unions within it
 
--- an array is its elements one behind the other (C11 6.2.5p20); what is incomplete has no bytes
+-- an array is its elements one behind the other (C11 6.2.5p20), and what a pointer points to is no part of it; what is
+-- incomplete, or a function, has no bytes
 abbrev pub size_with : (ℕ → Layout) → CType → ℕ
 size_with r void = 0
 size_with r (integer t) = bytes t
 size_with r (aggregate n) = (r n).size
 size_with r (array e k) = k * size_with r e
+size_with r (pointer t c) = pointer_bytes
+size_with r (function f) = 0
 
 -- an array is aligned as its element
 abbrev pub alignment_with : (ℕ → Layout) → CType → ℕ
@@ -35,6 +42,8 @@ alignment_with r void = 1
 alignment_with r (integer t) = bytes t
 alignment_with r (aggregate n) = (r n).alignment
 alignment_with r (array e k) = alignment_with r e
+alignment_with r (pointer t c) = pointer_bytes
+alignment_with r (function f) = 1
 
 -- these cells, so many bytes further on
 abbrev pub shifted : ℕ → List Cell → List Cell
@@ -51,6 +60,8 @@ cells_with r void = []
 cells_with r (integer t) = record { offset = 0; size = bytes t } ∷ []
 cells_with r (aggregate n) = (r n).cells
 cells_with r (array e k) = repeated k (size_with r e) (cells_with r e)
+cells_with r (pointer t c) = record { offset = 0; size = pointer_bytes } ∷ []
+cells_with r (function f) = []
 
 -- ---- a struct or union, by its members
 
@@ -128,12 +139,14 @@ abbrev pub is_completed : List Completed → ℕ → Bool
 is_completed [] n = false
 is_completed (c ∷ older) n = if c.place == n then true else is_completed older n
 
--- whether a type is complete (C11 6.2.5p1, p19, p22)
+-- whether a type is that of complete objects (C11 6.2.5p1, p19, p22): a pointer's is, whatever it points to, and a function's isn't
 abbrev pub is_complete : List Completed → CType → Bool
 is_complete done void = false
 is_complete done (integer t) = true
 is_complete done (aggregate n) = is_completed done n
 is_complete done (array e k) = is_complete done e
+is_complete done (pointer t c) = true
+is_complete done (function f) = false
 
 abbrev pub are_complete : List Completed → List CType → Bool
 are_complete done [] = true
@@ -154,6 +167,8 @@ is_sized done void = true
 is_sized done (integer t) = true
 is_sized done (aggregate n) = true
 is_sized done (array e k) = is_sized done e && nat_le (k * size_of done e) most_bytes
+is_sized done (pointer t c) = true
+is_sized done (function f) = true
 
 abbrev pub are_sized : List Completed → List CType → Bool
 are_sized done [] = true

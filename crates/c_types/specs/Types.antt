@@ -1,7 +1,7 @@
 -- The types of C without where they lie in memory (C11 6.2.5), and the records of a file.
-use Rattle.std.specs.Prelude.{ℕ, zero, suc, ◌≡◌, List, [], ◌∷◌, map, get_or, refl}
+use Rattle.std.specs.Prelude.{ℕ, zero, suc, ◌≡◌, Bool, true, false, List, [], ◌∷◌, map, get_or, refl}
 use Rattle.std.specs.Coded.{Coded, code_by, coded_ℕ, coded_list, coded×}
-use mathlib.Core.Path.{ap}
+use mathlib.Core.Path.{ap, ◌∙◌}
 use Rattle.c_types.specs.declared.integers.IntegerType.{IntegerType}
 use Rattle.c_types.specs.declared.integers.IntegerType.TheVariants as integers
 use Rattle.c_types.specs.declared.types.Ty.{Ty}
@@ -10,18 +10,23 @@ use Rattle.c_types.specs.declared.types.RecordKind.{RecordKind}
 use Rattle.c_types.specs.declared.types.RecordKind.TheVariants.{Struct, Union}
 use Rattle.c_types.specs.Integers.{number_of}
 
--- void, an integer type, a struct or union by its place, or an array (C11 6.2.5p19, p17, p20)
+-- void, an integer type, a struct or union by its place, an array, a pointer, with whether what it points to is const, or the type
+-- of a function, by its place among the function types of the file (C11 6.2.5p19, p17, p20)
 pub data CType : Type 0 where
   void : CType
   integer : (type : IntegerType) → CType
   aggregate : (place : ℕ) → CType
   array : (element : CType) (length : ℕ) → CType
+  pointer : (to : CType) (constant : Bool) → CType
+  function : (place : ℕ) → CType
 
 abbrev pub view : Ty → CType
 view codes.Void = void
 view (codes.Integer t) = integer t
 view (codes.Record n) = aggregate n
 view (codes.Array' p e k) = array (view e) k
+view (codes.Pointer' p t c) = pointer (view t) c
+view (codes.Function n) = function n
 
 abbrev pub views : List Ty → List CType
 views types = map view types
@@ -58,39 +63,59 @@ type_at_number integers.UnsignedLong = refl
 type_at_number integers.LongLong = refl
 type_at_number integers.UnsignedLongLong = refl
 
--- the lengths of a type's arrays, the outermost first; what its innermost element is
-abbrev lengths_of : CType → List ℕ
-lengths_of void = []
-lengths_of (integer t) = []
-lengths_of (aggregate n) = []
-lengths_of (array e k) = k ∷ lengths_of e
+-- the arrays and pointers of a type, the outermost first; what is innermost
+abbrev number_pointer : Bool → ℕ
+number_pointer false = 0
+number_pointer true = 1
+
+abbrev layers_of : CType → List ℕ
+layers_of void = []
+layers_of (integer t) = []
+layers_of (aggregate n) = []
+layers_of (array e k) = suc (suc k) ∷ layers_of e
+layers_of (pointer t c) = number_pointer c ∷ layers_of t
+layers_of (function n) = []
 
 abbrev innermost : CType → ℕ × ℕ
 innermost void = (0, 0)
 innermost (integer t) = (1, number_of t)
 innermost (aggregate n) = (2, n)
 innermost (array e k) = innermost e
+innermost (pointer t c) = innermost t
+innermost (function n) = (3, n)
 
 abbrev type_of_innermost : ℕ → ℕ → CType
 type_of_innermost zero n = void
 type_of_innermost (suc zero) n = integer (type_at n)
-type_of_innermost (suc (suc _)) n = aggregate n
+type_of_innermost (suc (suc zero)) n = aggregate n
+type_of_innermost (suc (suc (suc _))) n = function n
 
-abbrev arrays_of : List ℕ → CType → CType
-arrays_of [] t = t
-arrays_of (k ∷ ks) t = array (arrays_of ks t) k
+abbrev layer : ℕ → CType → CType
+layer zero t = pointer t false
+layer (suc zero) t = pointer t true
+layer (suc (suc k)) t = array t k
+
+abbrev layered : List ℕ → CType → CType
+layered [] t = t
+layered (l ∷ ls) t = layer l (layered ls t)
 
 abbrev number_type : CType → List ℕ × (ℕ × ℕ)
-number_type t = (lengths_of t, innermost t)
+number_type t = (layers_of t, innermost t)
 
 abbrev type_numbered : List ℕ × (ℕ × ℕ) → CType
-type_numbered c = arrays_of c.0 (type_of_innermost c.1.0 c.1.1)
+type_numbered c = layered c.0 (type_of_innermost c.1.0 c.1.1)
+
+pointer_number : (t : CType) (c : Bool) → layer (number_pointer c) t ≡ pointer t c
+pointer_number t false = refl
+pointer_number t true = refl
 
 pub type_numbered_number : (t : CType) → type_numbered (number_type t) ≡ t
 type_numbered_number void = refl
 type_numbered_number (integer t) = ap integer (type_at_number t)
 type_numbered_number (aggregate n) = refl
 type_numbered_number (array e k) = ap (λ (x : CType). array x k) (type_numbered_number e)
+type_numbered_number (pointer t c) = pointer_number (type_numbered (number_type t)) c ∙ ap (λ (x : CType). pointer x c) (type_numbered_number t)
+type_numbered_number (function n) = refl
 
 abbrev pub coded_type : Coded CType
 coded_type = code_by (List ℕ × (ℕ × ℕ)) (coded× (coded_list coded_ℕ) (coded× coded_ℕ coded_ℕ)) number_type type_numbered type_numbered_number

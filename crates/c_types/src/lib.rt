@@ -14,5 +14,5 @@ pub use fault::{Incomplete, LayoutError};
 pub use integers::{IntegerType, common, promote};
 pub use layouts::Layouts;
 pub use listing::cells;
-pub use sizes::{MOST_BYTES, align_of, is_complete, is_sized, size_of};
+pub use sizes::{MOST_BYTES, POINTER_BYTES, align_of, is_complete, is_sized, size_of};
 pub use types::{Cell, RecordKind, Ty, ValueType, same};

@@ -7,7 +7,7 @@ ghost use Rattle.c_types.specs.Fields.{Within};
 
 use crate::extents::{greatest, next_multiple};
 use crate::layouts::Layouts;
-use crate::sizes::{alignment, total_size};
+use crate::sizes::{POINTER_BYTES, alignment, total_size};
 use crate::types::{Cell, RecordKind, Ty};
 use std::alloc::{AllocError, Global};
 
@@ -59,6 +59,14 @@ fn append_cells(
         Ty::Array { element, length } => {
             append_array(alloc, list, base, element, *length, layouts)
         }
+        Ty::Pointer { .. } => {
+            list.push(Cell {
+                offset: base,
+                size: POINTER_BYTES,
+            })?;
+            Ok(())
+        }
+        Ty::Function(_) => Ok(()),
     }
 }
 

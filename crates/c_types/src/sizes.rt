@@ -13,7 +13,10 @@ use std::rc::Rc;
 /// No type has more bytes.
 pub const MOST_BYTES: u32 = 2_147_483_647;
 
-/// Whether a type is complete (C11 6.2.5p1, p19, p22).
+/// The bytes of a pointer; its alignment too.
+pub const POINTER_BYTES: u32 = 8;
+
+/// Whether a type is that of complete objects (C11 6.2.5p1, p19, p22), which a function's isn't.
 pub fn is_complete(type_: &Ty, layouts: &Layouts) -> bool
     ensures { result ≡ is_complete layouts.now.done (view type_.now) }
 {
@@ -24,6 +27,8 @@ pub fn is_complete(type_: &Ty, layouts: &Layouts) -> bool
             Ty::Integer(_) => return true,
             Ty::Record(place) => return layouts.is_completed(*place),
             Ty::Array { element, .. } => inner = element,
+            Ty::Pointer { .. } => return true,
+            Ty::Function(_) => return false,
         }
     }
 }
@@ -91,6 +96,8 @@ pub fn total_size(type_: &Ty, layouts: &Layouts) -> Option<u32>
                 most = most_elements(most, *length);
                 inner = element;
             }
+            Ty::Pointer { .. } => return bytes_of(all, most, POINTER_BYTES),
+            Ty::Function(_) => return bytes_of(all, most, 0),
         }
     }
 }
@@ -107,6 +114,8 @@ pub fn alignment(type_: &Ty, layouts: &Layouts) -> u32
             Ty::Integer(integer) => return integer.size(),
             Ty::Record(place) => return layouts.record_alignment(*place),
             Ty::Array { element, .. } => inner = element,
+            Ty::Pointer { .. } => return POINTER_BYTES,
+            Ty::Function(_) => return 1,
         }
     }
 }

@@ -18,7 +18,7 @@ use Rattle.c_scope.specs.Scopes.{Named, FunctionType, FunctionTable, Callable, S
 use Rattle.c_scope.specs.Faults.{◌>>=◌, Fault, on_line}
 use Rattle.c_scope.specs.Types.{array_of, specified_type}
 use Rattle.c_elab_expr.specs.Typing.{operand, operand_by, bound}
-use Rattle.c_elab_expr.specs.Operands.{Operand}
+use Rattle.c_operands.specs.Operands.{Operand}
 use Rattle.c_elab_base.specs.declared.regions.Region.{Region}
 use Rattle.c_elab_base.specs.declared.regions.Role.{Role}
 use Rattle.c_elab_base.specs.declared.regions.Role.TheVariants as roles

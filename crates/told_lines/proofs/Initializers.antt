@@ -10,7 +10,7 @@ use Rattle.core_tree.specs.Trees.{Parts}
 use Rattle.c_scope.specs.Scopes.{Scoped}
 use Rattle.c_scope.specs.Faults.{required, on_line}
 use Rattle.c_elab_base.specs.Slots.{slot, slot_type}
-use Rattle.c_elab_expr.specs.Operands.{number, record_value}
+use Rattle.c_operands.specs.Operands.{number, record_value}
 use Rattle.c_elab_expr.specs.Typing.{operand}
 use Rattle.c_elab_type.specs.Initializers.{Made, single, text, listed, only, Value, number_value, structure_value, is_character, scalar_value, record_node, array_node, value_node, is_constant, initial_value, part_with, joined, item_node, parts_from, list_made, braced, literal_of, single_as, typed_initial, typed_initials, initializer_of}
 use Rattle.told_lines.specs.TypedLines.{InExpression, InStructure, InParts}
@@ -53,6 +53,8 @@ module _ (P : ℕ → Type 0) where
   value_good done (ctypes.integer t) x h = scalar_good t x h
   value_good done (ctypes.aggregate p) x h = record_good done (ctypes.aggregate p) x h
   value_good done (ctypes.array element n) x h = array_good element n x h
+  value_good done (ctypes.pointer t c) x h = fails _ _
+  value_good done (ctypes.function f) x h = fails _ _
 
   initial_value_good : (object_entry : Bool) (done : List Completed) (t : CType) (x : Made) → InMade x → Good InValue (initial_value object_entry done t x)
   initial_value_good object_entry done t x h =
@@ -88,6 +90,8 @@ module _ (P : ℕ → Type 0) where
   braced_good object_entry line rs (ctypes.integer t) xs k h = only_good line xs h
   braced_good object_entry line rs (ctypes.aggregate p) xs k h = list_good object_entry line rs (ctypes.aggregate p) xs k h
   braced_good object_entry line rs (ctypes.array element n) xs k h = list_good object_entry line rs (ctypes.array element n) xs k h
+  braced_good object_entry line rs (ctypes.pointer t c) xs k h = only_good line xs h
+  braced_good object_entry line rs (ctypes.function f) xs k h = only_good line xs h
 
   abbrev InLiteral : Option (ℕ × List (List ℕ)) → Type 0
   InLiteral None = Unit {0}

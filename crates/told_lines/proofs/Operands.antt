@@ -24,16 +24,16 @@ use Rattle.core_tree.specs.Trees.{Expression, Structure, Arguments, no_argument}
 use Rattle.core_tree.specs.Trees as cores
 use Rattle.core_tree.specs.Typed.{type_of}
 use Rattle.c_scope.specs.declared.meaning.Meaning.{Meaning}
-use Rattle.c_scope.specs.declared.meaning.Meaning.TheVariants.{Variable, Object, Incomplete, Assert, Assume, Draw, Function, Typedef, Enumerator, Record, Enumeration}
+use Rattle.c_scope.specs.declared.meaning.Meaning.TheVariants.{Variable, Object, Incomplete, Assert, Assume, Draw, BuiltIn, Function, Typedef, Enumerator, Record, Enumeration}
 use Rattle.c_scope.specs.Members.{found, members_in, part_at}
 use Rattle.c_scope.specs.Scopes.{Named, ObjectEntry, FunctionType, Callable, Scoped, object_at, is_incomplete, meaning_of}
 use Rattle.c_scope.specs.Faults.{◌>>=◌, required, Fault, on_line}
 use Rattle.c_scope.specs.Types.{type_size}
-use Rattle.c_elab_expr.specs.declared.operands.Home.{Home}
-use Rattle.c_elab_expr.specs.declared.operands.Home.TheVariants as homes
+use Rattle.c_operands.specs.declared.operands.Home.{Home}
+use Rattle.c_operands.specs.declared.operands.Home.TheVariants as homes
 use Rattle.c_elab_expr.specs.Strings.{strings_of}
-use Rattle.c_elab_expr.specs.Nodes.{Node, integer, as_type, place_of, target_of, discarded, cast_node, sign_node, step_node, unary_node, postfix_node, arithmetic_node, compare_node, logical_node, binary_node, chosen, choice_node, operator_of, assignment_node}
-use Rattle.c_elab_expr.specs.Operands.{Operand, value, object, structure, home_place, held_value, put_value, computed, valued, number, same_record, record_value, dropped, is_array, used, place_operand, variable_node, object_entry_node, function_node, name_node, part_operand, member_node, operand_bytes, sized_operand, cast_record, cast_operand, unary_operand, postfix_operand, binary_operand, choice_record, choice_value, choice_operand, assign_value, assign_operand, comma_operand, one_integer, no_arguments, argument_in, arguments_in, extra_arguments, given_size, given_operand, behind_extra, function_call, drawn_or_called, callable_call, call_node}
+use Rattle.c_operands.specs.Nodes.{Node, integer, as_type, place_of, target_of, discarded, cast_node, sign_node, step_node, unary_node, postfix_node, arithmetic_node, compare_node, logical_node, binary_node, chosen, choice_node, operator_of, assignment_node}
+use Rattle.c_operands.specs.Operands.{Operand, value, object, structure, home_place, held_value, put_value, computed, valued, number, same_record, record_value, dropped, is_array, used, place_operand, variable_node, object_entry_node, function_node, name_node, part_operand, member_node, operand_bytes, sized_operand, cast_record, cast_operand, unary_operand, postfix_operand, binary_operand, choice_record, choice_value, choice_operand, assign_value, assign_operand, comma_operand, one_integer, no_arguments, argument_in, arguments_in, extra_arguments, given_size, given_operand, behind_extra, function_call, drawn_or_called, callable_call, call_node}
 use Rattle.c_elab_expr.specs.Typing.{bare_line, used_on, callee, is_used, called, is_wanted, type_name, operand_size, typed, typed_arguments, lengths, operand_by, operand}
 use Rattle.told_lines.specs.TypedLines.{InPlace, InExpression, InStructure, InArguments}
 use Rattle.told_lines.specs.TreeLines.{InTree, InTrees}
@@ -97,6 +97,8 @@ module _ (P : ℕ → Type 0) where
   cast_good line (ctypes.integer t) e k h = pass _ (integer 7 e) _ (λ u. ok _ _ h)
   cast_good line (ctypes.aggregate p) e k h = fails _ _
   cast_good line (ctypes.array element n) e k h = fails _ _
+  cast_good line (ctypes.pointer t c) e k h = pass _ (integer 7 e) _ (λ u. ok _ _ h)
+  cast_good line (ctypes.function f) e k h = fails _ _
 
   sign_good : (line : ℕ) (op : SignOperator) (e : Expression) → P line → InE e → Good (InExpression P) (sign_node line op e)
   sign_good line op e k h = pass _ (integer 7 e) _ (λ t. ok _ _ (k, as_type_lined (promoted t) e h))
@@ -208,6 +210,8 @@ module _ (P : ℕ → Type 0) where
   place_operand_lined line v offset (ctypes.integer t) readonly k = place_is v line offset k
   place_operand_lined line v offset (ctypes.aggregate p) readonly k = k
   place_operand_lined line v offset (ctypes.array element n) readonly k = k
+  place_operand_lined line v offset (ctypes.pointer t c) readonly k = place_is v line offset k
+  place_operand_lined line v offset (ctypes.function f) readonly k = k
 
   variable_good : (line v : ℕ) (o : Option Named) → P line → Good InOperand (variable_node line v o)
   variable_good line v None k = fails _ _
@@ -229,6 +233,7 @@ module _ (P : ℕ → Type 0) where
   name_good s line (Some Assert) k = fails _ _
   name_good s line (Some Assume) k = fails _ _
   name_good s line (Some (Draw t)) k = fails _ _
+  name_good s line (Some (BuiltIn b)) k = fails _ _
   name_good s line (Some (Function f)) k = function_good line f (slice_get s.functions.all f) k
   name_good s line (Some (Typedef n)) k = fails _ _
   name_good s line (Some (Enumerator bits)) k = ok _ _ k
@@ -240,6 +245,8 @@ module _ (P : ℕ → Type 0) where
   part_operand_lined done line offset (ctypes.integer t) a k h = (k, h)
   part_operand_lined done line offset (ctypes.aggregate p) a k h = (k, h)
   part_operand_lined done line offset (ctypes.array element n) a k h = (k, h)
+  part_operand_lined done line offset (ctypes.pointer t c) a k h = (k, h)
+  part_operand_lined done line offset (ctypes.function f) a k h = (k, h)
 
   member_good : (s : Scoped) (line : ℕ) (x : Operand) (n : List ℕ) → P line → InOperand x → Good InOperand (member_node s line x n)
   member_good s line (value e readonly) n k h = fails _ _
@@ -253,6 +260,8 @@ module _ (P : ℕ → Type 0) where
   cast_record_good done (ctypes.integer t) x h = fails _ _
   cast_record_good done (ctypes.aggregate p) x h = fails _ _
   cast_record_good done (ctypes.array element n) x h = fails _ _
+  cast_record_good done (ctypes.pointer t c) x h = fails _ _
+  cast_record_good done (ctypes.function f) x h = fails _ _
 
   cast_operand_good : (done : List Completed) (line : ℕ) (t : CType) (x : Operand) → P line → InOperand x → Good InOperand (cast_operand done line t x)
   cast_operand_good done line t (value e readonly) k h = computed_good _ (cast_good line t e k h)
@@ -335,6 +344,8 @@ module _ (P : ℕ → Type 0) where
   argument_good done (ctypes.aggregate p) x h =
       bind (InStructure P) _ (required 8 (record_value done (ctypes.aggregate p) x)) _ (needs (InStructure P) 8 (record_value done (ctypes.aggregate p) x) (record_lined done (ctypes.aggregate p) x h)) (λ a g. ok Leads _ (λ rest l. (g, l)))
   argument_good done (ctypes.array element n) x h = fails _ _
+  argument_good done (ctypes.pointer t c) x h = fails _ _
+  argument_good done (ctypes.function f) x h = fails _ _
 
   abbrev Passed : Arguments × List Operand → Type 0
   Passed r = InArguments P r.0 × InOperands r.1
@@ -354,6 +365,8 @@ module _ (P : ℕ → Type 0) where
   given_lined done line f wanted (ctypes.integer t) args k h = (k, h)
   given_lined done line f wanted (ctypes.aggregate p) args k h = (k, h)
   given_lined done line f wanted (ctypes.array element n) args k h = (k, h)
+  given_lined done line f wanted (ctypes.pointer t c) args k h = (k, h)
+  given_lined done line f wanted (ctypes.function g) args k h = (k, h)
 
   behind_lined : (done : List Completed) (line : ℕ) (es : List Expression) (x : Operand) → P line → InExpressions es → InOperand x → InOperand (behind_extra done line es x)
   behind_lined done line [] x k h g = g
@@ -380,6 +393,7 @@ module _ (P : ℕ → Type 0) where
   call_node_good s line wanted Assert xs k h = computed_good _ (bind (InExpression P) _ (one_integer xs) _ (one_good xs h) (λ a g. ok _ _ (k, g)))
   call_node_good s line wanted Assume xs k h = computed_good _ (bind (InExpression P) _ (one_integer xs) _ (one_good xs h) (λ a g. ok _ _ (k, g)))
   call_node_good s line wanted (Draw t) xs k h = computed_good _ (none_good xs _ k)
+  call_node_good s line wanted (BuiltIn b) xs k h = fails _ _
   call_node_good s line wanted (Function f) xs k h = callable_good s.records.done line f wanted (slice_get s.functions.all f) xs k h
   call_node_good s line wanted (Typedef n) xs k h = fails _ _
   call_node_good s line wanted (Enumerator bits) xs k h = fails _ _

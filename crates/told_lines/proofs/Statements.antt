@@ -12,7 +12,7 @@ use Rattle.c_scope.specs.Scopes.{ObjectEntry, Callable, Scoped, first_scope, wit
 use Rattle.c_scope.specs.Faults.{required, on_line}
 use Rattle.c_scope.specs.Types.{specified_type}
 use Rattle.c_elab_expr.specs.Typing.{operand, operand_by}
-use Rattle.c_elab_expr.specs.Operands.{Operand, number, record_value}
+use Rattle.c_operands.specs.Operands.{Operand, number, record_value}
 use Rattle.c_elab_base.specs.Derivations.{Derived, full_line}
 use Rattle.c_elab_type.specs.Declarators.{Typed}
 use Rattle.c_elab_base.specs.Specifiers.{Passed, inner_region, are_several, parted, named_parts}
@@ -59,12 +59,16 @@ module _ (P : ℕ → Type 0) where
   return_good done_ line (ctypes.aggregate p) x k h =
       bind (InStructure P) (InStatement P) (required 8 (record_value done_ (ctypes.aggregate p) x)) _ (needs (InStructure P) 8 (record_value done_ (ctypes.aggregate p) x) (record_lined P done_ (ctypes.aggregate p) x h)) (λ a g. ok (InStatement P) _ (k, g))
   return_good done_ line (ctypes.array element n) x k h = fails _ _
+  return_good done_ line (ctypes.pointer t c) x k h = fails _ _
+  return_good done_ line (ctypes.function f) x k h = fails _ _
 
   return_nothing_good : (line : ℕ) (t : CType) → P line → Good (InStatement P) (return_nothing_node line t)
   return_nothing_good line ctypes.void k = ok (InStatement P) _ k
   return_nothing_good line (ctypes.integer t) k = fails _ _
   return_nothing_good line (ctypes.aggregate p) k = fails _ _
   return_nothing_good line (ctypes.array element n) k = fails _ _
+  return_nothing_good line (ctypes.pointer t c) k = fails _ _
+  return_nothing_good line (ctypes.function f) k = fails _ _
 
   switch_value_good : (x : Operand) → InOperand P x → Good (InExpression P) (switch_value x)
   switch_value_good x h = bind (InExpression P) (InExpression P) (number 17 x) _ (number_good P 17 x h) (λ e g. ok (InExpression P) _ (as_type_in P (switch_type x) e g))

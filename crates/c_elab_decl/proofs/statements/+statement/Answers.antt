@@ -16,7 +16,7 @@ use Rattle.core_tree.specs.declared.statement.CoreItem as codes
 use Rattle.core_tree.specs.declared.statement.CoreStatement.{CoreStatement}
 use Rattle.core_tree.specs.Trees.{boxed, view_statement, items_of}
 use Rattle.core_tree.specs.Trees as cores
-use Rattle.c_elab_expr.specs.Operands.{view_operand}
+use Rattle.c_operands.specs.Operands.{view_operand}
 use Rattle.c_scope.specs.Scopes.{Cases, Environment, Scoped}
 use Rattle.c_scope.specs.Faults.{Fails, Gives}
 use Rattle.c_elab_expr.specs.Typing.{operand}

@@ -3,7 +3,7 @@ use Rattle.std.proofs.lemmas.List.{drop_all}
 use Rattle.c_types.specs.declared.types.Ty.{Ty}
 use Rattle.c_types.specs.Types.{views}
 use Rattle.core_tree.specs.Trees.{Arguments}
-use Rattle.c_elab_expr.specs.Operands.{view_operand, turned, arguments_in}
+use Rattle.c_operands.specs.Operands.{view_operand, turned, arguments_in}
 use Rattle.c_elab_expr.proofs.Passing.{turned_last, more_arguments, argument_more, prefixed_all}
 use Rattle.c_elab_expr.proofs.calls.arguments_in.Goals as goal
 

@@ -1,6 +1,6 @@
 use Rattle.std.proofs.Common.{◌≡◌, drop}
 use Rattle.c_types.specs.Types.{views}
-use Rattle.c_elab_expr.specs.Operands.{turned, arguments_in}
+use Rattle.c_operands.specs.Operands.{turned, arguments_in}
 use Rattle.c_elab_expr.proofs.Passing.{more_arguments}
 use Rattle.c_elab_expr.proofs.calls.arguments_in.Given as goal
 

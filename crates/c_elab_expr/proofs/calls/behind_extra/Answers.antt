@@ -4,7 +4,7 @@ use Rattle.std.specs.Prelude.{Box}
 use Rattle.std.specs.Global.{Global}
 use Rattle.core_tree.specs.declared.expression.CoreExpr.{CoreExpr}
 use Rattle.core_tree.specs.Trees.{Expression, boxed}
-use Rattle.c_elab_expr.specs.Operands.{view_operand, behind_extra}
+use Rattle.c_operands.specs.Operands.{view_operand, behind_extra}
 use Rattle.c_elab_expr.proofs.Passing.{behind_last}
 use Rattle.c_elab_expr.proofs.calls.behind_extra.Goals as goal
 

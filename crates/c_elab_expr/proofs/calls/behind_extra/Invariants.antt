@@ -1,6 +1,6 @@
 use Rattle.std.proofs.Common.{◌≡◌, length, map}
 use Rattle.core_tree.specs.Trees.{boxed}
-use Rattle.c_elab_expr.specs.Operands.{view_operand, behind_extra}
+use Rattle.c_operands.specs.Operands.{view_operand, behind_extra}
 use Rattle.c_elab_expr.proofs.calls.behind_extra.Given as goal
 
 abbrev pub invariant-extra : goal.invariant-extra

@@ -1,6 +1,6 @@
 use Rattle.std.proofs.Common.{◌≡◌, length, map}
 use Rattle.core_tree.specs.Trees.{boxed}
-use Rattle.c_elab_expr.specs.Operands.{turned, extra_arguments}
+use Rattle.c_operands.specs.Operands.{turned, extra_arguments}
 use Rattle.c_elab_expr.proofs.Passing.{more_extra}
 use Rattle.c_elab_expr.proofs.calls.extra_arguments.Given as goal
 

@@ -3,7 +3,7 @@ use Rattle.c_types.specs.Types.{CType, view as type_view}
 use Rattle.core_tree.specs.declared.expression.CoreStructure.{CoreStructure}
 use Rattle.core_tree.specs.Trees.{Structure, view_structure, give, arguments_of}
 use Rattle.core_tree.proofs.Views.{view_give}
-use Rattle.c_elab_expr.specs.Operands.{structure}
+use Rattle.c_operands.specs.Operands.{structure}
 use Rattle.c_elab_expr.proofs.calls.given_structure.Goals as goal
 
 pub returns : goal.returns

@@ -1,7 +1,7 @@
 use Rattle.std.proofs.Common.{◌≡◌, false, subst, IfOk}
 use Rattle.core_tree.specs.Trees.{Expression}
 use Rattle.core_tree.proofs.Views.{view_call}
-use Rattle.c_elab_expr.specs.Operands.{value, view_operand}
+use Rattle.c_operands.specs.Operands.{value, view_operand}
 use Rattle.c_elab_expr.proofs.calls.given_value.Goals as goal
 
 pub returns : goal.returns

@@ -12,8 +12,8 @@ use Rattle.c_tree.specs.Tree.{Declared, inside, view_type_part, view_core, view_
 use Rattle.c_tree.proofs.Views.{view_call, view_cast, view_sizeof_type, view_inside, depth_within, suffix_within}
 use Rattle.c_types.specs.Types.{Records}
 use Rattle.c_types.specs.Types.{view as type_view}
-use Rattle.c_elab_expr.specs.declared.operands.CoreOperand.{CoreOperand}
-use Rattle.c_elab_expr.specs.Operands.{Operand, view_operand, cast_operand, binary_operand, choice_operand, assign_operand}
+use Rattle.c_operands.specs.declared.operands.CoreOperand.{CoreOperand}
+use Rattle.c_operands.specs.Operands.{Operand, view_operand, cast_operand, binary_operand, choice_operand, assign_operand}
 use Rattle.c_scope.specs.Scopes.{Scoped}
 use Rattle.c_scope.specs.Faults.{Fault, Gives, ◌>>=◌}
 use Rattle.c_elab_expr.specs.Typing.{Adds, node_on, node_on_both, comma_of, size_of_named, call_of, is_wanted, callee, typed, typed_arguments, operand_by, operand, lengths, suffix_lengths, behind}

@@ -1,7 +1,7 @@
 use Rattle.std.proofs.Common.{◌≡◌, ◌+◌, ◌*◌, max, drop, map}
 use Rattle.c_tree.specs.Tree.{view as tree, views_of as trees}
 use Rattle.c_tree.specs.Tree.{view_declarator, view_suffix, no_suffix, suffixes_of, depth, depth_of, declared_depth, suffixes_depth}
-use Rattle.c_elab_expr.specs.Operands.{view_operand}
+use Rattle.c_operands.specs.Operands.{view_operand}
 use Rattle.c_elab_expr.specs.Typing.{typed_arguments, suffix_lengths, behind}
 use Rattle.c_elab_expr.proofs.Arguments.{front}
 use Rattle.c_elab_expr.proofs.typing.+typing.Given as goal

@@ -3,9 +3,9 @@ use Rattle.std.specs.Prelude.{IfOk}
 use Rattle.c_types.specs.Layouts.{IsBuilt}
 use Rattle.c_tree.specs.Tree.{Tree}
 use Rattle.c_tree.specs.Tree.{view as tree}
-use Rattle.c_elab_expr.specs.declared.operands.CoreOperand.{CoreOperand}
+use Rattle.c_operands.specs.declared.operands.CoreOperand.{CoreOperand}
 use Rattle.c_scope.specs.declared.fault.TypingError.{TypingError}
-use Rattle.c_elab_expr.specs.Operands.{view_operand, is_typed_operand}
+use Rattle.c_operands.specs.Operands.{view_operand, is_typed_operand}
 use Rattle.c_scope.specs.Scopes.{Scoped, are_known}
 use Rattle.c_scope.specs.Faults.{Gives}
 use Rattle.c_elab_expr.specs.Typing.{typed}

@@ -1,7 +1,7 @@
 use Rattle.std.proofs.Common.{ℕ, Result, option_map, sym, subst}
 use Rattle.c_types.specs.declared.integers.IntegerType.{IntegerType}
 use Rattle.c_scope.specs.Scopes.{view_cases}
-use Rattle.c_elab_expr.specs.Operands.{view_operand}
+use Rattle.c_operands.specs.Operands.{view_operand}
 use Rattle.c_elab_flow.specs.Nodes.{case_of_switch}
 use Rattle.c_elab_flow.specs.Steps.{CaseOf}
 use Rattle.c_elab_flow.proofs.Flowing.{case_stands, case_fails}

@@ -1,7 +1,7 @@
 use Rattle.std.proofs.Common.{Result, Ok, sym, ap, ◌∙◌}
 use Rattle.c_tree.specs.Tree.{view as tree}
 use Rattle.c_scope.specs.Faults.{◌>>=◌, Fault}
-use Rattle.c_elab_expr.specs.Operands.{Operand}
+use Rattle.c_operands.specs.Operands.{Operand}
 use Rattle.c_elab_type.specs.Initializers.{single, single_as}
 use Rattle.c_elab_type.proofs.initializers.typed_single.Goals as goal
 

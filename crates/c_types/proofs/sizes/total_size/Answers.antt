@@ -16,6 +16,10 @@ pub bytes_of-requires-in-Record-clause-within : goal.bytes_of-requires-in-Record
 bytes_of-requires-in-Record-clause-within c = counted_size c.args.layouts.now.done (view c.args.type_.now) (view c.loop-inner.inner.now) c.loop-inner.all c.loop-inner.most c.record_size.result c.prove_built.ensures
     c.loop-inner.invariant.0 (ap (λ (t : Ty). is_sized c.args.layouts.now.done (view t)) c.in-Record.is) (c.record_size.ensures.is ∙ sym (ap (λ (t : Ty). size_of c.args.layouts.now.done (view t)) c.in-Record.is))
 
+pub bytes_of-requires-in-Pointer-clause-within : goal.bytes_of-requires-in-Pointer-clause-within
+bytes_of-requires-in-Pointer-clause-within c = counted_size c.args.layouts.now.done (view c.args.type_.now) (view c.loop-inner.inner.now) c.loop-inner.all c.loop-inner.most 8 c.prove_built.ensures
+    c.loop-inner.invariant.0 (ap (λ (t : Ty). is_sized c.args.layouts.now.done (view t)) c.in-Pointer.is) (sym (ap (λ (t : Ty). size_of c.args.layouts.now.done (view t)) c.in-Pointer.is))
+
 pub loop-inner-preserved : goal.loop-inner-preserved
 loop-inner-preserved c = let is = ap view c.in-Array.is ∙ ap (λ (t : Ty). array (view t) c.in-Array.length) (sym c.deref-inner.ensures) in (
   counted_more c.args.layouts.now.done (view c.args.type_.now) (view c.deref-inner.result.now) c.in-Array.length c.loop-inner.all c.loop-inner.most c.elements-all.result c.most_elements-most.result

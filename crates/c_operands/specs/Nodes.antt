@@ -131,6 +131,10 @@ cast_node line (ctypes.integer t) e = do
   Ok (convert t e)
 cast_node line (ctypes.aggregate p) e = Err 7
 cast_node line (ctypes.array element n) e = Err 7
+cast_node line (ctypes.pointer t c) e = do
+  u ← integer 7 e
+  Ok (convert types.UnsignedLong e)
+cast_node line (ctypes.function f) e = Err 7
 
 -- ---- unary operators (C11 6.5.3.3)
 

@@ -4,7 +4,7 @@ ghost use Rattle.std.specs.Prelude.{◌≡◌, false, IfOk, Result};
 ghost use Rattle.c_types.specs.Types.{view as type_view};
 ghost use Rattle.core_tree.specs.Trees.{follow, view, view_structure};
 ghost use Rattle.c_scope.specs.Faults.{GivesNode};
-ghost use Rattle.c_elab_expr.specs.Operands.{structure, view_operand, computed, valued, number, record_value, dropped, used, put_value, cast_record, cast_operand, unary_operand, postfix_operand, binary_operand, choice_record, choice_value, choice_operand, assign_value, assign_record, assign_nothing, assign_operand, comma_operand};
+ghost use Rattle.c_operands.specs.Operands.{structure, view_operand, computed, valued, number, record_value, dropped, used, put_value, cast_record, cast_operand, unary_operand, postfix_operand, binary_operand, choice_record, choice_value, choice_operand, assign_value, assign_record, assign_nothing, assign_operand, comma_operand};
 
 use crate::nodes::{
     assignment_node, binary_node, cast_node, choice_node, integer, postfix_node, structure_in_box,
@@ -37,6 +37,8 @@ fn cast_record(
         Ty::Integer(_) => Err(Broken::Rule { rule: 7 }),
         Ty::Record(_) => Err(Broken::Rule { rule: 7 }),
         Ty::Array { .. } => Err(Broken::Rule { rule: 7 }),
+        Ty::Pointer { .. } => Err(Broken::Rule { rule: 7 }),
+        Ty::Function(_) => Err(Broken::Rule { rule: 7 }),
     }
 }
 

@@ -4,6 +4,7 @@ use Rattle.c_tree.specs.declared.expr.BinaryOp.{BinaryOp}
 use Rattle.c_tree.specs.declared.expr.UnaryOp.{UnaryOp}
 use Rattle.c_tree.specs.declared.expr.StepOp.{StepOp}
 use Rattle.c_types.specs.declared.integers.IntegerType.{IntegerType}
+use Rattle.c_types.specs.declared.integers.IntegerType.TheVariants as types
 use Rattle.c_types.specs.declared.types.ValueType.TheVariants.{Void, Integer}
 use Rattle.c_types.specs.Types.{CType, Completed}
 use Rattle.c_types.specs.Types as ctypes
@@ -15,17 +16,17 @@ use Rattle.core_tree.specs.Typed.{type_of, is_typed, is_structure, is_within, is
 use Rattle.core_tree.specs.Typed as typed_trees
 use Rattle.c_values.specs.Numbers.{TypedNumber}
 use Rattle.c_scope.specs.declared.meaning.Meaning.{Meaning}
-use Rattle.c_scope.specs.declared.meaning.Meaning.TheVariants.{Variable, Object, Incomplete, Assert, Assume, Draw, Function, Typedef, Enumerator, Record, Enumeration}
-use Rattle.c_elab_expr.specs.declared.operands.Home.{Home}
-use Rattle.c_elab_expr.specs.declared.operands.Home.TheVariants as homes
-use Rattle.c_elab_expr.specs.declared.operands.CoreOperand.{CoreOperand}
-use Rattle.c_elab_expr.specs.declared.operands.CoreOperand.TheVariants as codes
+use Rattle.c_scope.specs.declared.meaning.Meaning.TheVariants.{Variable, Object, Incomplete, Assert, Assume, Draw, BuiltIn, Function, Typedef, Enumerator, Record, Enumeration}
+use Rattle.c_operands.specs.declared.operands.Home.{Home}
+use Rattle.c_operands.specs.declared.operands.Home.TheVariants as homes
+use Rattle.c_operands.specs.declared.operands.CoreOperand.{CoreOperand}
+use Rattle.c_operands.specs.declared.operands.CoreOperand.TheVariants as codes
 use Rattle.c_scope.specs.Members.{found, members_in, part_at}
 use Rattle.c_scope.specs.Scopes.{Named, ObjectEntry, FunctionType, Callable, Scoped, object_at, is_incomplete, all_sizes}
 use Rattle.c_scope.specs.Types.{type_size}
-use Rattle.c_elab_expr.specs.Constants.{constant_of}
+use Rattle.c_operands.specs.Constants.{constant_of}
 use Rattle.c_scope.specs.Faults.{◌>>=◌, required}
-use Rattle.c_elab_expr.specs.Nodes.{Node, integer, as_type, character_node, unary_node, postfix_node, binary_node, choice_node, assignment_node, cast_node, value_size}
+use Rattle.c_operands.specs.Nodes.{Node, integer, as_type, character_node, unary_node, postfix_node, binary_node, choice_node, assignment_node, cast_node, value_size}
 
 -- A value of integer type or void, and whether it is a place that is const; a place of struct, union or array type: its line, the
 -- variable or the object that it lies in, the offset in it in bytes, the type, and whether it is const; or a value of such a type
@@ -89,7 +90,11 @@ same_record (ctypes.aggregate p) ctypes.void = false
 same_record (ctypes.aggregate p) (ctypes.integer t) = false
 same_record (ctypes.aggregate p) (ctypes.aggregate q) = p == q
 same_record (ctypes.aggregate p) (ctypes.array element n) = false
+same_record (ctypes.aggregate p) (ctypes.pointer t c) = false
+same_record (ctypes.aggregate p) (ctypes.function f) = false
 same_record (ctypes.array element n) u = false
+same_record (ctypes.pointer t c) u = false
+same_record (ctypes.function f) u = false
 
 -- the value of an operand of this struct or union type
 abbrev pub record_value : List Completed → CType → Operand → Option Structure
@@ -110,6 +115,8 @@ is_array ctypes.void = false
 is_array (ctypes.integer t) = false
 is_array (ctypes.aggregate p) = false
 is_array (ctypes.array element n) = true
+is_array (ctypes.pointer t c) = false
+is_array (ctypes.function f) = false
 
 -- rule 7: an array is the operand of `sizeof` alone; rule 9: also one in a value that is no place
 abbrev pub used : Operand → OperandNode
@@ -125,6 +132,8 @@ place_operand line v offset ctypes.void constant = object line v offset ctypes.v
 place_operand line v offset (ctypes.integer t) constant = value (cores.read t (home_place v line offset)) constant
 place_operand line v offset (ctypes.aggregate p) constant = object line v offset (ctypes.aggregate p) constant
 place_operand line v offset (ctypes.array element n) constant = object line v offset (ctypes.array element n) constant
+place_operand line v offset (ctypes.pointer t c) constant = value (cores.read types.UnsignedLong (home_place v line offset)) constant
+place_operand line v offset (ctypes.function f) constant = object line v offset (ctypes.function f) constant
 
 abbrev pub variable_node : ℕ → ℕ → Option Named → OperandNode
 variable_node line v None = Err 1
@@ -150,6 +159,7 @@ name_node s line (Some Incomplete) = Err 3
 name_node s line (Some Assert) = Err 7
 name_node s line (Some Assume) = Err 7
 name_node s line (Some (Draw t)) = Err 7
+name_node s line (Some (BuiltIn b)) = Err 7
 name_node s line (Some (Function f)) = function_node line f (slice_get s.functions.all f)
 name_node s line (Some (Typedef n)) = Err 7
 name_node s line (Some (Enumerator bits)) = computed (Ok (character_node line bits))
@@ -162,6 +172,8 @@ part_operand done line offset ctypes.void a = structure ctypes.void (cores.secti
 part_operand done line offset (ctypes.integer t) a = value (cores.part line t offset a) false
 part_operand done line offset (ctypes.aggregate p) a = structure (ctypes.aggregate p) (cores.section line offset (size_of done (ctypes.aggregate p)) a)
 part_operand done line offset (ctypes.array element n) a = structure (ctypes.array element n) (cores.section line offset (size_of done (ctypes.array element n)) a)
+part_operand done line offset (ctypes.pointer t c) a = value (cores.part line types.UnsignedLong offset a) false
+part_operand done line offset (ctypes.function f) a = structure (ctypes.function f) (cores.section line offset (size_of done (ctypes.function f)) a)
 
 -- Rule 11: a struct or union has a member of that name. The member of a place is const where it or the whole is (C11 6.5.2.3p3).
 abbrev pub member_node : Scoped → ℕ → Operand → List ℕ → OperandNode
@@ -202,6 +214,8 @@ cast_record done ctypes.void x = Ok (value (dropped done x) false)
 cast_record done (ctypes.integer t) x = Err 7
 cast_record done (ctypes.aggregate p) x = Err 7
 cast_record done (ctypes.array element n) x = Err 7
+cast_record done (ctypes.pointer t c) x = Err 7
+cast_record done (ctypes.function f) x = Err 7
 
 abbrev pub cast_operand : List Completed → ℕ → CType → Operand → OperandNode
 cast_operand done line t (value e constant) = computed (cast_node line t e)
@@ -298,6 +312,8 @@ argument_in done (ctypes.aggregate p) x = do
   a ← required 8 (record_value done (ctypes.aggregate p) x)
   Ok (structure_argument a)
 argument_in done (ctypes.array element n) x = Err 8
+argument_in done (ctypes.pointer t c) x = Err 8
+argument_in done (ctypes.function f) x = Err 8
 
 -- those of the parameters, and the arguments behind them; rule 10: there are as many
 abbrev pub arguments_in : List Completed → List CType → List Operand → Result (Arguments × List Operand) ℕ
@@ -323,6 +339,8 @@ given_size done ctypes.void = Ok 0
 given_size done (ctypes.integer t) = type_size done (ctypes.integer t)
 given_size done (ctypes.aggregate p) = type_size done (ctypes.aggregate p)
 given_size done (ctypes.array element n) = type_size done (ctypes.array element n)
+given_size done (ctypes.pointer t c) = type_size done (ctypes.pointer t c)
+given_size done (ctypes.function f) = type_size done (ctypes.function f)
 
 -- a call of the function with a number, which gives this type; a value is used where it is wanted
 abbrev pub given_operand : List Completed → (line f : ℕ) → Bool → CType → Arguments → Operand
@@ -330,6 +348,8 @@ given_operand done line f wanted ctypes.void args = value (cores.call line f fal
 given_operand done line f wanted (ctypes.integer t) args = value (cores.call line f wanted (Integer t) args) false
 given_operand done line f wanted (ctypes.aggregate p) args = structure (ctypes.aggregate p) (cores.give line f wanted (size_of done (ctypes.aggregate p)) args)
 given_operand done line f wanted (ctypes.array element n) args = structure (ctypes.array element n) (cores.give line f wanted (size_of done (ctypes.array element n)) args)
+given_operand done line f wanted (ctypes.pointer t c) args = value (cores.call line f wanted (Integer types.UnsignedLong) args) false
+given_operand done line f wanted (ctypes.function g) args = structure (ctypes.function g) (cores.give line f wanted (size_of done (ctypes.function g)) args)
 
 -- what an ellipsis takes goes before the call: no function with one is called in a file that is run
 abbrev pub behind_extra : List Completed → ℕ → List Expression → Operand → Operand
@@ -370,6 +390,7 @@ call_node s line wanted Incomplete xs = Err 10
 call_node s line wanted Assert xs = computed (assertion_call line xs)
 call_node s line wanted Assume xs = computed (assumption_call line xs)
 call_node s line wanted (Draw t) xs = computed (no_arguments xs (cores.draw line t))
+call_node s line wanted (BuiltIn b) xs = Err 10
 call_node s line wanted (Function f) xs = callable_call s.records.done line f wanted (slice_get s.functions.all f) xs
 call_node s line wanted (Typedef n) xs = Err 10
 call_node s line wanted (Enumerator bits) xs = Err 10

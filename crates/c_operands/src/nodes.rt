@@ -1,11 +1,11 @@
 //! What an operator makes of typed values, or the lowest rule that they break.
 
 ghost use Rattle.std.specs.Prelude.{◌≡◌, ◌≤◌, ◌%◌, ◌^◌, option_map, IfOk};
-ghost use Rattle.c_types.specs.Types.{view as type_view};
+ghost use Rattle.c_types.specs.Types.{view as type_view, integer as integer_type};
 ghost use Rattle.core_tree.specs.Trees.{view, view_place, boxed};
 ghost use Rattle.core_tree.specs.Typed.{type_of, is_shift};
 ghost use Rattle.c_scope.specs.Faults.{required, GivesNode};
-ghost use Rattle.c_elab_expr.specs.Nodes.{integer, as_type, place_of, target_of, constant_type, constant_node, character_node, size_node, value_size, discarded, cast_node, sign_node, not_node, step_node, unary_node, postfix_node, left_type, right_type, arithmetic_node, compare_node, logical_node, binary_node, chosen, choice_node, assign_node, operator_of, update_node, assignment_node};
+ghost use Rattle.c_operands.specs.Nodes.{integer, as_type, place_of, target_of, constant_type, constant_node, character_node, size_node, value_size, discarded, cast_node, sign_node, not_node, step_node, unary_node, postfix_node, left_type, right_type, arithmetic_node, compare_node, logical_node, binary_node, chosen, choice_node, assign_node, operator_of, update_node, assignment_node};
 
 use c_scope::Broken;
 use c_token::{Constant, ConstantType};
@@ -176,6 +176,19 @@ fn discarded(alloc: Global, line: u32, expr: Box<CoreExpr>) -> Result<Box<CoreEx
     }
 }
 
+// The value of an integer, converted.
+fn converted_to(
+    alloc: Global,
+    to: IntegerType,
+    expr: Box<CoreExpr>,
+) -> Result<Box<CoreExpr>, Broken>
+    ensures { GivesNode boxed result (cast_node 0 (integer_type to) (view expr.value)) }
+{
+    let _type = integer(&expr, 7)?;
+    let converted = CoreExpr::Convert { to, operand: expr };
+    Ok(in_box(alloc, converted)?)
+}
+
 /// A value that is cast to a type.
 pub fn cast_node(
     alloc: Global,
@@ -187,16 +200,11 @@ pub fn cast_node(
 {
     match type_ {
         Ty::Void => Ok(discarded(alloc, line, expr)?),
-        Ty::Integer(to) => {
-            let _type = integer(&expr, 7)?;
-            let converted = CoreExpr::Convert {
-                to: *to,
-                operand: expr,
-            };
-            Ok(in_box(alloc, converted)?)
-        }
+        Ty::Integer(to) => converted_to(alloc, *to, expr),
+        Ty::Pointer { .. } => converted_to(alloc, IntegerType::UnsignedLong, expr),
         Ty::Record(_) => Err(Broken::Rule { rule: 7 }),
         Ty::Array { .. } => Err(Broken::Rule { rule: 7 }),
+        Ty::Function(_) => Err(Broken::Rule { rule: 7 }),
     }
 }
 

@@ -4,7 +4,7 @@ ghost use Rattle.std.specs.Prelude.{◌≡◌, ◌==◌, ◌%◌, ◌^◌, optio
 ghost use Rattle.core_tree.specs.Trees.{view};
 ghost use Rattle.core_tree.specs.Typed.{is_shift};
 ghost use Rattle.c_values.specs.Numbers.{typed, are_operands_of, same_width};
-ghost use Rattle.c_elab_expr.specs.Constants.{is_constant_form, truth, signed, operated, related, connected, value_of, constant_of, is_negative, stated_length};
+ghost use Rattle.c_operands.specs.Constants.{is_constant_form, truth, signed, operated, related, connected, value_of, constant_of, is_negative, stated_length};
 
 use crate::nodes::{is_shift, low_bits};
 use c_types::IntegerType;

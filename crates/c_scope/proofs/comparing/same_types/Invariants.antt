@@ -1,7 +1,7 @@
 use Rattle.std.proofs.Common.{◌≡◌, ◌≤◌, ◌-◌, length, drop}
 use Rattle.c_types.specs.Types.{views}
-use Rattle.c_elab_base.specs.Declarators.{same_types}
-use Rattle.c_elab_base.proofs.naming.same_types.Given as goal
+use Rattle.c_scope.specs.Functions.{same_types}
+use Rattle.c_scope.proofs.comparing.same_types.Given as goal
 
 abbrev pub invariant-loop-at : goal.invariant-loop-at
 invariant-loop-at l = record {

@@ -1,19 +1,19 @@
 //! What an operator makes of typed operands, or the lowest rule that they break.
 
 ghost use Rattle.std.specs.Prelude.{◌≡◌, ◌%◌, ◌^◌, ℕ, true, false, slice_get, IfOk, IsErr, Result};
-ghost use Rattle.c_types.specs.Types.{view as type_view};
+ghost use Rattle.c_types.specs.Types.{view as type_view, integer as integer_type};
 ghost use Rattle.c_types.specs.Layouts.{is_complete, is_sized, size_of};
 ghost use Rattle.core_tree.specs.Trees.{Expression, size_of_structure, view, view_place, boxed, view_structure};
 ghost use Rattle.c_scope.specs.Scopes.{object_at};
 ghost use Rattle.c_scope.specs.Faults.{required, GivesNode};
-ghost use Rattle.c_elab_expr.specs.Operands.{value as number_operand, view_operand, computed, valued, number, same_record, record_value, dropped, is_array, used, home_place, held_value, put_value, place_operand, variable_node, object_entry_node, function_node, name_node, part_operand, member_node, operand_bytes, sized_operand, constant_in};
+ghost use Rattle.c_operands.specs.Operands.{value as number_operand, view_operand, computed, valued, number, same_record, record_value, dropped, is_array, used, home_place, held_value, put_value, place_operand, variable_node, object_entry_node, function_node, name_node, part_operand, member_node, operand_bytes, sized_operand, constant_in};
 
 use crate::constants::constant_of;
 use crate::nodes::{
     character_node, in_box, integer, low_bits, place_in_box, structure_in_box, value_size,
 };
 use c_scope::{Broken, Meaning, Scope, is_incomplete, part_at, type_size};
-use c_types::{Layouts, Ty, is_sized, size_of};
+use c_types::{IntegerType, Layouts, Ty, is_sized, size_of};
 use c_values::Number;
 use core_tree::{CoreExpr, CoreStructure, Place, type_of};
 use std::alloc::{AllocError, Global};
@@ -248,6 +248,8 @@ fn is_array(type_: &Ty) -> bool
         Ty::Integer(_) => false,
         Ty::Record(_) => false,
         Ty::Array { .. } => true,
+        Ty::Pointer { .. } => false,
+        Ty::Function(_) => false,
     }
 }
 
@@ -286,6 +288,22 @@ pub fn used(operand: CoreOperand) -> Result<CoreOperand, Broken>
     }
 }
 
+// The place of a number at an offset in a variable or an object.
+fn number_place(
+    alloc: Global,
+    line: u32,
+    home: Home,
+    offset: u32,
+    type_: IntegerType,
+    constant: bool,
+) -> Result<CoreOperand, AllocError>
+    ensures { IfOk result (λ x. view_operand x ≡ place_operand line home offset (integer_type type_) constant) }
+{
+    let place = home_place(alloc, home, line, offset)?;
+    let value = in_box(alloc, CoreExpr::Read { type_, place })?;
+    Ok(CoreOperand::Value { value, constant })
+}
+
 // The place of a type at an offset in a variable or an object.
 fn place_operand(
     alloc: Global,
@@ -298,11 +316,10 @@ fn place_operand(
     ensures { IfOk result (λ x. view_operand x ≡ place_operand line home offset (type_view type_) constant) }
 {
     match &type_ {
-        Ty::Integer(integer) => {
-            let type_ = *integer;
-            let place = home_place(alloc, home, line, offset)?;
-            let value = in_box(alloc, CoreExpr::Read { type_, place })?;
-            Ok(CoreOperand::Value { value, constant })
+        Ty::Integer(integer) => number_place(alloc, line, home, offset, *integer, constant),
+        Ty::Pointer { .. } => {
+            let type_ = IntegerType::UnsignedLong;
+            number_place(alloc, line, home, offset, type_, constant)
         }
         _ => Ok(CoreOperand::Object {
             line,
@@ -386,6 +403,7 @@ pub fn name_node(
         Some(Meaning::Assert) => Err(Broken::Rule { rule: 7 }),
         Some(Meaning::Assume) => Err(Broken::Rule { rule: 7 }),
         Some(Meaning::Draw { .. }) => Err(Broken::Rule { rule: 7 }),
+        Some(Meaning::BuiltIn { .. }) => Err(Broken::Rule { rule: 7 }),
         Some(Meaning::Function { function }) => function_node(alloc, line, function, scope),
         Some(Meaning::Typedef { .. }) => Err(Broken::Rule { rule: 7 }),
         Some(Meaning::Enumerator { bits }) => Ok(made(alloc, character_node(line, bits))?),
@@ -411,6 +429,15 @@ fn part_operand(
             CoreExpr::Member {
                 line,
                 type_: *integer,
+                offset,
+                value,
+            },
+        ),
+        Ty::Pointer { .. } => made(
+            alloc,
+            CoreExpr::Member {
+                line,
+                type_: IntegerType::UnsignedLong,
                 offset,
                 value,
             },
