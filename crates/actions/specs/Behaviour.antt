@@ -1,7 +1,8 @@
 -- The meaning of a thread: what is next after each list of answers.
-use Rattle.std.specs.Prelude.{◌≡◌, ◌<◌, ℕ, ◌^◌, Bool, true, false, ◌&&◌, nat_lt, ◌==◌, List, [], ◌∷◌, ◌++◌, length}
+use Rattle.std.specs.Prelude.{◌≡◌, ◌<◌, ℕ, ◌^◌, Bool, true, false, ◌&&◌, nat_lt, ◌==◌, List, [], ◌∷◌, ◌++◌, length, Option, Some, None, IfSome}
 use Rattle.words.specs.BitVector.{BitVector}
 use Rattle.actions.specs.ByteList.{are_bytes}
+use Rattle.actions.specs.StoredObject.{StoredObject, CanBeMade}
 use Rattle.actions.specs.declared.action.Action.{Action}
 use Rattle.actions.specs.declared.action.Action.TheVariants.{Read, Write, Look, Draw, Alloc, Die, Free, SectionBegin, SectionEnd, Lock, Unlock, MutexInit, MutexDestroy, Create, Join, End, Exit}
 use Rattle.actions.specs.declared.action.Answer.{Answer}
@@ -91,6 +92,32 @@ abbrev pub CanStart : Program → Next → Type 0
 CanStart program (Act (Create f v) line function) = (program.can_start f ≡ true) × (v < 2 ^ 64)
 CanStart program _ = Unit {0}
 
+-- the object that an action makes
+abbrev pub made_by : Action → Option StoredObject
+made_by (Read p n) = None
+made_by (Write p new first) = None
+made_by (Look p subscript) = None
+made_by (Draw n) = None
+made_by (Alloc o) = Some o
+made_by (Die k) = None
+made_by (Free p) = None
+made_by SectionBegin = None
+made_by SectionEnd = None
+made_by (Lock p) = None
+made_by (Unlock p) = None
+made_by (MutexInit p) = None
+made_by (MutexDestroy p) = None
+made_by (Create f v) = None
+made_by (Join k) = None
+made_by (End v) = None
+made_by Exit = None
+
+abbrev pub MakesProper : Next → Type 0
+MakesProper (Act action line function) = IfSome (made_by action) CanBeMade
+MakesProper (Ended v) = Unit {0}
+MakesProper Blocked = Unit {0}
+MakesProper (Broken class line function) = Unit {0}
+
 -- after the answer to an End the thread has ended with its value, and after that to an Exit with 0
 abbrev pub EndsAfter : Next → Answer → Next → Type 0
 EndsAfter (Act (End v) line function) a next = accepts (Act (End v) line function) a ≡ true → next ≡ Ended (word_64 v)
@@ -100,6 +127,7 @@ EndsAfter _ a next = Unit {0}
 pub record IsBehaviour (program : Program) (behaves : Behaviour) : Type 0 where
   pub proper : IsProper behaves
   pub creates : (answers : List Answer) → CanStart program (behaves answers)
+  pub makes : (answers : List Answer) → MakesProper (behaves answers)
   pub ends : (answers : List Answer) (a : Answer) → EndsAfter (behaves answers) a (behaves (answers ++ a ∷ []))
 
 -- it holds of the thread, and of each thread that its program starts

@@ -5,7 +5,7 @@ use Rattle.actions.specs.declared.action.Action.TheVariants.{End, Exit}
 use Rattle.actions.specs.declared.action.Answer.{Answer}
 use Rattle.actions.specs.declared.action.Next.{Next}
 use Rattle.actions.specs.declared.action.Next.TheVariants.{Act, Blocked}
-use Rattle.actions.specs.Behaviour.{Behaviour, accepts, Program, CanStart, EndsAfter, IsProper, IsBehaviour}
+use Rattle.actions.specs.Behaviour.{Behaviour, accepts, Program, CanStart, MakesProper, EndsAfter, IsProper, IsBehaviour}
 
 ends_none : (n : Next) (a : Answer) → accepts n a ≡ false → EndsAfter n a Blocked
 ends_none (Act (End v) line function) a e = λ ok. absurd (true≢false (sym ok ∙ e))
@@ -35,23 +35,37 @@ module _ {S : Type 0} (next : S → Next) (step : S → Answer → S) where
   pub proper_by_states : (s : S) → IsProper (behaviour_of s)
   proper_by_states s = λ before a later h. proper_by s before a later h
 
-  module _ (program : Program) (creates : (s : S) → CanStart program (next s)) (ends : (s : S) (a : Answer) → EndsAfter (next s) a (next (step s a))) where
-    creates_choice : (b : Bool) (x : Next) → CanStart program x → CanStart program (if b then x else Blocked)
-    creates_choice true x h = h
+  -- the machine keeps something of its states, from which follows what is asked of what comes next
+  module _
+      (program : Program) (Holds : S → Type 0)
+      (kept : (s : S) (a : Answer) → Holds s → accepts (next s) a ≡ true → Holds (step s a))
+      (creates : (s : S) → Holds s → CanStart program (next s))
+      (makes : (s : S) → Holds s → MakesProper (next s))
+      (ends : (s : S) (a : Answer) → Holds s → EndsAfter (next s) a (next (step s a))) where
+    creates_choice : (b : Bool) (x : Next) → (b ≡ true → CanStart program x) → CanStart program (if b then x else Blocked)
+    creates_choice true x h = h refl
     creates_choice false x h = tt
 
-    creates_by : (s : S) (answers : List Answer) → CanStart program (behaviour_of s answers)
-    creates_by s [] = creates s
-    creates_by s (x ∷ answers) = creates_choice (accepts (next s) x) (behaviour_of (step s x) answers) (creates_by (step s x) answers)
+    creates_by : (s : S) → Holds s → (answers : List Answer) → CanStart program (behaviour_of s answers)
+    creates_by s h [] = creates s h
+    creates_by s h (x ∷ answers) = creates_choice (accepts (next s) x) (behaviour_of (step s x) answers) (λ e. creates_by (step s x) (kept s x h e) answers)
 
-    ends_choice : (b : Bool) (x y : Next) (a : Answer) → EndsAfter x a y → EndsAfter (if b then x else Blocked) a (if b then y else Blocked)
-    ends_choice true x y a h = h
+    makes_choice : (b : Bool) (x : Next) → (b ≡ true → MakesProper x) → MakesProper (if b then x else Blocked)
+    makes_choice true x h = h refl
+    makes_choice false x h = tt
+
+    makes_by : (s : S) → Holds s → (answers : List Answer) → MakesProper (behaviour_of s answers)
+    makes_by s h [] = makes s h
+    makes_by s h (x ∷ answers) = makes_choice (accepts (next s) x) (behaviour_of (step s x) answers) (λ e. makes_by (step s x) (kept s x h e) answers)
+
+    ends_choice : (b : Bool) (x y : Next) (a : Answer) → (b ≡ true → EndsAfter x a y) → EndsAfter (if b then x else Blocked) a (if b then y else Blocked)
+    ends_choice true x y a h = h refl
     ends_choice false x y a h = tt
 
-    ends_by : (s : S) (answers : List Answer) (a : Answer) → EndsAfter (behaviour_of s answers) a (behaviour_of s (answers ++ a ∷ []))
-    ends_by s [] a = ends_here (next s) a (next (step s a)) (accepts (next s) a) refl (ends s a)
-    ends_by s (x ∷ answers) a =
-        ends_choice (accepts (next s) x) (behaviour_of (step s x) answers) (behaviour_of (step s x) (answers ++ a ∷ [])) a (ends_by (step s x) answers a)
+    ends_by : (s : S) → Holds s → (answers : List Answer) (a : Answer) → EndsAfter (behaviour_of s answers) a (behaviour_of s (answers ++ a ∷ []))
+    ends_by s h [] a = ends_here (next s) a (next (step s a)) (accepts (next s) a) refl (ends s a h)
+    ends_by s h (x ∷ answers) a =
+        ends_choice (accepts (next s) x) (behaviour_of (step s x) answers) (behaviour_of (step s x) (answers ++ a ∷ [])) a (λ e. ends_by (step s x) (kept s x h e) answers a)
 
-    pub behaves_by_states : (s : S) → IsBehaviour program (behaviour_of s)
-    behaves_by_states s = record { proper = proper_by_states s; creates = creates_by s; ends = ends_by s }
+    pub behaves_by_states : (s : S) → Holds s → IsBehaviour program (behaviour_of s)
+    behaves_by_states s h = record { proper = proper_by_states s; creates = creates_by s h; makes = makes_by s h; ends = ends_by s h }

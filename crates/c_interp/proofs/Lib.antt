@@ -1,11 +1,7 @@
-pub mod Parts
-pub mod FitsKept
 pub mod Threads
 pub mod SourceRuns
-pub mod CallsFit
-pub mod ExitsFit
 pub mod CountsKept
-pub mod SizesKept
 pub mod Sound
 pub mod Starts
 pub mod Unlimited
+pub mod Larger

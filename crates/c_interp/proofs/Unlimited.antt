@@ -1,17 +1,15 @@
 -- A run without bounds does what the run within them does, until that passes a bound.
-use Rattle.std.proofs.Common.{◌≡◌, ◌⊎◌, ℕ, zero, suc, ◌+◌, ◌<◌, ◌≤◌, Bool, true, false, List, [], ◌∷◌, Option, Some, None, if◌then◌else◌, refl, sym, ap, subst, ◌∙◌, arith, inl, inr}
-use Rattle.std.specs.Prelude.{◌==◌, ◌&&◌, slice_get, slice_index, drop, length}
+use Rattle.std.proofs.Common.{◌≡◌, ◌⊎◌, ℕ, zero, suc, ◌<◌, ◌≤◌, Bool, true, false, List, [], ◌∷◌, Option, Some, None, if◌then◌else◌, refl, sym, subst, ◌∙◌, arith, inl, inr}
+use Rattle.std.specs.Prelude.{◌==◌, slice_get, slice_index, drop, length}
 use Rattle.std.specs.Ordering.{nat_cmp}
 use Rattle.std.specs.BTreeMap.{is_at}
 use Rattle.words.specs.declared.check.Check.{Check}
 use Rattle.words.specs.declared.check.Class.{Class}
 use Rattle.words.specs.declared.check.Class.TheVariants.{Assertion, Unwind, Recursion, Pointer}
 use Rattle.c_types.specs.Integers.{bytes, promoted}
-use Rattle.c_types.specs.declared.integers.IntegerType.{IntegerType}
 use Rattle.c_types.specs.declared.integers.IntegerType.TheVariants.{UnsignedLong}
-use Rattle.core_tree.specs.declared.operators.ArithmeticOperator.{ArithmeticOperator}
 use Rattle.core_tree.specs.Operations.{is_true, converted, arithmetic_check, sign_check}
-use Rattle.actions.specs.Pointer.{object_of, offset_of}
+use Rattle.actions.specs.Pointer.{object_of}
 use Rattle.c_values.specs.Variables.{Variables, low_bytes}
 use Rattle.c_values.specs.Numbers.{TypedNumber}
 use Rattle.core_tree.specs.Ranges.{Limits}
@@ -21,9 +19,7 @@ use Rattle.actions.specs.declared.action.Answer.{Answer}
 use Rattle.actions.specs.declared.action.Next.{Next}
 use Rattle.actions.specs.declared.action.Next.TheVariants.{Act, Ended, Blocked, Broken}
 use Rattle.actions.specs.Behaviour.{Behaviour, Thread, after, answered, accepts}
-use Rattle.actions.specs.ByStates.{behaviour_of}
-use Rattle.actions.specs.Objects.{Objects}
-use Rattle.actions.specs.Memory.{Memory, Change, starts, keeps}
+use Rattle.actions.specs.Memory.{Change, starts, keeps}
 use Rattle.actions.specs.Row as rows
 use Rattle.actions.specs.Row.{breaks as breaks_row, waits, moves}
 use Rattle.interleave.specs.declared.counts.Counts.{Counts}
@@ -35,18 +31,17 @@ use Rattle.interleave.specs.Inputs.{InputLists, words_of}
 use Rattle.interleave.specs.World.{World, Common, Member, member_at, may_move, moved, told, with_told, with_child}
 use Rattle.interleave.specs.Turn.{turn, settled as settled_turn, outcome, with_next, with_member, check_of}
 use Rattle.interleave.specs.Run.{run, unless_broken}
-use Rattle.interleave.specs.Replay.{IsSafe}
 use Rattle.c_meaning.specs.Meaning as meaning
 use Rattle.c_meaning.specs.Meaning.{Given, nothing, number, structure, Code, place_line, home_of, variable_of, body_of, variables_of, final}
-use Rattle.c_tasks.specs.Items.{top, rest, second, top_bytes, running_of, Item, evaluates, signs, operates, locates, loads, stores, rewrites, updates, combines, steps, increments, shifts, paces, measures, orders, admits, draws, asserts, evaluates_structure, copies, stores_structure, lists, runs, enters, goes_on, leaves, fills, settles, initial, initial_structure, dies, enters_parameters, leaves_parameters, gathers, gets, turns, retests, State, state, Active, line_of, blocks_on, Wanted, wants_number, wants_structure, wants_end, given_by, values_under, structures_under, Loop}
+use Rattle.c_tasks.specs.Items.{top, rest, second, top_bytes, running_of, Item, evaluates, signs, operates, locates, loads, stores, rewrites, updates, combines, steps, increments, shifts, paces, measures, orders, admits, draws, asserts, evaluates_structure, copies, stores_structure, lists, runs, enters, goes_on, leaves, fills, settles, initial, initial_structure, dies, enters_parameters, leaves_parameters, gathers, gets, turns, retests, State, Active, line_of, blocks_on, Wanted, wants_number, wants_structure, wants_end, given_by, values_under, structures_under, Loop}
 use Rattle.c_interp.specs.Work.{weight}
-use Rattle.c_tasks.specs.Steps.{Move, silent, asks, breaks, blocks, ends, unless_stopped, move_bytes, move_put, move_place, move_expression, move_structure, move_parts, move_statement, move_fill, move_entry, move_settle, move_initial, move_death, move_end, move_parameters, move_last, move_admission, move_draw, move_turn, move_test, move_body, move_call, move_arguments, move_given, move_items, move_item, move_from, move}
-use Rattle.c_interp.specs.Small.{stepped_on, settled, next_of, answered_by, next_small, answered_small, bounded, unbounded}
+use Rattle.c_tasks.specs.Steps.{Move, silent, asks, breaks, blocks, ends, unless_stopped, move_bytes, move_put, move_place, move_expression, move_structure, move_parts, move_statement, move_fill, move_entry, move_settle, move_initial, move_death, move_end, move_parameters, move_last, move_admission, move_draw, move_turn, move_test, move_body, move_arguments, move_given, move_items, move_item, move_from, move}
+use Rattle.c_interp.specs.Small.{stepped_on, settled, next_of, answered_by, bounded, unbounded}
 use Rattle.c_interp.specs.inner.Adequate.{IsStill, settled_still}
-use Rattle.c_meaning.specs.Source.{code_of, main_number, runs_at, source_thread, source_world, first_objects}
+use Rattle.c_meaning.specs.Source.{code_of, main_number, runs_at, source_thread}
 use Rattle.c_interp.specs.SourceThread.{StartsNone, start_state, small_steps, function_starts_none}
 use Rattle.c_interp.specs.Alone.{Quietly}
-use Rattle.c_interp.specs.Unlimited.{unlimited_at, unlimited_thread, unlimited_world, SafeAtAll}
+use Rattle.c_interp.specs.Unlimited.{unlimited_at, unlimited_thread, SafeAtAll}
 use Rattle.c_interp.proofs.SourceRuns.{IsPlain, plain}
 
 -- ---- behaviours
@@ -58,16 +53,22 @@ IsBroken Blocked = ⊥
 IsBroken (Broken class line f) = Unit {0}
 
 -- the first has broken a check after some of these answers; or the other is next as it is, or blocked
-abbrev Cut : Behaviour → Behaviour → List Answer → Type 0
+abbrev pub Cut : Behaviour → Behaviour → List Answer → Type 0
 Cut b u [] = IsBroken (b []) ⊎ ((u [] ≡ b []) ⊎ (u [] ≡ Blocked))
 Cut b u (a ∷ answers) = IsBroken (b []) ⊎ Cut (after b a) (after u a) answers
 
-abbrev Cuts : Behaviour → Behaviour → Type 0
+abbrev pub Cuts : Behaviour → Behaviour → Type 0
 Cuts b u = (answers : List Answer) → Cut b u answers
 
 never : (b : Behaviour) (answers : List Answer) → Cut b (λ more. Blocked) answers
 never b [] = inr (inr refl)
 never b (a ∷ answers) = inr (never (after b a) answers)
+
+pub choice_cut : (z y : Bool) (b u : Behaviour) (answers : List Answer) → z ≡ y → Cut b u answers → Cut (λ more. if z then b more else Blocked) (λ more. if y then u more else Blocked) answers
+choice_cut true true b u answers same cut = cut
+choice_cut true false b u answers same cut = absurd (cc)
+choice_cut false true b u answers same cut = absurd (cc)
+choice_cut false false b u answers same cut = never (λ more. Blocked) answers
 
 -- ---- moves
 
@@ -312,12 +313,6 @@ module _ (code : Code) (first : Bool) (checked : code.assertions ≡ true) where
   silent_next r blocks h = absurd h
   silent_next r (ends v) h = absurd h
 
-  choice_cut : (z y : Bool) (b u : Behaviour) (answers : List Answer) → z ≡ y → Cut b u answers → Cut (λ more. if z then b more else Blocked) (λ more. if y then u more else Blocked) answers
-  choice_cut true true b u answers same cut = cut
-  choice_cut true false b u answers same cut = absurd (cc)
-  choice_cut false true b u answers same cut = absurd (cc)
-  choice_cut false false b u answers same cut = never (λ more. Blocked) answers
-
   module _ (q : ℕ) where
     cut_here : (s : State) (answers : List Answer) → Settles (settled code first true (weight code s) s) (settled code first false q s)
         → ((t : State) (later : List Answer) → length later < length answers → Cut (bounded code first t) (unbounded q code first t) later) → Cut (bounded code first s) (unbounded q code first s) answers
@@ -461,14 +456,14 @@ module _ (inputs : InputLists) where
         (λ i. (unless_broken (goes.second_is i).0 (goes.second_is i).1 (λ n. run n inputs schedule)).0)
         ∙ goes_on goes.common goes.counts goes.bounded_thread goes.other_thread goes.cut goes.quiet next
 
-  safe_run : (schedule : List ℕ) (c : Common) (k : Counts) (b u : Thread) → Cuts b.behaves u.behaves → Quietly b.behaves → SafeFor (one c k b) → (run (one c k u) inputs schedule).0 ≡ ending.Fine
+  pub safe_run : (schedule : List ℕ) (c : Common) (k : Counts) (b u : Thread) → Cuts b.behaves u.behaves → Quietly b.behaves → SafeFor (one c k b) → (run (one c k u) inputs schedule).0 ≡ ending.Fine
   safe_run [] c k b u cut quiet safe = refl
   safe_run (t ∷ schedule) c k b u cut quiet safe =
       by_turn t schedule c k b u safe (safe_run schedule c k b u cut quiet safe) (safe_run schedule) (one_turn c k b u cut quiet t)
 
 -- ---- files
 
-same_cuts : (b : Behaviour) (answers : List Answer) → Cut b b answers
+pub same_cuts : (b : Behaviour) (answers : List Answer) → Cut b b answers
 same_cuts b [] = inr (inl refl)
 same_cuts b (a ∷ answers) = inr (same_cuts (after b a) answers)
 

@@ -1,9 +1,11 @@
 pub mod Small
 pub mod Work
+pub mod Keeps
 pub mod inner
 pub mod SourceThread
 pub mod Halts
 pub mod View
 pub mod Alone
 pub mod Unlimited
+pub mod Larger
 pub mod Planned

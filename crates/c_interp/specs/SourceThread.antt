@@ -1,13 +1,13 @@
 -- What a function does is what its small steps do from its start; and that is what a thread may do.
-use Rattle.std.specs.Prelude.{◌≡◌, ◌≤◌, ◌+◌, ◌*◌, ◌==◌, ℕ, zero, suc, ℤ, pos, drop, length, nat_le, slice_index, Bool, true, false, List, [], ◌∷◌, Option, Some, None, slice_get, if◌then◌else◌}
-use Rattle.std.proofs.Common.{refl, ap, subst, ◌∙◌}
+use Rattle.std.specs.Prelude.{◌≡◌, ◌≤◌, ◌+◌, ◌*◌, ◌==◌, ℕ, zero, suc, pos, drop, length, nat_le, slice_index, Bool, true, false, List, [], ◌∷◌, Option, Some, None, slice_get, if◌then◌else◌}
+use Rattle.std.proofs.Common.{refl, ap, sym, subst, ◌∙◌}
 use Rattle.words.specs.declared.check.Class.{Class}
 use Rattle.words.specs.declared.check.Class.TheVariants.{Assertion, Return, Unwind, Recursion, Pointer}
-use Rattle.c_types.specs.declared.integers.IntegerType.{IntegerType}
 use Rattle.c_types.specs.declared.integers.IntegerType.TheVariants.{UnsignedLong}
 use Rattle.c_types.specs.Integers.{bytes, promoted}
 use Rattle.core_tree.specs.Ranges.{Limits}
-use Rattle.core_tree.specs.Trees.{Place, object_at, element, subscript, Expression, draw, sum, Structure, string, Parts, no_part, Arguments, no_argument, number_argument, structure_argument, Statement, block, Items, done, initializes, initializes_structure, Procedure, TypedFile}
+use Rattle.core_tree.specs.Trees.{Place, element, subscript, Expression, sum, Structure, string, Parts, no_part, Arguments, no_argument, number_argument, structure_argument, Statement, block, Items, done, initializes, initializes_structure, Procedure, TypedFile}
+use Rattle.core_tree.specs.Typed.{are_typed, have_small, sizes_of_variables}
 use Rattle.core_tree.specs.Operations.{is_true, converted, arithmetic_check, sign_check}
 use Rattle.actions.specs.declared.action.Answer.{Answer}
 use Rattle.actions.specs.declared.action.Action.TheVariants.{Create, End, Exit}
@@ -22,12 +22,17 @@ use Rattle.c_meaning.specs.Meaning as meaning
 use Rattle.c_meaning.specs.Meaning.{Given, Code, place_line, home_of, variable_of, size_of, sizes_of, body_of, variables_of, total, activation}
 use Rattle.c_meaning.specs.Source.{code_of, first_left, function_behaviour, runs_at, source_program}
 use Rattle.c_values.specs.Numbers.{TypedNumber}
-use Rattle.c_tasks.specs.Items.{top, rest, second, third, top_bytes, Active, active, running_of, base, index_number, Wanted, wants_number, wants_structure, wants_end, line_of, given_by, values_under, structures_under, blocks_on, Loop, Item, evaluates, signs, operates, locates, elements, loads, stores, rewrites, updates, combines, steps, increments, lands, shifts, paces, arrives, measures, orders, claims, admits, draws, releases, quits, asserts, assumes, evaluates_structure, copies, stores_structure, lists, runs, enters, goes_on, leaves, fills, settles, initial, initial_structure, dies, enters_parameters, leaves_parameters, gathers, gets, turns, retests, ending, ended, State, state, behaves}
-use Rattle.c_tasks.specs.Steps.{Move, silent, asks, breaks, blocks, unless_stopped, move_bytes, move_put, move_combined, move_pointer, move_place, move_expression, move_structure, move_parts, move_statement, move_fill, move_entry, move_settle, move_initial, move_death, move_end, move_parameters, move_last, move_claim, move_admission, move_draw, move_items, move_turn, move_test, move_body, move_arguments, move_given, move_item, move}
+use Rattle.c_tasks.specs.Items.{top, rest, second, top_bytes, Active, active, running_of, base, index_number, Wanted, wants_number, wants_structure, wants_end, line_of, given_by, values_under, structures_under, blocks_on, Loop, Item, evaluates, signs, operates, locates, elements, loads, stores, rewrites, updates, combines, steps, increments, lands, shifts, paces, arrives, measures, orders, claims, admits, draws, releases, quits, asserts, assumes, evaluates_structure, copies, stores_structure, lists, runs, enters, goes_on, leaves, fills, settles, initial, initial_structure, dies, enters_parameters, leaves_parameters, gathers, gets, turns, retests, ending, ended, State, state, behaves}
+use Rattle.c_tasks.specs.Steps.{Move, silent, asks, breaks, blocks, unless_stopped, move_bytes, move_put, move_place, move_expression, move_structure, move_parts, move_statement, move_fill, move_entry, move_settle, move_initial, move_death, move_end, move_parameters, move_last, move_claim, move_admission, move_draw, move_items, move_turn, move_test, move_body, move_arguments, move_given, move_item, move}
 use Rattle.c_interp.specs.Work.{weight}
 use Rattle.c_interp.specs.Small.{settled, settle, next_of, answered_by, next_small, answered_small, bounded}
 use Rattle.c_interp.specs.inner.Cuts.{fuel_enough}
 use Rattle.c_interp.specs.inner.Adequate.{adequate}
+use Rattle.c_interp.specs.Keeps.{IsKept}
+use Rattle.c_tasks.proofs.Sizes.{first_sizes}
+use Rattle.c_interp.specs.inner.Blocks.{first_blocks, all_held}
+use Rattle.c_interp.specs.inner.FirstStates.{start_fits}
+use Rattle.c_interp.specs.inner.KeptStates.{small_kept, small_makes}
 
 -- ---- the start of a thread: the first call of a function, whose name stands on this line. Its caller is the function itself, before its start
 
@@ -292,15 +297,6 @@ module _ (code : Code) (first : Bool) where
   state_starts_none : (s : State) (answers : List Answer) → StartsNone (behaves code first s answers)
   state_starts_none s answers = let P : Behaviour → Type 0 = λ b. StartsNone (b answers) in subst P (adequate code first s) (none_after answers s)
 
-  small_thread : (program : Program) (s : State) → IsBehaviour program (bounded code first s)
-  small_thread program s =
-      behaves_by_states (next_small code first true (weight code)) (answered_small code first true (weight code)) program
-      (λ s. none_starts program (next_small code first true (weight code) s) (none_small s))
-      (λ s. let t = settle code first s in (fine t).1 t) s
-
-  pub state_behaves : (program : Program) (s : State) → IsBehaviour program (behaves code first s)
-  state_behaves program s = let P : Behaviour → Type 0 = IsBehaviour program in subst P (adequate code first s) (small_thread program s)
-
 -- ---- threads of a file
 
 -- a function that isn't there breaks a check at line 1
@@ -308,10 +304,6 @@ abbrev nowhere_state : ℕ → State
 nowhere_state f = state (asserts 1 ∷ []) (active f []) [] [] []
 
 module _ (file : TypedFile) (limits : Limits) where
-  function_at : (program : Program) (first : Bool) (f : ℕ) (p : Option Procedure) → IsBehaviour program (runs_at file limits first f p)
-  function_at program first f None = state_behaves (code_of file limits) first program (nowhere_state f)
-  function_at program first f (Some p) = state_behaves (code_of file limits) first program (start_state file limits f p.line)
-
   starts_none_at : (first : Bool) (f : ℕ) (p : Option Procedure) (answers : List Answer) → StartsNone (runs_at file limits first f p answers)
   starts_none_at first f None answers = state_starts_none (code_of file limits) first (nowhere_state f) answers
   starts_none_at first f (Some p) answers = state_starts_none (code_of file limits) first (start_state file limits f p.line) answers
@@ -319,11 +311,37 @@ module _ (file : TypedFile) (limits : Limits) where
   pub function_starts_none : (first : Bool) (f : ℕ) (answers : List Answer) → StartsNone (function_behaviour file limits first f answers)
   function_starts_none first f answers = starts_none_at first f (slice_get file.functions f) answers
 
-  pub is_thread : (startable : ℕ) (first : Bool) (s : State) → IsThread (thread_in file limits startable first s)
-  is_thread startable first s = record {
-    itself = state_behaves (code_of file limits) first (source_program file limits startable) s;
-    others = λ f v h k. function_at (source_program file limits startable) false f (slice_get file.functions f);
-  }
+  -- of a typed file, whose variables and allocations have fewer bytes than 32 bits tell: what a thread does that starts in a state which keeps what is said there
+  module _ (few_bytes : limits.malloc_limit ≤ 4096) (all_typed : are_typed file ≡ true) (all_small : have_small file.functions ≡ true) where
+    small_thread : (program : Program) (first : Bool) (s : State) → IsKept file s → IsBehaviour program (bounded (code_of file limits) first s)
+    small_thread program first s k =
+        let code = code_of file limits in
+        behaves_by_states (next_small code first true (weight code)) (answered_small code first true (weight code)) program (IsKept file)
+        (small_kept file limits few_bytes first all_typed all_small)
+        (λ s k. none_starts program (next_small code first true (weight code) s) (none_small code first s))
+        (small_makes file limits few_bytes first all_typed all_small)
+        (λ s a k. let t = settle code first s in (fine code first t).1 t a) s k
+
+    pub state_behaves : (program : Program) (first : Bool) (s : State) → IsKept file s → IsBehaviour program (behaves (code_of file limits) first s)
+    state_behaves program first s k = let P : Behaviour → Type 0 = IsBehaviour program in subst P (adequate (code_of file limits) first s) (small_thread program first s k)
+
+    nowhere_kept : (f : ℕ) → slice_get file.functions f ≡ None → IsKept file (nowhere_state f)
+    nowhere_kept f e = (refl, sym (ap (λ (o : Option Procedure). sizes_of_variables (variables_of o)) e), refl)
+
+    start_kept : (f : ℕ) (p : Procedure) → slice_get file.functions f ≡ Some p → IsKept file (start_state file limits f p.line)
+    start_kept f p e =
+        let sizes = sizes_of (variables_of (slice_get file.functions f)) in
+        (start_fits file f p e p.line, first_sizes sizes, all_held (gathers (wants_end p.line) f 0 no_argument ∷ []) [] (first_variables sizes) refl (first_blocks sizes) refl)
+
+    function_at : (program : Program) (first : Bool) (f : ℕ) (p : Option Procedure) → slice_get file.functions f ≡ p → IsBehaviour program (runs_at file limits first f p)
+    function_at program first f None e = state_behaves program first (nowhere_state f) (nowhere_kept f e)
+    function_at program first f (Some p) e = state_behaves program first (start_state file limits f p.line) (start_kept f p e)
+
+    pub is_thread : (startable : ℕ) (first : Bool) (s : State) → IsKept file s → IsThread (thread_in file limits startable first s)
+    is_thread startable first s k = record {
+      itself = state_behaves (source_program file limits startable) first s k;
+      others = λ f v h j. function_at (source_program file limits startable) false f (slice_get file.functions f) refl;
+    }
 
 -- small steps from the start of a function do what the function means, and no fuel of its calls is used up
 abbrev pub SmallSteps : Type 0

@@ -13,6 +13,7 @@ use Rattle.c_tasks.specs.Steps.{Move, move, out_of}
 use Rattle.c_tasks.specs.Fits.{Fits, IsSized, variables_at}
 use Rattle.c_tasks.specs.Items.{Active, active, running_of, State, state}
 use Rattle.c_tasks.specs.Tasks.{way_of, items_in, values_in, structures_in, behind, changed, activations, IsPlan, WritesWithin, IsHalt}
+use Rattle.c_interp.specs.Keeps.{HoldsBytes}
 use Rattle.c_interp.specs.SourceThread.{thread_in, is_thread}
 
 abbrev pub file_of : Thread → TypedFile
@@ -36,7 +37,7 @@ thread_of t = thread_in (file_of t) t.bounds.now t.startable t.first (state_of t
 
 pub thread_is : (t : Thread) → actions.IsThread (thread_of t)
 unfolding thread_of
-thread_is t = is_thread (file_of t) t.bounds.now t.startable t.first (state_of t)
+thread_is t = is_thread (file_of t) t.bounds.now t.small t.all_typed t.small_variables t.startable t.first (state_of t) (t.typed, t.sized, t.held)
 
 -- both run the same file under the same bounds, and can start the same threads
 abbrev pub SameProgram : Thread → Thread → Type 0
@@ -62,6 +63,6 @@ after_change t c = changed c (behind (items_in t.tasks.items)) (active_of t) (va
 abbrev pub after_cut : Thread → Cut → State
 after_cut t c = out_of (way_of c) (items_in t.tasks.items) (active_of t) (values_in t.numbers.items) (structures_in t.structures.items) t.variables.items
 
--- what each state of a thread keeps to: its items can be done, its variables are there, and not too many activations are open
+-- what each state of a thread keeps to: its items can be done, its variables are there, not too many activations are open, and all that is held is bytes
 abbrev pub IsSound : TypedFile → State → Type 0
-IsSound file s = Fits file s × IsSized file s × (activations s ≤ 2 ^ 42)
+IsSound file s = Fits file s × IsSized file s × (activations s ≤ 2 ^ 42) × HoldsBytes s

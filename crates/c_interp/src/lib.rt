@@ -6,5 +6,5 @@ mod plan;
 mod replay;
 mod thread;
 
-pub use replay::{run, safe_at_all, small_steps_mean};
+pub use replay::{run, safe_at_all, safe_within_more, small_steps_mean};
 pub use thread::Thread;

@@ -5,6 +5,7 @@ ghost use Rattle.core_tree.specs.Trees.{view_core};
 ghost use Rattle.c_meaning.specs.Source.{source_run, are_storable};
 ghost use Rattle.c_interp.specs.SourceThread.{SmallSteps, EnoughFuel};
 ghost use Rattle.c_interp.specs.Unlimited.{SafeAtAll};
+ghost use Rattle.c_interp.specs.Larger.{SafeWithinMore};
 ghost use Rattle.interleave.specs.View.{world_of, is_dead};
 ghost use Rattle.interleave.specs.Turn.{turn};
 ghost use Rattle.interleave.specs.Run as definition;
@@ -91,4 +92,10 @@ pub fn small_steps_mean()
 /// breaks one, no run without bounds does (TACAS 2004, section 3).
 pub fn safe_at_all()
     ensures { SafeAtAll }
+{}
+
+/// The same law by the meaning of a file: where passing a bound breaks a check and no run within the bounds
+/// breaks one, no run within larger bounds does.
+pub fn safe_within_more()
+    ensures { SafeWithinMore }
 {}

@@ -2,11 +2,12 @@
 
 ghost use Rattle.std.specs.Prelude.{◌≡◌, ◌≤◌, ◌<◌, ◌+◌, ◌^◌, true, min, length, slice_get, IfOk};
 ghost use Rattle.core_tree.specs.Trees.{core_file, view_core, view_functions};
-ghost use Rattle.core_tree.specs.Typed.{are_typed};
+ghost use Rattle.core_tree.specs.Typed.{are_typed, have_small};
 ghost use Rattle.c_values.specs.Variables.{block_of};
 ghost use Rattle.c_meaning.specs.Meaning.{size_in_list, is_readonly, variables_of, total};
 ghost use Rattle.c_tasks.specs.Fits.{fits, variables_at, types_of, sizes_of};
 ghost use Rattle.c_tasks.specs.Tasks.{items_in, values_in, structures_in, open_in};
+ghost use Rattle.c_interp.specs.Keeps.{holds_bytes};
 
 use crate::plan::plan_task;
 use actions::{Action, Answer, Bytes, Cells, Machine, Next, Object};
@@ -52,10 +53,12 @@ pub struct Thread<'a> {
     ghost few: { length functions.now < 2 ^ 31 },
     ghost few_objects: { length objects.now + length literals.now < 4294967295 },
     ghost all_typed: { are_typed (view_core (core_file functions.now objects.now literals.now pointers)) ≡ true },
+    ghost small_variables: { have_small (view_core (core_file functions.now objects.now literals.now pointers)).functions ≡ true },
     ghost known: { startable ≤ length functions.now },
     ghost small: { (bounds.now).malloc_limit ≤ 4096 },
     ghost typed: { fits (view_core (core_file functions.now objects.now literals.now pointers)) (items_in tasks.items) function (types_of (values_in numbers.items)) (sizes_of (structures_in structures.items)) ≡ true },
     ghost sized: { sizes_of variables.items ≡ variables_at (view_core (core_file functions.now objects.now literals.now pointers)) function },
+    ghost held: { holds_bytes (items_in tasks.items) (structures_in structures.items) variables.items ≡ true },
     ghost counted: { total left.items + open_in (items_in tasks.items) ≤ 2 ^ 42 },
 }
 
@@ -63,13 +66,14 @@ impl<'a> Thread<'a> {
     ghost use Rattle.std.specs.Prelude.{◌≡◌, ◌<◌, ◌≤◌, ◌+◌, ◌^◌, true, false, [], Some, length, slice_get, IfOk, OnOk, OnErr, MatchOption, vec_len, vec_capacity};
     ghost use Rattle.actions.specs.Behaviour.{accepts, answered};
     ghost use Rattle.actions.specs.StoredObject.{stored};
-    ghost use Rattle.core_tree.specs.Typed.{are_typed};
+    ghost use Rattle.core_tree.specs.Typed.{are_typed, have_small};
     ghost use Rattle.core_tree.specs.Trees.{core_file, view_function, view_functions, view_core};
     ghost use Rattle.c_values.specs.Variables.{block_of};
     ghost use Rattle.c_meaning.specs.Meaning.{readonly_of};
     ghost use Rattle.c_meaning.specs.Source.{source_thread};
     ghost use Rattle.c_interp.specs.SourceThread.{start_state, thread_in, function_thread};
     ghost use Rattle.c_interp.specs.Work.{weight};
+    ghost use Rattle.c_interp.specs.Keeps.{HoldsBytes};
     ghost use Rattle.c_tasks.specs.Steps.{silent};
     ghost use Rattle.c_tasks.specs.Items.{top_bytes};
     ghost use Rattle.c_tasks.specs.Fits.{Fits, variables_at};
@@ -122,6 +126,7 @@ impl<'a> Thread<'a> {
         requires few { length functions.now < 2 ^ 31 }
         requires few_objects { length objects.now + length literals.now < 4294967295 }
         requires all { are_typed (view_core (core_file functions.now objects.now literals.now pointers)) ≡ true }
+        requires small_variables { have_small (view_core (core_file functions.now objects.now literals.now pointers)).functions ≡ true }
         requires known { startable ≤ length functions.now }
         requires small { (bounds.now).malloc_limit ≤ 4096 }
         requires body { slice_get (view_functions functions.now) function ≡ Some (view_function body.now) }
@@ -168,6 +173,7 @@ impl<'a> Thread<'a> {
         requires few { length functions.now < 2 ^ 31 }
         requires few_objects { length objects.now + length literals.now < 4294967295 }
         requires all { are_typed (view_core (core_file functions.now objects.now literals.now pointers)) ≡ true }
+        requires small_variables { have_small (view_core (core_file functions.now objects.now literals.now pointers)).functions ≡ true }
         requires known { startable ≤ length functions.now }
         requires small { (bounds.now).malloc_limit ≤ 4096 }
         requires there { function < length functions.now }
@@ -227,6 +233,7 @@ impl<'a> Thread<'a> {
     fn apply(&mut self, change: Change<'a>)
         requires step { Fits (file_of self.old) (after_change self.old change) }
         requires counted { activations (after_change self.old change) ≤ 2 ^ 42 }
+        requires held { HoldsBytes (after_change self.old change) }
         requires within { ChangesWithin (variables_at (file_of self.old) (self.old).function) (structures_in (self.old).structures.items) change }
         requires tasks { vec_len (self.old).tasks + 3 ≤ vec_capacity (self.old).tasks }
         requires numbers { vec_len (self.old).numbers < vec_capacity (self.old).numbers }

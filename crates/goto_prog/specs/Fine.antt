@@ -10,7 +10,7 @@ use Rattle.actions.specs.declared.action.Action.TheVariants.{Read, Write, Draw, 
 use Rattle.actions.specs.declared.action.Answer.{Answer}
 use Rattle.actions.specs.declared.action.Next.{Next}
 use Rattle.actions.specs.declared.action.Next.TheVariants.{Act, Ended, Blocked, Broken}
-use Rattle.actions.specs.Behaviour.{Behaviour, Program, shape_of, has_shape, accepts, CanStart, EndsAfter, IsProper, IsBehaviour, word_64}
+use Rattle.actions.specs.Behaviour.{Behaviour, Program, shape_of, has_shape, accepts, CanStart, MakesProper, EndsAfter, IsProper, IsBehaviour, word_64}
 use Rattle.goto_prog.specs.declared.code.Instruction.{Instruction}
 use Rattle.goto_prog.specs.declared.code.Operation.{Operation}
 use Rattle.goto_prog.specs.declared.code.Operation.TheVariants as operations
@@ -43,6 +43,15 @@ module _ (program : Program) where
   final_creates (Broken class line f) ends [] = tt
   final_creates (Broken class line f) ends (a ∷ answers) = tt
 
+  final_makes : (n : Next) → IsEnd n → (answers : List Answer) → MakesProper (final n answers)
+  final_makes (Act action line f) ends answers = absurd ends
+  final_makes (Ended v) ends [] = tt
+  final_makes (Ended v) ends (a ∷ answers) = tt
+  final_makes Blocked ends [] = tt
+  final_makes Blocked ends (a ∷ answers) = tt
+  final_makes (Broken class line f) ends [] = tt
+  final_makes (Broken class line f) ends (a ∷ answers) = tt
+
   final_proper : (n : Next) → IsProper (final n)
   final_proper n [] a later h = refl
   final_proper n (x ∷ before) a later h = refl
@@ -57,7 +66,7 @@ module _ (program : Program) where
   final_ends (Broken class line f) ends (x ∷ answers) a = tt
 
   pub final_behaves : (n : Next) → IsEnd n → IsBehaviour program (final n)
-  final_behaves n ends = record { proper = final_proper n; creates = final_creates n ends; ends = final_ends n ends }
+  final_behaves n ends = record { proper = final_proper n; creates = final_creates n ends; makes = final_makes n ends; ends = final_ends n ends }
 
   refused : (b : Bool) (x : Next) → b ≡ false → (if b then x else Blocked) ≡ Blocked
   refused b x h = λ i. if h i then x else Blocked
@@ -70,6 +79,10 @@ module _ (program : Program) where
   creates_by true x h = h
   creates_by false x h = tt
 
+  makes_by : (b : Bool) (x : Next) → MakesProper x → MakesProper (if b then x else Blocked)
+  makes_by true x h = h
+  makes_by false x h = tt
+
   ends_by : (b : Bool) (x y : Next) (a : Answer) → EndsAfter x a y → EndsAfter (if b then x else Blocked) a (if b then y else Blocked)
   ends_by true x y a h = h
   ends_by false x y a h = tt
@@ -81,6 +94,14 @@ module _ (program : Program) where
   action_creates (End v) line f follows step = tt
   action_creates Exit line f follows step = tt
   action_creates _ line f follows step = absurd step
+
+  action_makes : (action : Action) (line f : ℕ) (follows : Answer → Behaviour) → IsStep action follows → MakesProper (Act action line f)
+  action_makes (Read p n) line f follows step = tt
+  action_makes (Write p new first) line f follows step = tt
+  action_makes (Draw bits) line f follows step = tt
+  action_makes (End v) line f follows step = tt
+  action_makes Exit line f follows step = tt
+  action_makes _ line f follows step = absurd step
 
   end_reached : (v : ℕ) (b : Bool) (x : Next) → x ≡ Ended (word_64 v) → b ≡ true → (if b then x else Blocked) ≡ Ended (word_64 v)
   end_reached v true x same h = same
@@ -104,12 +125,16 @@ module _ (program : Program) where
     ask_creates [] = action_creates action line f follows step
     ask_creates (x ∷ answers) = creates_by (has_shape (shape_of action) x) (follows x answers) ((fine x).creates answers)
 
+    ask_makes : (answers : List Answer) → MakesProper (ask action line f follows answers)
+    ask_makes [] = action_makes action line f follows step
+    ask_makes (x ∷ answers) = makes_by (has_shape (shape_of action) x) (follows x answers) ((fine x).makes answers)
+
     ask_ends : (answers : List Answer) (a : Answer) → EndsAfter (ask action line f follows answers) a (ask action line f follows (answers ++ a ∷ []))
     ask_ends [] a = action_ends action line f follows step a
     ask_ends (x ∷ answers) a = ends_by (has_shape (shape_of action) x) (follows x answers) (follows x (answers ++ a ∷ [])) a ((fine x).ends answers a)
 
     pub ask_behaves : IsBehaviour program (ask action line f follows)
-    ask_behaves = record { proper = ask_proper; creates = ask_creates; ends = ask_ends }
+    ask_behaves = record { proper = ask_proper; creates = ask_creates; makes = ask_makes; ends = ask_ends }
 
   -- what follows calls is what they do
   abbrev pub AreFineCalls : Calls → Type 0

@@ -39,6 +39,7 @@ behaviour_after : (p : Program) (b : Behaviour) (a : Answer) → IsBehaviour p b
 behaviour_after p b a h = record {
   proper = λ before x later e. h.proper (a ∷ before) x later e;
   creates = λ answers. h.creates (a ∷ answers);
+  makes = λ answers. h.makes (a ∷ answers);
   ends = λ answers x. h.ends (a ∷ answers) x;
 }
 

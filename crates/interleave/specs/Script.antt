@@ -8,8 +8,8 @@ use Rattle.actions.specs.declared.action.Answer.{Answer}
 use Rattle.actions.specs.declared.action.Answer.TheVariants as answer
 use Rattle.actions.specs.declared.action.Next.{Next}
 use Rattle.actions.specs.declared.action.Next.TheVariants.{Act, Ended, Blocked, Broken}
-use Rattle.actions.specs.StoredObject.{stored}
-use Rattle.actions.specs.Behaviour.{Program, Thread, word_64, CanStart, EndsAfter, IsThread}
+use Rattle.actions.specs.StoredObject.{stored, made_without_cells}
+use Rattle.actions.specs.Behaviour.{Program, Thread, word_64, CanStart, MakesProper, EndsAfter, IsBehaviour, IsThread}
 use Rattle.actions.specs.ByStates.{behaviour_of, behaves_by_states}
 use Rattle.interleave.specs.declared.script.Step.{Step}
 use Rattle.interleave.specs.declared.script.Step.TheVariants.{Read, Write, Assert, Look, Draw, Alloc, Die, Free, SectionBegin, SectionEnd, Lock, Unlock, MutexInit, MutexDestroy, Create, Join, End, Exit}
@@ -108,6 +108,29 @@ creates_by steps register None (Some step) = creates_at steps register step
 creates : (steps : List Step) (s : State) → CanStart (program_of steps) (next_in steps s)
 creates steps s = creates_by steps s.register s.ended (slice_get steps s.at)
 
+create_makes : (b : Bool) (f : ℕ) → MakesProper (if b then Act (action.Create f 0) 1 0 else Blocked)
+create_makes true f = tt
+create_makes false f = tt
+
+assert_makes : (b : Bool) → MakesProper (if b then Act (action.Free 0) 1 0 else Broken Assertion 1 0)
+assert_makes true = tt
+assert_makes false = tt
+
+-- an empty object can be made
+makes_at : (many register : ℕ) (step : Step) → MakesProper (next_at_step many register step)
+makes_at many register Alloc = made_without_cells 0 true false true [] refl (lit< tt) refl
+makes_at many register (Create f) = create_makes (nat_lt f many) f
+makes_at many register (Assert n) = assert_makes (register == n)
+makes_at many register _ = tt
+
+makes_by : (many register : ℕ) (ended : Option ℕ) (step : Option Step) → MakesProper (next_by many register ended step)
+makes_by many register (Some v) step = tt
+makes_by many register None None = tt
+makes_by many register None (Some step) = makes_at many register step
+
+makes : (steps : List Step) (s : State) → MakesProper (next_in steps s)
+makes steps s = makes_by (length steps) s.register s.ended (slice_get steps s.at)
+
 assert_ends : (b : Bool) (a : Answer) (n : Next) → EndsAfter (if b then Act (action.Free 0) 1 0 else Broken Assertion 1 0) a n
 assert_ends true a n = tt
 assert_ends false a n = tt
@@ -132,8 +155,10 @@ ends_by many register None (Some step) a r later = ends_at many register step a 
 ends : (steps : List Step) (s : State) (a : Answer) → EndsAfter (next_in steps s) a (next_in steps (stepped steps s a))
 ends steps s a = ends_by (length steps) s.register s.ended (slice_get steps s.at) a (received a s.register) (slice_get steps (s.at + 1))
 
+state_behaves : (steps : List Step) (s : State) → IsBehaviour (program_of steps) (behaviour_of (next_in steps) (stepped steps) s)
+state_behaves steps s =
+    behaves_by_states (next_in steps) (stepped steps) (program_of steps) (λ s. Unit {0}) (λ s a h e. tt)
+    (λ s h. creates steps s) (λ s h. makes steps s) (λ s a h. ends steps s a) s tt
+
 pub is_thread : (steps : List Step) (s : State) → IsThread (thread_of steps s)
-is_thread steps s = record {
-  itself = behaves_by_states (next_in steps) (stepped steps) (program_of steps) (creates steps) (ends steps) s;
-  others = λ f v h k. behaves_by_states (next_in steps) (stepped steps) (program_of steps) (creates steps) (ends steps) (start_at f);
-}
+is_thread steps s = record { itself = state_behaves steps s; others = λ f v h k. state_behaves steps (start_at f) }

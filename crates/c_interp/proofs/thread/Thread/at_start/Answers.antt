@@ -1,4 +1,4 @@
-use Rattle.std.proofs.Common.{◌≡◌, ◌≤◌, ◌^◌, true, ℕ, List, [], ◌∷◌, slice_get, ap, sym, subst, ◌∙◌, rules, arith}
+use Rattle.std.proofs.Common.{◌≡◌, ◌≤◌, ◌^◌, true, ℕ, List, [], ◌∷◌, slice_get, refl, ap, sym, subst, ◌∙◌, rules, arith}
 use Rattle.core_tree.specs.Trees.{core_file, view_core, view_function, no_argument}
 use Rattle.c_values.specs.Variables.{Variables, first_variables}
 use Rattle.c_values.specs.Numbers.{TypedNumber}
@@ -10,7 +10,9 @@ use Rattle.c_tasks.specs.Fits.{fits, types_of, sizes_of}
 use Rattle.c_tasks.specs.Tasks.{items_in, values_in, structures_in, open_in}
 use Rattle.c_interp.specs.SourceThread.{thread_in}
 use Rattle.c_interp.specs.View.{thread_of}
-use Rattle.c_interp.proofs.Starts.{start_fits, start_sized}
+use Rattle.c_interp.specs.Keeps.{holds_bytes}
+use Rattle.c_interp.specs.inner.Blocks.{first_blocks, all_held}
+use Rattle.c_interp.specs.inner.FirstStates.{start_fits, start_sized}
 use Rattle.c_interp.proofs.thread.Thread.at_start.Goals as goal
 
 pub invariant_of-result-clause-typed : goal.invariant_of-result-clause-typed
@@ -48,3 +50,13 @@ returns c =
     let made : c.add_variables.new.blocks.items ≡ first_variables (meaning.sizes_of (variables_of (slice_get file.functions f))) = search rules in
     let left : c.in_ok-left.left.items ≡ first_left file.functions c.args.bounds.now = search rules in
     λ i. thread_in file c.args.bounds.now c.args.startable c.args.first (state (items i) (active f (left i)) (values_in (numbers i)) (structures_in (structures i)) (made i))
+
+pub invariant_of-result-clause-held : goal.invariant_of-result-clause-held
+invariant_of-result-clause-held c =
+    let begin = gathers (wants_end c.args.body.now.line) c.args.function 0 no_argument in
+    let sizes = meaning.sizes_of c.args.body.now.variables.items in
+    let items : items_in c.push.new.self.items ≡ begin ∷ [] = search rules in
+    let structures : c.new-2.result.items ≡ [] = search rules in
+    let made : c.add_variables.new.blocks.items ≡ first_variables sizes = search rules in
+    let first : holds_bytes (begin ∷ []) [] (first_variables sizes) ≡ true = all_held (begin ∷ []) [] (first_variables sizes) refl (first_blocks sizes) refl in
+    (λ i. holds_bytes (items i) (structures_in (structures i)) (made i)) ∙ first

@@ -70,3 +70,10 @@ returns-in_ok-call-in-Calls-clause-step c =
 
 pub returns-in_err-call-in-Calls-clause-same : goal.returns-in_err-call-in-Calls-clause-same
 returns-in_err-call-in-Calls-clause-same c = state_same c.args.self.now c.call.new.self c.call.ensures.program c.in_err-call-in-Calls.ensures.err
+
+pub apply-requires-clause-held : goal.apply-requires-clause-held
+apply-requires-clause-held c =
+    let o = c.args.self.now in
+    let t = after_change o c.in-Goes.change in
+    let e : next_move o ≡ silent t = search rules in
+    (sound_kept o t e).3

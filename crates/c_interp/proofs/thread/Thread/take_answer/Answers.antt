@@ -4,7 +4,7 @@ use Rattle.actions.specs.Behaviour.{answered}
 use Rattle.c_tasks.specs.Tasks.{items_in, values_in, structures_in, behind, action_of, Accepts, Answers}
 use Rattle.c_interp.specs.Halts.{asked_accepts, change_after}
 use Rattle.c_interp.specs.View.{code_under, running_under, active_of, state_of, thread_of, next_move, after_change}
-use Rattle.c_interp.proofs.Sound.{answer_fits, answer_counted}
+use Rattle.c_interp.proofs.Sound.{answer_fits, answer_held, answer_counted}
 use Rattle.c_interp.proofs.Threads.{thread_answered, state_same, asks_same, accepts_same, with_err}
 use Rattle.c_interp.proofs.thread.Thread.take_answer.Goals as goal
 
@@ -62,3 +62,15 @@ returns-in_err-make_room-clause-err c = with_err c.from_residual.result _ (state
 
 pub returns-in_err-change-clause-err : goal.returns-in_err-change-clause-err
 returns-in_err-change-clause-err c = with_err c.from_residual-in_err-change.result _ (state_same c.args.self.now c.make_room.new.self c.make_room.ensures.program c.make_room.ensures.state)
+
+pub apply-requires-clause-held : goal.apply-requires-clause-held
+unfolding thread_of
+apply-requires-clause-held c =
+    let o = c.args.self.now in
+    let m = c.make_room.new.self in
+    let q = action_of (running_under o) (values_in o.numbers.items) (structures_in o.structures.items) o.variables.items c.args.request in
+    let d = asks_same o m c.make_room.ensures.program c.make_room.ensures.state q c.args.line c.requires.asked in
+    let a = accepts_same o m c.make_room.ensures.program c.make_room.ensures.state c.args.answer.now c.requires.accepts in
+    let k : Accepts (next_move m) c.args.answer.now = asked_accepts (code_under m) m.first (state_of m) c.args.answer.now q c.args.line a d in
+    let w : Answers (behind (items_in m.tasks.items)) (active_of m) (values_in m.numbers.items) (structures_in m.structures.items) m.variables.items (next_move m) c.args.answer.now c.in_ok-change.change = search rules in
+    answer_held m c.args.answer.now c.in_ok-change.change k w

@@ -39,9 +39,9 @@ use Rattle.c_tasks.specs.Fits.{top_type, rest_types, second_type, types_of, top_
 use Rattle.c_tasks.specs.Steps.{Move, silent, asks, breaks, blocks, ends, part_items, behind_case, behind_default, unless_stopped, move_bytes, move_put, move_pointer, move_place, move_expression, move_structure, move_parts, move_statement, move_fill, move_entry, move_settle, move_initial, move_death, move_end, move_parameters, move_last, move_claim, move_try, move_admission, move_draw, move_items, move_turn, move_test, move_body, move_arguments, move_given, move_item, move}
 use Rattle.c_tasks.specs.declared.task.Change.{Change}
 use Rattle.c_tasks.specs.Tasks.{behind, changed, Accepts, Answers}
-use Rattle.c_interp.proofs.Parts.{of_two, of_three, of_four, of_five, all_three, all_four, all_five, place_start, pointer_width, pointed_part, arrow_part, member_part, element_parts, subscript_parts, address_part, sum_parts, distance_parts, relation_parts, update_parts, step_part, allocate_part, zeroed_parts, release_part, exit_part}
-use Rattle.c_interp.proofs.ExitsFit.{case_typed, default_typed, out_fits, types_below, sizes_below}
-use Rattle.c_interp.proofs.CallsFit.{number_wanted, structure_wanted, dropped_more, same_itself, argument_fits, number_passed, structure_passed, body_typed, parameters_there, home_typed, arguments_few}
+use Rattle.c_interp.specs.inner.Parts.{of_two, of_three, of_four, of_five, all_three, all_four, all_five, place_start, pointer_width, pointed_part, arrow_part, member_part, element_parts, subscript_parts, address_part, sum_parts, distance_parts, relation_parts, update_parts, step_part, allocate_part, zeroed_parts, release_part, exit_part}
+use Rattle.c_interp.specs.inner.ExitsFit.{case_typed, default_typed, out_fits, types_below, sizes_below}
+use Rattle.c_interp.specs.inner.CallsFit.{number_wanted, structure_wanted, dropped_more, same_itself, argument_fits, number_passed, structure_passed, body_typed, parameters_there, home_typed, arguments_few}
 use Rattle.c_meaning.proofs.TypeWidths.{width_itself, type_widths, type_widths_back, operand_widths}
 use Rattle.c_meaning.proofs.Holding.{left_of, right_of, both, or_right, to_le, from_le}
 use Rattle.c_tasks.proofs.FitParts.{top_types, rest_of_types, second_types}
@@ -83,7 +83,7 @@ taken_few zero ys = omega arith
 taken_few (suc n) [] = omega arith
 taken_few (suc n) (y ∷ ys) = let h = taken_few n ys in omega (arith, h)
 
-few_low : (count x : ℕ) → length (low_bytes count x) ≤ count
+pub few_low : (count x : ℕ) → length (low_bytes count x) ≤ count
 few_low count x = taken_few count (to_le_bytes w64 x)
 
 -- so many words of an object of this size are left to be drawn, behind so many bytes
@@ -117,7 +117,7 @@ module _ (file : TypedFile) (limits : Limits) (few_bytes : limits.malloc_limit �
   abbrev z : Active → Sizes
   z r = sizes_for file r.function
 
-  abbrev KeepsFit : Move → Type 0
+  abbrev pub KeepsFit : Move → Type 0
   KeepsFit (silent t) = Fits file t
   KeepsFit (asks action line follows) = (a : Answer) → has_shape (shape_of action) a ≡ true → Fits file (follows a)
   KeepsFit _ = Unit {0}
@@ -822,8 +822,11 @@ module _ (file : TypedFile) (limits : Limits) (few_bytes : limits.malloc_limit �
   kept_from [] r xs bs vs sized h = tt
   kept_from (i ∷ is) r xs bs vs sized h = kept_item i is r xs bs vs sized h
 
+  pub fit_of_next : (s : State) → (let r = s.active in sizes_of s.variables ≡ variables_at file r.function) → Fits file s → KeepsFit (move code first true s)
+  fit_of_next s sized h = kept_from s.items s.active s.values s.structures s.variables sized h
+
   pub fits_kept : (s t : State) → (let r = s.active in sizes_of s.variables ≡ variables_at file r.function) → Fits file s → move code first true s ≡ silent t → Fits file t
-  fits_kept s t sized h e = subst KeepsFit e (kept_from s.items s.active s.values s.structures s.variables sized h)
+  fits_kept s t sized h e = subst KeepsFit e (fit_of_next s sized h)
 
   answered_kept : (m : Move) (a : Answer) (c : Change) (is : List Item) (r : Active) (xs : List TypedNumber) (bs : List (List ℕ)) (vs : Variables) → KeepsFit m → Accepts m a → Answers is r xs bs vs m a c → Fits file (changed c is r xs bs vs)
   answered_kept (asks action line follows) a c is r xs bs vs h d w = let P : State → Type 0 = Fits file in subst P w (h a d)

@@ -1,9 +1,8 @@
--- Each silent step leaves the variables of the function that runs, by their sizes.
-use Rattle.std.proofs.Common.{◌≡◌, ◌≤◌, ◌+◌, ◌*◌, ◌==◌, ℕ, zero, suc, ℤ, pos, Bool, true, false, ◌&&◌, ◌||◌, nat_le, nat_lt, List, [], ◌∷◌, ◌++◌, length, take, drop, slice_set, Option, Some, None, slice_get, slice_index, if◌then◌else◌, refl, ap, sym, subst, ◌∙◌, arith}
+-- Each step leaves the variables of the function that runs, by their sizes.
+use Rattle.std.proofs.Common.{◌≡◌, ◌≤◌, ◌+◌, ◌-◌, ◌*◌, ◌==◌, ℕ, zero, suc, ℤ, pos, Bool, true, false, ◌&&◌, ◌||◌, nat_le, nat_lt, List, [], ◌∷◌, ◌++◌, length, take, drop, slice_set, Option, Some, None, slice_get, slice_index, if◌then◌else◌, refl, ap, sym, subst, ◌∙◌, arith}
 use Rattle.std.proofs.lemmas.Bool.{false≢true}
 use Rattle.words.specs.declared.check.Class.{Class}
-use Rattle.words.specs.declared.check.Class.TheVariants.{Assertion, Return, Unwind, Recursion, Bounds, Pointer, MallocLimit}
-use Rattle.c_types.specs.declared.integers.IntegerType.{IntegerType}
+use Rattle.words.specs.declared.check.Class.TheVariants.{Assertion, Return, Unwind, Recursion, Bounds, Pointer}
 use Rattle.c_types.specs.declared.integers.IntegerType.TheVariants.{UnsignedLong}
 use Rattle.c_types.specs.Integers.{bytes, promoted}
 use Rattle.core_tree.specs.declared.functions.PassedType.{PassedType}
@@ -12,17 +11,19 @@ use Rattle.core_tree.specs.Trees as trees
 use Rattle.core_tree.specs.Trees.{Place, element, subscript, Expression, sum, Structure, string, Parts, no_part, Arguments, no_argument, number_argument, structure_argument, Statement, block, Items, done, initializes, initializes_structure, TypedFile}
 use Rattle.core_tree.specs.Typed.{Sizes, is_within, are_arguments, are_typed}
 use Rattle.core_tree.specs.Operations.{is_true, converted, arithmetic_check, sign_check}
+use Rattle.actions.specs.declared.action.Answer.{Answer}
 use Rattle.actions.specs.Pointer.{object_of, offset_of}
 use Rattle.c_values.specs.Pointers.{in_range, offset_by}
-use Rattle.c_values.specs.Variables.{Variables, low_bytes, put_at, block_of, put_bytes, cleared, first_variables}
+use Rattle.c_values.specs.Variables.{Variables, low_bytes, put_at, drawn_count, pointer_to, block_of, put_bytes, cleared, first_variables}
 use Rattle.c_values.specs.Numbers.{TypedNumber, typed}
 use Rattle.c_meaning.specs.Meaning as meaning
-use Rattle.c_meaning.specs.Meaning.{Given, Code, decides, place_line, variable_of, home_of, body_of, variables_of}
+use Rattle.c_meaning.specs.Meaning.{Given, Code, decides, bytes_in, number_in, drawn, place_line, variable_of, home_of, body_of, variables_of}
 use Rattle.c_meaning.specs.Source.{code_of}
 use Rattle.c_tasks.specs.Items.{top, rest, second, top_bytes, Active, running_of, base, index_number, Wanted, wants_number, wants_structure, wants_end, line_of, Handed, Way, by_break, by_continue, by_jump, by_return, given_by, values_under, structures_under, blocks_on, Loop, Item, evaluates, signs, operates, decides_on, drops, asserts, assumes, locates, elements, loads, stores, rewrites, updates, combines, steps, increments, looks, lands, shifts, paces, advances, arrives, measures, orders, claims, tries, admits, draws, makes, releases, quits, evaluates_structure, copies, stores_structure, lists, runs, enters, goes_on, ends_block, leaves, fills, settles, initial, initial_structure, dies, enters_parameters, ends_parameters, leaves_parameters, gathers, resumes, goes_out, gets, turns, retests, loops, switches, strays, ending, ended, State, state}
-use Rattle.c_tasks.specs.Fits.{top_size, has_top, sizes_of, sizes_on, passed_sizes, same_sizes, types_of, handed_of, wanted_of, starts_thread, signature_of, gives_at, declared_at, variables_at, parameters_at, sizes_for, is_variable, got, exits_fit, fits, Fits, IsSized, types_under, sizes_under}
+use Rattle.c_tasks.specs.Fits.{top_size, has_top, sizes_of, has_words, holds_address, home_at, sizes_on, passed_sizes, same_sizes, types_of, handed_of, wanted_of, starts_thread, signature_of, gives_at, declared_at, variables_at, parameters_at, sizes_for, is_variable, exits_fit, fits, Fits, IsSized, types_under, sizes_under}
 use Rattle.c_tasks.specs.Steps.{Move, silent, asks, breaks, blocks, ends, behind_label, jumped, out_of, unless_stopped, move_bytes, move_put, move_pointer, move_place, move_expression, move_structure, move_parts, move_statement, move_fill, move_entry, move_settle, move_initial, move_death, move_end, move_parameters, move_last, move_claim, move_admission, move_draw, move_items, move_turn, move_test, move_body, move_arguments, move_given, move_item, move}
-use Rattle.c_interp.proofs.CallsFit.{same_lists, frame_sizes, blocks_sizes, taken_all, parameters_there}
+use Rattle.c_interp.specs.inner.FitsKept.{few_low}
+use Rattle.c_interp.specs.inner.CallsFit.{same_lists, frame_sizes, blocks_sizes, taken_all, parameters_there}
 use Rattle.c_meaning.proofs.Holding.{left_of, right_of}
 use Rattle.c_tasks.proofs.Places.{size_listed}
 use Rattle.c_tasks.proofs.Sizes.{put_size, block_size, first_sizes, zeros_size, top_of_sizes, number_bytes}
@@ -54,9 +55,12 @@ module _ (file : TypedFile) (limits : Limits) (first : Bool) (all_typed : are_ty
   abbrev code : Code
   code = code_of file limits
 
-  abbrev KeepsSizes : Move → Type 0
+  abbrev pub KeepsSizes : Move → Type 0
   KeepsSizes (silent t) = IsSized file t
-  KeepsSizes _ = Unit {0}
+  KeepsSizes (asks action line follows) = (a : Answer) → IsSized file (follows a)
+  KeepsSizes (breaks class line) = Unit {0}
+  KeepsSizes blocks = Unit {0}
+  KeepsSizes (ends v) = Unit {0}
 
   checked : (c : Option Class) (line : ℕ) (t : State) → IsSized file t → KeepsSizes (unless_stopped code first true c line t)
   checked None line t h = h
@@ -178,7 +182,7 @@ module _ (file : TypedFile) (limits : Limits) (first : Bool) (all_typed : are_ty
   module _ (r : Active) (vs : Variables) (sized : sizes_of vs ≡ variables_at file r.function) where
     bytes_sized : (o : Option ℕ) (at count line : ℕ) (next : List ℕ → State) → ((found : List ℕ) → IsSized file (next found)) → KeepsSizes (move_bytes code first true o at count line r vs next)
     bytes_sized (Some v) at count line next h = chosen (nat_le (offset_of at + count) (meaning.size_of (running_of code r) v)) _ _ (h _) tt
-    bytes_sized None at count line next h = tt
+    bytes_sized None at count line next h = λ a. h (bytes_in a)
 
     put_sized : (o : Option ℕ) (at : ℕ) (new : List ℕ) (line : ℕ) (next : Variables → State) → ((now : Variables) → sizes_of now ≡ variables_at file r.function → IsSized file (next now)) → KeepsSizes (move_put code first true o at new line r vs next)
     put_sized (Some v) at new line next h =
@@ -186,14 +190,14 @@ module _ (file : TypedFile) (limits : Limits) (first : Bool) (all_typed : are_ty
         tested (nat_le (offset_of at + length new) n) Bounds line (next (put_bytes vs v (offset_of at) new)) (λ e.
         let l : offset_of at + length new ≤ n = from_le (offset_of at + length new) n e in
         h (put_bytes vs v (offset_of at) new) (put_sizes vs (variables_at file r.function) v (offset_of at) new sized (omega (arith, l, size_is r v))))
-    put_sized None at new line next h = tt
+    put_sized None at new line next h = λ a. h vs sized
 
     pointer_sized : (is_element : Bool) (p size : ℕ) (index stride : ℤ) (line : ℕ) (next : ℕ → State) → ((q : ℕ) → IsSized file (next q)) → KeepsSizes (move_pointer code first true is_element p size index stride line next)
     pointer_sized is_element p size index stride line next h = chosen (in_range (offset_by (offset_of p) index stride) size) _ _ (h _) tt
 
     initial_sized : (home : Option ℕ) (v size : ℕ) (new : List ℕ) (line : ℕ) (next : Variables → State) → length new ≡ size → is_variable file r.function v size ≡ true → ((now : Variables) → sizes_of now ≡ variables_at file r.function → IsSized file (next now)) → KeepsSizes (move_initial code first true home v new line r vs next)
     initial_sized None v size new line next e there h = h (put_bytes vs v 0 new) (put_within vs (variables_at file r.function) v 0 size new sized e there)
-    initial_sized (Some home) v size new line next e there h = tt
+    initial_sized (Some home) v size new line next e there h = λ a. h vs sized
 
   module _ (is : List Item) (r : Active) (xs : List TypedNumber) (bs : List (List ℕ)) (vs : Variables) (sized : sizes_of vs ≡ variables_at file r.function) where
     place_sized : (p : Place) → KeepsSizes (move_place code first true p is r xs bs vs)
@@ -206,7 +210,7 @@ module _ (file : TypedFile) (limits : Limits) (first : Bool) (all_typed : are_ty
     expression_sized : (e : Expression) → KeepsSizes (move_expression code first true e is r xs bs vs)
     expression_sized (sum line a e n true) = sized
     expression_sized (sum line a e n false) = sized
-    expression_sized (trees.draw line t) = tt
+    expression_sized (trees.draw line t) = λ a. sized
     expression_sized _ = sized
 
     structure_sized : (a : Structure) → KeepsSizes (move_structure code first true a is r xs bs vs)
@@ -228,17 +232,23 @@ module _ (file : TypedFile) (limits : Limits) (first : Bool) (all_typed : are_ty
     entry_sized (initializes_structure line v false a more) = cleared_sizes vs (variables_at file r.function) v (meaning.size_of (running_of code r) v) sized (size_is r v)
     entry_sized _ = sized
 
-    fill_sized : (words line v offset : ℕ) → KeepsSizes (move_fill code first true words line v offset is r xs bs vs)
-    fill_sized zero line v offset = sized
-    fill_sized (suc k) line v offset = tt
+    fill_sized : (words line v offset : ℕ) → has_words (variables_at file r.function) v offset words ≡ true → KeepsSizes (move_fill code first true words line v offset is r xs bs vs)
+    fill_sized zero line v offset h = sized
+    fill_sized (suc k) line v offset h =
+        let sizes = variables_at file r.function in
+        let count = drawn_count (meaning.size_of (running_of code r) v) offset in
+        let within : offset + 8 * suc k ≤ slice_index sizes v + 7 = from_le (offset + 8 * suc k) (slice_index sizes v + 7) (right_of (nat_lt v (length sizes)) (nat_le (offset + 8 * suc k) (slice_index sizes v + 7)) h) in
+        let e = size_is r v in
+        let c : count ≤ meaning.size_of (running_of code r) v - offset = omega arith in
+        λ a. let l = few_low count (drawn a) in put_sizes vs sizes v offset (low_bytes count (drawn a)) sized (omega (arith, within, e, c, l))
 
-    settle_sized : (home : Option ℕ) (line v : ℕ) → KeepsSizes (move_settle code first true home line v is r xs bs vs)
-    settle_sized None line v = sized
-    settle_sized (Some h) line v = tt
+    settle_sized : (home : Option ℕ) (line v : ℕ) → holds_address (variables_at file r.function) home ≡ true → KeepsSizes (move_settle code first true home line v is r xs bs vs)
+    settle_sized None line v h = sized
+    settle_sized (Some home) line v h = λ a. put_within vs (variables_at file r.function) home 0 8 (low_bytes (bytes UnsignedLong) (pointer_to (number_in a) 0)) sized (number_bytes UnsignedLong (pointer_to (number_in a) 0)) h
 
     death_sized : (home : Option ℕ) (line : ℕ) → KeepsSizes (move_death code first true home line is r xs bs vs)
     death_sized None line = sized
-    death_sized (Some h) line = tt
+    death_sized (Some h) line = λ a. sized
 
     end_sized : (items : Items) → KeepsSizes (move_end code first true items is r xs bs vs)
     end_sized done = sized
@@ -253,7 +263,7 @@ module _ (file : TypedFile) (limits : Limits) (first : Bool) (all_typed : are_ty
     last_sized (suc count) v = sized
 
     claim_sized : (line : ℕ) (zeroed : Bool) → KeepsSizes (move_claim code first true line zeroed is r xs bs vs)
-    claim_sized line zeroed = chosen code.malloc_may_fail _ _ tt sized
+    claim_sized line zeroed = chosen code.malloc_may_fail _ _ (λ a. sized) sized
 
     admission_sized : (line : ℕ) (zeroed : Bool) → KeepsSizes (move_admission code first true line zeroed is r xs bs vs)
     admission_sized line false = chosen (nat_le (top xs).bits code.malloc_limit) _ _ sized tt
@@ -261,7 +271,7 @@ module _ (file : TypedFile) (limits : Limits) (first : Bool) (all_typed : are_ty
 
     draw_sized : (words size line : ℕ) → KeepsSizes (move_draw code first true words size line is r xs bs vs)
     draw_sized zero size line = sized
-    draw_sized (suc k) size line = tt
+    draw_sized (suc k) size line = λ a. sized
 
     items_sized : (items : Items) → KeepsSizes (move_items code first true items is r xs bs vs)
     items_sized done = sized
@@ -311,11 +321,11 @@ module _ (file : TypedFile) (limits : Limits) (first : Bool) (all_typed : are_ty
   item_sized (combines line t p op u) is r xs bs vs sized h = checked (arithmetic_check op u (second xs).type (converted t u (top xs).bits) (second xs).bits) line _ sized
   item_sized (steps line t p op before) is r xs bs vs sized h = bytes_sized r vs sized (variable_of (running_of code r) p) (top xs).bits (bytes t) (place_line p) _ (λ found. sized)
   item_sized (increments line t p op before at) is r xs bs vs sized h = let u = promoted t in checked (arithmetic_check op u u (converted t u (top xs).bits) 1) line _ sized
-  item_sized (looks line n is_element swapped) is r xs bs vs sized h = tt
+  item_sized (looks line n is_element swapped) is r xs bs vs sized h = λ a. sized
   item_sized (lands line n is_element swapped) is r xs bs vs sized h = pointer_sized r vs sized is_element (base swapped (rest xs)).bits (top xs).bits (index_number swapped (rest xs)) n line (λ q. state is r (typed UnsignedLong q ∷ rest (rest (rest xs))) bs vs) (λ q. sized)
   item_sized (shifts line p n) is r xs bs vs sized h = bytes_sized r vs sized (variable_of (running_of code r) p) (second xs).bits (bytes UnsignedLong) (place_line p) _ (λ found. sized)
   item_sized (paces line p n before) is r xs bs vs sized h = bytes_sized r vs sized (variable_of (running_of code r) p) (top xs).bits (bytes UnsignedLong) (place_line p) _ (λ found. sized)
-  item_sized (advances line p n before at) is r xs bs vs sized h = tt
+  item_sized (advances line p n before at) is r xs bs vs sized h = λ a. sized
   item_sized (arrives line p n before at) is r xs bs vs sized h = pointer_sized r vs sized false (second xs).bits (top xs).bits (pos 1) n line (λ q. state (rewrites line UnsignedLong p at ∷ (if before then is else drops ∷ is)) r (typed UnsignedLong q ∷ (if before then rest (rest xs) else rest xs)) bs vs) (λ q. sized)
   item_sized (measures line n) is r xs bs vs sized h = checked (if object_of (second xs).bits == object_of (top xs).bits then None else Some Pointer) line _ sized
   item_sized (orders line op) is r xs bs vs sized h = checked (if object_of (second xs).bits == object_of (top xs).bits then None else Some Pointer) line _ sized
@@ -323,9 +333,9 @@ module _ (file : TypedFile) (limits : Limits) (first : Bool) (all_typed : are_ty
   item_sized (tries line zeroed) is r xs bs vs sized h = either (is_true (top xs).bits) _ _ sized sized
   item_sized (admits line zeroed) is r xs bs vs sized h = admission_sized is r xs bs vs sized line zeroed
   item_sized (draws words size line) is r xs bs vs sized h = draw_sized is r xs bs vs sized words size line
-  item_sized (makes line) is r xs bs vs sized h = tt
-  item_sized (releases line) is r xs bs vs sized h = chosen ((top xs).bits == 0) _ _ sized tt
-  item_sized (quits line) is r xs bs vs sized h = tt
+  item_sized (makes line) is r xs bs vs sized h = λ a. sized
+  item_sized (releases line) is r xs bs vs sized h = chosen ((top xs).bits == 0) _ _ sized (λ a. sized)
+  item_sized (quits line) is r xs bs vs sized h = λ a. sized
   item_sized (evaluates_structure a) is r xs bs vs sized h = structure_sized is r xs bs vs sized a
   item_sized (copies p size) is r xs bs vs sized h = bytes_sized r vs sized (variable_of (running_of code r) p) (top xs).bits size (place_line p) _ (λ found. sized)
   item_sized (stores_structure line p) is r xs bs vs sized h = put_sized r vs sized (variable_of (running_of code r) p) (top xs).bits (top_bytes bs) line _ (λ now e. e)
@@ -334,8 +344,8 @@ module _ (file : TypedFile) (limits : Limits) (first : Bool) (all_typed : are_ty
   item_sized (enters items) is r xs bs vs sized h = entry_sized is r xs bs vs sized items
   item_sized (goes_on items) is r xs bs vs sized h = items_sized is r xs bs vs sized items
   item_sized (leaves items) is r xs bs vs sized h = end_sized is r xs bs vs sized items
-  item_sized (fills words line v offset) is r xs bs vs sized h = fill_sized is r xs bs vs sized words line v offset
-  item_sized (settles line v) is r xs bs vs sized h = settle_sized is r xs bs vs sized (home_of (running_of code r) v) line v
+  item_sized (fills words line v offset) is r xs bs vs sized h = fill_sized is r xs bs vs sized words line v offset (left_of (has_words (variables_at file r.function) v offset words) _ h)
+  item_sized (settles line v) is r xs bs vs sized h = settle_sized is r xs bs vs sized (home_of (running_of code r) v) line v (right_of (is_variable file r.function v 0) _ (left_of (is_variable file r.function v 0 && holds_address (variables_at file r.function) (home_at file r.function v)) _ h))
   item_sized (initial line v t) is r xs bs vs sized h =
       initial_sized r vs sized (home_of (running_of code r) v) v (bytes t) (low_bytes (bytes t) (top xs).bits) line _ (number_bytes t (top xs).bits) (left_of (is_variable file r.function v (bytes t)) _ h) (λ now e. e)
   item_sized (initial_structure line v) is r xs bs vs sized h =
@@ -352,7 +362,7 @@ module _ (file : TypedFile) (limits : Limits) (first : Bool) (all_typed : are_ty
   item_sized (turns n loop) is r xs bs vs sized h = turn_sized is r xs bs vs sized n loop
   item_sized (retests n loop) is r xs bs vs sized h = test_sized is r xs bs vs sized loop.test n loop
   item_sized strays is r xs bs vs sized h = tt
-  item_sized (ending line x) is r xs bs vs sized h = tt
+  item_sized (ending line x) is r xs bs vs sized h = λ a. sized
   item_sized (ended x) is r xs bs vs sized h = tt
   item_sized _ is r xs bs vs sized h = sized
 
@@ -360,5 +370,8 @@ module _ (file : TypedFile) (limits : Limits) (first : Bool) (all_typed : are_ty
   sized_from [] r xs bs vs sized h = tt
   sized_from (i ∷ is) r xs bs vs sized h = item_sized i is r xs bs vs sized h
 
+  pub sizes_of_next : (s : State) → IsSized file s → Fits file s → KeepsSizes (move code first true s)
+  sizes_of_next s sized h = sized_from s.items s.active s.values s.structures s.variables sized h
+
   pub sizes_kept : (s t : State) → IsSized file s → Fits file s → move code first true s ≡ silent t → IsSized file t
-  sizes_kept s t sized h e = subst KeepsSizes e (sized_from s.items s.active s.values s.structures s.variables sized h)
+  sizes_kept s t sized h e = subst KeepsSizes e (sizes_of_next s sized h)
