@@ -467,14 +467,14 @@ pub same_cuts : (b : Behaviour) (answers : List Answer) → Cut b b answers
 same_cuts b [] = inr (inl refl)
 same_cuts b (a ∷ answers) = inr (same_cuts (after b a) answers)
 
-thread_cuts : (file : TypedFile) (limits : Limits) → limits.assertions ≡ true → (q n : ℕ) (p : Option Procedure) → Cuts (runs_at file limits true n p) (unlimited_at file limits q n p)
-thread_cuts file limits checked q n None answers = same_cuts (final (Broken Assertion 1 n)) answers
-thread_cuts file limits checked q n (Some f) answers =
-    subst (λ (b : Behaviour). Cut b (unlimited_at file limits q n (Some f)) answers) (small_steps file limits true n f)
-    (cuts (code_of file limits) true checked q (start_state file limits n f.line) answers)
+thread_cuts : (file : TypedFile) (limits : Limits) → limits.assertions ≡ true → (q : ℕ) (first : Bool) (n : ℕ) (p : Option Procedure) → Cuts (runs_at file limits first n p) (unlimited_at file limits q first n p)
+thread_cuts file limits checked q first n None answers = same_cuts (final (Broken Assertion 1 n)) answers
+thread_cuts file limits checked q first n (Some f) answers =
+    subst (λ (b : Behaviour). Cut b (unlimited_at file limits q first n (Some f)) answers) (small_steps file limits first n f)
+    (cuts (code_of file limits) first checked q (start_state file limits n f.line) answers)
 
 pub safe_at_all : SafeAtAll
 safe_at_all file limits checked safe q inputs schedule =
     let main = main_number file.functions in
-    safe_run inputs schedule _ _ (source_thread file limits) (unlimited_thread file limits q) (thread_cuts file limits checked q main (slice_get file.functions main))
+    safe_run inputs schedule _ _ (source_thread file limits) (unlimited_thread file limits q) (thread_cuts file limits checked q true main (slice_get file.functions main))
     (function_starts_none file limits true main) (safe inputs)
