@@ -151,8 +151,8 @@ module _ (s : Scoped) where
       (keep_equal _ _ (ap (λ (x : Said). on_line (parts_line ps) (specified_type x)) (sym (parts_same nothing_specified ps)))) (λ t.
       keep_bind r q _ _ h (λ ns. keep_same (on_line (declared_line d) (array_of s.records.done t.type ns))))
 
-  used_keeps : (line : ℕ) (r q : Result Operand Fault) → Keeps r q → Keeps (used_on line r) (used_on line q)
-  used_keeps line r q h = keep_bind r q _ _ h (λ x. keep_same (on_line line (used x)))
+  used_keeps : (m w : Bool) (line : ℕ) (r q : Result Operand Fault) → Keeps r q → Keeps (used_on m w line r) (used_on m w line q)
+  used_keeps m w line r q h = keep_bind r q _ _ h (λ x. keep_same (on_line line (used m w x)))
 
   size_keeps : (line : ℕ) (o : Option (List (List ℕ))) (r q : Result Operand Fault) → Keeps r q → Keeps (operand_size line s.records.done o r) (operand_size line s.records.done o q)
   size_keeps line (Some parts) r q h = keep_same _
@@ -167,56 +167,56 @@ module _ (s : Scoped) where
   callee_keeps _ r q h = keep_bind r q _ _ h (λ x. keep_same _)
 
   mutual
-    typed_keeps : (w : Bool) (t : Tree) → Keeps (typed s w t) (typed (closed_scope s) w t)
-    typed_keeps w (constant line c) = keep_same _
-    typed_keeps w (character line bits) = keep_same _
-    typed_keeps w (strings line parts) = keep_same _
-    typed_keeps w (name line n) = keep_line line _ _ (name_keeps line (meaning_of s.bindings n))
-    typed_keeps w (parens line e) = typed_keeps w e
-    typed_keeps w (unary line op e) = keep_bind _ _ _ _ (used_keeps (bare_line e) (typed s true e) (typed (closed_scope s) true e) (typed_keeps true e)) (λ x. keep_same _)
-    typed_keeps w (cast line parts d e) =
-        keep_bind _ _ _ _ (type_name_keeps parts d (lengths s d) (lengths (closed_scope s) d) (lengths_keep d)) (λ t.
-        keep_bind _ _ _ _ (used_keeps (bare_line e) (typed s (is_wanted t) e) (typed (closed_scope s) (is_wanted t) e) (typed_keeps (is_wanted t) e)) (λ x. keep_same _))
-    typed_keeps w (sizeof_expr line e) = size_keeps line (strings_of e) (typed s true e) (typed (closed_scope s) true e) (typed_keeps true e)
-    typed_keeps w (sizeof_type line parts d) =
-        keep_bind _ _ _ _ (type_name_keeps parts d (lengths s d) (lengths (closed_scope s) d) (lengths_keep d)) (λ t. keep_same _)
-    typed_keeps w (step line op e) = keep_bind _ _ _ _ (used_keeps (bare_line e) (typed s true e) (typed (closed_scope s) true e) (typed_keeps true e)) (λ x. keep_same _)
-    typed_keeps w (member line e n) =
-        keep_bind _ _ _ _ (used_keeps (bare_line e) (typed s true e) (typed (closed_scope s) true e) (typed_keeps true e)) (λ x. keep_line (first_line e) _ _ (member_keeps line x n))
-    typed_keeps w (binary line op a b) =
-        keep_bind _ _ _ _ (used_keeps (bare_line a) (typed s true a) (typed (closed_scope s) true a) (typed_keeps true a)) (λ x.
-        keep_bind _ _ _ _ (used_keeps (bare_line b) (typed s true b) (typed (closed_scope s) true b) (typed_keeps true b)) (λ y. keep_same _))
-    typed_keeps w (choice line test a b) =
-        keep_bind _ _ _ _ (used_keeps (bare_line test) (typed s true test) (typed (closed_scope s) true test) (typed_keeps true test)) (λ x.
-        keep_bind _ _ _ _ (used_keeps (bare_line a) (typed s w a) (typed (closed_scope s) w a) (typed_keeps w a)) (λ y.
-        keep_bind _ _ _ _ (used_keeps (bare_line b) (typed s w b) (typed (closed_scope s) w b) (typed_keeps w b)) (λ z. keep_same _)))
-    typed_keeps w (assign line op a b) =
-        keep_bind _ _ _ _ (used_keeps (bare_line a) (typed s true a) (typed (closed_scope s) true a) (typed_keeps true a)) (λ x.
-        keep_bind _ _ _ _ (used_keeps (bare_line b) (typed s true b) (typed (closed_scope s) true b) (typed_keeps true b)) (λ y. keep_line (first_line a) _ _ (assign_keeps line op x y)))
-    typed_keeps w (comma line a b) =
-        keep_bind _ _ _ _ (used_keeps (bare_line a) (typed s false a) (typed (closed_scope s) false a) (typed_keeps false a)) (λ x.
-        keep_bind _ _ _ _ (used_keeps (bare_line b) (typed s w b) (typed (closed_scope s) w b) (typed_keeps w b)) (λ y. keep_same _))
-    typed_keeps w (call f args) =
-        keep_bind _ _ _ _ (callee_keeps f _ _ (used_keeps (bare_line f) (typed s true f) (typed (closed_scope s) true f) (typed_keeps true f))) (λ m.
-        keep_bind _ _ _ _ (arguments_keep args) (λ xs. keep_line (first_line f) _ _ (called_keeps (is_used f w) m xs)))
+    typed_keeps : (m w : Bool) (t : Tree) → Keeps (typed s m w t) (typed (closed_scope s) m w t)
+    typed_keeps m w (constant line c) = keep_same _
+    typed_keeps m w (character line bits) = keep_same _
+    typed_keeps m w (strings line parts) = keep_same _
+    typed_keeps m w (name line n) = keep_line line _ _ (name_keeps line (meaning_of s.bindings n))
+    typed_keeps m w (parens line e) = typed_keeps m w e
+    typed_keeps m w (unary line op e) = keep_bind _ _ _ _ (used_keeps m true (bare_line e) (typed s m true e) (typed (closed_scope s) m true e) (typed_keeps m true e)) (λ x. keep_same _)
+    typed_keeps m w (cast line parts d e) =
+        keep_bind _ _ _ _ (type_name_keeps parts d (lengths s m d) (lengths (closed_scope s) m d) (lengths_keep m d)) (λ t.
+        keep_bind _ _ _ _ (used_keeps m (is_wanted t) (bare_line e) (typed s m (is_wanted t) e) (typed (closed_scope s) m (is_wanted t) e) (typed_keeps m (is_wanted t) e)) (λ x. keep_same _))
+    typed_keeps m w (sizeof_expr line e) = size_keeps line (strings_of e) (typed s true true e) (typed (closed_scope s) true true e) (typed_keeps true true e)
+    typed_keeps m w (sizeof_type line parts d) =
+        keep_bind _ _ _ _ (type_name_keeps parts d (lengths s true d) (lengths (closed_scope s) true d) (lengths_keep true d)) (λ t. keep_same _)
+    typed_keeps m w (step line op e) = keep_bind _ _ _ _ (used_keeps m true (bare_line e) (typed s m true e) (typed (closed_scope s) m true e) (typed_keeps m true e)) (λ x. keep_same _)
+    typed_keeps m w (member line e n) =
+        keep_bind _ _ _ _ (used_keeps m true (bare_line e) (typed s m true e) (typed (closed_scope s) m true e) (typed_keeps m true e)) (λ x. keep_line (first_line e) _ _ (member_keeps line x n))
+    typed_keeps m w (binary line op a b) =
+        keep_bind _ _ _ _ (used_keeps m true (bare_line a) (typed s m true a) (typed (closed_scope s) m true a) (typed_keeps m true a)) (λ x.
+        keep_bind _ _ _ _ (used_keeps m true (bare_line b) (typed s m true b) (typed (closed_scope s) m true b) (typed_keeps m true b)) (λ y. keep_same _))
+    typed_keeps m w (choice line test a b) =
+        keep_bind _ _ _ _ (used_keeps m true (bare_line test) (typed s m true test) (typed (closed_scope s) m true test) (typed_keeps m true test)) (λ x.
+        keep_bind _ _ _ _ (used_keeps m w (bare_line a) (typed s m w a) (typed (closed_scope s) m w a) (typed_keeps m w a)) (λ y.
+        keep_bind _ _ _ _ (used_keeps m w (bare_line b) (typed s m w b) (typed (closed_scope s) m w b) (typed_keeps m w b)) (λ z. keep_same _)))
+    typed_keeps m w (assign line op a b) =
+        keep_bind _ _ _ _ (used_keeps m true (bare_line a) (typed s m true a) (typed (closed_scope s) m true a) (typed_keeps m true a)) (λ x.
+        keep_bind _ _ _ _ (used_keeps m true (bare_line b) (typed s m true b) (typed (closed_scope s) m true b) (typed_keeps m true b)) (λ y. keep_line (first_line a) _ _ (assign_keeps line op x y)))
+    typed_keeps m w (comma line a b) =
+        keep_bind _ _ _ _ (used_keeps m false (bare_line a) (typed s m false a) (typed (closed_scope s) m false a) (typed_keeps m false a)) (λ x.
+        keep_bind _ _ _ _ (used_keeps m w (bare_line b) (typed s m w b) (typed (closed_scope s) m w b) (typed_keeps m w b)) (λ y. keep_same _))
+    typed_keeps m w (call f args) =
+        keep_bind _ _ _ _ (callee_keeps f _ _ (used_keeps m true (bare_line f) (typed s m true f) (typed (closed_scope s) m true f) (typed_keeps m true f))) (λ meaning.
+        keep_bind _ _ _ _ (arguments_keep m args) (λ xs. keep_line (first_line f) _ _ (called_keeps (is_used f w) meaning xs)))
 
-    arguments_keep : (ts : Trees) → Keeps (typed_arguments s ts) (typed_arguments (closed_scope s) ts)
-    arguments_keep none = keep_same _
-    arguments_keep (more first rest) =
-        keep_bind _ _ _ _ (used_keeps (bare_line first) (typed s true first) (typed (closed_scope s) true first) (typed_keeps true first)) (λ x.
-        keep_bind _ _ _ _ (arguments_keep rest) (λ xs. keep_same _))
+    arguments_keep : (m : Bool) (ts : Trees) → Keeps (typed_arguments s m ts) (typed_arguments (closed_scope s) m ts)
+    arguments_keep m none = keep_same _
+    arguments_keep m (more first rest) =
+        keep_bind _ _ _ _ (used_keeps m true (bare_line first) (typed s m true first) (typed (closed_scope s) m true first) (typed_keeps m true first)) (λ x.
+        keep_bind _ _ _ _ (arguments_keep m rest) (λ xs. keep_same _))
 
-    lengths_keep : (d : Declared) → Keeps (lengths s d) (lengths (closed_scope s) d)
-    lengths_keep (unnamed suffixes) = suffixes_keep suffixes
-    lengths_keep (named line n suffixes) = suffixes_keep suffixes
-    lengths_keep (inside line d suffixes) = keep_bind _ _ _ _ (lengths_keep d) (λ inner. keep_bind _ _ _ _ (suffixes_keep suffixes) (λ outer. keep_same _))
+    lengths_keep : (m : Bool) (d : Declared) → Keeps (lengths s m d) (lengths (closed_scope s) m d)
+    lengths_keep m (unnamed suffixes) = suffixes_keep m suffixes
+    lengths_keep m (named line n suffixes) = suffixes_keep m suffixes
+    lengths_keep m (inside line d suffixes) = keep_bind _ _ _ _ (lengths_keep m d) (λ inner. keep_bind _ _ _ _ (suffixes_keep m suffixes) (λ outer. keep_same _))
 
-    suffixes_keep : (x : Suffixes) → Keeps (suffix_lengths s x) (suffix_lengths (closed_scope s) x)
-    suffixes_keep no_suffix = keep_same _
-    suffixes_keep (bounded line e rest) =
-        keep_bind _ _ _ _ (bound_keeps (first_line e) _ _ (used_keeps (bare_line e) (typed s true e) (typed (closed_scope s) true e) (typed_keeps true e))) (λ n.
-        keep_bind _ _ _ _ (suffixes_keep rest) (λ ns. keep_same _))
-    suffixes_keep (unbounded line rest) = keep_bind _ _ _ _ (suffixes_keep rest) (λ ns. keep_same _)
+    suffixes_keep : (m : Bool) (x : Suffixes) → Keeps (suffix_lengths s m x) (suffix_lengths (closed_scope s) m x)
+    suffixes_keep m no_suffix = keep_same _
+    suffixes_keep m (bounded line e rest) =
+        keep_bind _ _ _ _ (bound_keeps (first_line e) _ _ (used_keeps m true (bare_line e) (typed s m true e) (typed (closed_scope s) m true e) (typed_keeps m true e))) (λ n.
+        keep_bind _ _ _ _ (suffixes_keep m rest) (λ ns. keep_same _))
+    suffixes_keep m (unbounded line rest) = keep_bind _ _ _ _ (suffixes_keep m rest) (λ ns. keep_same _)
 
   pub operand_keeps : (w : Bool) (e : Tree) → Keeps (operand_by s w e) (operand_by (closed_scope s) w e)
-  operand_keeps w e = used_keeps (bare_line e) (typed s w e) (typed (closed_scope s) w e) (typed_keeps w e)
+  operand_keeps w e = used_keeps false w (bare_line e) (typed s false w e) (typed (closed_scope s) false w e) (typed_keeps false w e)

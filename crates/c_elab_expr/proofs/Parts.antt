@@ -1,5 +1,5 @@
 -- The parts of a type name, from left to right, and the lengths of suffixes.
-use Rattle.std.proofs.Common.{◌≡◌, ◌<◌, ◌+◌, ◌++◌, ℕ, List, [], ◌∷◌, length, get_or, drop, map, Option, Some, None, Result, Ok, Err, refl, sym, ap, ◌∙◌}
+use Rattle.std.proofs.Common.{◌≡◌, ◌<◌, ◌+◌, ◌++◌, ℕ, Bool, true, List, [], ◌∷◌, length, get_or, drop, map, Option, Some, None, Result, Ok, Err, refl, sym, ap, ◌∙◌}
 use Rattle.std.proofs.lemmas.List.{drop_more, append_assoc}
 use Rattle.c_tree.specs.declared.specifier.TypeSpecifier.{TypeSpecifier}
 use Rattle.c_tree.specs.declared.expr.ArraySuffix.{ArraySuffix}
@@ -10,7 +10,7 @@ use Rattle.c_scope.specs.declared.fault.TypingError.{TypingError}
 use Rattle.c_scope.specs.Scopes.{Scoped}
 use Rattle.c_scope.specs.Faults.{◌>>=◌, Fault}
 use Rattle.c_scope.specs.Types.{Said, with_part, with_parts}
-use Rattle.c_elab_expr.specs.Typing.{Adds, bound, operand, suffix_lengths, behind}
+use Rattle.c_elab_expr.specs.Typing.{Adds, bound, operand_in, suffix_lengths, behind}
 use Rattle.c_elab_expr.proofs.Arguments.{fails_on}
 
 -- ---- parts of a type name
@@ -38,25 +38,25 @@ by_bound : (r : Result ℕ Fault) (rest : Result (List (Option ℕ)) Fault) (bef
 by_bound (Ok n) rest before = behind_one before (Some n) rest
 by_bound (Err f) rest before = refl
 
-one_suffix : (s : Scoped) (x : ArraySuffix) (rest : Suffixes) (before : List (Option ℕ))
-    → behind before (suffix_lengths s (view_suffix x rest)) ≡ (behind before (suffix_lengths s (view_suffix x no_suffix)) >>= λ now. behind now (suffix_lengths s rest))
-one_suffix s (array_suffixes.Bounded' line p e) rest before = by_bound (bound (first_line (tree e)) (operand s (tree e))) (suffix_lengths s rest) before
-one_suffix s (array_suffixes.Open line) rest before = behind_one before None (suffix_lengths s rest)
+one_suffix : (s : Scoped) (m : Bool) (x : ArraySuffix) (rest : Suffixes) (before : List (Option ℕ))
+    → behind before (suffix_lengths s m (view_suffix x rest)) ≡ (behind before (suffix_lengths s m (view_suffix x no_suffix)) >>= λ now. behind now (suffix_lengths s m rest))
+one_suffix s m (array_suffixes.Bounded' line p e) rest before = by_bound (bound (first_line (tree e)) (operand_in s m true (tree e))) (suffix_lengths s m rest) before
+one_suffix s m (array_suffixes.Open line) rest before = behind_one before None (suffix_lengths s m rest)
 
-next_suffix : (s : Scoped) (xs : List ArraySuffix) (i : ℕ) (x : ArraySuffix) (before : List (Option ℕ)) → i < length xs → x ≡ get_or xs i x
-    → behind before (suffix_lengths s (suffixes_of (drop i xs))) ≡ (behind before (suffix_lengths s (view_suffix x no_suffix)) >>= λ now. behind now (suffix_lengths s (suffixes_of (drop (i + 1) xs))))
-next_suffix s xs i x before h is =
-    ap (λ (ys : List ArraySuffix). behind before (suffix_lengths s (suffixes_of ys))) (drop_more xs i x h)
-    ∙ ap (λ (y : ArraySuffix). behind before (suffix_lengths s (view_suffix y (suffixes_of (drop (i + 1) xs))))) (sym is)
-    ∙ one_suffix s x (suffixes_of (drop (i + 1) xs)) before
+next_suffix : (s : Scoped) (m : Bool) (xs : List ArraySuffix) (i : ℕ) (x : ArraySuffix) (before : List (Option ℕ)) → i < length xs → x ≡ get_or xs i x
+    → behind before (suffix_lengths s m (suffixes_of (drop i xs))) ≡ (behind before (suffix_lengths s m (view_suffix x no_suffix)) >>= λ now. behind now (suffix_lengths s m (suffixes_of (drop (i + 1) xs))))
+next_suffix s m xs i x before h is =
+    ap (λ (ys : List ArraySuffix). behind before (suffix_lengths s m (suffixes_of ys))) (drop_more xs i x h)
+    ∙ ap (λ (y : ArraySuffix). behind before (suffix_lengths s m (view_suffix y (suffixes_of (drop (i + 1) xs))))) (sym is)
+    ∙ one_suffix s m x (suffixes_of (drop (i + 1) xs)) before
 
 -- one suffix more
-pub suffix_more : (s : Scoped) (xs : List ArraySuffix) (i : ℕ) (x : ArraySuffix) (before now : List (Option ℕ)) (all : Result (List (Option ℕ)) Fault) → i < length xs → x ≡ get_or xs i x
-    → behind before (suffix_lengths s (suffixes_of (drop i xs))) ≡ all → behind before (suffix_lengths s (view_suffix x no_suffix)) ≡ Ok now
-    → behind now (suffix_lengths s (suffixes_of (drop (i + 1) xs))) ≡ all
-suffix_more s xs i x before now all h is so_far e =
-    sym (ap (λ (r : Result (List (Option ℕ)) Fault). r >>= λ ns. behind ns (suffix_lengths s (suffixes_of (drop (i + 1) xs)))) e)
-    ∙ sym (next_suffix s xs i x before h is) ∙ so_far
+pub suffix_more : (s : Scoped) (m : Bool) (xs : List ArraySuffix) (i : ℕ) (x : ArraySuffix) (before now : List (Option ℕ)) (all : Result (List (Option ℕ)) Fault) → i < length xs → x ≡ get_or xs i x
+    → behind before (suffix_lengths s m (suffixes_of (drop i xs))) ≡ all → behind before (suffix_lengths s m (view_suffix x no_suffix)) ≡ Ok now
+    → behind now (suffix_lengths s m (suffixes_of (drop (i + 1) xs))) ≡ all
+suffix_more s m xs i x before now all h is so_far e =
+    sym (ap (λ (r : Result (List (Option ℕ)) Fault). r >>= λ ns. behind ns (suffix_lengths s m (suffixes_of (drop (i + 1) xs)))) e)
+    ∙ sym (next_suffix s m xs i x before h is) ∙ so_far
 
 behind_fails : (before : List (Option ℕ)) (r : Result (List (Option ℕ)) Fault) (f : Fault) → r ≡ Err f → behind before r ≡ Err f
 behind_fails before r f e = ap (behind before) e
@@ -66,12 +66,12 @@ fails_behind before (Ok ns) f e = let none : ⊥ = cc in absurd none
 fails_behind before (Err g) f e = e
 
 -- a fault of a suffix is one of the suffixes
-pub suffix_fails : (s : Scoped) (xs : List ArraySuffix) (i : ℕ) (x : ArraySuffix) (before start : List (Option ℕ)) (all : Result (List (Option ℕ)) Fault) (f : Fault) → i < length xs → x ≡ get_or xs i x
-    → behind before (suffix_lengths s (suffixes_of (drop i xs))) ≡ behind start all → suffix_lengths s (view_suffix x no_suffix) ≡ Err f → all ≡ Err f
-suffix_fails s xs i x before start all f h is so_far e =
+pub suffix_fails : (s : Scoped) (m : Bool) (xs : List ArraySuffix) (i : ℕ) (x : ArraySuffix) (before start : List (Option ℕ)) (all : Result (List (Option ℕ)) Fault) (f : Fault) → i < length xs → x ≡ get_or xs i x
+    → behind before (suffix_lengths s m (suffixes_of (drop i xs))) ≡ behind start all → suffix_lengths s m (view_suffix x no_suffix) ≡ Err f → all ≡ Err f
+suffix_fails s m xs i x before start all f h is so_far e =
     fails_behind start all f
-    (sym so_far ∙ next_suffix s xs i x before h is
-    ∙ ap (λ (r : Result (List (Option ℕ)) Fault). behind before r >>= λ ns. behind ns (suffix_lengths s (suffixes_of (drop (i + 1) xs)))) e)
+    (sym so_far ∙ next_suffix s m xs i x before h is
+    ∙ ap (λ (r : Result (List (Option ℕ)) Fault). behind before r >>= λ ns. behind ns (suffix_lengths s m (suffixes_of (drop (i + 1) xs)))) e)
 
 -- a declarator in parentheses, and the suffixes behind it
 inside_more : (before middle now : List (Option ℕ)) (inner outer : Result (List (Option ℕ)) Fault) → behind before inner ≡ Ok middle → behind middle outer ≡ Ok now

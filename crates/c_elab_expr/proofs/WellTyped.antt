@@ -1,6 +1,6 @@
 -- What typing gives is well typed.
 use Rattle.std.proofs.Common.{◌≡◌, ◌≤◌, ◌+◌, ◌-◌, ◌^◌, ◌%◌, ℕ, zero, suc, Bool, true, false, List, [], ◌∷◌, length, map, Option, Some, None, Result, Ok, Err, refl, ap, sym, subst, ◌∙◌, arith, eq-eqb, eqb-true}
-use Rattle.std.specs.Prelude.{not, ◌||◌, ◌==◌, if◌then◌else◌, nat_lt, nat_le, slice_get, slice_index}
+use Rattle.std.specs.Prelude.{not, ◌||◌, ◌&&◌, ◌==◌, if◌then◌else◌, nat_lt, nat_le, slice_get, slice_index}
 use Rattle.std.specs.List.{list_all}
 use borrow.Author.Tests.{lt-ltb, le-leb, ltb-true, leb-true}
 use Rattle.c_token.specs.declared.token.Constant.{Constant}
@@ -44,7 +44,7 @@ use Rattle.c_operands.specs.Nodes.{Node, integer_of, integer, as_type, place_of,
 use Rattle.c_operands.specs.Operands.{Operand, value, object, structure, home_place, held_value, put_value, is_home, computed, valued, number, same_record, record_value, dropped, is_array, used, place_operand, variable_node, object_entry_node, function_node, name_node, part_operand, member_node, operand_bytes, sized_operand, cast_record, cast_operand, unary_operand, postfix_operand, binary_operand, choice_record, choice_value, choice_operand, assign_record, assign_value, assign_operand, comma_operand, one_integer, no_arguments, argument_in, arguments_in, extra_arguments, given_size, given_operand, behind_extra, function_call, drawn_or_called, callable_call, assertion_call, assumption_call, call_node, is_typed_operand}
 use Rattle.c_scope.specs.Types.{type_size}
 use Rattle.c_elab_expr.specs.Strings.{strings_of, strings_length}
-use Rattle.c_elab_expr.specs.Typing.{bare_line, sized, used_on, callee, is_used, called, is_wanted, type_name, operand_size, typed, typed_arguments, operand_by, lengths}
+use Rattle.c_elab_expr.specs.Typing.{bare_line, sized, used_on, callee, is_used, called, is_wanted, type_name, operand_size, typed, typed_arguments, operand_in, operand_by, lengths}
 use Rattle.c_scope.proofs.Variables.{both, and}
 use Rattle.c_elab_expr.proofs.Types.{same_integer_refl, same_type_refl, promoted_is, common_promoted, operands_fit, type_as, typed_as}
 use Rattle.c_scope.proofs.Parted.{part_within}
@@ -373,10 +373,10 @@ module _ (scope : Scoped) where
   used_value t a true h = refused Fits 9
   used_value t a false h = given Fits _ h
 
-  used_fits : (x : Operand) → Fits x → Holds Fits (used x)
-  used_fits (value e k) h = given Fits _ h
-  used_fits (object line v offset t k) h = used_by line v offset t k (is_array t) h
-  used_fits (structure t a) h = used_value t a (is_array t) h
+  used_fits : (m w : Bool) (x : Operand) → Fits x → Holds Fits (used m w x)
+  used_fits m w (value e k) h = given Fits _ h
+  used_fits m w (object line v offset t k) h = used_by line v offset t k ((not m || w) && is_array t) h
+  used_fits m w (structure t a) h = used_value t a ((not m || w) && is_array t) h
 
   -- ---- names and members
 
@@ -446,10 +446,10 @@ module _ (scope : Scoped) where
   name_fits line (Some (Variable v)) = variable_fits line v (slice_get scope.variables v) refl
   name_fits line (Some (Object k)) = object_entry_fits line k (object_at scope k) refl
   name_fits line (Some Incomplete) = refused Fits 3
-  name_fits line (Some Assert) = refused Fits 7
-  name_fits line (Some Assume) = refused Fits 7
-  name_fits line (Some (Draw t)) = refused Fits 7
-  name_fits line (Some (BuiltIn b)) = refused Fits 7
+  name_fits line (Some Assert) = given Fits _ refl
+  name_fits line (Some Assume) = given Fits _ refl
+  name_fits line (Some (Draw t)) = given Fits _ refl
+  name_fits line (Some (BuiltIn b)) = given Fits _ refl
   name_fits line (Some (Function f)) = function_fits line f (slice_get scope.functions.all f)
   name_fits line (Some (Typedef n)) = refused Fits 7
   name_fits line (Some (Enumerator bits)) = given Fits _ (character_good line bits)
@@ -661,8 +661,8 @@ module _ (scope : Scoped) where
   operand_good line None (Err f) h = refused Fits f
   operand_good line (Some parts) r h = given Fits _ (size_good line (strings_length parts + 1))
 
-  used_on_fits : (line : ℕ) (r : Result Operand Fault) → Holds Fits r → Holds Fits (used_on line r)
-  used_on_fits line r h = bind Fits Fits r _ h (λ x fit. on_same_line Fits line _ (used_fits x fit))
+  used_on_fits : (m w : Bool) (line : ℕ) (r : Result Operand Fault) → Holds Fits r → Holds Fits (used_on m w line r)
+  used_on_fits m w line r h = bind Fits Fits r _ h (λ x fit. on_same_line Fits line _ (used_fits m w x fit))
 
   module _ (built : IsBuilt scope.records.done) where
     -- a member lies in the object that it is one of
@@ -776,51 +776,51 @@ module _ (scope : Scoped) where
     called_fits wanted (Some m) xs h = call_fits m.0 wanted m.1 xs h
 
     mutual
-      pub well_typed : (w : Bool) (t : Tree) → Holds Fits (typed scope w t)
-      well_typed w (constant line c) = given Fits _ (constant_good line c)
-      well_typed w (character line bits) = given Fits _ (character_good line bits)
-      well_typed w (strings line parts) = refused Fits _
-      well_typed w (name line n) = on_same_line Fits line _ (name_fits line (meaning_of scope.bindings n))
-      well_typed w (parens line e) = well_typed w e
-      well_typed w (unary line op e) =
-          bind Fits Fits (operand_by scope true e) _ (used_on_fits (bare_line e) (typed scope true e) (well_typed true e)) (λ x good. on_same_line Fits line _ (unary_fits line op x good))
-      well_typed w (cast line parts d e) =
-          bind (λ (t : CType). Unit {0}) Fits (type_name scope parts d (lengths scope d)) _ (λ t _. tt) (λ t _.
-          bind Fits Fits (operand_by scope (is_wanted t) e) _ (used_on_fits (bare_line e) (typed scope (is_wanted t) e) (well_typed (is_wanted t) e)) (λ x good. on_same_line Fits line _ (cast_fits line t x good)))
-      well_typed w (sizeof_expr line e) = operand_good line (strings_of e) (typed scope true e) (well_typed true e)
-      well_typed w (sizeof_type line parts d) =
-          bind (λ (t : CType). Unit {0}) Fits (type_name scope parts d (lengths scope d)) _ (λ t _. tt) (λ t _. size_is_good line (on_line line (type_size scope.records.done t)))
-      well_typed w (step line op e) =
-          bind Fits Fits (operand_by scope true e) _ (used_on_fits (bare_line e) (typed scope true e) (well_typed true e)) (λ x good. on_same_line Fits (first_line e) _ (postfix_fits line op x good))
-      well_typed w (member line e n) =
-          bind Fits Fits (operand_by scope true e) _ (used_on_fits (bare_line e) (typed scope true e) (well_typed true e)) (λ x good. on_same_line Fits (first_line e) _ (member_fits line x n good))
-      well_typed w (binary line op a b) =
-          bind Fits Fits (operand_by scope true a) _ (used_on_fits (bare_line a) (typed scope true a) (well_typed true a)) (λ x good.
-          bind Fits Fits (operand_by scope true b) _ (used_on_fits (bare_line b) (typed scope true b) (well_typed true b)) (λ y fine.
+      pub well_typed : (m w : Bool) (t : Tree) → Holds Fits (typed scope m w t)
+      well_typed m w (constant line c) = given Fits _ (constant_good line c)
+      well_typed m w (character line bits) = given Fits _ (character_good line bits)
+      well_typed m w (strings line parts) = refused Fits _
+      well_typed m w (name line n) = on_same_line Fits line _ (name_fits line (meaning_of scope.bindings n))
+      well_typed m w (parens line e) = well_typed m w e
+      well_typed m w (unary line op e) =
+          bind Fits Fits (operand_in scope m true e) _ (used_on_fits m true (bare_line e) (typed scope m true e) (well_typed m true e)) (λ x good. on_same_line Fits line _ (unary_fits line op x good))
+      well_typed m w (cast line parts d e) =
+          bind (λ (t : CType). Unit {0}) Fits (type_name scope parts d (lengths scope m d)) _ (λ t _. tt) (λ t _.
+          bind Fits Fits (operand_in scope m (is_wanted t) e) _ (used_on_fits m (is_wanted t) (bare_line e) (typed scope m (is_wanted t) e) (well_typed m (is_wanted t) e)) (λ x good. on_same_line Fits line _ (cast_fits line t x good)))
+      well_typed m w (sizeof_expr line e) = operand_good line (strings_of e) (typed scope true true e) (well_typed true true e)
+      well_typed m w (sizeof_type line parts d) =
+          bind (λ (t : CType). Unit {0}) Fits (type_name scope parts d (lengths scope true d)) _ (λ t _. tt) (λ t _. size_is_good line (on_line line (type_size scope.records.done t)))
+      well_typed m w (step line op e) =
+          bind Fits Fits (operand_in scope m true e) _ (used_on_fits m true (bare_line e) (typed scope m true e) (well_typed m true e)) (λ x good. on_same_line Fits (first_line e) _ (postfix_fits line op x good))
+      well_typed m w (member line e n) =
+          bind Fits Fits (operand_in scope m true e) _ (used_on_fits m true (bare_line e) (typed scope m true e) (well_typed m true e)) (λ x good. on_same_line Fits (first_line e) _ (member_fits line x n good))
+      well_typed m w (binary line op a b) =
+          bind Fits Fits (operand_in scope m true a) _ (used_on_fits m true (bare_line a) (typed scope m true a) (well_typed m true a)) (λ x good.
+          bind Fits Fits (operand_in scope m true b) _ (used_on_fits m true (bare_line b) (typed scope m true b) (well_typed m true b)) (λ y fine.
           on_same_line Fits (first_line a) _ (binary_fits line op x y good fine)))
-      well_typed w (choice line test a b) =
-          bind Fits Fits (operand_by scope true test) _ (used_on_fits (bare_line test) (typed scope true test) (well_typed true test)) (λ x good.
-          bind Fits Fits (operand_by scope w a) _ (used_on_fits (bare_line a) (typed scope w a) (well_typed w a)) (λ y fine.
-          bind Fits Fits (operand_by scope w b) _ (used_on_fits (bare_line b) (typed scope w b) (well_typed w b)) (λ z last.
+      well_typed m w (choice line test a b) =
+          bind Fits Fits (operand_in scope m true test) _ (used_on_fits m true (bare_line test) (typed scope m true test) (well_typed m true test)) (λ x good.
+          bind Fits Fits (operand_in scope m w a) _ (used_on_fits m w (bare_line a) (typed scope m w a) (well_typed m w a)) (λ y fine.
+          bind Fits Fits (operand_in scope m w b) _ (used_on_fits m w (bare_line b) (typed scope m w b) (well_typed m w b)) (λ z last.
           on_same_line Fits (first_line test) _ (choice_fits line x y z good fine last))))
-      well_typed w (assign line op a b) =
-          bind Fits Fits (operand_by scope true a) _ (used_on_fits (bare_line a) (typed scope true a) (well_typed true a)) (λ x good.
-          bind Fits Fits (operand_by scope true b) _ (used_on_fits (bare_line b) (typed scope true b) (well_typed true b)) (λ y fine.
+      well_typed m w (assign line op a b) =
+          bind Fits Fits (operand_in scope m true a) _ (used_on_fits m true (bare_line a) (typed scope m true a) (well_typed m true a)) (λ x good.
+          bind Fits Fits (operand_in scope m true b) _ (used_on_fits m true (bare_line b) (typed scope m true b) (well_typed m true b)) (λ y fine.
           on_same_line Fits (first_line a) _ (assign_fits line op x y good fine)))
-      well_typed w (comma line a b) =
-          bind Fits Fits (operand_by scope false a) _ (used_on_fits (bare_line a) (typed scope false a) (well_typed false a)) (λ x good.
-          bind Fits Fits (operand_by scope w b) _ (used_on_fits (bare_line b) (typed scope w b) (well_typed w b)) (λ y fine.
+      well_typed m w (comma line a b) =
+          bind Fits Fits (operand_in scope m false a) _ (used_on_fits m false (bare_line a) (typed scope m false a) (well_typed m false a)) (λ x good.
+          bind Fits Fits (operand_in scope m w b) _ (used_on_fits m w (bare_line b) (typed scope m w b) (well_typed m w b)) (λ y fine.
           given Fits _ (comma_fits line x y good fine)))
-      well_typed w (call f args) =
-          bind (λ (m : Option (ℕ × Meaning)). Unit {0}) Fits (callee scope f (operand_by scope true f)) _ (λ m e. tt) (λ m _.
-          bind AllFit Fits (typed_arguments scope args) _ (well_typed_arguments args) (λ xs good. on_same_line Fits (first_line f) _ (called_fits (is_used f w) m xs good)))
+      well_typed m w (call f args) =
+          bind (λ (m : Option (ℕ × Meaning)). Unit {0}) Fits (callee scope f (operand_in scope m true f)) _ (λ meaning e. tt) (λ meaning _.
+          bind AllFit Fits (typed_arguments scope m args) _ (well_typed_arguments m args) (λ xs good. on_same_line Fits (first_line f) _ (called_fits (is_used f w) meaning xs good)))
 
-      pub well_typed_arguments : (ts : Trees) → Holds AllFit (typed_arguments scope ts)
-      well_typed_arguments none = given AllFit [] refl
-      well_typed_arguments (more first rest) =
-          bind Fits AllFit (operand_by scope true first) _ (used_on_fits (bare_line first) (typed scope true first) (well_typed true first)) (λ x good.
-          bind AllFit AllFit (typed_arguments scope rest) _ (well_typed_arguments rest) (λ xs fine.
+      pub well_typed_arguments : (m : Bool) (ts : Trees) → Holds AllFit (typed_arguments scope m ts)
+      well_typed_arguments m none = given AllFit [] refl
+      well_typed_arguments m (more first rest) =
+          bind Fits AllFit (operand_in scope m true first) _ (used_on_fits m true (bare_line first) (typed scope m true first) (well_typed m true first)) (λ x good.
+          bind AllFit AllFit (typed_arguments scope m rest) _ (well_typed_arguments m rest) (λ xs fine.
           given AllFit _ (and _ _ good fine)))
 
     pub well_used : (w : Bool) (t : Tree) → Holds Fits (operand_by scope w t)
-    well_used w t = used_on_fits (bare_line t) (typed scope w t) (well_typed w t)
+    well_used w t = used_on_fits false w (bare_line t) (typed scope false w t) (well_typed false w t)

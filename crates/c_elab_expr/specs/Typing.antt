@@ -20,9 +20,9 @@ abbrev pub bare_line : Tree → ℕ
 bare_line (parens line e) = bare_line e
 bare_line e = first_line e
 
--- what an expression that begins on this line is where it doesn't stand behind `sizeof`
-abbrev pub used_on : ℕ → Result Operand Fault → Result Operand Fault
-used_on line typing = typing >>= λ x. on_line line (used x)
+-- what an expression that begins on this line is where its value is wanted or not, within the operand of a `sizeof` or not
+abbrev pub used_on : (measured wanted : Bool) → ℕ → Result Operand Fault → Result Operand Fault
+used_on measured wanted line typing = typing >>= λ x. on_line line (used measured wanted x)
 
 -- what a node on this line makes of a typed operand
 abbrev pub node_on : ℕ → (Operand → OperandNode) → Result Operand Fault → Result Operand Fault
@@ -106,83 +106,87 @@ bound line typed_bound = do
   Ok (stated_length n)
 
 abbrev mutual
-  -- an expression, also as the operand of `sizeof`, whose value is wanted or not
-  pub typed : Scoped → Bool → Tree → Result Operand Fault
-  typed s w (constant line c) = Ok (value (constant_node line c) false)
-  typed s w (character line bits) = Ok (value (character_node line bits) false)
-  typed s w (strings line parts) = Err (fault line 7)
-  typed s w (name line n) = on_line line (name_node s line (meaning_of s.bindings n))
-  typed s w (parens line e) = typed s w e
-  typed s w (unary line op e) = do
-    x ← used_on (bare_line e) (typed s true e)
+  -- an expression, also as the operand of `sizeof`, or within that operand, whose value is wanted or not
+  pub typed : Scoped → (measured wanted : Bool) → Tree → Result Operand Fault
+  typed s m w (constant line c) = Ok (value (constant_node line c) false)
+  typed s m w (character line bits) = Ok (value (character_node line bits) false)
+  typed s m w (strings line parts) = Err (fault line 7)
+  typed s m w (name line n) = on_line line (name_node s line (meaning_of s.bindings n))
+  typed s m w (parens line e) = typed s m w e
+  typed s m w (unary line op e) = do
+    x ← used_on m true (bare_line e) (typed s m true e)
     on_line line (unary_operand line op x)
-  typed s w (cast line parts d e) = do
-    t ← type_name s parts d (lengths s d)
-    x ← used_on (bare_line e) (typed s (is_wanted t) e)
+  typed s m w (cast line parts d e) = do
+    t ← type_name s parts d (lengths s m d)
+    x ← used_on m (is_wanted t) (bare_line e) (typed s m (is_wanted t) e)
     on_line line (cast_operand s.records.done line t x)
-  typed s w (sizeof_expr line e) = operand_size line s.records.done (strings_of e) (typed s true e)
-  typed s w (sizeof_type line parts d) = do
-    t ← type_name s parts d (lengths s d)
+  typed s m w (sizeof_expr line e) = operand_size line s.records.done (strings_of e) (typed s true true e)
+  typed s m w (sizeof_type line parts d) = do
+    t ← type_name s parts d (lengths s true d)
     n ← on_line line (type_size s.records.done t)
     Ok (sized line n)
-  typed s w (step line op e) = do
-    x ← used_on (bare_line e) (typed s true e)
+  typed s m w (step line op e) = do
+    x ← used_on m true (bare_line e) (typed s m true e)
     on_line (first_line e) (postfix_operand line op x)
-  typed s w (member line e n) = do
-    x ← used_on (bare_line e) (typed s true e)
+  typed s m w (member line e n) = do
+    x ← used_on m true (bare_line e) (typed s m true e)
     on_line (first_line e) (member_node s line x n)
-  typed s w (binary line op a b) = do
-    x ← used_on (bare_line a) (typed s true a)
-    y ← used_on (bare_line b) (typed s true b)
+  typed s m w (binary line op a b) = do
+    x ← used_on m true (bare_line a) (typed s m true a)
+    y ← used_on m true (bare_line b) (typed s m true b)
     on_line (first_line a) (binary_operand line op x y)
-  typed s w (choice line test a b) = do
-    x ← used_on (bare_line test) (typed s true test)
-    y ← used_on (bare_line a) (typed s w a)
-    z ← used_on (bare_line b) (typed s w b)
+  typed s m w (choice line test a b) = do
+    x ← used_on m true (bare_line test) (typed s m true test)
+    y ← used_on m w (bare_line a) (typed s m w a)
+    z ← used_on m w (bare_line b) (typed s m w b)
     on_line (first_line test) (choice_operand s.records.done line x y z)
-  typed s w (assign line op a b) = do
-    x ← used_on (bare_line a) (typed s true a)
-    y ← used_on (bare_line b) (typed s true b)
+  typed s m w (assign line op a b) = do
+    x ← used_on m true (bare_line a) (typed s m true a)
+    y ← used_on m true (bare_line b) (typed s m true b)
     on_line (first_line a) (assign_operand s line op x y)
-  typed s w (comma line a b) = do
-    x ← used_on (bare_line a) (typed s false a)
-    y ← used_on (bare_line b) (typed s w b)
+  typed s m w (comma line a b) = do
+    x ← used_on m false (bare_line a) (typed s m false a)
+    y ← used_on m w (bare_line b) (typed s m w b)
     Ok (comma_operand s.records.done line x y)
-  typed s w (call f arguments) = do
-    m ← callee s f (used_on (bare_line f) (typed s true f))
-    xs ← typed_arguments s arguments
-    on_line (first_line f) (called s (is_used f w) m xs)
+  typed s m w (call f arguments) = do
+    meaning ← callee s f (used_on m true (bare_line f) (typed s m true f))
+    xs ← typed_arguments s m arguments
+    on_line (first_line f) (called s (is_used f w) meaning xs)
 
-  pub typed_arguments : Scoped → Trees → Result (List Operand) Fault
-  typed_arguments s none = Ok []
-  typed_arguments s (more first rest) = do
-    x ← used_on (bare_line first) (typed s true first)
-    xs ← typed_arguments s rest
+  pub typed_arguments : Scoped → Bool → Trees → Result (List Operand) Fault
+  typed_arguments s m none = Ok []
+  typed_arguments s m (more first rest) = do
+    x ← used_on m true (bare_line first) (typed s m true first)
+    xs ← typed_arguments s m rest
     Ok (x ∷ xs)
 
   -- The lengths of a declarator's arrays, the outermost first, of which `[]` has none: a declarator in parentheses before the
   -- suffixes behind it.
-  pub lengths : Scoped → Declared → Result (List (Option ℕ)) Fault
-  lengths s (unnamed suffixes) = suffix_lengths s suffixes
-  lengths s (named line n suffixes) = suffix_lengths s suffixes
-  lengths s (inside line d suffixes) = do
-    inner ← lengths s d
-    outer ← suffix_lengths s suffixes
+  pub lengths : Scoped → Bool → Declared → Result (List (Option ℕ)) Fault
+  lengths s m (unnamed suffixes) = suffix_lengths s m suffixes
+  lengths s m (named line n suffixes) = suffix_lengths s m suffixes
+  lengths s m (inside line d suffixes) = do
+    inner ← lengths s m d
+    outer ← suffix_lengths s m suffixes
     Ok (inner ++ outer)
 
-  pub suffix_lengths : Scoped → Suffixes → Result (List (Option ℕ)) Fault
-  suffix_lengths s no_suffix = Ok []
-  suffix_lengths s (bounded line e rest) = do
-    n ← bound (first_line e) (used_on (bare_line e) (typed s true e))
-    ns ← suffix_lengths s rest
+  pub suffix_lengths : Scoped → Bool → Suffixes → Result (List (Option ℕ)) Fault
+  suffix_lengths s m no_suffix = Ok []
+  suffix_lengths s m (bounded line e rest) = do
+    n ← bound (first_line e) (used_on m true (bare_line e) (typed s m true e))
+    ns ← suffix_lengths s m rest
     Ok (Some n ∷ ns)
-  suffix_lengths s (unbounded line rest) = do
-    ns ← suffix_lengths s rest
+  suffix_lengths s m (unbounded line rest) = do
+    ns ← suffix_lengths s m rest
     Ok (None ∷ ns)
 
--- an expression that doesn't stand behind `sizeof`, whose value is wanted or not
+-- an expression that isn't itself the operand of a `sizeof`
+abbrev pub operand_in : Scoped → (measured wanted : Bool) → Tree → Result Operand Fault
+operand_in s m w e = used_on m w (bare_line e) (typed s m w e)
+
+-- one that doesn't stand within such an operand, whose value is wanted or not
 abbrev pub operand_by : Scoped → Bool → Tree → Result Operand Fault
-operand_by s w e = used_on (bare_line e) (typed s w e)
+operand_by s w e = operand_in s false w e
 
 abbrev pub operand : Scoped → Tree → Result Operand Fault
 operand s e = operand_by s true e

@@ -10,7 +10,7 @@ ghost use Rattle.c_operands.specs.Operands.{Operand, value as number_operand, vi
 ghost use Rattle.c_scope.specs.Scopes.{meaning_of};
 ghost use Rattle.c_scope.specs.Types.{type_size};
 ghost use Rattle.c_scope.specs.Faults.{Gives, GivesNode, on_line, Fault};
-ghost use Rattle.c_elab_expr.specs.Typing.{Adds, bare_line, sized, used_on, node_on, both, node_on_both, comma_of, size_of_named, call_of, no_function, callee, called, is_main, is_used, bound, type_name, operand_size, is_wanted, typed, typed_arguments, operand_by, operand, lengths, suffix_lengths};
+ghost use Rattle.c_elab_expr.specs.Typing.{Adds, bare_line, sized, used_on, node_on, both, node_on_both, comma_of, size_of_named, call_of, no_function, callee, called, is_main, is_used, bound, type_name, operand_size, is_wanted, typed, typed_arguments, operand_in, operand_by, operand, lengths, suffix_lengths};
 
 use crate::calls::called;
 use crate::strings::{strings_length, strings_of};
@@ -105,12 +105,17 @@ fn used_at(node: Result<CoreOperand, Broken>, expr: &Expr) -> Result<CoreOperand
     }
 }
 
-// A typed expression that doesn't stand behind `sizeof`.
-fn used_of(typed: Result<CoreOperand, TypingError>, expr: &Expr) -> Result<CoreOperand, TypingError>
-    ensures { (r : Result Operand Fault) → Gives view_operand typed r → Gives view_operand result (used_on (bare_line (tree expr.now)) r) }
+// A typed expression whose value is wanted or not, within the operand of a `sizeof` or not.
+fn used_of(
+    measured: bool,
+    wanted: bool,
+    typed: Result<CoreOperand, TypingError>,
+    expr: &Expr,
+) -> Result<CoreOperand, TypingError>
+    ensures { (r : Result Operand Fault) → Gives view_operand typed r → Gives view_operand result (used_on measured wanted (bare_line (tree expr.now)) r) }
 {
     match typed {
-        Ok(core) => used_at(used(core), expr),
+        Ok(core) => used_at(used(measured, wanted, core), expr),
         Err(error) => Err(error),
     }
 }
@@ -311,31 +316,39 @@ fn is_wanted(type_: &Ty) -> bool
     }
 }
 
-// An expression that doesn't stand behind `sizeof`, whose value is wanted or not.
+// An expression that isn't itself the operand of a `sizeof`, within one or not, whose value is wanted or not.
 #[cycle(typing)]
 fn used_by(
     alloc: Global,
     expr: &Expr,
+    measured: bool,
     wanted: bool,
     scope: &Scope,
 ) -> Result<CoreOperand, TypingError>
-    ensures { Gives view_operand result (used_on (bare_line (tree expr.now)) (typed scope.now wanted (tree expr.now))) }
+    ensures { Gives view_operand result (operand_in scope.now measured wanted (tree expr.now)) }
 {
-    used_of(typed_expr(alloc, expr, wanted, scope), expr)
+    let typed = typed_expr(alloc, expr, measured, wanted, scope);
+    used_of(measured, wanted, typed, expr)
 }
 
 // One whose value is wanted.
 #[cycle(typing)]
-fn used_expr(alloc: Global, expr: &Expr, scope: &Scope) -> Result<CoreOperand, TypingError>
-    ensures { Gives view_operand result (used_on (bare_line (tree expr.now)) (typed scope.now true (tree expr.now))) }
+fn used_expr(
+    alloc: Global,
+    expr: &Expr,
+    measured: bool,
+    scope: &Scope,
+) -> Result<CoreOperand, TypingError>
+    ensures { Gives view_operand result (operand_in scope.now measured true (tree expr.now)) }
 {
-    used_by(alloc, expr, true, scope)
+    used_by(alloc, expr, measured, true, scope)
 }
 
 // Two of them, the left one first.
 #[cycle(typing)]
 fn used_both(
     alloc: Global,
+    measured: bool,
     left: &Expr,
     left_wanted: bool,
     right: &Expr,
@@ -343,10 +356,10 @@ fn used_both(
     scope: &Scope,
 ) -> Result<(CoreOperand, CoreOperand), TypingError>
     ensures { Gives (λ p. (view_operand p.0, view_operand p.1)) result
-        (both (operand_by scope.now left_wanted (tree left.now)) (operand_by scope.now right_wanted (tree right.now))) }
+        (both (operand_in scope.now measured left_wanted (tree left.now)) (operand_in scope.now measured right_wanted (tree right.now))) }
 {
-    let a = used_by(alloc, left, left_wanted, scope)?;
-    let b = used_by(alloc, right, right_wanted, scope)?;
+    let a = used_by(alloc, left, measured, left_wanted, scope)?;
+    let b = used_by(alloc, right, measured, right_wanted, scope)?;
     Ok((a, b))
 }
 
@@ -354,13 +367,14 @@ fn used_both(
 fn typed_arguments(
     alloc: Global,
     exprs: &[Expr],
+    measured: bool,
     scope: &Scope,
 ) -> Result<Vec<CoreOperand>, TypingError>
-    ensures { Gives (λ v. map view_operand v.items) result (typed_arguments scope.now (trees exprs.now)) }
+    ensures { Gives (λ v. map view_operand v.items) result (typed_arguments scope.now measured (trees exprs.now)) }
 {
     let mut arguments = Vec::new(alloc);
     for expr in exprs {
-        let argument = used_expr(alloc, expr, scope)?;
+        let argument = used_expr(alloc, expr, measured, scope)?;
         arguments.push(argument)?;
     }
     Ok(arguments)
@@ -383,9 +397,10 @@ fn no_function(
 fn callee(
     alloc: Global,
     function: &Expr,
+    measured: bool,
     scope: &Scope,
 ) -> Result<Option<(u32, Meaning)>, TypingError>
-    ensures { Gives (λ o. o) result (callee scope.now (tree function.now) (used_on (bare_line (tree function.now)) (typed scope.now true (tree function.now)))) }
+    ensures { Gives (λ o. o) result (callee scope.now (tree function.now) (operand_in scope.now measured true (tree function.now))) }
 {
     match function {
         Expr::Name { line, name } => match scope.meaning(&name.bytes) {
@@ -395,8 +410,8 @@ fn callee(
                 rule: 1,
             }),
         },
-        Expr::Parens { inner, .. } => callee(alloc, inner, scope),
-        _ => no_function(used_expr(alloc, function, scope)),
+        Expr::Parens { inner, .. } => callee(alloc, inner, measured, scope),
+        _ => no_function(used_expr(alloc, function, measured, scope)),
     }
 }
 
@@ -448,26 +463,27 @@ fn bound_of(typed: Result<CoreOperand, TypingError>, expr: &Expr) -> Result<u64,
     }
 }
 
-/// How many elements a bound says, which is an integer constant expression, else rule 13 is broken on its first line.
+// How many elements a bound says, within the operand of a `sizeof` or not.
 #[cycle(typing)]
-pub fn bound(alloc: Global, expr: &Expr, scope: &Scope) -> Result<u64, TypingError>
-    ensures { Gives (λ n. n) result (bound (first_line (tree expr.now)) (used_on (bare_line (tree expr.now)) (typed scope.now true (tree expr.now)))) }
+fn bound_in(alloc: Global, expr: &Expr, measured: bool, scope: &Scope) -> Result<u64, TypingError>
+    ensures { Gives (λ n. n) result (bound (first_line (tree expr.now)) (operand_in scope.now measured true (tree expr.now))) }
 {
-    bound_of(used_expr(alloc, expr, scope), expr)
+    bound_of(used_expr(alloc, expr, measured, scope), expr)
 }
 
 #[cycle(typing)]
 fn add_suffix(
     alloc: Global,
     suffix: &ArraySuffix,
+    measured: bool,
     scope: &Scope,
     found: &mut Vec<Option<u64>>,
 ) -> Result<(), TypingError>
-    ensures { Adds result found.old.items found.new.items (suffix_lengths scope.now (view_suffix suffix.now no_suffix)) }
+    ensures { Adds result found.old.items found.new.items (suffix_lengths scope.now measured (view_suffix suffix.now no_suffix)) }
 {
     match suffix {
         ArraySuffix::Bounded { bound: expr, .. } => {
-            let length = bound(alloc, expr, scope)?;
+            let length = bound_in(alloc, expr, measured, scope)?;
             found.push(Some(length))?;
         }
         ArraySuffix::Open { .. } => found.push(None)?,
@@ -479,13 +495,14 @@ fn add_suffix(
 fn add_suffixes(
     alloc: Global,
     suffixes: &[ArraySuffix],
+    measured: bool,
     scope: &Scope,
     found: &mut Vec<Option<u64>>,
 ) -> Result<(), TypingError>
-    ensures { Adds result found.old.items found.new.items (suffix_lengths scope.now (suffixes_of suffixes.now)) }
+    ensures { Adds result found.old.items found.new.items (suffix_lengths scope.now measured (suffixes_of suffixes.now)) }
 {
     for suffix in suffixes {
-        add_suffix(alloc, suffix, scope, found)?;
+        add_suffix(alloc, suffix, measured, scope, found)?;
     }
     Ok(())
 }
@@ -494,44 +511,53 @@ fn add_suffixes(
 fn add_lengths(
     alloc: Global,
     declarator: &Declarator,
+    measured: bool,
     scope: &Scope,
     found: &mut Vec<Option<u64>>,
 ) -> Result<(), TypingError>
-    ensures { Adds result found.old.items found.new.items (lengths scope.now (view_declarator declarator.now)) }
+    ensures { Adds result found.old.items found.new.items (lengths scope.now measured (view_declarator declarator.now)) }
 {
     match &declarator.core {
-        DeclaratorCore::Absent => add_suffixes(alloc, &declarator.suffixes, scope, found),
-        DeclaratorCore::Named { .. } => { add_suffixes(alloc, &declarator.suffixes, scope, found) }
+        DeclaratorCore::Absent => add_suffixes(alloc, &declarator.suffixes, measured, scope, found),
+        DeclaratorCore::Named { .. } => {
+            add_suffixes(alloc, &declarator.suffixes, measured, scope, found)
+        }
         DeclaratorCore::Inside { inner, .. } => {
-            add_lengths(alloc, inner, scope, found)?;
-            add_suffixes(alloc, &declarator.suffixes, scope, found)
+            add_lengths(alloc, inner, measured, scope, found)?;
+            add_suffixes(alloc, &declarator.suffixes, measured, scope, found)
         }
     }
 }
 
-/// The lengths of a declarator's arrays, the outermost first, of which `[]` has none. Each bound is an integer constant
-/// expression, else rule 13 is broken on its first line.
+// The lengths of a declarator's arrays, the outermost first, of which `[]` has none. Each bound is an integer constant
+// expression, else rule 13 is broken on its first line.
 #[cycle(typing)]
-pub fn lengths(
+fn lengths(
     alloc: Global,
     declarator: &Declarator,
+    measured: bool,
     scope: &Scope,
 ) -> Result<Vec<Option<u64>>, TypingError>
-    ensures { Gives (λ v. v.items) result (lengths scope.now (view_declarator declarator.now)) }
+    ensures { Gives (λ v. v.items) result (lengths scope.now measured (view_declarator declarator.now)) }
 {
     let mut found = Vec::new(alloc);
-    add_lengths(alloc, declarator, scope, &mut found)?;
+    add_lengths(alloc, declarator, measured, scope, &mut found)?;
     Ok(found)
 }
 
 // The type of a type name.
 #[cycle(typing)]
-fn type_named(alloc: Global, name: &TypeName, scope: &Scope) -> Result<Ty, TypingError>
+fn type_named(
+    alloc: Global,
+    name: &TypeName,
+    measured: bool,
+    scope: &Scope,
+) -> Result<Ty, TypingError>
     ensures { Gives type_view result (type_name scope.now (map view_type_part name.now.specifiers.items) (view_declarator name.now.declarator)
-        (lengths scope.now (view_declarator name.now.declarator))) }
+        (lengths scope.now measured (view_declarator name.now.declarator))) }
 {
     let named = parts_type(alloc, &name.specifiers, scope)?;
-    let lengths = lengths(alloc, &name.declarator, scope)?;
+    let lengths = lengths(alloc, &name.declarator, measured, scope)?;
     let line = declared_line(&name.declarator);
     array_type(alloc, named.type_, &lengths, scope.layouts(), line)
 }
@@ -544,14 +570,14 @@ fn operand_size(
     operand: &Expr,
     scope: &Scope,
 ) -> Result<CoreOperand, TypingError>
-    ensures { Gives view_operand result (operand_size line scope.now.records.done (strings_of (tree operand.now)) (typed scope.now true (tree operand.now))) }
+    ensures { Gives view_operand result (operand_size line scope.now.records.done (strings_of (tree operand.now)) (typed scope.now true true (tree operand.now))) }
 {
     match strings_of(operand) {
         Some(parts) => strings_size(alloc, line, parts),
         None => size_of_operand(
             alloc,
             line,
-            typed_expr(alloc, operand, true, scope),
+            typed_expr(alloc, operand, true, true, scope),
             scope.layouts(),
         ),
     }
@@ -561,10 +587,11 @@ fn operand_size(
 fn typed_expr(
     alloc: Global,
     expr: &Expr,
+    measured: bool,
     wanted: bool,
     scope: &Scope,
 ) -> Result<CoreOperand, TypingError>
-    ensures { Gives view_operand result (typed scope.now wanted (tree expr.now)) }
+    ensures { Gives view_operand result (typed scope.now measured wanted (tree expr.now)) }
 {
     match expr {
         Expr::Constant { line, constant } => constant_at(alloc, *line, constant),
@@ -574,26 +601,31 @@ fn typed_expr(
             rule: 7,
         }),
         Expr::Name { line, name } => name_at(alloc, *line, name, scope),
-        Expr::Parens { inner, .. } => typed_expr(alloc, inner, wanted, scope),
+        Expr::Parens { inner, .. } => typed_expr(alloc, inner, measured, wanted, scope),
         Expr::Unary {
             line,
             operator,
             operand,
-        } => unary_at(alloc, *line, *operator, used_expr(alloc, operand, scope)),
+        } => unary_at(
+            alloc,
+            *line,
+            *operator,
+            used_expr(alloc, operand, measured, scope),
+        ),
         Expr::Cast {
             line,
             type_name,
             operand,
         } => {
-            let type_ = type_named(alloc, type_name, scope)?;
-            let core = used_by(alloc, operand, is_wanted(&type_), scope);
+            let type_ = type_named(alloc, type_name, measured, scope)?;
+            let core = used_by(alloc, operand, measured, is_wanted(&type_), scope);
             cast_at(alloc, *line, type_, core, scope.layouts())
         }
         Expr::SizeofExpr { line, operand } => operand_size(alloc, *line, operand, scope),
         Expr::SizeofType { line, type_name } => size_of_type(
             alloc,
             *line,
-            type_named(alloc, type_name, scope),
+            type_named(alloc, type_name, true, scope),
             scope.layouts(),
         ),
         Expr::Step {
@@ -604,13 +636,13 @@ fn typed_expr(
             alloc,
             *line,
             *operator,
-            used_expr(alloc, operand, scope),
+            used_expr(alloc, operand, measured, scope),
             operand,
         ),
         Expr::Member { line, left, name } => member_at(
             alloc,
             *line,
-            used_expr(alloc, left, scope),
+            used_expr(alloc, left, measured, scope),
             name,
             scope,
             left,
@@ -621,7 +653,7 @@ fn typed_expr(
             left,
             right,
         } => {
-            let operands = used_both(alloc, left, true, right, true, scope);
+            let operands = used_both(alloc, measured, left, true, right, true, scope);
             binary_at(alloc, *line, *operator, operands, left)
         }
         Expr::Choice {
@@ -630,8 +662,8 @@ fn typed_expr(
             yes,
             no,
         } => {
-            let a = used_expr(alloc, test, scope)?;
-            let operands = used_both(alloc, yes, wanted, no, wanted, scope);
+            let a = used_expr(alloc, test, measured, scope)?;
+            let operands = used_both(alloc, measured, yes, wanted, no, wanted, scope);
             choice_at(alloc, *line, a, operands, scope, test)
         }
         Expr::Assign {
@@ -640,42 +672,42 @@ fn typed_expr(
             place,
             value,
         } => {
-            let operands = used_both(alloc, place, true, value, true, scope);
+            let operands = used_both(alloc, measured, place, true, value, true, scope);
             assign_at(alloc, *line, *operator, operands, scope, place)
         }
         Expr::Comma { line, left, right } => {
-            let operands = used_both(alloc, left, false, right, wanted, scope);
+            let operands = used_both(alloc, measured, left, false, right, wanted, scope);
             comma_at(alloc, *line, operands, scope)
         }
         Expr::Call {
             function,
             arguments,
         } => {
-            let callee = callee(alloc, function, scope)?;
-            let arguments = typed_arguments(alloc, arguments, scope);
+            let callee = callee(alloc, function, measured, scope)?;
+            let arguments = typed_arguments(alloc, arguments, measured, scope);
             call_at(alloc, wanted, callee, arguments, scope, function)
         }
     }
 }
 
-// The typing of an expression whose value is wanted or not.
+// The typing of an expression that doesn't stand within the operand of a `sizeof`, whose value is wanted or not.
 fn typed_by(
     alloc: Global,
     expr: &Expr,
     wanted: bool,
     scope: &Scope,
 ) -> Result<CoreOperand, TypingError>
-    ensures gives { Gives view_operand result (typed scope.now wanted (tree expr.now)) }
+    ensures gives { Gives view_operand result (typed scope.now false wanted (tree expr.now)) }
     ensures typed { IfOk result (λ x. is_typed_operand scope.now (view_operand x) ≡ true) }
 {
     scope.prove_there();
-    typed_expr(alloc, expr, wanted, scope)
+    typed_expr(alloc, expr, false, wanted, scope)
 }
 
 /// The typing of an expression in a scope (C11 6.5), also as the operand of `sizeof`. Operands are typed from left to right and
 /// before their operator; the first node that breaks a rule decides, by its lowest rule and the line of its first token.
 pub fn typed(alloc: Global, expr: &Expr, scope: &Scope) -> Result<CoreOperand, TypingError>
-    ensures gives { Gives view_operand result (typed scope.now true (tree expr.now)) }
+    ensures gives { Gives view_operand result (typed scope.now false true (tree expr.now)) }
     ensures typed { IfOk result (λ x. is_typed_operand scope.now (view_operand x) ≡ true) }
 {
     typed_by(alloc, expr, true, scope)
@@ -687,7 +719,7 @@ pub fn operand(alloc: Global, expr: &Expr, scope: &Scope) -> Result<CoreOperand,
     ensures typed { IfOk result (λ x. is_typed_operand scope.now (view_operand x) ≡ true) }
 {
     let core = typed_by(alloc, expr, true, scope)?;
-    used_at(used(core), expr)
+    used_at(used(false, true, core), expr)
 }
 
 /// The same of an expression whose value isn't used, so that the calls that give it don't use theirs.
@@ -696,5 +728,12 @@ pub fn ignored(alloc: Global, expr: &Expr, scope: &Scope) -> Result<CoreOperand,
     ensures typed { IfOk result (λ x. is_typed_operand scope.now (view_operand x) ≡ true) }
 {
     let core = typed_by(alloc, expr, false, scope)?;
-    used_at(used(core), expr)
+    used_at(used(false, false, core), expr)
+}
+
+/// How many elements a bound says, which is an integer constant expression, else rule 13 is broken on its first line.
+pub fn bound(alloc: Global, expr: &Expr, scope: &Scope) -> Result<u64, TypingError>
+    ensures { Gives (λ n. n) result (bound (first_line (tree expr.now)) (operand scope.now (tree expr.now))) }
+{
+    bound_in(alloc, expr, false, scope)
 }

@@ -13,39 +13,39 @@ bind_same {A} {B} r q g h e same = ap (λ (x : Result A Fault). x >>= g) e ∙ b
   by (Err f) = refl
 
 mutual
-  typed_flow : (s : Scoped) (f : Flow) (w : Bool) (e : Tree) → typed (record s { flow = f }) w e ≡ typed s w e
-  typed_flow s f w (constant line c) = refl
-  typed_flow s f w (character line bits) = refl
-  typed_flow s f w (strings line parts) = refl
-  typed_flow s f w (name line n) = refl
-  typed_flow s f w (parens line e) = typed_flow s f w e
-  typed_flow s f w (unary line op e) = rw (typed_flow s f true e) refl
-  typed_flow s f w (cast line ps d e) =
-      bind_same (type_name (record s { flow = f }) ps d (lengths (record s { flow = f }) d)) (type_name s ps d (lengths s d)) _ _ (ap (type_name s ps d) (lengths_flow s f d)) (λ t.
-      ap (λ (r : Result Operand Fault). used_on (bare_line e) r >>= λ x. on_line line (cast_operand s.records.done line t x)) (typed_flow s f (is_wanted t) e))
-  typed_flow s f w (sizeof_expr line e) = rw (typed_flow s f true e) refl
-  typed_flow s f w (sizeof_type line ps d) = rw (lengths_flow s f d) refl
-  typed_flow s f w (step line op e) = rw (typed_flow s f true e) refl
-  typed_flow s f w (member line e n) = rw (typed_flow s f true e) refl
-  typed_flow s f w (binary line op a b) = rw (typed_flow s f true a, typed_flow s f true b) refl
-  typed_flow s f w (choice line test a b) = rw (typed_flow s f true test, typed_flow s f w a, typed_flow s f w b) refl
-  typed_flow s f w (assign line op a b) = rw (typed_flow s f true a, typed_flow s f true b) refl
-  typed_flow s f w (comma line a b) = rw (typed_flow s f false a, typed_flow s f w b) refl
-  typed_flow s f w (call e es) = rw (typed_flow s f true e, arguments_flow s f es) refl
+  typed_flow : (s : Scoped) (f : Flow) (m w : Bool) (e : Tree) → typed (record s { flow = f }) m w e ≡ typed s m w e
+  typed_flow s f m w (constant line c) = refl
+  typed_flow s f m w (character line bits) = refl
+  typed_flow s f m w (strings line parts) = refl
+  typed_flow s f m w (name line n) = refl
+  typed_flow s f m w (parens line e) = typed_flow s f m w e
+  typed_flow s f m w (unary line op e) = rw (typed_flow s f m true e) refl
+  typed_flow s f m w (cast line ps d e) =
+      bind_same (type_name (record s { flow = f }) ps d (lengths (record s { flow = f }) m d)) (type_name s ps d (lengths s m d)) _ _ (ap (type_name s ps d) (lengths_flow s f m d)) (λ t.
+      ap (λ (r : Result Operand Fault). used_on m (is_wanted t) (bare_line e) r >>= λ x. on_line line (cast_operand s.records.done line t x)) (typed_flow s f m (is_wanted t) e))
+  typed_flow s f m w (sizeof_expr line e) = rw (typed_flow s f true true e) refl
+  typed_flow s f m w (sizeof_type line ps d) = rw (lengths_flow s f true d) refl
+  typed_flow s f m w (step line op e) = rw (typed_flow s f m true e) refl
+  typed_flow s f m w (member line e n) = rw (typed_flow s f m true e) refl
+  typed_flow s f m w (binary line op a b) = rw (typed_flow s f m true a, typed_flow s f m true b) refl
+  typed_flow s f m w (choice line test a b) = rw (typed_flow s f m true test, typed_flow s f m w a, typed_flow s f m w b) refl
+  typed_flow s f m w (assign line op a b) = rw (typed_flow s f m true a, typed_flow s f m true b) refl
+  typed_flow s f m w (comma line a b) = rw (typed_flow s f m false a, typed_flow s f m w b) refl
+  typed_flow s f m w (call e es) = rw (typed_flow s f m true e, arguments_flow s f m es) refl
 
-  arguments_flow : (s : Scoped) (f : Flow) (es : Trees) → typed_arguments (record s { flow = f }) es ≡ typed_arguments s es
-  arguments_flow s f none = refl
-  arguments_flow s f (more first rest) = rw (typed_flow s f true first, arguments_flow s f rest) refl
+  arguments_flow : (s : Scoped) (f : Flow) (m : Bool) (es : Trees) → typed_arguments (record s { flow = f }) m es ≡ typed_arguments s m es
+  arguments_flow s f m none = refl
+  arguments_flow s f m (more first rest) = rw (typed_flow s f m true first, arguments_flow s f m rest) refl
 
-  lengths_flow : (s : Scoped) (f : Flow) (d : Declared) → lengths (record s { flow = f }) d ≡ lengths s d
-  lengths_flow s f (unnamed suffixes) = suffixes_flow s f suffixes
-  lengths_flow s f (named line n suffixes) = suffixes_flow s f suffixes
-  lengths_flow s f (inside line d suffixes) = rw (lengths_flow s f d, suffixes_flow s f suffixes) refl
+  lengths_flow : (s : Scoped) (f : Flow) (m : Bool) (d : Declared) → lengths (record s { flow = f }) m d ≡ lengths s m d
+  lengths_flow s f m (unnamed suffixes) = suffixes_flow s f m suffixes
+  lengths_flow s f m (named line n suffixes) = suffixes_flow s f m suffixes
+  lengths_flow s f m (inside line d suffixes) = rw (lengths_flow s f m d, suffixes_flow s f m suffixes) refl
 
-  suffixes_flow : (s : Scoped) (f : Flow) (x : Suffixes) → suffix_lengths (record s { flow = f }) x ≡ suffix_lengths s x
-  suffixes_flow s f no_suffix = refl
-  suffixes_flow s f (bounded line e rest) = rw (typed_flow s f true e, suffixes_flow s f rest) refl
-  suffixes_flow s f (unbounded line rest) = rw (suffixes_flow s f rest) refl
+  suffixes_flow : (s : Scoped) (f : Flow) (m : Bool) (x : Suffixes) → suffix_lengths (record s { flow = f }) m x ≡ suffix_lengths s m x
+  suffixes_flow s f m no_suffix = refl
+  suffixes_flow s f m (bounded line e rest) = rw (typed_flow s f m true e, suffixes_flow s f m rest) refl
+  suffixes_flow s f m (unbounded line rest) = rw (suffixes_flow s f m rest) refl
 
 pub operand_flow : (s : Scoped) (f : Flow) (w : Bool) (e : Tree) → operand_by (record s { flow = f }) w e ≡ operand_by s w e
-operand_flow s f w e = ap (used_on (bare_line e)) (typed_flow s f w e)
+operand_flow s f w e = ap (used_on false w (bare_line e)) (typed_flow s f false w e)

@@ -1,5 +1,5 @@
 -- What an operator makes of typed operands, or the lowest rule that they break (C11 6.3.2.1, 6.5).
-use Rattle.std.specs.Prelude.{ℕ, ◌==◌, ◌%◌, ◌^◌, Bool, true, false, ◌||◌, ◌&&◌, List, [], ◌∷◌, map, reverse, slice_get, Option, Some, None, Result, Ok, Err, if◌then◌else◌}
+use Rattle.std.specs.Prelude.{ℕ, ◌==◌, ◌%◌, ◌^◌, Bool, true, false, not, ◌||◌, ◌&&◌, List, [], ◌∷◌, map, reverse, slice_get, Option, Some, None, Result, Ok, Err, if◌then◌else◌}
 use Rattle.c_tree.specs.declared.expr.BinaryOp.{BinaryOp}
 use Rattle.c_tree.specs.declared.expr.UnaryOp.{UnaryOp}
 use Rattle.c_tree.specs.declared.expr.StepOp.{StepOp}
@@ -118,11 +118,12 @@ is_array (ctypes.array element n) = true
 is_array (ctypes.pointer t c) = false
 is_array (ctypes.function f) = false
 
--- rule 7: an array is the operand of `sizeof` alone; rule 9: also one in a value that is no place
-abbrev pub used : Operand → OperandNode
-used (value e constant) = Ok (value e constant)
-used (object line v offset t constant) = if is_array t then Err 7 else Ok (object line v offset t constant)
-used (structure t a) = if is_array t then Err 9 else Ok (structure t a)
+-- A value that is wanted or not, within the operand of a `sizeof` or not. Rule 7: an array is the operand of `sizeof` alone; rule 9: also
+-- one in a value that is no place. Within that operand one whose value isn't wanted breaks neither.
+abbrev pub used : (measured wanted : Bool) → Operand → OperandNode
+used measured wanted (value e constant) = Ok (value e constant)
+used measured wanted (object line v offset t constant) = if (not measured || wanted) && is_array t then Err 7 else Ok (object line v offset t constant)
+used measured wanted (structure t a) = if (not measured || wanted) && is_array t then Err 9 else Ok (structure t a)
 
 -- ---- names and members
 
@@ -149,17 +150,17 @@ abbrev pub function_node : ℕ → ℕ → Option Callable → OperandNode
 function_node line f None = Err 1
 function_node line f (Some c) = computed (Ok (cores.function_name line))
 
--- A built-in function stands only where it is called, and a type's name where a type is named; rule 3: a variable whose length its
--- initializer says is no operand in this. An enumerator is a constant of type int (C11 6.7.2.2p3).
+-- A built-in function's name stands as that of any function, and a type's name where a type is named; rule 3: a variable whose length
+-- its initializer says is no operand in this. An enumerator is a constant of type int (C11 6.7.2.2p3).
 abbrev pub name_node : Scoped → ℕ → Option Meaning → OperandNode
 name_node s line None = Err 1
 name_node s line (Some (Variable v)) = variable_node line v (slice_get s.variables v)
 name_node s line (Some (Object k)) = object_entry_node s.records.done line k (object_at s k)
 name_node s line (Some Incomplete) = Err 3
-name_node s line (Some Assert) = Err 7
-name_node s line (Some Assume) = Err 7
-name_node s line (Some (Draw t)) = Err 7
-name_node s line (Some (BuiltIn b)) = Err 7
+name_node s line (Some Assert) = computed (Ok (cores.function_name line))
+name_node s line (Some Assume) = computed (Ok (cores.function_name line))
+name_node s line (Some (Draw t)) = computed (Ok (cores.function_name line))
+name_node s line (Some (BuiltIn b)) = computed (Ok (cores.function_name line))
 name_node s line (Some (Function f)) = function_node line f (slice_get s.functions.all f)
 name_node s line (Some (Typedef n)) = Err 7
 name_node s line (Some (Enumerator bits)) = computed (Ok (character_node line bits))

@@ -8,8 +8,8 @@ mod operators;
 
 pub use constants::{constant_of, stated_length};
 pub use nodes::{
-    as_type, binary_node, character_node, constant_node, in_box, place_in_box, size_node,
-    structure_in_box,
+    as_type, binary_node, character_node, constant_node, in_box, left_type, low_bits, operator_of,
+    place_in_box, right_type, size_node, structure_in_box,
 };
 pub use operands::{
     CoreOperand, Home, bytes_of, computed, constant_in, dropped, made, member_node, name_node,

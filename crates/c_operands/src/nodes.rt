@@ -308,7 +308,8 @@ pub fn is_shift(operator: ArithmeticOperator) -> bool
     }
 }
 
-fn left_type(operator: ArithmeticOperator, left: IntegerType, right: IntegerType) -> IntegerType
+/// The type of the left operand of an operator of two numbers.
+pub fn left_type(operator: ArithmeticOperator, left: IntegerType, right: IntegerType) -> IntegerType
     ensures { result ≡ left_type operator left right }
 {
     if is_shift(operator) {
@@ -318,7 +319,12 @@ fn left_type(operator: ArithmeticOperator, left: IntegerType, right: IntegerType
     }
 }
 
-fn right_type(operator: ArithmeticOperator, left: IntegerType, right: IntegerType) -> IntegerType
+/// The type of the right operand.
+pub fn right_type(
+    operator: ArithmeticOperator,
+    left: IntegerType,
+    right: IntegerType,
+) -> IntegerType
     ensures { result ≡ right_type operator left right }
 {
     if is_shift(operator) {
@@ -521,8 +527,8 @@ fn assign_node(
     Ok(in_box(alloc, assign)?)
 }
 
-// The operator that stands before `=`; rule 7 where none can.
-fn operator_of(operator: BinaryOp) -> Result<ArithmeticOperator, Broken>
+/// The operator that stands before `=`; rule 7 where none can.
+pub fn operator_of(operator: BinaryOp) -> Result<ArithmeticOperator, Broken>
     ensures { GivesNode (λ o. o) result (required 7 (operator_of operator)) }
 {
     match operator {

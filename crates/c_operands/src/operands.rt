@@ -253,9 +253,10 @@ fn is_array(type_: &Ty) -> bool
     }
 }
 
-/// An operand that doesn't stand behind `sizeof`: it is no array.
-pub fn used(operand: CoreOperand) -> Result<CoreOperand, Broken>
-    ensures { GivesNode view_operand result (used (view_operand operand)) }
+/// An operand whose value is wanted or not, within the operand of a `sizeof` or not. It is no array, unless its value isn't wanted
+/// within that operand.
+pub fn used(measured: bool, wanted: bool, operand: CoreOperand) -> Result<CoreOperand, Broken>
+    ensures { GivesNode view_operand result (used measured wanted (view_operand operand)) }
 {
     match operand {
         CoreOperand::Value { value, constant } => Ok(CoreOperand::Value { value, constant }),
@@ -266,7 +267,7 @@ pub fn used(operand: CoreOperand) -> Result<CoreOperand, Broken>
             type_,
             constant,
         } => {
-            if is_array(&type_) {
+            if (!measured || wanted) && is_array(&type_) {
                 Err(Broken::Rule { rule: 7 })
             } else {
                 Ok(CoreOperand::Object {
@@ -279,7 +280,7 @@ pub fn used(operand: CoreOperand) -> Result<CoreOperand, Broken>
             }
         }
         CoreOperand::Structure { type_, value } => {
-            if is_array(&type_) {
+            if (!measured || wanted) && is_array(&type_) {
                 Err(Broken::Rule { rule: 9 })
             } else {
                 Ok(CoreOperand::Structure { type_, value })
@@ -400,10 +401,10 @@ pub fn name_node(
         Some(Meaning::Variable { variable }) => variable_node(alloc, line, variable, scope),
         Some(Meaning::Object { object }) => object_entry_node(alloc, line, object, scope),
         Some(Meaning::Incomplete) => Err(Broken::Rule { rule: 3 }),
-        Some(Meaning::Assert) => Err(Broken::Rule { rule: 7 }),
-        Some(Meaning::Assume) => Err(Broken::Rule { rule: 7 }),
-        Some(Meaning::Draw { .. }) => Err(Broken::Rule { rule: 7 }),
-        Some(Meaning::BuiltIn { .. }) => Err(Broken::Rule { rule: 7 }),
+        Some(Meaning::Assert)
+        | Some(Meaning::Assume)
+        | Some(Meaning::Draw { .. })
+        | Some(Meaning::BuiltIn { .. }) => Ok(made(alloc, CoreExpr::FunctionName { line })?),
         Some(Meaning::Function { function }) => function_node(alloc, line, function, scope),
         Some(Meaning::Typedef { .. }) => Err(Broken::Rule { rule: 7 }),
         Some(Meaning::Enumerator { bits }) => Ok(made(alloc, character_node(line, bits))?),

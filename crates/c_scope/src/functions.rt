@@ -130,6 +130,13 @@ impl Functions {
         self.types.get(number as usize)
     }
 
+    /// The place of a function type among those of the file, or behind all where it is none of them.
+    pub fn type_place(&self, type_: &FunctionType) -> usize
+        ensures { result ≡ type_place self.now.types (view_function_type type_.now) }
+    {
+        place_in(&self.types, type_)
+    }
+
     /// The place of a function type among those of the file, of which it is one from now on.
     pub fn place_type(&mut self, type_: FunctionType) -> Result<u32, AllocError>
         requires { length self.old.types < 2 ^ 32 }

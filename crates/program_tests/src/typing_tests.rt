@@ -383,6 +383,12 @@ int f(int);int main(void){f;1,f;(void)f;return 0;}@
 int f(int);int main(void){return -f;}@1 7
 int f(int);int main(void){if(f);}@1 17
 int f(int);int main(void){return sizeof f;}@1 3
+int main(void){return sizeof assert;}@1 3
+int main(void){assert;(void)__CPROVER_assume;1,nondet_int;return 0;}@
+int main(void){return -nondet_int;}@1 7
+struct S{int a[2];};struct S f(void);int main(void){return sizeof(f().a,1)+sizeof(1?(f().a,1):2);}@
+struct S{int a[2];};struct S f(void);int main(void){$f().a,1;return 0;}@2 9
+struct S{int a[2];};struct S f(void);int main(void){return $sizeof(f().a+1);}@2 9
 int f(int);int main(void){int x=f;}@1 8
 int f(void);int main(void){for(f();f();f());}@
 int f(int a,char b);int main(void){return f(1,$f(2,3));}@
@@ -619,7 +625,7 @@ sizeof r.n@
 sizeof r@
 sizeof r.s@
 sizeof r.b@
-sizeof(m,1)@1 7
+sizeof(m,1)@
 sizeof r.d@1 11
 -r@1 7
 r+1@1 7

@@ -1,6 +1,6 @@
 -- The lines of typed expressions are those of their trees.
 use Rattle.std.proofs.Common.{ℕ, Bool, true, false, List, [], ◌∷◌, Option, Some, None, Result, Ok}
-use Rattle.std.specs.Prelude.{◌||◌, slice_get}
+use Rattle.std.specs.Prelude.{not, ◌||◌, ◌&&◌, slice_get}
 use Rattle.c_tree.specs.declared.expr.BinaryOp.{BinaryOp}
 use Rattle.c_tree.specs.declared.expr.BinaryOp.TheVariants as binaries
 use Rattle.c_tree.specs.declared.expr.UnaryOp.{UnaryOp}
@@ -200,10 +200,10 @@ module _ (P : ℕ → Type 0) where
   dropped_lined done (object line v offset t readonly) h = held_lined v line offset (size_of done t) h
   dropped_lined done (structure t a) h = h
 
-  used_good : (x : Operand) → InOperand x → Good InOperand (used x)
-  used_good (value e readonly) h = ok _ _ h
-  used_good (object line v offset t readonly) h = good_either _ (is_array t) _ _ (fails _ _) (ok _ _ h)
-  used_good (structure t a) h = good_either _ (is_array t) _ _ (fails _ _) (ok _ _ h)
+  used_good : (m w : Bool) (x : Operand) → InOperand x → Good InOperand (used m w x)
+  used_good m w (value e readonly) h = ok _ _ h
+  used_good m w (object line v offset t readonly) h = good_either _ ((not m || w) && is_array t) _ _ (fails _ _) (ok _ _ h)
+  used_good m w (structure t a) h = good_either _ ((not m || w) && is_array t) _ _ (fails _ _) (ok _ _ h)
 
   place_operand_lined : (line : ℕ) (v : Home) (offset : ℕ) (t : CType) (readonly : Bool) → P line → InOperand (place_operand line v offset t readonly)
   place_operand_lined line v offset ctypes.void readonly k = k
@@ -230,10 +230,10 @@ module _ (P : ℕ → Type 0) where
   name_good s line (Some (Variable v)) k = variable_good line v (slice_get s.variables v) k
   name_good s line (Some (Object n)) k = object_entry_good s.records.done line n (object_at s n) k
   name_good s line (Some Incomplete) k = fails _ _
-  name_good s line (Some Assert) k = fails _ _
-  name_good s line (Some Assume) k = fails _ _
-  name_good s line (Some (Draw t)) k = fails _ _
-  name_good s line (Some (BuiltIn b)) k = fails _ _
+  name_good s line (Some Assert) k = ok _ _ k
+  name_good s line (Some Assume) k = ok _ _ k
+  name_good s line (Some (Draw t)) k = ok _ _ k
+  name_good s line (Some (BuiltIn b)) k = ok _ _ k
   name_good s line (Some (Function f)) k = function_good line f (slice_get s.functions.all f) k
   name_good s line (Some (Typedef n)) k = fails _ _
   name_good s line (Some (Enumerator bits)) k = ok _ _ k
@@ -402,8 +402,8 @@ module _ (P : ℕ → Type 0) where
 
   -- ---- expressions
 
-  used_on_good : (line : ℕ) (typing : Result Operand Fault) → Good InOperand typing → Good InOperand (used_on line typing)
-  used_on_good line typing h = bind InOperand InOperand typing _ h (λ x g. on InOperand line (used x) (used_good x g))
+  used_on_good : (m w : Bool) (line : ℕ) (typing : Result Operand Fault) → Good InOperand typing → Good InOperand (used_on m w line typing)
+  used_on_good m w line typing h = bind InOperand InOperand typing _ h (λ x g. on InOperand line (used m w x) (used_good m w x g))
 
   abbrev Called : Option (ℕ × Meaning) → Type 0
   Called None = Unit {0}
@@ -445,45 +445,45 @@ module _ (P : ℕ → Type 0) where
   operand_size_good line done None typing k h = bind InOperand InOperand typing _ h (λ x g. pass InOperand (on_line line (operand_bytes done x)) _ (λ n. ok InOperand _ (sized_lined done line n x k g)))
 
   mutual
-    typed_good : (s : Scoped) (w : Bool) (e : Tree) → InTree P e → Good InOperand (typed s w e)
-    typed_good s w (constant line c) h = ok _ _ h
-    typed_good s w (character line bits) h = ok _ _ h
-    typed_good s w (strings line parts) h = fails _ _
-    typed_good s w (name line n) h = on InOperand line (name_node s line (meaning_of s.bindings n)) (name_good s line (meaning_of s.bindings n) h)
-    typed_good s w (parens line e) h = typed_good s w e h.1
-    typed_good s w (unary line op e) h = bind InOperand InOperand (used_on (bare_line e) (typed s true e)) _ (used_on_good (bare_line e) (typed s true e) (typed_good s true e h.1)) (λ x g. on InOperand line (unary_operand line op x) (unary_operand_good line op x h.0 g))
-    typed_good s w (cast line parts d e) h =
-        pass InOperand (type_name s parts d (lengths s d)) _ (λ t.
-        bind InOperand InOperand (used_on (bare_line e) (typed s (is_wanted t) e)) _ (used_on_good (bare_line e) (typed s (is_wanted t) e) (typed_good s (is_wanted t) e h.1)) (λ x g. on InOperand line (cast_operand s.records.done line t x) (cast_operand_good s.records.done line t x h.0 g)))
-    typed_good s w (sizeof_expr line e) h = operand_size_good line s.records.done (strings_of e) (typed s true e) h.0 (typed_good s true e h.1)
-    typed_good s w (sizeof_type line parts d) h = pass InOperand (type_name s parts d (lengths s d)) _ (λ t. pass InOperand (on_line line (type_size s.records.done t)) _ (λ n. ok InOperand _ h))
-    typed_good s w (step line op e) h = bind InOperand InOperand (used_on (bare_line e) (typed s true e)) _ (used_on_good (bare_line e) (typed s true e) (typed_good s true e h.1)) (λ x g. on InOperand (first_line e) (postfix_operand line op x) (postfix_operand_good line op x h.0 g))
-    typed_good s w (member line e n) h = bind InOperand InOperand (used_on (bare_line e) (typed s true e)) _ (used_on_good (bare_line e) (typed s true e) (typed_good s true e h.1)) (λ x g. on InOperand (first_line e) (member_node s line x n) (member_good s line x n h.0 g))
-    typed_good s w (binary line op a b) h =
-        bind InOperand InOperand (used_on (bare_line a) (typed s true a)) _ (used_on_good (bare_line a) (typed s true a) (typed_good s true a h.1)) (λ x g.
-        bind InOperand InOperand (used_on (bare_line b) (typed s true b)) _ (used_on_good (bare_line b) (typed s true b) (typed_good s true b h.2)) (λ y l. on InOperand (first_line a) (binary_operand line op x y) (binary_operand_good line op x y h.0 g l)))
-    typed_good s w (choice line test a b) h =
-        bind InOperand InOperand (used_on (bare_line test) (typed s true test)) _ (used_on_good (bare_line test) (typed s true test) (typed_good s true test h.1)) (λ x g.
-        bind InOperand InOperand (used_on (bare_line a) (typed s w a)) _ (used_on_good (bare_line a) (typed s w a) (typed_good s w a h.2)) (λ y l.
-        bind InOperand InOperand (used_on (bare_line b) (typed s w b)) _ (used_on_good (bare_line b) (typed s w b) (typed_good s w b h.3)) (λ z m. on InOperand (first_line test) (choice_operand s.records.done line x y z) (choice_operand_good s.records.done line x y z h.0 g l m))))
-    typed_good s w (assign line op a b) h =
-        bind InOperand InOperand (used_on (bare_line a) (typed s true a)) _ (used_on_good (bare_line a) (typed s true a) (typed_good s true a h.1)) (λ x g.
-        bind InOperand InOperand (used_on (bare_line b) (typed s true b)) _ (used_on_good (bare_line b) (typed s true b) (typed_good s true b h.2)) (λ y l. on InOperand (first_line a) (assign_operand s line op x y) (assign_operand_good s line op x y h.0 g l)))
-    typed_good s w (comma line a b) h =
-        bind InOperand InOperand (used_on (bare_line a) (typed s false a)) _ (used_on_good (bare_line a) (typed s false a) (typed_good s false a h.1)) (λ x g.
-        bind InOperand InOperand (used_on (bare_line b) (typed s w b)) _ (used_on_good (bare_line b) (typed s w b) (typed_good s w b h.2)) (λ y l. ok InOperand _ (comma_lined s.records.done line x y h.0 g l)))
-    typed_good s w (call f arguments) h =
-        bind Called InOperand (callee s f (used_on (bare_line f) (typed s true f))) _ (callee_good s f (used_on (bare_line f) (typed s true f)) h.0) (λ m g.
-        bind InOperands InOperand (typed_arguments s arguments) _ (arguments_good s arguments h.1) (λ xs l. on InOperand (first_line f) (called s (is_used f w) m xs) (called_good s (is_used f w) m xs g l)))
+    typed_good : (s : Scoped) (m w : Bool) (e : Tree) → InTree P e → Good InOperand (typed s m w e)
+    typed_good s m w (constant line c) h = ok _ _ h
+    typed_good s m w (character line bits) h = ok _ _ h
+    typed_good s m w (strings line parts) h = fails _ _
+    typed_good s m w (name line n) h = on InOperand line (name_node s line (meaning_of s.bindings n)) (name_good s line (meaning_of s.bindings n) h)
+    typed_good s m w (parens line e) h = typed_good s m w e h.1
+    typed_good s m w (unary line op e) h = bind InOperand InOperand (used_on m true (bare_line e) (typed s m true e)) _ (used_on_good m true (bare_line e) (typed s m true e) (typed_good s m true e h.1)) (λ x g. on InOperand line (unary_operand line op x) (unary_operand_good line op x h.0 g))
+    typed_good s m w (cast line parts d e) h =
+        pass InOperand (type_name s parts d (lengths s m d)) _ (λ t.
+        bind InOperand InOperand (used_on m (is_wanted t) (bare_line e) (typed s m (is_wanted t) e)) _ (used_on_good m (is_wanted t) (bare_line e) (typed s m (is_wanted t) e) (typed_good s m (is_wanted t) e h.1)) (λ x g. on InOperand line (cast_operand s.records.done line t x) (cast_operand_good s.records.done line t x h.0 g)))
+    typed_good s m w (sizeof_expr line e) h = operand_size_good line s.records.done (strings_of e) (typed s true true e) h.0 (typed_good s true true e h.1)
+    typed_good s m w (sizeof_type line parts d) h = pass InOperand (type_name s parts d (lengths s true d)) _ (λ t. pass InOperand (on_line line (type_size s.records.done t)) _ (λ n. ok InOperand _ h))
+    typed_good s m w (step line op e) h = bind InOperand InOperand (used_on m true (bare_line e) (typed s m true e)) _ (used_on_good m true (bare_line e) (typed s m true e) (typed_good s m true e h.1)) (λ x g. on InOperand (first_line e) (postfix_operand line op x) (postfix_operand_good line op x h.0 g))
+    typed_good s m w (member line e n) h = bind InOperand InOperand (used_on m true (bare_line e) (typed s m true e)) _ (used_on_good m true (bare_line e) (typed s m true e) (typed_good s m true e h.1)) (λ x g. on InOperand (first_line e) (member_node s line x n) (member_good s line x n h.0 g))
+    typed_good s m w (binary line op a b) h =
+        bind InOperand InOperand (used_on m true (bare_line a) (typed s m true a)) _ (used_on_good m true (bare_line a) (typed s m true a) (typed_good s m true a h.1)) (λ x g.
+        bind InOperand InOperand (used_on m true (bare_line b) (typed s m true b)) _ (used_on_good m true (bare_line b) (typed s m true b) (typed_good s m true b h.2)) (λ y l. on InOperand (first_line a) (binary_operand line op x y) (binary_operand_good line op x y h.0 g l)))
+    typed_good s m w (choice line test a b) h =
+        bind InOperand InOperand (used_on m true (bare_line test) (typed s m true test)) _ (used_on_good m true (bare_line test) (typed s m true test) (typed_good s m true test h.1)) (λ x g.
+        bind InOperand InOperand (used_on m w (bare_line a) (typed s m w a)) _ (used_on_good m w (bare_line a) (typed s m w a) (typed_good s m w a h.2)) (λ y l.
+        bind InOperand InOperand (used_on m w (bare_line b) (typed s m w b)) _ (used_on_good m w (bare_line b) (typed s m w b) (typed_good s m w b h.3)) (λ z k. on InOperand (first_line test) (choice_operand s.records.done line x y z) (choice_operand_good s.records.done line x y z h.0 g l k))))
+    typed_good s m w (assign line op a b) h =
+        bind InOperand InOperand (used_on m true (bare_line a) (typed s m true a)) _ (used_on_good m true (bare_line a) (typed s m true a) (typed_good s m true a h.1)) (λ x g.
+        bind InOperand InOperand (used_on m true (bare_line b) (typed s m true b)) _ (used_on_good m true (bare_line b) (typed s m true b) (typed_good s m true b h.2)) (λ y l. on InOperand (first_line a) (assign_operand s line op x y) (assign_operand_good s line op x y h.0 g l)))
+    typed_good s m w (comma line a b) h =
+        bind InOperand InOperand (used_on m false (bare_line a) (typed s m false a)) _ (used_on_good m false (bare_line a) (typed s m false a) (typed_good s m false a h.1)) (λ x g.
+        bind InOperand InOperand (used_on m w (bare_line b) (typed s m w b)) _ (used_on_good m w (bare_line b) (typed s m w b) (typed_good s m w b h.2)) (λ y l. ok InOperand _ (comma_lined s.records.done line x y h.0 g l)))
+    typed_good s m w (call f arguments) h =
+        bind Called InOperand (callee s f (used_on m true (bare_line f) (typed s m true f))) _ (callee_good s f (used_on m true (bare_line f) (typed s m true f)) h.0) (λ meaning g.
+        bind InOperands InOperand (typed_arguments s m arguments) _ (arguments_good s m arguments h.1) (λ xs l. on InOperand (first_line f) (called s (is_used f w) meaning xs) (called_good s (is_used f w) meaning xs g l)))
 
-    arguments_good : (s : Scoped) (es : Trees) → InTrees P es → Good InOperands (typed_arguments s es)
-    arguments_good s none h = ok InOperands _ tt
-    arguments_good s (more first rest) h =
-        bind InOperand InOperands (used_on (bare_line first) (typed s true first)) _ (used_on_good (bare_line first) (typed s true first) (typed_good s true first h.0)) (λ x g.
-        bind InOperands InOperands (typed_arguments s rest) _ (arguments_good s rest h.1) (λ xs l. ok InOperands _ (g, l)))
+    arguments_good : (s : Scoped) (m : Bool) (es : Trees) → InTrees P es → Good InOperands (typed_arguments s m es)
+    arguments_good s m none h = ok InOperands _ tt
+    arguments_good s m (more first rest) h =
+        bind InOperand InOperands (used_on m true (bare_line first) (typed s m true first)) _ (used_on_good m true (bare_line first) (typed s m true first) (typed_good s m true first h.0)) (λ x g.
+        bind InOperands InOperands (typed_arguments s m rest) _ (arguments_good s m rest h.1) (λ xs l. ok InOperands _ (g, l)))
 
   pub operand_by_good : (s : Scoped) (w : Bool) (e : Tree) → InTree P e → Good InOperand (operand_by s w e)
-  operand_by_good s w e h = used_on_good (bare_line e) (typed s w e) (typed_good s w e h)
+  operand_by_good s w e h = used_on_good false w (bare_line e) (typed s false w e) (typed_good s false w e h)
 
   pub operand_good : (s : Scoped) (e : Tree) → InTree P e → Good InOperand (operand s e)
   operand_good s e h = operand_by_good s true e h

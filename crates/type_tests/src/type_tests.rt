@@ -339,3 +339,51 @@ fn members_of_more_types(rt: HostRuntime) -> Result<(), Fail> {
     assert!(rt; same(type_, &Ty::Record(last)) && offset == 48);
     Ok(())
 }
+
+/// The second struct, with a pointer to itself, which isn't complete yet, and an array of pointers to const char.
+fn linked(alloc: Global, layouts: &mut Layouts) -> Result<u32, Fail> {
+    let next = Ty::pointer(alloc, Ty::Record(1), false)?;
+    let text = Ty::pointer(alloc, CHAR, true)?;
+    let texts = Ty::array(alloc, text, 2, layouts)?;
+    let made = structure(alloc, layouts, vec![in alloc; CHAR, next, texts]?)?;
+    Ok(made)
+}
+
+#[test]
+fn pointers_are_words(rt: HostRuntime) -> Result<(), Fail> {
+    let alloc = rt.alloc();
+    let mut all = Layouts::new(alloc);
+    let open = all.declare(RecordKind::Struct)?;
+    let node = linked(alloc, &mut all)?;
+    assert!(rt; node == 1);
+    let expected = [(node, "32 8 [0, 8, 16]")];
+    assert_eq!(rt; wrong_layout(alloc, &all, &expected)?, None);
+    let nothing = Ty::pointer(alloc, Ty::Void, false)?;
+    let hidden = Ty::pointer(alloc, Ty::Record(open), false)?;
+    let called = Ty::pointer(alloc, Ty::Function(0), false)?;
+    let rows = [
+        (Ty::Record(node), "0:1 8:8 16:8 24:8 "),
+        (nothing, "0:8 "),
+        (hidden, "0:8 "),
+        (called, "0:8 "),
+        (Ty::Function(0), ""),
+    ];
+    assert_eq!(rt; wrong_cells(alloc, &all, &rows)?, None);
+    assert!(rt; sized(&Ty::Function(0), &all).is_none());
+    Ok(())
+}
+
+#[test]
+fn pointers_are_one_by_what_they_point_to(rt: HostRuntime) -> Result<(), Fail> {
+    let alloc = rt.alloc();
+    let free = Ty::pointer(alloc, INT, false)?;
+    let fixed = Ty::pointer(alloc, INT, true)?;
+    assert!(rt; same(&free, &free.copied()?) && !same(&free, &fixed) && !same(&free, &LONG));
+    let outer = Ty::pointer(alloc, free, false)?;
+    let other = Ty::pointer(alloc, fixed, false)?;
+    assert!(rt; same(&outer, &outer.copied()?) && !same(&outer, &other));
+    let called = Ty::pointer(alloc, Ty::Function(1), false)?;
+    let again = Ty::pointer(alloc, Ty::Function(1), false)?;
+    assert!(rt; same(&called, &again) && !same(&Ty::Function(1), &Ty::Function(2)));
+    Ok(())
+}

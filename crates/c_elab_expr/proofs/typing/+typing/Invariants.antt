@@ -7,11 +7,11 @@ use Rattle.c_elab_expr.proofs.Arguments.{front}
 use Rattle.c_elab_expr.proofs.typing.+typing.Given as goal
 
 abbrev pub invariant-typed_arguments-loop-expr : goal.invariant-typed_arguments-loop-expr
-invariant-typed_arguments-loop-expr l = front (map view_operand l.arguments.items) (typed_arguments l.scope (trees (drop l.expr-index l.exprs))) ≡ typed_arguments l.scope (trees l.exprs)
+invariant-typed_arguments-loop-expr l = front (map view_operand l.arguments.items) (typed_arguments l.scope l.measured (trees (drop l.expr-index l.exprs))) ≡ typed_arguments l.scope l.measured (trees l.exprs)
 
 abbrev pub invariant-add_suffixes-loop-suffix : goal.invariant-add_suffixes-loop-suffix
 invariant-add_suffixes-loop-suffix l =
-    behind l.found.items (suffix_lengths l.scope (suffixes_of (drop l.suffix-index l.suffixes))) ≡ behind l.initial.found.items (suffix_lengths l.scope (suffixes_of l.suffixes))
+    behind l.found.items (suffix_lengths l.scope l.measured (suffixes_of (drop l.suffix-index l.suffixes))) ≡ behind l.initial.found.items (suffix_lengths l.scope l.measured (suffixes_of l.suffixes))
 
 abbrev pub decreases-typed_expr : goal.decreases-typed_expr
 decreases-typed_expr l = 9 * depth (tree l.expr.now)
@@ -25,8 +25,8 @@ decreases-operand_size l = 9 * depth (tree l.operand.now) + 1
 abbrev pub decreases-typed_arguments : goal.decreases-typed_arguments
 decreases-typed_arguments l = 9 * depth_of (trees l.exprs.now) + 3
 
-abbrev pub decreases-bound : goal.decreases-bound
-decreases-bound l = 9 * depth (tree l.expr.now) + 3
+abbrev pub decreases-bound_in : goal.decreases-bound_in
+decreases-bound_in l = 9 * depth (tree l.expr.now) + 3
 
 abbrev pub decreases-add_suffix : goal.decreases-add_suffix
 decreases-add_suffix l = 9 * suffixes_depth (view_suffix l.suffix.now no_suffix) + 4

@@ -1,4 +1,4 @@
-use Rattle.std.proofs.Common.{◌≡◌, ◌≤◌, length, Bool, true, Result, Ok, Err}
+use Rattle.std.proofs.Common.{◌≡◌, ◌≤◌, length, Bool, true, false, Result, Ok, Err}
 use Rattle.std.specs.Prelude.{IfOk}
 use Rattle.c_types.specs.Layouts.{IsBuilt}
 use Rattle.c_tree.specs.Tree.{Tree}
@@ -12,9 +12,9 @@ use Rattle.c_elab_expr.specs.Typing.{typed}
 use Rattle.c_elab_expr.proofs.WellTyped.{well_typed}
 use Rattle.c_elab_expr.proofs.typing.typed_by.Goals as goal
 
-by_result : (scope : Scoped) (w : Bool) (t : Tree) (r : Result CoreOperand TypingError) → are_known scope ≡ true → 9 ≤ length scope.types → IsBuilt scope.records.done → Gives view_operand r (typed scope w t)
+by_result : (scope : Scoped) (w : Bool) (t : Tree) (r : Result CoreOperand TypingError) → are_known scope ≡ true → 9 ≤ length scope.types → IsBuilt scope.records.done → Gives view_operand r (typed scope false w t)
     → IfOk r (λ c. is_typed_operand scope (view_operand c) ≡ true)
-by_result scope w t (Ok c) h g built e = well_typed scope built w t (view_operand c) e
+by_result scope w t (Ok c) h g built e = well_typed scope built false w t (view_operand c) e
 by_result scope w t (Err f) h g built e = tt
 
 pub returns-clause-typed : goal.returns-clause-typed
