@@ -10,7 +10,7 @@ ghost use Rattle.c_tasks.specs.Tasks.{items_in, values_in, structures_in, open_i
 ghost use Rattle.c_interp.specs.Keeps.{holds_bytes};
 
 use crate::plan::plan_task;
-use actions::{Action, Answer, Bytes, Cells, Machine, Next, Object};
+use actions::{Action, Answer, Bytes, Machine, Next, Object};
 use c_changes::{
     answer_task, change_numbers, change_structures, change_tasks, change_variables,
     close_activation, cut_items, first_left, open_activation, push_back,
@@ -26,9 +26,6 @@ use c_values::{Number, low_bytes};
 use core_tree::{Bounds, Function, Literal, StaticObject, Variable};
 use std::alloc::{AllocError, Global};
 use words::Word;
-
-/// The greatest size of an object.
-const MOST_BYTES: usize = 4_294_967_295;
 
 /// A thread of the typed source: the functions, the static objects and the literals of the file, whether
 /// forms over pointers may stand in it, the bounds of a command, the function that it runs, how many more
@@ -65,7 +62,7 @@ pub struct Thread<'a> {
 impl<'a> Thread<'a> {
     ghost use Rattle.std.specs.Prelude.{◌≡◌, ◌<◌, ◌≤◌, ◌+◌, ◌^◌, true, false, [], Some, length, slice_get, IfOk, OnOk, OnErr, MatchOption, vec_len, vec_capacity};
     ghost use Rattle.actions.specs.Behaviour.{accepts, answered};
-    ghost use Rattle.actions.specs.StoredObject.{stored};
+    ghost use Rattle.c_values.specs.MadeObjects.{made_of};
     ghost use Rattle.core_tree.specs.Typed.{are_typed, have_small};
     ghost use Rattle.core_tree.specs.Trees.{core_file, view_function, view_functions, view_core};
     ghost use Rattle.c_values.specs.Variables.{block_of};
@@ -361,40 +358,21 @@ impl<'a> Thread<'a> {
         }
     }
 
-    // An object with these bytes, so many as the size says.
-    fn object(&self, size: u32, readonly: bool, heap: bool, bytes: Bytes) -> Object
-        requires { length bytes ≡ size }
-        ensures { result ≡ stored size [] true readonly heap bytes }
-    {
-        Object {
-            size,
-            cells: Cells::new(Vec::new(self.alloc)),
-            live: true,
-            readonly,
-            heap,
-            bytes,
-        }
-    }
-
     // The object that a variable becomes.
     fn placed(&self, variable: usize) -> Result<Object, AllocError>
-        ensures { IfOk result (λ o. o ≡ stored (length (block_of (self.now).variables.items variable)) [] true (readonly_of (running_under self.now) variable) false (block_of (self.now).variables.items variable)) }
+        ensures { IfOk result (λ o. o ≡ made_of (readonly_of (running_under self.now) variable) false (block_of (self.now).variables.items variable)) }
     {
         let bytes = copied_block(self.alloc, self.variables.as_slice(), variable)?;
         let found = variable_of(self.functions, self.function, variable);
-        Ok(self.object(found.size, found.readonly, false, bytes))
+        c_values::made_of(self.alloc, found.readonly, false, bytes)
     }
 
-    // The object that an allocation makes of the structure value on top, which has fewer than 2 ^ 32 bytes.
+    // The object that an allocation makes of the structure value on top.
     fn allocated(&self) -> Result<Object, AllocError>
-        ensures { IfOk result (λ o. o ≡ stored (length (top_bytes (structures_in (self.now).structures.items))) [] true false true (top_bytes (structures_in (self.now).structures.items))) }
+        ensures { IfOk result (λ o. o ≡ made_of false true (top_bytes (structures_in (self.now).structures.items))) }
     {
         let bytes = self.top_bytes()?;
-        let size = bytes.as_slice().len();
-        if size > MOST_BYTES {
-            return Err(AllocError);
-        }
-        Ok(self.object(size as u32, false, true, bytes))
+        c_values::made_of(self.alloc, false, true, bytes)
     }
 
     // The action that is asked for.

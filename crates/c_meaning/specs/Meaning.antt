@@ -24,9 +24,9 @@ use Rattle.actions.specs.declared.action.Next.{Next}
 use Rattle.actions.specs.declared.action.Next.TheVariants.{Act, Ended, Blocked, Broken}
 use Rattle.actions.specs.Behaviour.{Behaviour, shape_of, has_shape, word_64}
 use Rattle.actions.specs.Pointer.{object_of, offset_of}
-use Rattle.actions.specs.StoredObject.{stored}
 use Rattle.c_values.specs.Pointers.{pointer_at, further, in_range, offset_by, elements_between}
 use Rattle.c_values.specs.Variables.{Variables, low_bytes, put_at, zeros, number_of, number_at, pointer_to, word_count, drawn_count, block_of, put_bytes, cleared, read_variable, write_variable, first_variables}
+use Rattle.c_values.specs.MadeObjects.{made_of}
 
 -- what a function hands over at its end: nothing, the bits of a number, or the bytes of a structure value
 pub data Given : Type 0 where
@@ -312,7 +312,7 @@ module _ (running : Running) where
   abbrev pub places : Option ℕ → (line v : ℕ) → Variables → (Variables → Behaviour) → Behaviour
   places None line v vs follows = follows vs
   places (Some h) line v vs follows =
-      ask (Alloc (stored (length (block_of vs v)) [] true (readonly_of v) false (block_of vs v))) line (λ a. follows (write_variable vs h 0 UnsignedLong (pointer_to (number_in a) 0)))
+      ask (Alloc (made_of (readonly_of v) false (block_of vs v))) line (λ a. follows (write_variable vs h 0 UnsignedLong (pointer_to (number_in a) 0)))
 
   -- its first bytes are drawn, or 0, and then it is placed
   abbrev pub makes : (is_drawn : Bool) → (line v : ℕ) → Variables → (Variables → Behaviour) → Behaviour
@@ -371,7 +371,7 @@ module _ (running : Running) where
 
   -- an object with these bytes; its pointer goes to what follows
   abbrev pub allocates : (line : ℕ) → List ℕ → (ℕ → Behaviour) → Behaviour
-  allocates line new follows = ask (Alloc (stored (length new) [] true false true new)) line (λ a. follows (pointer_to (number_in a) 0))
+  allocates line new follows = ask (Alloc (made_of false true new)) line (λ a. follows (pointer_to (number_in a) 0))
 
   -- a size above the limit breaks a check
   abbrev pub unless_large : (size line : ℕ) → Behaviour → Behaviour

@@ -13,11 +13,11 @@ use Rattle.actions.specs.declared.action.Action.{Action}
 use Rattle.actions.specs.declared.action.Action.TheVariants.{Read, Write, Look, Draw, Alloc, Die, Free, End, Exit}
 use Rattle.actions.specs.declared.action.Answer.{Answer}
 use Rattle.actions.specs.Pointer.{object_of, offset_of}
-use Rattle.actions.specs.StoredObject.{stored}
 use Rattle.c_values.specs.Pointers.{pointer_at, further, in_range, offset_by, elements_between}
 use Rattle.c_values.specs.Variables.{Variables, low_bytes, put_at, zeros, number_of, number_at, pointer_to, word_count, drawn_count, block_of, put_bytes, cleared, write_variable, first_variables}
 use Rattle.c_meaning.specs.Meaning.{Given, nothing, number, structure, value_of, Code, integer_of, number_type, decides, drawn, bytes_in, number_in, size_in, place_line, has_case, has_default, size_of, readonly_of, home_of, held_pointer, variable_of, in_variable, range_class, sizes_of, body_of, variables_of, opened}
 use Rattle.c_values.specs.Numbers.{TypedNumber, typed}
+use Rattle.c_values.specs.MadeObjects.{made_of}
 use Rattle.c_tasks.specs.Items.{top, rest, second, top_bytes, rest_bytes, second_bytes, Active, active, back, running_of, Wanted, wants_number, wants_structure, wants_end, line_of, by_nothing, by_number, by_structure, Way, by_break, by_continue, by_jump, by_return, given_by, values_under, structures_under, blocks_on, Loop, loop_of, Item, evaluates, converts, signs, negates, operates, compares, decides_on, tests, chooses, retypes, drops, passes, asserts, assumes, locates, reaches, elements, loads, stores, rewrites, updates, combines, steps, increments, looks, lands, shifts, paces, advances, arrives, measures, orders, claims, tries, admits, draws, makes, releases, quits, evaluates_structure, picks, discards, discards_structure, chooses_structure, copies, stores_structure, passes_structure, cuts, lists, places_number, places_structure, runs, branches, divides, enters, goes_on, ends_block, leaves, fills, settles, initial, initial_structure, dies, enters_parameters, ends_parameters, leaves_parameters, gathers, adds_number, resumes, goes_out, gets, turns, retests, repeats, loops, selects, switches, strays, ending, ended, State, state, base, index_number}
 
 -- a silent step to another state; an action with the state after each answer; or the thread breaks a check, is blocked or has ended with a value
@@ -279,7 +279,7 @@ module _ (code : Code) (first limited : Bool) where
   abbrev pub move_settle : Option ℕ → (line v : ℕ) → List Item → Active → List TypedNumber → List (List ℕ) → Variables → Move
   move_settle None line v is r xs bs vs = silent (state is r xs bs vs)
   move_settle (Some h) line v is r xs bs vs =
-      asks (Alloc (stored (length (block_of vs v)) [] true (readonly_of (running_of code r) v) false (block_of vs v))) line (λ a. state is r xs bs (write_variable vs h 0 UnsignedLong (pointer_to (number_in a) 0)))
+      asks (Alloc (made_of (readonly_of (running_of code r) v) false (block_of vs v))) line (λ a. state is r xs bs (write_variable vs h 0 UnsignedLong (pointer_to (number_in a) 0)))
 
   abbrev pub move_initial : Option ℕ → (v : ℕ) → List ℕ → (line : ℕ) → Active → Variables → (Variables → State) → Move
   move_initial None v new line r vs next = silent (next (put_bytes vs v 0 new))
@@ -398,7 +398,7 @@ module _ (code : Code) (first limited : Bool) where
   move_item (admits line zeroed) is r xs bs vs = move_admission line zeroed is r xs bs vs
   move_item (draws words size line) is r xs bs vs = move_draw words size line is r xs bs vs
   move_item (makes line) is r xs bs vs =
-      asks (Alloc (stored (length (top_bytes bs)) [] true false true (top_bytes bs))) line (λ a. state is r (typed UnsignedLong (pointer_to (number_in a) 0) ∷ rest xs) (rest_bytes bs) vs)
+      asks (Alloc (made_of false true (top_bytes bs))) line (λ a. state is r (typed UnsignedLong (pointer_to (number_in a) 0) ∷ rest xs) (rest_bytes bs) vs)
   move_item (releases line) is r xs bs vs =
       let next = state is r (typed Int 0 ∷ rest xs) bs vs in if (top xs).bits == 0 then silent next else asks (Free (top xs).bits) line (λ a. next)
   move_item (quits line) is r xs bs vs = asks Exit line (λ a. state (ended 0 ∷ is) r xs bs vs)

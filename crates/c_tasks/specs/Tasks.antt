@@ -6,7 +6,6 @@ use Rattle.actions.specs.declared.action.Answer.{Answer}
 use Rattle.actions.specs.declared.action.Next.{Next}
 use Rattle.actions.specs.declared.action.Next.TheVariants.{Act, Ended, Blocked, Broken}
 use Rattle.actions.specs.Behaviour.{shape_of, has_shape, word_64}
-use Rattle.actions.specs.StoredObject.{stored}
 use Rattle.c_types.specs.declared.integers.IntegerType.TheVariants.{UnsignedLong}
 use Rattle.c_types.specs.Integers.{bytes}
 use Rattle.core_tree.specs.Operations.{step_operation}
@@ -44,6 +43,7 @@ use Rattle.c_tasks.specs.declared.task.Halt.{Halt}
 use Rattle.c_tasks.specs.declared.task.Halt.TheVariants as halt
 use Rattle.c_values.specs.Variables.{Variables, low_bytes, put_at, put_bytes, block_of, cleared, first_variables}
 use Rattle.c_values.specs.Numbers.{TypedNumber}
+use Rattle.c_values.specs.MadeObjects.{made_of}
 use Rattle.c_meaning.specs.Meaning.{Running, readonly_of, sizes_of as sizes_in, body_of, variables_of, total, opened}
 use Rattle.c_tasks.specs.Items.{top, rest, top_bytes, rest_bytes, second_bytes, Active, active, back, Wanted, wants_number, wants_structure, wants_end, Handed, by_nothing, by_number, by_structure, Way, by_break, by_continue, by_jump, by_return, blocks_on, Loop, loop_of, Item, evaluates, converts, signs, negates, operates, compares, decides_on, tests, chooses, retypes, drops, passes, asserts, assumes, locates, reaches, elements, loads, stores, rewrites, updates, combines, steps, increments, looks, lands, shifts, paces, advances, arrives, measures, orders, claims, tries, admits, draws, makes, releases, quits, evaluates_structure, picks, discards, discards_structure, chooses_structure, copies, stores_structure, passes_structure, cuts, lists, places_number, places_structure, runs, branches, divides, enters, goes_on, ends_block, leaves, fills, settles, initial, initial_structure, dies, enters_parameters, ends_parameters, leaves_parameters, gathers, adds_number, resumes, goes_out, gets, turns, retests, repeats, loops, selects, switches, strays, ending, ended, State, state}
 use Rattle.c_tasks.specs.Fits.{sizes_of, rest_sizes, has_top}
@@ -287,8 +287,8 @@ action_of running xs bs vs (request.Read p n) = actions.Read p n
 action_of running xs bs vs (request.WriteNumber p t first) = actions.Write p (low_bytes (bytes t) (top xs).bits) first
 action_of running xs bs vs (request.WriteStructure p first) = actions.Write p (top_bytes bs) first
 action_of running xs bs vs (request.Look p is_element) = actions.Look p is_element
-action_of running xs bs vs (request.Place v) = actions.Alloc (stored (length (block_of vs v)) [] true (readonly_of running v) false (block_of vs v))
-action_of running xs bs vs request.Allocate = actions.Alloc (stored (length (top_bytes bs)) [] true false true (top_bytes bs))
+action_of running xs bs vs (request.Place v) = actions.Alloc (made_of (readonly_of running v) false (block_of vs v))
+action_of running xs bs vs request.Allocate = actions.Alloc (made_of false true (top_bytes bs))
 action_of running xs bs vs (request.Die n) = actions.Die n
 action_of running xs bs vs (request.Free p) = actions.Free p
 action_of running xs bs vs (request.End x) = actions.End x

@@ -1,3 +1,4 @@
 pub mod Variables
 pub mod Numbers
 pub mod Pointers
+pub mod MadeObjects

@@ -14,7 +14,8 @@ use Rattle.core_tree.specs.Trees.{Place, element, subscript, Expression, sum, St
 use Rattle.core_tree.specs.Typed.{is_structure, sizes_of_variables, are_small, have_small}
 use Rattle.core_tree.specs.Operations.{is_true, converted, arithmetic_check, sign_check}
 use Rattle.actions.specs.ByteList.{are_bytes}
-use Rattle.actions.specs.StoredObject.{CanBeMade, made_without_cells}
+use Rattle.actions.specs.StoredObject.{CanBeMade}
+use Rattle.c_values.proofs.MadeObjects.{made_can_be}
 use Rattle.actions.specs.Behaviour.{shape_of, has_shape, made_by}
 use Rattle.actions.specs.declared.action.Action.TheVariants.{End, Exit}
 use Rattle.actions.specs.declared.action.Answer.{Answer}
@@ -23,17 +24,17 @@ use Rattle.c_values.specs.Pointers.{in_range, offset_by}
 use Rattle.c_values.specs.Variables.{Variables, low_bytes, put_at, zeros, drawn_count, pointer_to, block_of, put_bytes, cleared, first_variables}
 use Rattle.c_values.specs.Numbers.{TypedNumber, typed}
 use Rattle.c_meaning.specs.Meaning as meaning
-use Rattle.c_meaning.specs.Meaning.{Given, Code, decides, bytes_in, drawn, number_in, place_line, variable_of, home_of, readonly_of, body_of, variables_of, has_case, has_default}
+use Rattle.c_meaning.specs.Meaning.{Given, Code, decides, bytes_in, drawn, number_in, place_line, variable_of, home_of, readonly_of, variables_of, has_case, has_default}
 use Rattle.c_meaning.specs.Source.{code_of}
 use Rattle.c_meaning.proofs.Holding.{left_of, right_of, both}
 use Rattle.c_tasks.specs.Items.{top, rest, second, top_bytes, rest_bytes, second_bytes, Active, running_of, base, index_number, Wanted, wants_number, wants_structure, wants_end, line_of, Handed, by_nothing, by_number, by_structure, Way, by_break, by_continue, by_jump, by_return, given_by, values_under, structures_under, blocks_on, Loop, Item, evaluates, signs, operates, decides_on, drops, asserts, assumes, locates, elements, loads, stores, rewrites, updates, combines, steps, increments, looks, lands, shifts, paces, advances, arrives, measures, orders, claims, tries, admits, draws, makes, releases, quits, evaluates_structure, picks, discards_structure, copies, stores_structure, cuts, lists, places_number, places_structure, runs, branches, enters, goes_on, ends_block, leaves, fills, settles, initial, initial_structure, dies, enters_parameters, ends_parameters, leaves_parameters, gathers, adds_number, resumes, goes_out, gets, turns, retests, repeats, loops, selects, switches, strays, ending, ended, State, state}
-use Rattle.c_tasks.specs.Fits.{top_size, has_top, sizes_of, types_of, sizes_for, variables_at, fits, Fits, IsSized}
+use Rattle.c_tasks.specs.Fits.{sizes_of, types_of, sizes_for, variables_at, fits, Fits, IsSized}
 use Rattle.c_tasks.specs.Steps.{Move, silent, asks, breaks, blocks, ends, behind_label, behind_case, behind_default, part_items, jumped, out_of, unless_stopped, move_bytes, move_put, move_pointer, move_place, move_expression, move_structure, move_parts, move_statement, move_fill, move_entry, move_settle, move_initial, move_death, move_end, move_parameters, move_last, move_claim, move_admission, move_draw, move_items, move_turn, move_test, move_body, move_arguments, move_given, move_item, move}
 use Rattle.c_tasks.specs.declared.task.Change.{Change}
 use Rattle.c_tasks.specs.Tasks.{behind, changed, Accepts, Answers}
-use Rattle.c_tasks.proofs.Sizes.{block_size, top_of_sizes}
+use Rattle.c_tasks.proofs.Sizes.{block_size}
 use Rattle.c_interp.specs.Keeps.{are_blocks, are_saved, holds_bytes, HoldsBytes}
-use Rattle.c_interp.specs.inner.Blocks.{joined_bytes, zero_bytes, number_bytes, placed_bytes, read_bytes, block_bytes, part_bytes, written_blocks, cleared_blocks, joined_blocks, first_blocks, left_blocks, argument_blocks, top_block, rest_blocks, second_block, held_structures, held_variables, held_saved, all_held, with_structures, with_variables, with_block, with_top, without_top}
+use Rattle.c_interp.specs.inner.Blocks.{joined_bytes, zero_bytes, number_bytes, placed_bytes, read_bytes, part_bytes, written_blocks, cleared_blocks, joined_blocks, first_blocks, left_blocks, argument_blocks, top_block, rest_blocks, second_block, held_structures, held_variables, held_saved, all_held, with_structures, with_variables, with_block, with_top, without_top}
 use Rattle.actions.proofs.ByteLists.{are_bytes-part}
 
 -- ---- sizes
@@ -229,7 +230,7 @@ module _ (file : TypedFile) (limits : Limits) (first : Bool) (all_small : have_s
     settle_held : (home : Option ℕ) (line v : ℕ) → length (block_of vs v) < 2 ^ 32 → KeepsBytes (move_settle code first true home line v is r xs bs vs)
     settle_held None line v small = h
     settle_held (Some home) line v small = (
-      made_without_cells (length (block_of vs v)) true (readonly_of (running_of code r) v) false (block_of vs v) refl small (block_bytes vs v (held_variables is bs vs h)),
+      made_can_be (readonly_of (running_of code r) v) false (block_of vs v),
       λ a shape. let new = low_bytes (bytes UnsignedLong) (pointer_to (number_in a) 0) in with_variables is bs vs (put_bytes vs home 0 new) h (written_blocks vs home 0 new (held_variables is bs vs h) (number_bytes (bytes UnsignedLong) (pointer_to (number_in a) 0))),
     )
 
@@ -371,13 +372,10 @@ module _ (file : TypedFile) (limits : Limits) (first : Bool) (all_small : have_s
     item_held (tries line zeroed) t h = either (is_true (top xs).bits) _ _ h h
     item_held (admits line zeroed) t h = admission_held is r xs bs vs h line zeroed
     item_held (draws words size line) t h = draw_held is r xs bs vs h words size line
-    item_held (makes line) t h =
-        let there = has_top (sizes_of bs) in
-        let few = nat_lt (top_size (sizes_of bs)) (2 ^ 31) in
-        let small : top_size (sizes_of bs) < 2 ^ 31 = from_below (top_size (sizes_of bs)) (2 ^ 31) (right_of there few (left_of (there && few) _ t)) in (
-          made_without_cells (length (top_bytes bs)) true false true (top_bytes bs) refl (omega (arith, small, top_of_sizes bs)) (top_block bs (held_structures is bs vs h)),
-          λ a shape. without_top is bs vs h,
-        )
+    item_held (makes line) t h = (
+      made_can_be false true (top_bytes bs),
+      λ a shape. without_top is bs vs h,
+    )
     item_held (releases line) t h = chosen ((top xs).bits == 0) _ _ h (tt, λ a shape. h)
     item_held (quits line) t h = (tt, λ a shape. h)
     item_held (evaluates_structure a) t h = structure_held is r xs bs vs h a (left_of (is_structure (sizes_for file r.function) a) _ t)
