@@ -1,104 +1,155 @@
 -- The steps of replacing a text.
-use Rattle.std.proofs.Common.{◌≡◌, ◌<◌, ◌+◌, ℕ, length, arith, List, [], ◌∷◌, ◌++◌, Option, Some, None, refl, sym, ap, subst, ◌∙◌}
+use Rattle.std.proofs.Common.{◌≡◌, ◌<◌, ◌≤◌, ◌+◌, ℕ, zero, suc, length, arith, List, [], ◌∷◌, ◌++◌, Option, Some, None, nat_eq, refl, sym, ap, subst, inl, inr, ◌∙◌}
+use Rattle.std.specs.Prelude.{Bool, true, cond}
+use Rattle.std.specs.Str.{bytes_eq}
+use Rattle.std.specs.List.{list_any}
+use Rattle.std.specs.Map.{lookup}
 use Rattle.std.proofs.lemmas.List.{append_assoc, append-nil, length-append}
 use Rattle.c_token.specs.declared.token.Token.{Token}
 use Rattle.c_token.specs.Spelling.{text_of}
+use Rattle.c_pre.specs.declared.known.Node.{Node}
+use Rattle.c_pre.specs.declared.known.Fate.TheVariants.{Lasts}
 use Rattle.c_pre.specs.Macros.{Macros, body_for, placed, done, stays, replaced, Becomes, IsReplacedBy}
+use Rattle.c_pre.specs.Known.{Findings, link_of, tokens_at, name_at, depth_of, IsBehind, does_vanish, Knows, Opens, outer, names_at, AreOpen, Stays}
 use Rattle.c_pre.specs.declared.replacing.Rest.{Rest}
-use Rattle.c_pre.specs.Waiting.{Waiting, outer, rest_of, rests_of, Waits, Leads}
+use Rattle.c_pre.specs.Waiting.{Waiting, rest_of, rests_of, Waits, Leads}
 use Rattle.c_pre.proofs.Names.{rests_push}
+use Rattle.c_pre.proofs.Trees.{root_of, climbs, behind_within, root_itself}
+use Rattle.c_pre.proofs.Vanishing.{token_vanishes}
+use Rattle.c_pre.proofs.Chains.{Alive, owned, Enters, chain_enters, chain_stays, open_lasting, entry_alive, outside_closed, outside_open, inside_open}
 
 -- Whatever the rests become, the text becomes that with these tokens in front.
-abbrev pub Wholes : List ℕ → Macros → List Token → List Waiting → List (List ℕ) → List Token → Type 0
-Wholes bytes macros text rests names given = (found : List Token) → Waits bytes macros rests names found → IsReplacedBy bytes macros [] None text (given ++ found)
+abbrev pub Wholes : List ℕ → Macros → List Node → List Token → List Waiting → Opens → List Token → Type 0
+Wholes bytes macros nodes text rests opens given = (found : List Token) → Waits bytes macros nodes rests opens found → IsReplacedBy bytes macros [] None text (given ++ found)
 
-pub leads_done : (bytes : List ℕ) (macros : Macros) (line : Option ℕ) (ts : List Token) (rs : List Waiting) (names : List (List ℕ)) → ts ≡ [] →
-    Leads bytes macros ((ts, line) ∷ rs) names rs (outer names) []
-leads_done bytes macros line ts rs names none found w =
-    let ends : Becomes bytes macros names line done ts [] = subst (λ (xs : List Token). Becomes bytes macros names line done xs []) (sym none) refl in
+pub leads_done : (bytes : List ℕ) (macros : Macros) (nodes : List Node) (line : Option ℕ) (ts : List Token) (rs : List Waiting) (opens : Opens) → ts ≡ [] →
+    Leads bytes macros nodes ((ts, line) ∷ rs) opens rs (outer opens) []
+leads_done bytes macros nodes line ts rs opens none found w =
+    let ends : Becomes bytes macros (names_at nodes opens) line done ts [] = subst (λ (xs : List Token). Becomes bytes macros (names_at nodes opens) line done xs []) (sym none) refl in
     ([], found, (done, ends), w, refl)
 
-pub leads_stays : (bytes : List ℕ) (macros : Macros) (line : Option ℕ) (t : Token) (ts : List Token) (rs : List Waiting) (names : List (List ℕ)) →
-    body_for macros names (text_of bytes t) ≡ None → Leads bytes macros ((t ∷ ts, line) ∷ rs) names ((ts, line) ∷ rs) names (placed line t ∷ [])
-leads_stays bytes macros line t ts rs names h found (front, more, (how, b), w, e) =
+-- a token that stays
+pub leads_stays : (bytes : List ℕ) (macros : Macros) (nodes : List Node) (line : Option ℕ) (t : Token) (ts : List Token) (rs : List Waiting) (opens : Opens) →
+    body_for macros (names_at nodes opens) (text_of bytes t) ≡ None → Leads bytes macros nodes ((t ∷ ts, line) ∷ rs) opens ((ts, line) ∷ rs) opens (placed line t ∷ [])
+leads_stays bytes macros nodes line t ts rs opens h found (front, more, (how, b), w, e) =
     (placed line t ∷ front, more, (stays how, (h, (front, b, refl))), w, ap (λ (xs : List Token). placed line t ∷ xs) e)
 
-pub leads_replaced : (bytes : List ℕ) (macros : Macros) (line : Option ℕ) (t : Token) (ts body : List Token) (rs : List Waiting) (names : List (List ℕ)) →
-    body_for macros names (text_of bytes t) ≡ Some body →
-    Leads bytes macros ((t ∷ ts, line) ∷ rs) names ((body, Some (placed line t).line) ∷ ((ts, line) ∷ rs)) (text_of bytes t ∷ names) []
-leads_replaced bytes macros line t ts body rs names h found (front, more, (how, b), (front2, more2, (how2, b2), w, e2), e) = (
-  front ++ front2,
-  more2,
-  (replaced how how2, (body, h, (front, front2, b, b2, refl))),
+-- a token that becomes these
+pub leads_enters : (bytes : List ℕ) (macros : Macros) (nodes : List Node) (line : Option ℕ) (t : Token) (ts given : List Token) (rs : List Waiting) (opens : Opens) →
+    Enters bytes macros (names_at nodes opens) (text_of bytes t) (placed line t).line given → Leads bytes macros nodes ((t ∷ ts, line) ∷ rs) opens ((ts, line) ∷ rs) opens given
+leads_enters bytes macros nodes line t ts given rs opens (body, m, (inside, x)) found (front, more, (how, b), w, e) = (
+  given ++ front,
+  more,
+  (replaced inside how, (body, m, (given, front, x, b, refl))),
   w,
-  e ∙ ap (λ (xs : List Token). front ++ xs) e2 ∙ sym (append_assoc front front2 more2),
+  ap (λ (xs : List Token). given ++ xs) e ∙ sym (append_assoc given front more),
 )
 
-pub wholes_start : (bytes : List ℕ) (macros : Macros) (text : List Token) → Wholes bytes macros text ((text, None) ∷ []) [] []
-wholes_start bytes macros text found (front, more, r, w, e) =
+-- a token that becomes what a body of a root becomes
+pub leads_opens : (bytes : List ℕ) (macros : Macros) (nodes : List Node) (line : Option ℕ) (t : Token) (ts body : List Token) (rs : List Waiting) (opens : Opens) (o : ℕ × ℕ) →
+    ((found : List Token) → IsReplacedBy bytes macros (names_at nodes (o ∷ opens)) (Some (placed line t).line) body found → Enters bytes macros (names_at nodes opens) (text_of bytes t) (placed line t).line found) →
+    Leads bytes macros nodes ((t ∷ ts, line) ∷ rs) opens ((body, Some (placed line t).line) ∷ ((ts, line) ∷ rs)) (o ∷ opens) []
+leads_opens bytes macros nodes line t ts body rs opens o enters found (front, more, is, w, e) =
+    let rest = leads_enters bytes macros nodes line t ts front rs opens (enters front is) more w in
+    subst (λ (xs : List Token). Waits bytes macros nodes ((t ∷ ts, line) ∷ rs) opens xs) (sym e) rest
+
+-- a token that vanishes
+pub leads_vanishes : (bytes : List ℕ) (macros : Macros) (f : Findings) (line : Option ℕ) (t : Token) (ts : List Token) (rs : List Waiting) (opens : Opens) → Knows bytes macros f → AreOpen f opens →
+    does_vanish (f.fates (text_of bytes t)) ≡ true → Leads bytes macros f.nodes ((t ∷ ts, line) ∷ rs) opens ((ts, line) ∷ rs) opens []
+leads_vanishes bytes macros f line t ts rs opens h are v found (front, more, is, w, e) =
+    (front, more, token_vanishes bytes macros f h line (names_at f.nodes opens) t ts front v (open_lasting bytes macros f h opens are) is, w, e)
+
+-- the name of a node, as a token spells it
+named : (bytes : List ℕ) (macros : Macros) (f : Findings) (name : List ℕ) (i : ℕ) → Knows bytes macros f → f.fates name ≡ Some (Lasts i) → (name_at f.nodes i ≡ name) × Alive f i
+named bytes macros f name i h is = let e = (h.known name (Lasts i) is).3.1 in (e, ap f.fates e ∙ is)
+
+-- a token whose root isn't being replaced
+pub leads_root : (bytes : List ℕ) (macros : Macros) (f : Findings) (line : Option ℕ) (t : Token) (ts : List Token) (rs : List Waiting) (opens : Opens) (i : ℕ) → Knows bytes macros f → AreOpen f opens →
+    f.fates (text_of bytes t) ≡ Some (Lasts i) → lookup (nat_eq (root_of f.nodes i)) opens ≡ None →
+    Leads bytes macros f.nodes ((t ∷ ts, line) ∷ rs) opens ((tokens_at f.nodes (root_of f.nodes i), Some (placed line t).line) ∷ ((ts, line) ∷ rs)) ((root_of f.nodes i, i) ∷ opens) []
+leads_root bytes macros f line t ts rs opens i h are is closed =
+    let at = named bytes macros f (text_of bytes t) i h is in
+    leads_opens bytes macros f.nodes line t ts (tokens_at f.nodes (root_of f.nodes i)) rs opens (root_of f.nodes i, i)
+    (λ found inner.
+    subst (λ (n : List ℕ). Enters bytes macros (names_at f.nodes opens) n (placed line t).line found) at.0
+    (chain_enters bytes macros f h (depth_of f.nodes i) i refl (placed line t).line (names_at f.nodes opens) found at.1 (open_lasting bytes macros f h opens are) (outside_closed bytes macros f h opens are i at.1 closed) inner))
+
+pub open_root : (bytes : List ℕ) (macros : Macros) (f : Findings) (name : List ℕ) (opens : Opens) (i : ℕ) → Knows bytes macros f → AreOpen f opens → f.fates name ≡ Some (Lasts i) → lookup (nat_eq (root_of f.nodes i)) opens ≡ None →
+    AreOpen f ((root_of f.nodes i, i) ∷ opens)
+open_root bytes macros f name opens i h are is closed = ((named bytes macros f name i h is).1, refl, closed, are)
+
+any_none : (macros : Macros) (names : List (List ℕ)) (name : List ℕ) → list_any (bytes_eq name) names ≡ true → body_for macros names name ≡ None
+any_none macros names name e = ap (λ (b : Bool). cond b None (macros name)) e
+
+-- a token whose root is being replaced
+pub leads_inside : (bytes : List ℕ) (macros : Macros) (f : Findings) (line : Option ℕ) (t found : Token) (ts : List Token) (rs : List Waiting) (opens : Opens) (i entry : ℕ) → Knows bytes macros f → AreOpen f opens →
+    f.fates (text_of bytes t) ≡ Some (Lasts i) → lookup (nat_eq (root_of f.nodes i)) opens ≡ Some entry → Stays f.nodes i entry (placed line t) found →
+    Leads bytes macros f.nodes ((t ∷ ts, line) ∷ rs) opens ((ts, line) ∷ rs) opens (found ∷ [])
+leads_inside bytes macros f line t found ts rs opens i entry h are is open_here (inl (behind, same)) =
+    let at = named bytes macros f (text_of bytes t) i h is in
+    let inside = inside_open bytes macros f h opens are (root_of f.nodes i) entry i open_here behind in
+    let here = ap (λ (n : List ℕ). list_any (bytes_eq n) (names_at f.nodes opens)) (sym at.0) ∙ inside in
+    subst (λ (x : Token). Leads bytes macros f.nodes ((t ∷ ts, line) ∷ rs) opens ((ts, line) ∷ rs) opens (x ∷ [])) (sym same)
+    (leads_stays bytes macros f.nodes line t ts rs opens (any_none macros (names_at f.nodes opens) (text_of bytes t) here))
+leads_inside bytes macros f line t found ts rs opens i entry h are is open_here (inr (last, next, more, is_last, tokens, same)) =
+    let at = named bytes macros f (text_of bytes t) i h is in
+    let own = owned bytes macros f i h at.1 in
+    let steps = is_last.behind in
+    let climbed = climbs f.nodes steps.0 i h.forest own.2 steps.1 in
+    let entry_is = entry_alive f opens (root_of f.nodes i) entry are open_here in
+    let inside = inside_open bytes macros f h opens are (root_of f.nodes i) entry (link_of f.nodes last).parent open_here is_last.inside in
+    let outside = outside_open bytes macros f h opens are i entry steps.0 last at.1 open_here steps.1 steps.2 is_last.outside in
+    let deep = not_root last own.2 steps (λ e. is_last.outside (subst (λ (x : ℕ). IsBehind f.nodes entry x) e is_last.inside)) in
+    let becomes = chain_stays bytes macros f h steps.0 i last next more steps.2 deep tokens (placed line t).line (names_at f.nodes opens) at.1 (open_lasting bytes macros f h opens are) outside inside in
+    let named_so = subst (λ (n : List ℕ). Enters bytes macros (names_at f.nodes opens) n (placed line t).line (placed (Some (placed line t).line) next ∷ [])) at.0 becomes in
+    subst (λ (x : Token). Leads bytes macros f.nodes ((t ∷ ts, line) ∷ rs) opens ((ts, line) ∷ rs) opens (x ∷ [])) (sym same)
+    (leads_enters bytes macros f.nodes line t ts (placed (Some (placed line t).line) next ∷ []) rs opens named_so) where
+      not_root : (x : ℕ) → i < length f.nodes → (b : IsBehind f.nodes i x) → ((link_of f.nodes x).parent ≡ x → ⊥) → suc b.0 ≤ depth_of f.nodes i
+      not_root x l b apart = by (depth_of f.nodes x) refl where
+        by : (d : ℕ) → depth_of f.nodes x ≡ d → suc b.0 ≤ depth_of f.nodes i
+        by zero e =
+            let within = behind_within f.nodes i x h.forest l b in
+            absurd (apart (root_itself f.nodes x h.forest within.0 e).0)
+        by (suc d) e =
+            let up_to = climbs f.nodes b.0 i h.forest l b.1 in
+            let same_depth = ap (depth_of f.nodes) b.2 in
+            omega (arith, up_to.1, same_depth, e)
+
+pub wholes_start : (bytes : List ℕ) (macros : Macros) (nodes : List Node) (text : List Token) → Wholes bytes macros nodes text ((text, None) ∷ []) [] []
+wholes_start bytes macros nodes text found (front, more, r, w, e) =
     subst (λ (xs : List Token). IsReplacedBy bytes macros [] None text xs) (sym (e ∙ ap (λ (xs : List Token). front ++ xs) w ∙ append-nil front)) r
 
-pub wholes_more : (bytes : List ℕ) (macros : Macros) (text : List Token) (rests : List Waiting) (names : List (List ℕ)) (new_rests : List Waiting) (new_names : List (List ℕ)) (given next : List Token) →
-    Wholes bytes macros text rests names given → Leads bytes macros rests names new_rests new_names next → Wholes bytes macros text new_rests new_names (given ++ next)
-wholes_more bytes macros text rests names new_rests new_names given next h l found w =
+pub wholes_more : (bytes : List ℕ) (macros : Macros) (nodes : List Node) (text : List Token) (rests : List Waiting) (opens : Opens) (new_rests : List Waiting) (new_opens : Opens) (given next : List Token) →
+    Wholes bytes macros nodes text rests opens given → Leads bytes macros nodes rests opens new_rests new_opens next → Wholes bytes macros nodes text new_rests new_opens (given ++ next)
+wholes_more bytes macros nodes text rests opens new_rests new_opens given next h l found w =
     subst (λ (xs : List Token). IsReplacedBy bytes macros [] None text xs) (sym (append_assoc given next found)) (h (next ++ found) (l found w))
 
-pub wholes_end : (bytes : List ℕ) (macros : Macros) (text : List Token) (names : List (List ℕ)) (given : List Token) →
-    Wholes bytes macros text [] names given → IsReplacedBy bytes macros [] None text given
-wholes_end bytes macros text names given h = subst (λ (xs : List Token). IsReplacedBy bytes macros [] None text xs) (append-nil given) (h [] refl)
+pub wholes_end : (bytes : List ℕ) (macros : Macros) (nodes : List Node) (text : List Token) (opens : Opens) (given : List Token) →
+    Wholes bytes macros nodes text [] opens given → IsReplacedBy bytes macros [] None text given
+wholes_end bytes macros nodes text opens given h = subst (λ (xs : List Token). IsReplacedBy bytes macros [] None text xs) (append-nil given) (h [] refl)
 
--- the same, by what the code names
-pub stays_as : (bytes : List ℕ) (macros : Macros) (line : Option ℕ) (t : Token) (ts : List Token) (rs : List Waiting) (names : List (List ℕ)) (name : List ℕ) (p : Token) (new : List Waiting) →
-    name ≡ text_of bytes t → None ≡ body_for macros names name → p ≡ placed line t → new ≡ (ts, line) ∷ rs → Leads bytes macros ((t ∷ ts, line) ∷ rs) names new names (p ∷ [])
-stays_as bytes macros line t ts rs names name p new same h is put =
-    let lead = leads_stays bytes macros line t ts rs names (ap (λ (n : List ℕ). body_for macros names n) (sym same) ∙ sym h) in
-    subst (λ (ws : List Waiting). Leads bytes macros ((t ∷ ts, line) ∷ rs) names ws names (p ∷ [])) (sym put)
-    (subst (λ (x : Token). Leads bytes macros ((t ∷ ts, line) ∷ rs) names ((ts, line) ∷ rs) names (x ∷ [])) (sym is) lead)
-
-pub replaced_as : (bytes : List ℕ) (macros : Macros) (line : Option ℕ) (t : Token) (ts : List Token) (rs : List Waiting) (names : List (List ℕ)) (name : List ℕ) (p : Token) (body : List Token)
-    (middle new : List Waiting) (new_names : List (List ℕ)) →
-    name ≡ text_of bytes t → Some body ≡ body_for macros names name → p ≡ placed line t → middle ≡ (ts, line) ∷ rs → new ≡ (body, Some p.line) ∷ middle → new_names ≡ name ∷ names →
-    Leads bytes macros ((t ∷ ts, line) ∷ rs) names new new_names []
-replaced_as bytes macros line t ts rs names name p body middle new new_names same h is put put_body enter =
-    let lead = leads_replaced bytes macros line t ts body rs names (ap (λ (n : List ℕ). body_for macros names n) (sym same) ∙ sym h) in
-    let rests : new ≡ (body, Some (placed line t).line) ∷ ((ts, line) ∷ rs) =
-    put_body ∙ ap (λ (ws : List Waiting). (body, Some p.line) ∷ ws) put ∙ ap (λ (x : Token). (body, Some x.line) ∷ ((ts, line) ∷ rs)) is in
-    let names_are : new_names ≡ text_of bytes t ∷ names = enter ∙ ap (λ (n : List ℕ). n ∷ names) same in
-    subst (λ (ws : List Waiting). Leads bytes macros ((t ∷ ts, line) ∷ rs) names ws new_names []) (sym rests)
-    (subst (λ (ns : List (List ℕ)). Leads bytes macros ((t ∷ ts, line) ∷ rs) names ((body, Some (placed line t).line) ∷ ((ts, line) ∷ rs)) ns []) (sym names_are) lead)
-
-pub done_as : (bytes : List ℕ) (macros : Macros) (line : Option ℕ) (ts : List Token) (rs : List Waiting) (names new_names : List (List ℕ)) → ts ≡ [] → new_names ≡ outer names →
-    Leads bytes macros ((ts, line) ∷ rs) names rs new_names []
-done_as bytes macros line ts rs names new_names none left =
-    subst (λ (ns : List (List ℕ)). Leads bytes macros ((ts, line) ∷ rs) names rs ns []) (sym left) (leads_done bytes macros line ts rs names none)
-
-pub leads_as : (bytes : List ℕ) (macros : Macros) (line : Option ℕ) (ts us : List Token) (rs : List Waiting) (names : List (List ℕ)) (new : List Waiting) (new_names : List (List ℕ)) (given : List Token) → ts ≡ us →
-    Leads bytes macros ((us, line) ∷ rs) names new new_names given → Leads bytes macros ((ts, line) ∷ rs) names new new_names given
-leads_as bytes macros line ts us rs names new new_names given same lead =
-    subst (λ (xs : List Token). Leads bytes macros ((xs, line) ∷ rs) names new new_names given) (sym same) lead
-
-pub wholes_first : (bytes : List ℕ) (macros : Macros) (text : List Token) (none : List Rest) (new : List Waiting) (names : List (List ℕ)) → none ≡ [] → names ≡ [] → new ≡ (text, None) ∷ rests_of none →
-    Wholes bytes macros text new names []
-wholes_first bytes macros text none new names e n put =
+pub wholes_first : (bytes : List ℕ) (macros : Macros) (nodes : List Node) (text : List Token) (none : List Rest) (new : List Waiting) (opens : Opens) → none ≡ [] → opens ≡ [] → new ≡ (text, None) ∷ rests_of none →
+    Wholes bytes macros nodes text new opens []
+wholes_first bytes macros nodes text none new opens e n put =
     let rests : new ≡ (text, None) ∷ [] = put ∙ ap (λ (rs : List Rest). (text, None) ∷ rests_of rs) e in
-    subst (λ (ws : List Waiting). Wholes bytes macros text ws names []) (sym rests)
-    (subst (λ (ns : List (List ℕ)). Wholes bytes macros text ((text, None) ∷ []) ns []) (sym n) (wholes_start bytes macros text))
+    subst (λ (ws : List Waiting). Wholes bytes macros nodes text ws opens []) (sym rests)
+    (subst (λ (os : Opens). Wholes bytes macros nodes text ((text, None) ∷ []) os []) (sym n) (wholes_start bytes macros nodes text))
 
 no_rests : (rests : List Rest) → length rests ≡ 0 → rests ≡ []
 no_rests [] e = refl
 no_rests (r ∷ rs) e = absurd (omega (arith, e))
 
-pub wholes_done : (bytes : List ℕ) (macros : Macros) (text : List Token) (rests : List Rest) (names : List (List ℕ)) (given : List Token) → length rests ≡ 0 →
-    Wholes bytes macros text (rests_of rests) names given → IsReplacedBy bytes macros [] None text given
-wholes_done bytes macros text rests names given e h =
-    wholes_end bytes macros text names given (subst (λ (rs : List Rest). Wholes bytes macros text (rests_of rs) names given) (no_rests rests e) h)
+pub wholes_done : (bytes : List ℕ) (macros : Macros) (nodes : List Node) (text : List Token) (rests : List Rest) (opens : Opens) (given : List Token) → length rests ≡ 0 →
+    Wholes bytes macros nodes text (rests_of rests) opens given → IsReplacedBy bytes macros [] None text given
+wholes_done bytes macros nodes text rests opens given e h =
+    wholes_end bytes macros nodes text opens given (subst (λ (rs : List Rest). Wholes bytes macros nodes text (rests_of rs) opens given) (no_rests rests e) h)
 
-pub wholes_step : (bytes : List ℕ) (macros : Macros) (text : List Token) (old popped : List Rest) (r : Rest) (names : List (List ℕ)) (new_rests : List Waiting) (new_names : List (List ℕ)) (given next : List Token) →
-    old ≡ popped ++ r ∷ [] → Wholes bytes macros text (rests_of old) names given → Leads bytes macros (rest_of r ∷ rests_of popped) names new_rests new_names next →
-    Wholes bytes macros text new_rests new_names (given ++ next)
-wholes_step bytes macros text old popped r names new_rests new_names given next e h lead =
-    let moved = subst (λ (ws : List Waiting). Wholes bytes macros text ws names given) (ap rests_of e ∙ rests_push popped r) h in
-    wholes_more bytes macros text (rest_of r ∷ rests_of popped) names new_rests new_names given next moved lead
+pub wholes_step : (bytes : List ℕ) (macros : Macros) (nodes : List Node) (text : List Token) (old popped : List Rest) (r : Rest) (opens : Opens) (new_rests : List Waiting) (new_opens : Opens) (given next : List Token) →
+    old ≡ popped ++ r ∷ [] → Wholes bytes macros nodes text (rests_of old) opens given → Leads bytes macros nodes (rest_of r ∷ rests_of popped) opens new_rests new_opens next →
+    Wholes bytes macros nodes text new_rests new_opens (given ++ next)
+wholes_step bytes macros nodes text old popped r opens new_rests new_opens given next e h lead =
+    let moved = subst (λ (ws : List Waiting). Wholes bytes macros nodes text ws opens given) (ap rests_of e ∙ rests_push popped r) h in
+    wholes_more bytes macros nodes text (rest_of r ∷ rests_of popped) opens new_rests new_opens given next moved lead
 
 pub out_more : (old out given next new : List Token) → out ≡ old ++ given → new ≡ out ++ next → new ≡ old ++ (given ++ next)
 out_more old out given next new e f = f ∙ ap (λ (xs : List Token). xs ++ next) e ∙ append_assoc old given next

@@ -1,6 +1,11 @@
 pub mod Splitting
 pub mod Names
+pub mod Trees
+pub mod Opened
+pub mod Vanishing
+pub mod Chains
 pub mod Leading
+pub mod Turning
 pub mod Totals
 pub mod Once
 pub mod Carried
@@ -10,8 +15,8 @@ pub mod After
 pub mod Whole
 pub mod Cut
 pub mod Lined
-pub mod Around
-pub mod Grouped
-pub mod Noted
 pub mod Keeping
+pub mod Noted
+pub mod Marked
+pub mod Told
 pub mod Finite

@@ -13,7 +13,9 @@ use Rattle.c_token.specs.Spelling.{text_of}
 use Rattle.c_pre.specs.declared.lines.Line.{Line}
 use Rattle.c_pre.specs.Macros.{Macros, body_for, placed, done, stays, replaced, IsReplacedBy}
 use Rattle.c_pre.specs.Views.{Entries, tokens_of, macros_in}
-use Rattle.c_pre.specs.Waiting.{Waiting, outer, Waits}
+use Rattle.c_pre.specs.declared.known.Node.{Node}
+use Rattle.c_pre.specs.Known.{Opens, outer, names_at}
+use Rattle.c_pre.specs.Waiting.{Waiting, Waits}
 
 -- each name of a macro is one of these
 abbrev pub AreNames : Macros → List (List ℕ) → Type 0
@@ -89,11 +91,11 @@ some_replacement bytes macros all are (suc n) names l line ts =
 pub replaced_somehow : (bytes : List ℕ) (macros : Macros) (all : List (List ℕ)) → AreNames macros all → (names : List (List ℕ)) (line : Option ℕ) (ts : List Token) → Some_of bytes macros names line ts
 replaced_somehow bytes macros all are names line ts = some_replacement bytes macros all are (free all names + 1) names (omega arith) line ts
 
-pub waits_somehow : (bytes : List ℕ) (macros : Macros) (all : List (List ℕ)) → AreNames macros all → (rests : List Waiting) (names : List (List ℕ)) → (found : List Token) × Waits bytes macros rests names found
-waits_somehow bytes macros all are [] names = ([], refl)
-waits_somehow bytes macros all are (r ∷ rs) names =
-    let front = replaced_somehow bytes macros all are names r.1 r.0 in
-    let more = waits_somehow bytes macros all are rs (outer names) in
+pub waits_somehow : (bytes : List ℕ) (macros : Macros) (all : List (List ℕ)) → AreNames macros all → (nodes : List Node) (rests : List Waiting) (opens : Opens) → (found : List Token) × Waits bytes macros nodes rests opens found
+waits_somehow bytes macros all are nodes [] opens = ([], refl)
+waits_somehow bytes macros all are nodes (r ∷ rs) opens =
+    let front = replaced_somehow bytes macros all are (names_at nodes opens) r.1 r.0 in
+    let more = waits_somehow bytes macros all are nodes rs (outer opens) in
     (front.0 ++ more.0, (front.0, more.0, front.1, more.1, refl))
 
 -- the names of a map's entries
@@ -106,5 +108,5 @@ entry_names (e ∷ es) name body h = by (bytes_eq name e.0.items) h (λ f. entry
   by true f on = refl
   by false f on = on f
 
-pub entries_wait : (bytes : List ℕ) (es : Entries) (rests : List Waiting) (names : List (List ℕ)) → (found : List Token) × Waits bytes (macros_in es) rests names found
-entries_wait bytes es rests names = waits_somehow bytes (macros_in es) (map (λ e. e.0.items) es) (entry_names es) rests names
+pub entries_wait : (bytes : List ℕ) (es : Entries) (nodes : List Node) (rests : List Waiting) (opens : Opens) → (found : List Token) × Waits bytes (macros_in es) nodes rests opens found
+entries_wait bytes es nodes rests opens = waits_somehow bytes (macros_in es) (map (λ e. e.0.items) es) (entry_names es) nodes rests opens

@@ -269,12 +269,12 @@ impl<'a> Place<'a> {
         ended: bool,
         out: &mut Vec<Token>,
     ) -> Result<(), PreError>
-        requires recalls { Recalls frame.bytes.now self.old out.old.items }
+        requires recalls { Recalls frame.bytes.now self.old }
         requires few { length out.old.items ≤ 200000 }
         ensures done { OnOk result (IsDone (setting_in frame.entry) (state_at self.old) line.now
             (effect (setting_in frame.entry) (state_at self.old) ended (number_of line.now) (arguments line.now) (directive_of frame.entry.bytes.now line.now))
             (state_at self.new) out.old.items out.new.items) }
-        ensures recalls { OnOk result (Recalls frame.entry.bytes.now self.new out.new.items) }
+        ensures recalls { OnOk result (Recalls frame.entry.bytes.now self.new) }
         ensures few { OnOk result (length out.new.items ≤ 200000) }
         ensures stop { IfErr result (λ e. e ≢ Memory → IsStopped (setting_in frame.entry) (state_at self.old) line.now
             (effect (setting_in frame.entry) (state_at self.old) ended (number_of line.now) (arguments line.now) (directive_of frame.entry.bytes.now line.now)) e out.old.items) }

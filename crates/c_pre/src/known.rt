@@ -1,114 +1,89 @@
-//! What macros became, and for how long it is known.
+//! What becomes of macros, and for how long it is known.
 
-ghost use Rattle.std.specs.Prelude.{◌≡◌, [], true, ℕ, List, Some, None, IfOk, OnOk};
+ghost use Rattle.std.specs.Prelude.{◌≡◌, [], true, ℕ, List, Some, None, IfOk, OnOk, option_map};
 ghost use Rattle.c_pre.specs.Macros.{with_body};
 ghost use Rattle.c_pre.specs.Views.{Entries, macros_in};
-ghost use Rattle.c_pre.specs.Known.{spans_in, with_span, groups_in, is_in, is_upto, may_reach, findings_of, piece, known_at, Covers, Keeps, Forgets};
+ghost use Rattle.c_pre.specs.Known.{fates_in, with_fate, is_in, findings_of, name_in_place, Precedes, Keeps, Forgets};
 
 use crate::macros::{Macros, body_of};
 use c_token::Token;
 use indexmap::{IndexMap, IndexSet};
 use std::alloc::{AllocError, Global};
 
-/// Some tokens of the output.
+/// What becomes of a macro wherever it isn't being replaced.
 #[derive(Clone, Copy)]
-pub struct Span {
-    pub start: usize,
-    pub length: usize,
+pub enum Fate {
+    /// Nothing: its body is of macros of lower ranks that become nothing.
+    Vanishes { rank: usize },
+    /// Something. It has this node.
+    Lasts { node: usize },
 }
 
-/// The tokens that names became. A name of which nothing is known any more keeps its entry, without a span.
-pub type Spans = IndexMap<Vec<u8>, Option<Span>>;
+/// How a macro leads to another one.
+#[derive(Clone, Copy)]
+pub struct Link {
+    /// How many macros come behind it, each of whose bodies the next one is all that lasts of, up to its root. 0 for a root.
+    pub depth: usize,
+    /// The node of the next of them; of a root its own.
+    pub parent: usize,
+    /// The node of one of them that is further behind, or a root's own.
+    pub jump: usize,
+    /// The node of its root.
+    pub root: usize,
+}
 
-/// The groups of names, numbered in the order in which they came to be: in the bodies of a group's macros stand names of that
-/// group and of earlier ones, and names of no macro.
-pub type Groups = IndexMap<Vec<u8>, usize>;
+/// A macro that doesn't vanish.
+#[derive(Drop)]
+pub struct Node {
+    pub name: Vec<u8>,
+    /// Its body without names that vanish.
+    pub tokens: Vec<Token>,
+    pub link: Link,
+}
 
-/// What macros became, as long as the macros on which it rests stay the same.
+/// What becomes of names. A name of which nothing is known any more keeps its entry, without a fate.
+pub type Fates = IndexMap<Vec<u8>, Option<Fate>>;
+
+/// What becomes of macros, as long as the names in their bodies are given no other bodies.
 #[derive(Drop)]
 pub struct Known {
-    /// The tokens that a macro of a group becomes within all macros of later groups and of none.
-    pub within: Spans,
-    pub groups: Groups,
-    /// The tokens that a macro becomes where nothing is being replaced.
-    pub outside: Spans,
+    pub fates: Fates,
+    pub nodes: Vec<Node>,
     /// The names that were met in the bodies of macros.
     pub used: IndexSet<Vec<u8>>,
+    /// Above the ranks of all that vanish.
+    pub ranks: usize,
 }
 
 /// Nothing is known.
 pub fn nothing(alloc: Global) -> Known
-    ensures within { result.within.entries ≡ [] }
-    ensures outside { result.outside.entries ≡ [] }
-    ensures groups { result.groups.entries ≡ [] }
+    ensures fates { result.fates.entries ≡ [] }
+    ensures nodes { result.nodes.items ≡ [] }
+    ensures used { result.used.keys ≡ [] }
 {
     Known {
-        within: IndexMap::new(alloc),
-        groups: IndexMap::new(alloc),
-        outside: IndexMap::new(alloc),
+        fates: IndexMap::new(alloc),
+        nodes: Vec::new(alloc),
         used: IndexSet::new(alloc),
+        ranks: 0,
     }
 }
 
-/// Where the tokens stand that a name became.
-fn span_of(spans: &Spans, name: &[u8]) -> Option<Span>
-    ensures { result ≡ spans_in spans.now.entries name.now }
+/// What becomes of a name, if it is known.
+pub fn fate_of(fates: &Fates, name: &[u8]) -> Option<Fate>
+    ensures { result ≡ fates_in fates.now.entries name.now }
 {
-    match spans.get(name) {
-        Some(span) => *span,
+    match fates.get(name) {
+        Some(fate) => *fate,
         None => None,
     }
 }
 
-/// The group of a name, if it has one.
-pub fn group_of(groups: &Groups, name: &[u8]) -> Option<usize>
-    ensures { result ≡ groups_in groups.now.entries name.now }
+/// Notes what becomes of a name, or that it isn't known.
+pub fn note(fates: &mut Fates, name: Vec<u8>, fate: Option<Fate>) -> Result<(), AllocError>
+    ensures { OnOk result (fates_in fates.new.entries ≡ with_fate name.items fate (fates_in fates.old.entries)) }
 {
-    groups.get(name).copied()
-}
-
-/// Whether a group is this one or an earlier one.
-pub fn is_upto(group: usize, other: Option<usize>) -> bool
-    ensures { result ≡ is_upto group other }
-{
-    match other {
-        None => false,
-        Some(other) => other <= group,
-    }
-}
-
-/// Whether a name of the second group may stand below one of the first.
-pub fn may_reach(group: Option<usize>, other: Option<usize>) -> bool
-    ensures { result ≡ may_reach group other }
-{
-    match group {
-        None => true,
-        Some(group) => is_upto(group, other),
-    }
-}
-
-/// Where the tokens stand that a name becomes: where nothing is being replaced, if top, or within others, the innermost of which
-/// has this group.
-pub fn span_at(known: &Known, top: bool, innermost: Option<usize>, name: &[u8]) -> Option<Span>
-    ensures { result ≡ known_at (findings_of known.now) top innermost name.now }
-{
-    if !may_reach(group_of(&known.groups, name), innermost) {
-        if let Some(span) = span_of(&known.within, name) {
-            return Some(span);
-        }
-    }
-    if top {
-        span_of(&known.outside, name)
-    } else {
-        None
-    }
-}
-
-/// Notes where the tokens stand that a name became, or that nothing is known of it.
-pub fn note(spans: &mut Spans, name: Vec<u8>, span: Option<Span>) -> Result<(), AllocError>
-    ensures { OnOk result (spans_in spans.new.entries ≡ with_span name.items span (spans_in spans.old.entries)) }
-{
-    spans.insert(name, span)?;
+    fates.insert(name, fate)?;
     Ok(())
 }
 
@@ -122,7 +97,7 @@ pub fn is_used(used: &IndexSet<Vec<u8>>, name: &[u8]) -> bool
 /// Notes a name as one that was met in the body of a macro.
 pub fn mark(alloc: Global, used: &mut IndexSet<Vec<u8>>, name: &[u8]) -> Result<(), AllocError>
     ensures marked { OnOk result (is_in used.new.keys name.now ≡ true) }
-    ensures others { OnOk result (Covers (is_in used.old.keys) (is_in used.new.keys)) }
+    ensures others { OnOk result (Precedes used.old.keys used.new.keys) }
 {
     if is_used(used, name) {
         return Ok(());
@@ -130,6 +105,23 @@ pub fn mark(alloc: Global, used: &mut IndexSet<Vec<u8>>, name: &[u8]) -> Result<
     let key = name.to_vec(alloc)?;
     used.insert(key)?;
     Ok(())
+}
+
+/// The name at an index of those that were met.
+pub fn met_at(
+    alloc: Global,
+    used: &IndexSet<Vec<u8>>,
+    index: usize,
+) -> Result<Option<Vec<u8>>, AllocError>
+    ensures { IfOk result (λ name. option_map (λ v. v.items) name ≡ name_in_place used.now.keys index) }
+{
+    match used.get_index(index) {
+        None => Ok(None),
+        Some(name) => {
+            let key = name.to_vec(alloc)?;
+            Ok(Some(key))
+        }
+    }
 }
 
 /// Forgets what rests on a name that is given another body, or none: all, if it was met in the body of a macro.
@@ -141,7 +133,7 @@ pub fn forget(alloc: Global, known: &mut Known, name: &[u8]) -> Result<(), Alloc
         return Ok(());
     }
     let key = name.to_vec(alloc)?;
-    note(&mut known.outside, key, None)?;
+    note(&mut known.fates, key, None)?;
     Ok(())
 }
 
@@ -162,23 +154,4 @@ pub fn forget_body<'a>(
             Ok(())
         }
     }
-}
-
-/// The tokens of a span, as many as there are.
-fn part(out: &[Token], span: Span) -> &[Token]
-    ensures { result.now ≡ piece span out.now }
-{
-    let (_, behind) = out.split_at(out.len().min(span.start));
-    behind.split_at(behind.len().min(span.length)).0
-}
-
-/// A copy of the tokens of a span.
-pub fn piece(alloc: Global, out: &[Token], span: Span) -> Result<Vec<Token>, AllocError>
-    ensures { IfOk result (λ v. v.items ≡ piece span out.now) }
-{
-    let mut all = Vec::new(alloc);
-    for token in part(out, span) {
-        all.push(*token)?;
-    }
-    Ok(all)
 }

@@ -6,13 +6,14 @@ mod conditional;
 mod directive;
 mod error;
 mod expanding;
-mod grouping;
 mod header;
 mod known;
 mod lines;
 mod macros;
+mod noting;
+mod planning;
 mod replacing;
-mod watching;
+mod rising;
 
 pub use error::PreError;
 pub use expanding::{an_expansion, expand, one_expansion};

@@ -96,6 +96,21 @@ const CIRCLES: &str = "\
 #define s s 1$#define t s s$#define u t s t$u u@4: s 1 s 1 s 1 s 1 s 1 s 1 s 1 s 1 s 1 s 1
 #define a b$#define b a c$#define c$#define d a b$d$#undef c$#define c b$d@5: a b 8: a b b b";
 
+// The same. Macros that lead to one other alone, in trees and circles, and macros that vanish.
+const ENTRIES: &str = "\
+#define b p q$#define p r$#define q r$#define r b$b p q r@5: b b p r r q r r
+#define b p x$#define p b$#define q p$q p b@4: p x p x b x
+#define b c d$#define c e$#define d e$#define e f$#define f b$c$d$e$f$b@6: c e 7: e d 8: e e 9: f f 10: b b
+#define a b$#define b c$#define c d$#define d b$a b c d@5: b b c d
+#define a b$#define b c$#define c b$#define x a b c$#define y x c$x y@6: b b c b b c c
+#define e$#define f e e$#define a f b f$#define b e c$#define c a f e$a b c f e@6: a b c
+#define e$#define a e b$#define b a a$a b$#undef e$#define e z$a b@4: a a b b 7: z a a z b z b
+#define a b$#define b c$#define c x$#define d a y b$a b c d$#define x d$a d@5: x x x x y x 7: a y b d y d
+#define a b$a$#define b b c$a$#undef b$a b@2: b 4: b c 6: b b
+#define a b$#define b c c$#define c d$#define d a$a b c d@5: a a b b c c d d
+#define a b$#define b c c$#define c d$#define d c$a b c d@5: c c c c c d
+#define t a a$#define a b$#define b t$#define u a t b$t a b u@5: t t a a b b a a t t b b";
+
 // The same. Conditionals (C11 6.10.1), and skipped parts (6.10p4).
 const CONDITIONALS: &str = "\
 #ifdef A$x$#endif$y@4: y
@@ -160,13 +175,14 @@ LLONG_MAX@2: 9223372036854775807LL
 ULLONG_MAX@2: 18446744073709551615ULL";
 
 // The tables of whole files.
-const FILES: [&str; 8] = [
+const FILES: [&str; 9] = [
     PLAIN,
     EFFECTLESS,
     OTHERS,
     DEFINITIONS,
     REPLACEMENTS,
     CIRCLES,
+    ENTRIES,
     CONDITIONALS,
     INCLUDES,
 ];
@@ -333,6 +349,41 @@ fn circles_are_not_expanded_anew_within_each_macro(rt: HostRuntime) -> Result<()
     assert_eq!(rt; outcome(alloc, few.as_str())?.as_str(), "6: x c0 c0");
     let many = circled(alloc, 20_000, 20_000)?;
     assert_eq!(rt; count(alloc, many.as_str())?, 20_001);
+    Ok(())
+}
+
+/// A file in which so many macros name each other in a circle, each of which a text names: the first of them with something
+/// behind, and a macro that names it so often. From that one on the circle is a chain that leads to it.
+fn entered(alloc: Global, names: u32, behind: &str, uses: u32) -> Result<String, AllocError> {
+    let mut file = String::from_str(alloc, "#define c0 c1")?;
+    file.push_str(behind)?;
+    for name in 1..names {
+        let next = u64::from(name) + 1;
+        file.push_str(format!(in alloc; "\n#define c{name} c{next}")?.as_str())?;
+    }
+    file.push_str(format!(in alloc; "\n#define c{names} c0\n#define all")?.as_str())?;
+    for _ in 0..uses {
+        file.push_str(" c0")?;
+    }
+    file.push_str("\nall\n")?;
+    for name in 0..names {
+        file.push_str(format!(in alloc; "c{name} ")?.as_str())?;
+    }
+    Ok(file)
+}
+
+#[test]
+fn circles_are_not_walked_at_each_entry(rt: HostRuntime) -> Result<(), Fail> {
+    let alloc = rt.alloc();
+    let few = entered(alloc, 2, " x", 2)?;
+    assert_eq!(rt;
+        outcome(alloc, few.as_str())?.as_str(),
+        "5: c0 x c0 x 6: c0 x c1 x"
+    );
+    let plain = entered(alloc, 20_000, "", 20_000)?;
+    assert_eq!(rt; count(alloc, plain.as_str())?, 40_000);
+    let branched = entered(alloc, 20_000, " x", 20_000)?;
+    assert_eq!(rt; count(alloc, branched.as_str())?, 80_000);
     Ok(())
 }
 

@@ -1,7 +1,5 @@
-use Rattle.c_pre.proofs.After.{enter_as}
+use Rattle.c_pre.proofs.Opened.{entered_as}
 use Rattle.c_pre.proofs.replacing.enter.Goals as goal
 
 pub returns : goal.returns
-returns c =
-    enter_as c.args.names.now.keys c.insert.new.self.keys c.in_ok-key.key c.args.name.now
-    (c.in_ok-key.ensures.items_if_clones_equal (λ y h e. e)) c.requires c.in_ok-insert.ensures.keys
+returns c = entered_as c.args.root c.args.node c.args.opened.now.entries c.insert.new.self.entries c.requires c.in_ok-insert.ensures.entries
